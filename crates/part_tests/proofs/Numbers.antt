@@ -23,7 +23,8 @@ numbered_first ids old new region row none bare low less put =
     }
 
 pub numbered_copy : (ids later : Ids) (old new : ChainTable) (source offset pages : ℕ) (row : RegionRow) → AreNumbered ids old → region_at old source ≡ Some row
-    → CopiesRegion source ids.next_region offset pages row old new → later.next_region ≡ ids.next_region + 1 → later.next_object ≡ ids.next_object → AreNumbered later new
+    → CopiesRegion source ids.next_region offset pages row old new → later.next_region ≡ ids.next_region + 1 → later.next_object ≡ ids.next_object
+    → AreNumbered later new
 numbered_copy ids later old new source offset pages row numbered is copies more kept =
     let below = region_below ids.next_region source row old numbered.regions is in
     let top = numbered.objects.tops source row is in
@@ -35,8 +36,10 @@ numbered_copy ids later old new source offset pages row numbered is copies more 
       };
     }
 
-pub numbered_shadow : (ids later : Ids) (old new : ChainTable) (region : ℕ) (object : ObjectId) (row : RegionRow) → AreNumbered ids old → region_at old region ≡ Some row
-    → object.0 ≡ ids.next_object → ShadowsRegion region object row old new → later.next_region ≡ ids.next_region → later.next_object ≡ ids.next_object + 1 → AreNumbered later new
+pub numbered_shadow : (ids later : Ids) (old new : ChainTable) (region : ℕ) (object : ObjectId) (row : RegionRow) → AreNumbered ids old
+    → region_at old region ≡ Some row
+    → object.0 ≡ ids.next_object → ShadowsRegion region object row old new → later.next_region ≡ ids.next_region → later.next_object ≡ ids.next_object + 1
+    → AreNumbered later new
 numbered_shadow ids later old new region object row numbered is named shadows kept more =
     let below = region_below ids.next_region region row old numbered.regions is in
     let top = numbered.objects.tops region row is in

@@ -1,5 +1,6 @@
 -- What the slots and the backing fit, they fit behind an answer as the history says.
-use Rattle.std.proofs.Common.{ℕ, ◌≡◌, ◌≤◌, ◌==◌, ◌&&◌, ◌||◌, nat_lt, Bool, true, false, List, ◌++◌, Option, Some, None, Ok, refl, sym, ◌∙◌, ap, subst, arith, if◌then◌else◌}
+use Rattle.std.proofs.Common.{ℕ, ◌≡◌, ◌≤◌, ◌==◌, ◌&&◌, ◌||◌, nat_lt, Bool, true, false, List, ◌++◌, Option, Some, None, Ok, refl, sym, ◌∙◌, ap, subst, arith}
+use Rattle.std.proofs.Common.{if◌then◌else◌}
 use Rattle.std.proofs.lemmas.Bool.Decides.{nat_tests}
 use Rattle.pg_slots.specs.Contents.{AgreesWithContent, CarriesContent, Content, IsHeldAs, Kept, Lost, Stored, after_put, content_without, same_content}
 use Rattle.pg_slots.specs.Slots.{SlotTable, held_at}
@@ -27,9 +28,11 @@ abbrev pub SameContent : Content → Content → Type 0
 SameContent was now = (q r : ℕ) → now q r ≡ was q r
 
 agrees_same : (slots : SlotTable) (was now : Content) → SameContent was now → AgreesWithContent slots was → AgreesWithContent slots now
-agrees_same slots was now same agrees = record { at = λ q r. subst (λ (x : Option Stored). IsHeldAs slots.count slots.size (held_at slots q r) x) (sym (same q r)) (agrees.at q r) }
+agrees_same slots was now same agrees =
+    record { at = λ q r. subst (λ (x : Option Stored). IsHeldAs slots.count slots.size (held_at slots q r) x) (sym (same q r)) (agrees.at q r) }
 
-pub carries_same : (before after : List ℕ → Told) (old new : SlotTable) (change : Content → Content) (was now : Content) → SameContent (change was) now → CarriesContent before after old new change → CarriesOver before after old new was now
+pub carries_same : (before after : List ℕ → Told) (old new : SlotTable) (change : Content → Content) (was now : Content) → SameContent (change was) now
+    → CarriesContent before after old new change → CarriesOver before after old new was now
 carries_same before after old new change was now same carries = record {
   agrees = λ agrees. agrees_same new (change was) now same (carries.agrees was agrees);
   fits = λ told fits.
@@ -37,7 +40,8 @@ carries_same before after old new change was now same carries = record {
       record { agrees = agrees_same new (change was) now same f.agrees; bytes = λ o p s bytes holds is. f.bytes o p s bytes holds (sym (same o p) ∙ is) };
 }
 
-content_same : (header : Header) (host : ℕ) (past now : List Event) → Same header host past now → SameContent (content_of header host past) (content_of header host now)
+content_same : (header : Header) (host : ℕ) (past now : List Event) → Same header host past now
+    → SameContent (content_of header host past) (content_of header host now)
 content_same header host past now same q r = rw (same.ended q, same.last q r, same.lost q r) refl
 
 both_same : (header : Header) (host : ℕ) (past middle now : List Event) → Same header host past middle → Same header host middle now → Same header host past now
@@ -49,7 +53,8 @@ both_same header host past middle now one two = record {
   lost = λ q r. two.lost q r ∙ one.lost q r;
 }
 
-content_put : (header : Header) (host o p : ℕ) (bytes : List ℕ) (lost : Bool) (stored : Stored) (past now : List Event) → named header ≤ o → is_ended host o past ≡ false → Put header host o p bytes lost past now → stored_of (Some bytes) lost ≡ Some stored
+content_put : (header : Header) (host o p : ℕ) (bytes : List ℕ) (lost : Bool) (stored : Stored) (past now : List Event) → named header ≤ o
+    → is_ended host o past ≡ false → Put header host o p bytes lost past now → stored_of (Some bytes) lost ≡ Some stored
     → SameContent (λ q r. if o == q && p == r then Some stored else content_of header host past q r) (content_of header host now)
 content_put header host o p bytes lost stored past now temporary unended put is q r = by (o == q && p == r) refl
   where
@@ -70,29 +75,39 @@ content_end : (header : Header) (host : ℕ) (object : ObjectId) (control : ℕ)
     → SameContent (content_without object.0 (content_of header host past)) (content_of header host (taking host object (message.Terminate control) past))
 content_end header host object control past q r = rw (itself host) (by (nat_lt q (named header)) (object.0 == q) (is_ended host q past))
   where
-    by : (a b c : Bool) → (if a || (b || c) then None else stored_of (if b then last_return host q r past else last_return host q r past) (is_lost q r past)) ≡ (if b then None else (if a || c then None else stored_of (last_return host q r past) (is_lost q r past)))
+    by : (a b c : Bool) → (if a || (b || c) then None else stored_of (if b then last_return host q r past else last_return host q r past)
+        (is_lost q r past)) ≡ (if b then None else (if a || c then None else stored_of (last_return host q r past) (is_lost q r past)))
     by true true c = refl
     by true false c = refl
     by false true c = refl
     by false false c = refl
 
-returned : (header : Header) (host : ℕ) (past : List Event) (object : ObjectId) (control : ℕ) (page : PageNo) (dirty keep : Bool) (bytes : List ℕ) (is : PutAnswer) → named header ≤ object.0 → is_ended host object.0 past ≡ false
-    → SameContent (after_put (Ok is) object.0 page.0 bytes (content_of header host past)) (content_of header host (told_of is object page ++ taking host object (message.Return control page dirty keep bytes) past))
+returned : (header : Header) (host : ℕ) (past : List Event) (object : ObjectId) (control : ℕ) (page : PageNo) (dirty keep : Bool) (bytes : List ℕ)
+    (is : PutAnswer) → named header ≤ object.0 → is_ended host object.0 past ≡ false
+    → SameContent (after_put (Ok is) object.0 page.0 bytes (content_of header host past))
+    (content_of header host (told_of is object page ++ taking host object (message.Return control page dirty keep bytes) past))
 returned header host past object control page dirty keep bytes put.Kept temporary unended =
-    content_put header host object.0 page.0 bytes false (Kept bytes) past _ temporary unended (put_kept header host object.0 page.0 control dirty keep bytes past temporary) refl
+    content_put header host object.0 page.0 bytes false (Kept bytes) past _ temporary unended
+    (put_kept header host object.0 page.0 control dirty keep bytes past temporary) refl
 returned header host past object control page dirty keep bytes put.NoSlot temporary unended =
-    content_put header host object.0 page.0 bytes true Lost past _ temporary unended (put_lost header host object.0 page.0 control dirty keep bytes (event.NoSlot object page) past temporary (tells_no_slot object page)) refl
+    content_put header host object.0 page.0 bytes true Lost past _ temporary unended
+    (put_lost header host object.0 page.0 control dirty keep bytes (event.NoSlot object page) past temporary (tells_no_slot object page)) refl
 returned header host past object control page dirty keep bytes put.Failed temporary unended =
-    content_put header host object.0 page.0 bytes true Lost past _ temporary unended (put_lost header host object.0 page.0 control dirty keep bytes (device_failed Write object page) past temporary (tells_failed object page)) refl
+    content_put header host object.0 page.0 bytes true Lost past _ temporary unended
+    (put_lost header host object.0 page.0 control dirty keep bytes (device_failed Write object page) past temporary (tells_failed object page)) refl
 
-pub carries : (header : Header) (host : ℕ) (past : List Event) (object : ObjectId) (m : Message) (old new : SlotTable) (events : Listed Event) (before after : List ℕ → Told)
+pub carries : (header : Header) (host : ℕ) (past : List Event) (object : ObjectId) (m : Message) (old new : SlotTable) (events : Listed Event)
+    (before after : List ℕ → Told)
     → PagerServes header host past object m old new events.items → CarriesContent before after old new (after_message m object (Ok events))
     → CarriesOver before after old new (content_of header host past) (content_of header host (events.items ++ taking host object m past))
 carries header host past object m old new events before after serves change = by m serves.answered change
   where
-    quiet : (m : Message) → IsQuiet m → Same header host (taking host object m past) (events.items ++ taking host object m past) → CarriesContent before after old new same_content
+    quiet : (m : Message) → IsQuiet m → Same header host (taking host object m past) (events.items ++ taking host object m past)
+        → CarriesContent before after old new same_content
         → CarriesOver before after old new (content_of header host past) (content_of header host (events.items ++ taking host object m past))
-    quiet m is on c = carries_same before after old new same_content _ _ (content_same header host past _ (both_same header host past (taking host object m past) _ (same_taken header host object.0 m past is) on)) c
+    quiet m is on c =
+        carries_same before after old new same_content _ _ (content_same header host past _
+        (both_same header host past (taking host object m past) _ (same_taken header host object.0 m past is) on)) c
 
     by : (m : Message) → PagerAnswer m object old new events.items → CarriesContent before after old new (after_message m object (Ok events))
         → CarriesOver before after old new (content_of header host past) (content_of header host (events.items ++ taking host object m past))
@@ -104,11 +119,13 @@ carries header host past object m old new events before after serves change = by
     by (message.Changed control cache strategy) a c = quiet _ tt (leaves_all header host events.items _ _ a.1 (nothing_new header host _)) c
     by (message.Return control page dirty keep bytes) a c =
         carries_same before after old new (after_put (Ok (became events.items)) object.0 page.0 bytes) _ _
-        (subst (λ (es : List Event). SameContent (after_put (Ok (became events.items)) object.0 page.0 bytes (content_of header host past)) (content_of header host (es ++ taking host object (message.Return control page dirty keep bytes) past))) (sym a.told)
+        (subst (λ (es : List Event). SameContent (after_put (Ok (became events.items)) object.0 page.0 bytes (content_of header host past))
+        (content_of header host (es ++ taking host object (message.Return control page dirty keep bytes) past))) (sym a.told)
         (returned header host past object control page dirty keep bytes (became events.items) serves.temporary serves.unended)) c
     by (message.Terminate control) a c =
         carries_same before after old new (content_without object.0) _ _
-        (subst (λ (es : List Event). SameContent (content_without object.0 (content_of header host past)) (content_of header host (es ++ taking host object (message.Terminate control) past))) (sym a.1) (content_end header host object control past)) c
+        (subst (λ (es : List Event). SameContent (content_without object.0 (content_of header host past))
+        (content_of header host (es ++ taking host object (message.Terminate control) past))) (sym a.1) (content_end header host object control past)) c
     by (message.Ready cache strategy) a c = elim a [ ]
     by (message.Supply page lock precious bytes) a c = elim a [ ]
     by (message.Unavailable page) a c = elim a [ ]

@@ -1,5 +1,6 @@
 -- Each event of an answer has its cause.
-use Rattle.std.proofs.Common.{ℕ, ◌≡◌, ◌≤◌, nat_lt, Bool, true, false, List, [], ◌∷◌, Option, Some, None, refl, sym, ◌∙◌, ap, subst, arith, if◌then◌else◌, inl, inr}
+use Rattle.std.proofs.Common.{ℕ, ◌≡◌, ◌≤◌, nat_lt, Bool, true, false, List, [], ◌∷◌, Option, Some, None, refl, sym, ◌∙◌, ap, subst, arith, if◌then◌else◌, inl}
+use Rattle.std.proofs.Common.{inr}
 use Rattle.std.proofs.lemmas.Bool.{false≢true}
 use Rattle.std.proofs.lemmas.Bool.Decides.{nat_tests}
 use Rattle.pg_slots.specs.Contents.{Kept, Lost, Stored}
@@ -59,7 +60,8 @@ bytes_of None = []
 bytes_of (Some Lost) = []
 bytes_of (Some (Kept bytes)) = bytes
 
-pub content_at : (header : Header) (host : ℕ) (past : List Event) (o p : ℕ) → named header ≤ o → is_ended host o past ≡ false → content_of header host past o p ≡ stored_of (last_return host o p past) (is_lost o p past)
+pub content_at : (header : Header) (host : ℕ) (past : List Event) (o p : ℕ) → named header ≤ o → is_ended host o past ≡ false
+    → content_of header host past o p ≡ stored_of (last_return host o p past) (is_lost o p past)
 content_at header host past o p temporary unended = let high : nat_lt o (named header) ≡ false = grind (arith, nat_tests) in rw (high, unended) refl
 
 -- what a request finds
@@ -71,15 +73,20 @@ record Finds (header : Header) (host : ℕ) (past : List Event) (object : Object
 
 -- what is licensed where the supplied bytes were stored
 abbrev CausedInTurn : Header → Outside → Command → ℕ → List Event → ObjectId → List Event → List Event → Type 0
-CausedInTurn header outside doing host past object first events = (outside.paging ≡ true → SuppliesStored object events (content_of header host past)) → AllInTurn header outside doing events first
+CausedInTurn header outside doing host past object first events =
+    (outside.paging ≡ true → SuppliesStored object events (content_of header host past)) → AllInTurn header outside doing events first
 
 -- the default pager answers for temporary objects
-sends : (header : Header) (outside : Outside) (doing : Command) (host : ℕ) (object : ObjectId) (control : ℕ) (m : Message) (past : List Event) → named header ≤ object.0
+sends : (header : Header) (outside : Outside) (doing : Command) (host : ℕ) (object : ObjectId) (control : ℕ) (m : Message) (past : List Event)
+    → named header ≤ object.0
     → MaySendDown header outside doing host object.0 control m past → PagerSends (kind_of header object.0) header outside doing host object.0 control m past
-sends header outside doing host object control m past temporary may = paged_sends header outside doing host object.0 control m past (later_paged header object.0 temporary) may
+sends header outside doing host object control m past temporary may =
+    paged_sends header outside doing host object.0 control m past (later_paged header object.0 temporary) may
 
-unavailable : (header : Header) (outside : Outside) (doing : Command) (host : ℕ) (past : List Event) (object : ObjectId) (control : ℕ) (page : PageNo) (access : ℕ) → Finds header host past object page None
-    → AllInTurn header outside doing (sent_to host object control (message.Unavailable page) ∷ []) (taking host object (message.Request control page access) past)
+unavailable : (header : Header) (outside : Outside) (doing : Command) (host : ℕ) (past : List Event) (object : ObjectId) (control : ℕ) (page : PageNo)
+    (access : ℕ) → Finds header host past object page None
+    → AllInTurn header outside doing (sent_to host object control (message.Unavailable page) ∷ [])
+    (taking host object (message.Request control page access) past)
 unavailable header outside doing host past object control page access f =
     let is = none_is _ _ f.returned in
     let last = (same_taken header host object.0 (message.Request control page access) past tt).last object.0 page.0 in (
@@ -94,7 +101,8 @@ unavailable header outside doing host past object control page access f =
       tt,
     )
 
-lost_error : (header : Header) (outside : Outside) (doing : Command) (host : ℕ) (past : List Event) (object : ObjectId) (control : ℕ) (page : PageNo) (access : ℕ) → named header ≤ object.0 → is_lost object.0 page.0 past ≡ true
+lost_error : (header : Header) (outside : Outside) (doing : Command) (host : ℕ) (past : List Event) (object : ObjectId) (control : ℕ) (page : PageNo)
+    (access : ℕ) → named header ≤ object.0 → is_lost object.0 page.0 past ≡ true
     → AllInTurn header outside doing (sent_to host object control (error page) ∷ []) (taking host object (message.Request control page access) past)
 lost_error header outside doing host past object control page access temporary lost = (
   (
@@ -105,7 +113,8 @@ lost_error header outside doing host past object control page access temporary l
   tt,
 )
 
-supplies : (header : Header) (outside : Outside) (doing : Command) (host : ℕ) (past : List Event) (object : ObjectId) (control : ℕ) (page : PageNo) (access s : ℕ) (bytes : List ℕ) → Finds header host past object page (Some (held.Kept s))
+supplies : (header : Header) (outside : Outside) (doing : Command) (host : ℕ) (past : List Event) (object : ObjectId) (control : ℕ) (page : PageNo)
+    (access s : ℕ) (bytes : List ℕ) → Finds header host past object page (Some (held.Kept s))
     → (outside.paging ≡ true → content_of header host past object.0 page.0 ≡ Some (Kept bytes))
     → AllInTurn header outside doing (sent_to host object control (supply page bytes) ∷ []) (taking host object (message.Request control page access) past)
 supplies header outside doing host past object control page access s bytes f stored =
@@ -128,7 +137,8 @@ supplies header outside doing host past object control page access s bytes f sto
     paging : tells header outside object.0 ≡ true → outside.paging ≡ true
     paging is = rw (not_file header object.0 f.temporary) at is
 
-    same : (was : List ℕ) → last_return host object.0 page.0 past ≡ Some was → is_lost object.0 page.0 past ≡ false → content_of header host past object.0 page.0 ≡ Some (Kept bytes) → was ≡ bytes
+    same : (was : List ℕ) → last_return host object.0 page.0 past ≡ Some was → is_lost object.0 page.0 past ≡ false
+        → content_of header host past object.0 page.0 ≡ Some (Kept bytes) → was ≡ bytes
     same was last kept is =
         let here : stored_of (last_return host object.0 page.0 past) (is_lost object.0 page.0 past) ≡ Some (Kept was) = rw (last, kept) refl in
         let stored : content_of header host past object.0 page.0 ≡ Some (Kept was) = content_at header host past object.0 page.0 f.temporary f.unended ∙ here in
@@ -136,30 +146,44 @@ supplies header outside doing host past object control page access s bytes f sto
 
     has : {was : List ℕ} → last_return host object.0 page.0 (taking host object (message.Request control page access) past) ≡ Some was → was ≡ bytes
         → pager_has header outside host object.0 page.0 (taking host object (message.Request control page access) past) ≡ Some bytes
-    has last e = ap (λ (x : Option (List ℕ)). newer x (if is_file header object.0 then Some (start_page header outside object.0 page.0) else None)) last ∙ ap Some e
+    has last e =
+        ap (λ (x : Option (List ℕ)). newer x (if is_file header object.0 then Some (start_page header outside object.0 page.0) else None)) last ∙ ap Some e
 
-unread : (header : Header) (outside : Outside) (doing : Command) (host : ℕ) (past : List Event) (object : ObjectId) (control : ℕ) (page : PageNo) (access s : ℕ) → Finds header host past object page (Some (held.Kept s))
-    → AllInTurn header outside doing (sent_to host object control (error page) ∷ device_failed Read object page ∷ []) (taking host object (message.Request control page access) past)
+unread : (header : Header) (outside : Outside) (doing : Command) (host : ℕ) (past : List Event) (object : ObjectId) (control : ℕ) (page : PageNo) (access s : ℕ)
+    → Finds header host past object page (Some (held.Kept s))
+    → AllInTurn header outside doing (sent_to host object control (error page) ∷ device_failed Read object page ∷ [])
+    (taking host object (message.Request control page access) past)
 unread header outside doing host past object control page access s f =
     let rows = (same_taken header host object.0 (message.Request control page access) past tt).rows in (
       (
-        sends header outside doing host object control (error page) (device_failed Read object page ∷ taking host object (message.Request control page access) past) f.temporary
+        sends header outside doing host object control (error page) (device_failed Read object page ∷ taking host object (message.Request control page access)
+            past) f.temporary
             (record { access = access; taken = refl; unanswered = refl }, refl, inr (own_test object.0 page.0 page.0 false (itself page.0))),
         tt,
       ),
       (((f.temporary, (host, record { control = control; access = access; is = refl }, (s, ap (slot_of object.0 page.0) rows ∙ sym f.slot))), tt), tt),
     )
 
-requested : (header : Header) (outside : Outside) (doing : Command) (host size : ℕ) (past : List Event) (object : ObjectId) (control : ℕ) (page : PageNo) (access : ℕ) (has : Option Held) (events : List Event)
+requested : (header : Header) (outside : Outside) (doing : Command) (host size : ℕ) (past : List Event) (object : ObjectId) (control : ℕ) (page : PageNo)
+    (access : ℕ) (has : Option Held) (events : List Event)
     → Finds header host past object page has → RequestAnswer size host object control page has events
     → CausedInTurn header outside doing host past object (taking host object (message.Request control page access) past) events
-requested header outside doing host size past object control page access None events f is = subst (CausedInTurn header outside doing host past object _) (sym is) (λ stored. unavailable header outside doing host past object control page access f)
-requested header outside doing host size past object control page access (Some held.Lost) events f is = subst (CausedInTurn header outside doing host past object _) (sym is) (λ stored. lost_error header outside doing host past object control page access f.temporary (lost_is _ _ f.returned))
-requested header outside doing host size past object control page access (Some (held.Torn s)) events f is = subst (CausedInTurn header outside doing host past object _) (sym is) (λ stored. lost_error header outside doing host past object control page access f.temporary (torn_is s _ _ f.returned))
-requested header outside doing host size past object control page access (Some (held.Kept s)) events f (inl is) = subst (CausedInTurn header outside doing host past object _) (sym is.2) (λ stored. supplies header outside doing host past object control page access s is.0 f stored)
-requested header outside doing host size past object control page access (Some (held.Kept s)) events f (inr is) = subst (CausedInTurn header outside doing host past object _) (sym is) (λ stored. unread header outside doing host past object control page access s f)
+requested header outside doing host size past object control page access None events f is =
+    subst (CausedInTurn header outside doing host past object _) (sym is) (λ stored. unavailable header outside doing host past object control page access f)
+requested header outside doing host size past object control page access (Some held.Lost) events f is =
+    subst (CausedInTurn header outside doing host past object _) (sym is) (λ stored. lost_error header outside doing host past object control page access
+    f.temporary (lost_is _ _ f.returned))
+requested header outside doing host size past object control page access (Some (held.Torn s)) events f is =
+    subst (CausedInTurn header outside doing host past object _) (sym is) (λ stored. lost_error header outside doing host past object control page access
+    f.temporary (torn_is s _ _ f.returned))
+requested header outside doing host size past object control page access (Some (held.Kept s)) events f (inl is) =
+    subst (CausedInTurn header outside doing host past object _) (sym is.2) (λ stored. supplies header outside doing host past object control page access s is.0
+    f stored)
+requested header outside doing host size past object control page access (Some (held.Kept s)) events f (inr is) =
+    subst (CausedInTurn header outside doing host past object _) (sym is) (λ stored. unread header outside doing host past object control page access s f)
 
-returned : (header : Header) (outside : Outside) (doing : Command) (host : ℕ) (past : List Event) (object : ObjectId) (control : ℕ) (page : PageNo) (dirty keep : Bool) (bytes : List ℕ) (old new : SlotTable) (is : PutAnswer)
+returned : (header : Header) (outside : Outside) (doing : Command) (host : ℕ) (past : List Event) (object : ObjectId) (control : ℕ) (page : PageNo)
+    (dirty keep : Bool) (bytes : List ℕ) (old new : SlotTable) (is : PutAnswer)
     → named header ≤ object.0 → PagerStands header host old past → PutEffects is object.0 page.0 old new → (is ≡ put.NoSlot → HasNoSlot old object.0 page.0)
     → AllInTurn header outside doing (told_of is object page) (taking host object (message.Return control page dirty keep bytes) past)
 returned header outside doing host past object control page dirty keep bytes old new put.Kept temporary s leaves lacks = tt
@@ -183,7 +207,11 @@ returned header outside doing host past object control page dirty keep bytes old
       (
         host,
         record { control = control; dirty = dirty; keep = keep; bytes = bytes; is = refl },
-        (leaves.0, ap (slot_of object.0 page.0) (own_slots header host object.0 (message.Return control page dirty keep bytes) past temporary) ∙ goes_to header host old past object.0 page.0 leaves.0 s leaves.1),
+        (
+          leaves.0,
+          ap (slot_of object.0 page.0) (own_slots header host object.0 (message.Return control page dirty keep bytes) past temporary)
+              ∙ goes_to header host old past object.0 page.0 leaves.0 s leaves.1,
+        ),
       ),
     ),
     tt,
@@ -192,18 +220,34 @@ returned header outside doing host past object control page dirty keep bytes old
 )
 
 -- a pager is ready once
-ready_init : (header : Header) (outside : Outside) (doing : Command) (host : ℕ) (past : List Event) (object : ObjectId) (control size : ℕ) → named header ≤ object.0
+ready_init : (header : Header) (outside : Outside) (doing : Command) (host : ℕ) (past : List Event) (object : ObjectId) (control size : ℕ)
+    → named header ≤ object.0
     → AllInTurn header outside doing (sent_to host object control (message.Ready false 0) ∷ []) (taking host object (message.Init control size) past)
-ready_init header outside doing host past object control size temporary =
-    ((sends header outside doing host object control (message.Ready false 0) (taking host object (message.Init control size) past) temporary (size, refl, refl, inr (refl, refl)), tt), tt)
+ready_init header outside doing host past object control size temporary = (
+  (
+    sends header outside doing host object control (message.Ready false 0) (taking host object (message.Init control size) past) temporary
+        (size, refl, refl, inr (refl, refl)),
+    tt,
+  ),
+  tt,
+)
 
-ready_create : (header : Header) (outside : Outside) (doing : Command) (host : ℕ) (past : List Event) (object : ObjectId) (control size : ℕ) → named header ≤ object.0
+ready_create : (header : Header) (outside : Outside) (doing : Command) (host : ℕ) (past : List Event) (object : ObjectId) (control size : ℕ)
+    → named header ≤ object.0
     → AllInTurn header outside doing (sent_to host object control (message.Ready false 3) ∷ []) (taking host object (message.Create control size) past)
-ready_create header outside doing host past object control size temporary =
-    ((sends header outside doing host object control (message.Ready false 3) (taking host object (message.Create control size) past) temporary (size, refl, refl, inl (refl, refl)), tt), tt)
+ready_create header outside doing host past object control size temporary = (
+  (
+    sends header outside doing host object control (message.Ready false 3) (taking host object (message.Create control size) past) temporary
+        (size, refl, refl, inl (refl, refl)),
+    tt,
+  ),
+  tt,
+)
 
-pub causes : (header : Header) (outside : Outside) (doing : Command) (host : ℕ) (past : List Event) (object : ObjectId) (m : Message) (old new : SlotTable) (events : List Event)
-    → PagerServes header host past object m old new events → (outside.paging ≡ true → SuppliesStored object events (content_of header host past)) → AllInTurn header outside doing events (taking host object m past)
+pub causes : (header : Header) (outside : Outside) (doing : Command) (host : ℕ) (past : List Event) (object : ObjectId) (m : Message) (old new : SlotTable)
+    (events : List Event)
+    → PagerServes header host past object m old new events → (outside.paging ≡ true → SuppliesStored object events (content_of header host past))
+    → AllInTurn header outside doing events (taking host object m past)
 causes header outside doing host past object m old new events serves stored = by m serves.answered
   where
     at : (control : ℕ) (reply : Message) → events ≡ sent_to old.host object control reply ∷ [] → events ≡ sent_to host object control reply ∷ []
@@ -213,14 +257,25 @@ causes header outside doing host past object m old new events serves stored = by
     nothing first is = subst (λ (es : List Event). AllInTurn header outside doing es first) (sym is) tt
 
     by : (m : Message) → PagerAnswer m object old new events → AllInTurn header outside doing events (taking host object m past)
-    by (message.Init control size) a = subst (λ (es : List Event). AllInTurn header outside doing es (taking host object (message.Init control size) past)) (sym (at control _ a.1)) (ready_init header outside doing host past object control size serves.temporary)
-    by (message.Create control size) a = subst (λ (es : List Event). AllInTurn header outside doing es (taking host object (message.Create control size) past)) (sym (at control _ a.1)) (ready_create header outside doing host past object control size serves.temporary)
+    by (message.Init control size) a =
+        subst (λ (es : List Event). AllInTurn header outside doing es (taking host object (message.Init control size) past)) (sym (at control _ a.1))
+        (ready_init header outside doing host past object control size serves.temporary)
+    by (message.Create control size) a =
+        subst (λ (es : List Event). AllInTurn header outside doing es (taking host object (message.Create control size) past)) (sym (at control _ a.1))
+        (ready_create header outside doing host past object control size serves.temporary)
     by (message.Request control page access) a =
         requested header outside doing host old.size past object control page access (held_at old object.0 page.0) events
-        (record { temporary = serves.temporary; unended = serves.unended; returned = serves.stands.returned object.0 page.0 serves.temporary serves.unended serves.own; slot = serves.stands.slot object.0 page.0 })
+        (record {
+          temporary = serves.temporary;
+          unended = serves.unended;
+          returned = serves.stands.returned object.0 page.0 serves.temporary serves.unended serves.own;
+          slot = serves.stands.slot object.0 page.0;
+        })
         (subst (λ (h : ℕ). RequestAnswer old.size h object control page (held_at old object.0 page.0) events) serves.stands.host_is a.1) stored
     by (message.Return control page dirty keep bytes) a =
-        subst (λ (es : List Event). AllInTurn header outside doing es (taking host object (message.Return control page dirty keep bytes) past)) (sym a.told) (returned header outside doing host past object control page dirty keep bytes old new (became events) serves.temporary serves.stands a.held a.no_slot.0)
+        subst (λ (es : List Event). AllInTurn header outside doing es (taking host object (message.Return control page dirty keep bytes) past)) (sym a.told)
+        (returned header outside doing host past object control page dirty keep bytes old new (became events) serves.temporary serves.stands a.held
+        a.no_slot.0)
     by (message.Terminate control) a = nothing (taking host object (message.Terminate control) past) a.1
     by (message.Unlock control page access) a = nothing (taking host object (message.Unlock control page access) past) a.1
     by (message.Completed control page count) a = nothing (taking host object (message.Completed control page count) past) a.1

@@ -24,20 +24,39 @@ never : {X : Type 0} → false ≡ true → X
 never is = absurd (false≢true is)
 
 -- a message for which nothing is owed
-owes_nothing : (header : Header) (host : ℕ) (object : ObjectId) (m : Message) (past events : List Event) → opens m ≡ false → ((p : ℕ) → asks p m ≡ false) → ((p : ℕ) → returns p m ≡ false) → events ≡ [] → IsPaid header (events ++ taking host object m past)
+owes_nothing : (header : Header) (host : ℕ) (object : ObjectId) (m : Message) (past events : List Event) → opens m ≡ false → ((p : ℕ) → asks p m ≡ false)
+    → ((p : ℕ) → returns p m ≡ false) → events ≡ [] → IsPaid header (events ++ taking host object m past)
 owes_nothing header host object m past events one two three is =
     subst (λ (es : List Event). IsPaid header (es ++ taking host object m past)) (sym is)
     (paid_of header host object.0 m (taking host object m past)
-    (record { none_owed = refl; took = refl; no_error = refl; no_absence = refl; ready = λ e. never (sym one ∙ e); answered = λ p e. never (sym (two p) ∙ e); lacking = λ p high e lacks. never (sym (three p) ∙ e) }))
+    (record {
+      none_owed = refl;
+      took = refl;
+      no_error = refl;
+      no_absence = refl;
+      ready = λ e. never (sym one ∙ e);
+      answered = λ p e. never (sym (two p) ∙ e);
+      lacking = λ p high e lacks. never (sym (three p) ∙ e);
+    }))
 
-is_ready : (header : Header) (host at : ℕ) (object : ObjectId) (m : Message) (control strategy : ℕ) (past events : List Event) → ((p : ℕ) → asks p m ≡ false) → ((p : ℕ) → returns p m ≡ false) → events ≡ sent_to at object control (message.Ready false strategy) ∷ []
+is_ready : (header : Header) (host at : ℕ) (object : ObjectId) (m : Message) (control strategy : ℕ) (past events : List Event) → ((p : ℕ) → asks p m ≡ false)
+    → ((p : ℕ) → returns p m ≡ false) → events ≡ sent_to at object control (message.Ready false strategy) ∷ []
     → IsPaid header (events ++ taking host object m past)
 is_ready header host at object m control strategy past events two three is =
     subst (λ (es : List Event). IsPaid header (es ++ taking host object m past)) (sym is)
     (paid_of header host object.0 m (sent_to at object control (message.Ready false strategy) ∷ taking host object m past)
-    (record { none_owed = refl; took = refl; no_error = refl; no_absence = refl; ready = λ e. rw (itself object.0) refl; answered = λ p e. never (sym (two p) ∙ e); lacking = λ p high e lacks. never (sym (three p) ∙ e) }))
+    (record {
+      none_owed = refl;
+      took = refl;
+      no_error = refl;
+      no_absence = refl;
+      ready = λ e. rw (itself object.0) refl;
+      answered = λ p e. never (sym (two p) ∙ e);
+      lacking = λ p high e lacks. never (sym (three p) ∙ e);
+    }))
 
-requested : (header : Header) (host at size : ℕ) (object : ObjectId) (control : ℕ) (page : PageNo) (access : ℕ) (has : Option Held) (past events : List Event) → RequestAnswer size at object control page has events
+requested : (header : Header) (host at size : ℕ) (object : ObjectId) (control : ℕ) (page : PageNo) (access : ℕ) (has : Option Held) (past events : List Event)
+    → RequestAnswer size at object control page has events
     → IsPaid header (events ++ taking host object (message.Request control page access) past)
 requested header host at size object control page access has past events is = by has is
   where
@@ -48,21 +67,61 @@ requested header host at size object control page access has past events is = by
     on es e paid = subst (λ (x : List Event). IsPaid header (x ++ first)) (sym e) paid
 
     error_sent : IsPaid header (sent_to at object control (error page) ∷ first)
-    error_sent = paid_of header host object.0 (message.Request control page access) _ (record { none_owed = refl; took = refl; no_error = refl; no_absence = refl; ready = λ e. never e; answered = λ p e. own_test object.0 page.0 p _ e; lacking = λ p high e lacks. never e })
+    error_sent =
+        paid_of header host object.0 (message.Request control page access) _ (record {
+          none_owed = refl;
+          took = refl;
+          no_error = refl;
+          no_absence = refl;
+          ready = λ e. never e;
+          answered = λ p e. own_test object.0 page.0 p _ e;
+          lacking = λ p high e lacks. never e;
+        })
 
     by : (has : Option Held) → RequestAnswer size at object control page has events → IsPaid header (events ++ first)
-    by None e = on _ e (paid_of header host object.0 (message.Request control page access) _ (record { none_owed = refl; took = refl; no_error = refl; no_absence = refl; ready = λ e. never e; answered = λ p e. own_test object.0 page.0 p _ e; lacking = λ p high e lacks. never e }))
+    by None e =
+        on _ e (paid_of header host object.0 (message.Request control page access) _
+        (record {
+          none_owed = refl;
+          took = refl;
+          no_error = refl;
+          no_absence = refl;
+          ready = λ e. never e;
+          answered = λ p e. own_test object.0 page.0 p _ e;
+          lacking = λ p high e lacks. never e;
+        }))
     by (Some held.Lost) e = on _ e error_sent
     by (Some (held.Torn s)) e = on _ e error_sent
-    by (Some (held.Kept s)) (inl e) = on _ e.2 (paid_of header host object.0 (message.Request control page access) _ (record { none_owed = refl; took = refl; no_error = refl; no_absence = refl; ready = λ e. never e; answered = λ p e. own_test object.0 page.0 p _ e; lacking = λ p high e lacks. never e }))
-    by (Some (held.Kept s)) (inr e) = on _ e (paid_of header host object.0 (message.Request control page access) _ (record { none_owed = refl; took = refl; no_error = refl; no_absence = refl; ready = λ e. never e; answered = λ p e. own_test object.0 page.0 p _ e; lacking = λ p high e lacks. never e }))
+    by (Some (held.Kept s)) (inl e) =
+        on _ e.2 (paid_of header host object.0 (message.Request control page access) _
+        (record {
+          none_owed = refl;
+          took = refl;
+          no_error = refl;
+          no_absence = refl;
+          ready = λ e. never e;
+          answered = λ p e. own_test object.0 page.0 p _ e;
+          lacking = λ p high e lacks. never e;
+        }))
+    by (Some (held.Kept s)) (inr e) =
+        on _ e (paid_of header host object.0 (message.Request control page access) _
+        (record {
+          none_owed = refl;
+          took = refl;
+          no_error = refl;
+          no_absence = refl;
+          ready = λ e. never e;
+          answered = λ p e. own_test object.0 page.0 p _ e;
+          lacking = λ p high e lacks. never e;
+        }))
 
 abbrev is_no_slot : PutAnswer → Bool
 is_no_slot put.NoSlot = true
 is_no_slot put.Kept = false
 is_no_slot put.Failed = false
 
-returned : (header : Header) (host : ℕ) (past : List Event) (object : ObjectId) (control : ℕ) (page : PageNo) (dirty keep : Bool) (bytes : List ℕ) (old : SlotTable) (is : PutAnswer)
+returned : (header : Header) (host : ℕ) (past : List Event) (object : ObjectId) (control : ℕ) (page : PageNo) (dirty keep : Bool) (bytes : List ℕ)
+    (old : SlotTable) (is : PutAnswer)
     → PagerStands header host old past → (HasNoSlot old object.0 page.0 → is ≡ put.NoSlot)
     → IsPaid header (told_of is object page ++ taking host object (message.Return control page dirty keep bytes) past)
 returned header host past object control page dirty keep bytes old is s told = by is told
@@ -76,10 +135,41 @@ returned header host past object control page dirty keep bytes old is s told = b
         let l = subst (λ (k : ℕ). LacksSlot header host object.0 k past) here lacks in
         (s.slot object.0 page.0 ∙ l.none, is_full header host old past s l.full)
 
-    by : (is : PutAnswer) → (HasNoSlot old object.0 page.0 → is ≡ put.NoSlot) → IsPaid header (told_of is object page ++ taking host object (message.Return control page dirty keep bytes) past)
-    by put.Kept told = paid_of header host object.0 (message.Return control page dirty keep bytes) _ (record { none_owed = refl; took = refl; no_error = refl; no_absence = refl; ready = λ e. never e; answered = λ p e. never e; lacking = λ p high e lacks. never (ap is_no_slot (told (lacks_it p e lacks))) })
-    by put.Failed told = paid_of header host object.0 (message.Return control page dirty keep bytes) _ (record { none_owed = refl; took = refl; no_error = refl; no_absence = refl; ready = λ e. never e; answered = λ p e. never e; lacking = λ p high e lacks. never (ap is_no_slot (told (lacks_it p e lacks))) })
-    by put.NoSlot told = paid_of header host object.0 (message.Return control page dirty keep bytes) _ (record { none_owed = refl; took = refl; no_error = refl; no_absence = refl; ready = λ e. never e; answered = λ p e. never e; lacking = λ p high e lacks. own_test object.0 page.0 p _ e })
+    by : (is : PutAnswer) → (HasNoSlot old object.0 page.0 → is ≡ put.NoSlot)
+        → IsPaid header (told_of is object page ++ taking host object (message.Return control page dirty keep bytes) past)
+    by put.Kept told =
+        paid_of header host object.0 (message.Return control page dirty keep bytes) _
+        (record {
+          none_owed = refl;
+          took = refl;
+          no_error = refl;
+          no_absence = refl;
+          ready = λ e. never e;
+          answered = λ p e. never e;
+          lacking = λ p high e lacks. never (ap is_no_slot (told (lacks_it p e lacks)));
+        })
+    by put.Failed told =
+        paid_of header host object.0 (message.Return control page dirty keep bytes) _
+        (record {
+          none_owed = refl;
+          took = refl;
+          no_error = refl;
+          no_absence = refl;
+          ready = λ e. never e;
+          answered = λ p e. never e;
+          lacking = λ p high e lacks. never (ap is_no_slot (told (lacks_it p e lacks)));
+        })
+    by put.NoSlot told =
+        paid_of header host object.0 (message.Return control page dirty keep bytes) _
+        (record {
+          none_owed = refl;
+          took = refl;
+          no_error = refl;
+          no_absence = refl;
+          ready = λ e. never e;
+          answered = λ p e. never e;
+          lacking = λ p high e lacks. own_test object.0 page.0 p _ e;
+        })
 
 pub paid : (header : Header) (host : ℕ) (past : List Event) (object : ObjectId) (m : Message) (old new : SlotTable) (events : List Event)
     → PagerServes header host past object m old new events → IsPaid header (events ++ taking host object m past)
@@ -88,9 +178,11 @@ paid header host past object m old new events serves = by m serves.answered
     by : (m : Message) → PagerAnswer m object old new events → IsPaid header (events ++ taking host object m past)
     by (message.Init control size) a = is_ready header host old.host object _ control 0 past events (λ p. refl) (λ p. refl) a.1
     by (message.Create control size) a = is_ready header host old.host object _ control 3 past events (λ p. refl) (λ p. refl) a.1
-    by (message.Request control page access) a = requested header host old.host old.size object control page access (held_at old object.0 page.0) past events a.1
+    by (message.Request control page access) a =
+        requested header host old.host old.size object control page access (held_at old object.0 page.0) past events a.1
     by (message.Return control page dirty keep bytes) a =
-        subst (λ (es : List Event). IsPaid header (es ++ taking host object (message.Return control page dirty keep bytes) past)) (sym a.told) (returned header host past object control page dirty keep bytes old (became events) serves.stands a.no_slot.1)
+        subst (λ (es : List Event). IsPaid header (es ++ taking host object (message.Return control page dirty keep bytes) past)) (sym a.told)
+        (returned header host past object control page dirty keep bytes old (became events) serves.stands a.no_slot.1)
     by (message.Terminate control) a = owes_nothing header host object _ past events refl (λ p. refl) (λ p. refl) a.1
     by (message.Unlock control page access) a = owes_nothing header host object _ past events refl (λ p. refl) (λ p. refl) a.1
     by (message.Completed control page count) a = owes_nothing header host object _ past events refl (λ p. refl) (λ p. refl) a.1

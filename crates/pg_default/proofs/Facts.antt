@@ -42,12 +42,18 @@ IsQuiet (message.Changed control cache strategy) = Unit {0}
 IsQuiet m = ⊥
 
 pub same_taken : (header : Header) (host o : ℕ) (m : Message) (past : List Event) → IsQuiet m → Same header host past (event.Taken (up host o) m ∷ past)
-same_taken header host o (message.Init control size) past quiet = record { rows = same_if _ _; ended = λ q. refl; away = λ q. own_away host o q past; last = λ q r. same_if _ _; lost = λ q r. refl }
-same_taken header host o (message.Create control size) past quiet = record { rows = same_if _ _; ended = λ q. refl; away = λ q. own_away host o q past; last = λ q r. same_if _ _; lost = λ q r. refl }
-same_taken header host o (message.Request control page access) past quiet = record { rows = same_if _ _; ended = λ q. refl; away = λ q. own_away host o q past; last = λ q r. same_if _ _; lost = λ q r. refl }
-same_taken header host o (message.Unlock control page access) past quiet = record { rows = same_if _ _; ended = λ q. refl; away = λ q. own_away host o q past; last = λ q r. same_if _ _; lost = λ q r. refl }
-same_taken header host o (message.Completed control page count) past quiet = record { rows = same_if _ _; ended = λ q. refl; away = λ q. own_away host o q past; last = λ q r. same_if _ _; lost = λ q r. refl }
-same_taken header host o (message.Changed control cache strategy) past quiet = record { rows = same_if _ _; ended = λ q. refl; away = λ q. own_away host o q past; last = λ q r. same_if _ _; lost = λ q r. refl }
+same_taken header host o (message.Init control size) past quiet =
+    record { rows = same_if _ _; ended = λ q. refl; away = λ q. own_away host o q past; last = λ q r. same_if _ _; lost = λ q r. refl }
+same_taken header host o (message.Create control size) past quiet =
+    record { rows = same_if _ _; ended = λ q. refl; away = λ q. own_away host o q past; last = λ q r. same_if _ _; lost = λ q r. refl }
+same_taken header host o (message.Request control page access) past quiet =
+    record { rows = same_if _ _; ended = λ q. refl; away = λ q. own_away host o q past; last = λ q r. same_if _ _; lost = λ q r. refl }
+same_taken header host o (message.Unlock control page access) past quiet =
+    record { rows = same_if _ _; ended = λ q. refl; away = λ q. own_away host o q past; last = λ q r. same_if _ _; lost = λ q r. refl }
+same_taken header host o (message.Completed control page count) past quiet =
+    record { rows = same_if _ _; ended = λ q. refl; away = λ q. own_away host o q past; last = λ q r. same_if _ _; lost = λ q r. refl }
+same_taken header host o (message.Changed control cache strategy) past quiet =
+    record { rows = same_if _ _; ended = λ q. refl; away = λ q. own_away host o q past; last = λ q r. same_if _ _; lost = λ q r. refl }
 same_taken header host o (message.Return control page dirty keep bytes) past quiet = elim quiet [ ]
 same_taken header host o (message.Terminate control) past quiet = elim quiet [ ]
 same_taken header host o (message.Ready cache strategy) past quiet = elim quiet [ ]
@@ -90,9 +96,16 @@ pub record TellsLost (o p : ℕ) (e : Event) : Type 0 where
 pub put_kept : (header : Header) (host o p : ℕ) (control : ℕ) (dirty keep : Bool) (bytes : List ℕ) (past : List Event) → named header ≤ o
     → Put header host o p bytes false past (event.Taken (up host o) (message.Return control (record { 0 = p }) dirty keep bytes) ∷ past)
 put_kept header host o p control dirty keep bytes past temporary =
-    record { rows = own_slots header host o (message.Return control (record { 0 = p }) dirty keep bytes) past temporary; ended = λ q. refl; away = λ q. own_away host o q past; last = λ q r. last_put host o p q r bytes (last_return host q r past); gone = λ q r. refl }
+    record {
+      rows = own_slots header host o (message.Return control (record { 0 = p }) dirty keep bytes) past temporary;
+      ended = λ q. refl;
+      away = λ q. own_away host o q past;
+      last = λ q r. last_put host o p q r bytes (last_return host q r past);
+      gone = λ q r. refl;
+    }
 
-pub put_lost : (header : Header) (host o p : ℕ) (control : ℕ) (dirty keep : Bool) (bytes : List ℕ) (e : Event) (past : List Event) → named header ≤ o → TellsLost o p e
+pub put_lost : (header : Header) (host o p : ℕ) (control : ℕ) (dirty keep : Bool) (bytes : List ℕ) (e : Event) (past : List Event) → named header ≤ o
+    → TellsLost o p e
     → Put header host o p bytes true past (e ∷ event.Taken (up host o) (message.Return control (record { 0 = p }) dirty keep bytes) ∷ past)
 put_lost header host o p control dirty keep bytes e past temporary tells =
     let first : List Event = event.Taken (up host o) (message.Return control (record { 0 = p }) dirty keep bytes) ∷ past in

@@ -1,5 +1,6 @@
 -- The slots stand on under events in which their pager has no part.
-use Rattle.std.proofs.Common.{ℕ, ◌≡◌, ◌≢◌, ◌≤◌, ◌<◌, ◌==◌, ◌&&◌, ◌||◌, ◌⊎◌, not, nat_lt, Bool, true, false, List, ◌∷◌, None, refl, sym, ◌∙◌, ap, subst, arith, inl, inr, [], if◌then◌else◌}
+use Rattle.std.proofs.Common.{ℕ, ◌≡◌, ◌≢◌, ◌≤◌, ◌<◌, ◌==◌, ◌&&◌, ◌||◌, ◌⊎◌, not, nat_lt, Bool, true, false, List, ◌∷◌, None, refl, sym, ◌∙◌, ap, subst, arith}
+use Rattle.std.proofs.Common.{inl, inr, [], if◌then◌else◌}
 use Rattle.std.proofs.lemmas.Bool.{false≢true}
 use Rattle.std.proofs.lemmas.Bool.Decides.{nat_tests}
 use Rattle.pg_slots.specs.Slots.{SlotTable, held_at}
@@ -30,7 +31,8 @@ record Leaves (header : Header) (host : ℕ) (past now : List Event) : Type 0 wh
   last : (q r : ℕ) → named header ≤ q → last_return host q r now ≡ last_return host q r past
   lost : (q r : ℕ) → named header ≤ q → is_heard_elsewhere host q now ≡ false → is_lost q r now ≡ is_lost q r past
 
-leaves_stands : (header : Header) (host : ℕ) (table : SlotTable) (past now : List Event) → Leaves header host past now → PagerStands header host table past → PagerStands header host table now
+leaves_stands : (header : Header) (host : ℕ) (table : SlotTable) (past now : List Event) → Leaves header host past now → PagerStands header host table past
+    → PagerStands header host table now
 leaves_stands header host table past now l s = record {
   host_is = s.host_is;
   size = s.size;
@@ -38,7 +40,8 @@ leaves_stands header host table past now l s = record {
   slot = λ q r. s.slot q r ∙ ap (slot_of q r) (sym l.rows);
   declared = s.declared;
   ended = λ q r is. ended_if q r (nat_lt q (named header)) refl is;
-  returned = λ q r high is own. held_same _ _ _ _ _ _ refl (l.last q r high) (l.lost q r high own) (s.returned q r high (sym (l.ended q high) ∙ is) (l.away q own));
+  returned =
+      λ q r high is own. held_same _ _ _ _ _ _ refl (l.last q r high) (l.lost q r high own) (s.returned q r high (sym (l.ended q high) ∙ is) (l.away q own));
 }
   where
     ended_if : (q r : ℕ) (b : Bool) → nat_lt q (named header) ≡ b → is_ended host q now ≡ true → held_at table q r ≡ None
@@ -58,7 +61,8 @@ apart_taken : (header : Header) (host at object q : ℕ) → (object < named hea
 apart_taken header host at object q (inl low) high = grind (arith, nat_tests, low, high)
 apart_taken header host at object q (inr other) high = grind (arith, nat_tests, other)
 
-no_object : (header : Header) (host at object q : ℕ) → (object < named header) ⊎ (at ≢ host) → named header ≤ q → (not (at == host) && object == q) ≡ false → (object == q) ≡ false
+no_object : (header : Header) (host at object q : ℕ) → (object < named header) ⊎ (at ≢ host) → named header ≤ q → (not (at == host) && object == q) ≡ false
+    → (object == q) ≡ false
 no_object header host at object q (inl low) high is = grind (arith, nat_tests, low, high)
 no_object header host at object q (inr other) high is = let differ : (at == host) ≡ false = grind (arith, nat_tests, other) in rw differ at is
 
@@ -70,30 +74,37 @@ no_row header host at object (inl low) = by (at == host)
     by false = refl
 no_row header host at object (inr other) = let differ : (at == host) ≡ false = grind (arith, nat_tests, other) in rw differ refl
 
-ended_taken : (host q : ℕ) (at : HostId) (object : ObjectId) (m : Message) (past : List Event) → (at.0 == host && object.0 == q) ≡ false → is_ended host q (event.Taken (Up at object) m ∷ past) ≡ is_ended host q past
+ended_taken : (host q : ℕ) (at : HostId) (object : ObjectId) (m : Message) (past : List Event) → (at.0 == host && object.0 == q) ≡ false
+    → is_ended host q (event.Taken (Up at object) m ∷ past) ≡ is_ended host q past
 ended_taken host q at object (message.Terminate control) past apart = rw apart refl
 ended_taken host q at object other past apart = refl
 
-lost_taken : (q r : ℕ) (at : HostId) (object : ObjectId) (m : Message) (past : List Event) → (object.0 == q) ≡ false → is_lost q r (event.Taken (Up at object) m ∷ past) ≡ is_lost q r past
+lost_taken : (q r : ℕ) (at : HostId) (object : ObjectId) (m : Message) (past : List Event) → (object.0 == q) ≡ false
+    → is_lost q r (event.Taken (Up at object) m ∷ past) ≡ is_lost q r past
 lost_taken q r at object (message.Return control page dirty keep bytes) past apart = rw apart refl
 lost_taken q r at object other past apart = refl
 
-taken_leaves : (header : Header) (host : ℕ) (at : HostId) (object : ObjectId) (m : Message) (past : List Event) → (object.0 < named header) ⊎ (at.0 ≢ host) → Leaves header host past (event.Taken (Up at object) m ∷ past)
+taken_leaves : (header : Header) (host : ℕ) (at : HostId) (object : ObjectId) (m : Message) (past : List Event) → (object.0 < named header) ⊎ (at.0 ≢ host)
+    → Leaves header host past (event.Taken (Up at object) m ∷ past)
 taken_leaves header host at object m past is = record {
   rows = rw (no_row header host at.0 object.0 is) refl;
   ended = λ q high. ended_taken host q at object m past (apart_taken header host at.0 object.0 q is high);
   away = λ q own. or_no (not (at.0 == host) && object.0 == q) (is_heard_elsewhere host q past) own;
   last = λ q r high. rw (apart_taken header host at.0 object.0 q is high) refl;
-  lost = λ q r high own. lost_taken q r at object m past (no_object header host at.0 object.0 q is high (first_no (not (at.0 == host) && object.0 == q) (is_heard_elsewhere host q past) own));
+  lost =
+      λ q r high own. lost_taken q r at object m past (no_object header host at.0 object.0 q is high
+      (first_no (not (at.0 == host) && object.0 == q) (is_heard_elsewhere host q past) own));
 }
 
 -- a foreign object is none of the host's own
-foreign : (header : Header) (host o q : ℕ) (past : List Event) → IsForeign header host o past → named header ≤ q → is_heard_elsewhere host q past ≡ false → (o == q) ≡ false
+foreign : (header : Header) (host o q : ℕ) (past : List Event) → IsForeign header host o past → named header ≤ q → is_heard_elsewhere host q past ≡ false
+    → (o == q) ≡ false
 foreign header host o q past (inl low) high own = grind (arith, nat_tests, low, high)
 foreign header host o q past (inr away) high own = by (o == q) refl
   where
     by : (b : Bool) → (o == q) ≡ b → (o == q) ≡ false
-    by true is = let same : o ≡ q = grind (arith, nat_tests, is) in absurd (false≢true (sym own ∙ subst (λ (k : ℕ). is_heard_elsewhere host k past ≡ true) same away))
+    by true is =
+        let same : o ≡ q = grind (arith, nat_tests, is) in absurd (false≢true (sym own ∙ subst (λ (k : ℕ). is_heard_elsewhere host k past ≡ true) same away))
     by false is = is
 
 and_no : (a b : Bool) → (a && (false && b)) ≡ false
@@ -118,27 +129,33 @@ event_leaves header host (event.NoSlot object page) past is = record {
 }
 event_leaves header host e past is = record { rows = refl; ended = λ q high. refl; away = λ q own. own; last = λ q r high. refl; lost = λ q r high own. refl }
 
-pub others : (header : Header) (host : ℕ) (table : SlotTable) (e : Event) (past : List Event) → IsOther header host e past → PagerStands header host table past → PagerStands header host table (e ∷ past)
+pub others : (header : Header) (host : ℕ) (table : SlotTable) (e : Event) (past : List Event) → IsOther header host e past → PagerStands header host table past
+    → PagerStands header host table (e ∷ past)
 others header host table e past is s = leaves_stands header host table past (e ∷ past) (event_leaves header host e past is) s
 
-content_stays : (header : Header) (host : ℕ) (past now : List Event) → Leaves header host past now → IsApart header host now → SameContent (content_of header host past) (content_of header host now)
+content_stays : (header : Header) (host : ℕ) (past now : List Event) → Leaves header host past now → IsApart header host now
+    → SameContent (content_of header host past) (content_of header host now)
 content_stays header host past now l apart q r = by (nat_lt q (named header)) refl
   where
-    stays : named header ≤ q → (b : Bool) → is_heard_elsewhere host q now ≡ b → stored_of (last_return host q r now) (is_lost q r now) ≡ stored_of (last_return host q r past) (is_lost q r past)
+    stays : named header ≤ q → (b : Bool) → is_heard_elsewhere host q now ≡ b
+        → stored_of (last_return host q r now) (is_lost q r now) ≡ stored_of (last_return host q r past) (is_lost q r past)
     stays high true away =
         let none : last_return host q r now ≡ None = apart q r high away in
         let never : last_return host q r past ≡ None = sym (l.last q r high) ∙ none in
         rw (none, never) refl
     stays high false own = rw (l.last q r high, l.lost q r high own) refl
 
-    by : (b : Bool) → nat_lt q (named header) ≡ b → (if b || is_ended host q now then None else stored_of (last_return host q r now) (is_lost q r now)) ≡ (if b || is_ended host q past then None else stored_of (last_return host q r past) (is_lost q r past))
+    by : (b : Bool) → nat_lt q (named header) ≡ b → (if b || is_ended host q now then None else stored_of (last_return host q r now) (is_lost q r now)) ≡ (if b
+        || is_ended host q past then None else stored_of (last_return host q r past) (is_lost q r past))
     by true low = refl
     by false is = let high : named header ≤ q = grind (arith, nat_tests, is) in rw (l.ended q high, stays high (is_heard_elsewhere host q now) refl) refl
 
-pub others_carry : (header : Header) (host : ℕ) (table : SlotTable) (e : Event) (past : List Event) (areas : List ℕ → Told) → IsOther header host e past → IsApart header host (e ∷ past)
+pub others_carry : (header : Header) (host : ℕ) (table : SlotTable) (e : Event) (past : List Event) (areas : List ℕ → Told) → IsOther header host e past
+    → IsApart header host (e ∷ past)
     → CarriesOver areas areas table table (content_of header host past) (content_of header host (e ∷ past))
 others_carry header host table e past areas is apart =
-    carries_same areas areas table table same_content _ _ (content_stays header host past (e ∷ past) (event_leaves header host e past is) apart) (carried_same areas table)
+    carries_same areas areas table table same_content _ _ (content_stays header host past (e ∷ past) (event_leaves header host e past is) apart)
+    (carried_same areas table)
 
 pub empty : (header : Header) (host o p : ℕ) → content_of header host [] o p ≡ None
 empty header host o p = same_if (nat_lt o (named header) || false) None

@@ -1,5 +1,6 @@
 -- The slots of a history: each page stands once among them, and which of them is free.
-use Rattle.std.proofs.Common.{ℕ, zero, suc, ◌≡◌, ◌+◌, ◌<◌, ◌≤◌, ◌==◌, ◌&&◌, ◌||◌, not, nat_lt, Bool, true, false, List, [], ◌∷◌, Option, Some, None, refl, sym, ◌∙◌, ap, subst, arith, if◌then◌else◌}
+use Rattle.std.proofs.Common.{ℕ, zero, suc, ◌≡◌, ◌+◌, ◌<◌, ◌≤◌, ◌==◌, ◌&&◌, ◌||◌, not, nat_lt, Bool, true, false, List, [], ◌∷◌, Option, Some, None, refl, sym}
+use Rattle.std.proofs.Common.{◌∙◌, ap, subst, arith, if◌then◌else◌}
 use Rattle.std.proofs.lemmas.Bool.Decides.{nat_tests}
 use Rattle.std.proofs.lemmas.Bool.{false≢true}
 use Rattle.std.proofs.lemmas.Option.{none-some, same_Some}
@@ -26,7 +27,8 @@ pub slot_without : (o q r : ℕ) (rows : List Slotted) → slot_of q r (without_
 slot_without o q r [] = sym (same_if (o == q) None)
 slot_without o q r (row ∷ rows) = by (row.object == o) (row.object == q && row.page == r) (o == q) refl refl refl (slot_without o q r rows)
   where
-    by : (a b c : Bool) → (row.object == o) ≡ a → (row.object == q && row.page == r) ≡ b → (o == q) ≡ c → slot_of q r (without_object o rows) ≡ (if c then None else slot_of q r rows)
+    by : (a b c : Bool) → (row.object == o) ≡ a → (row.object == q && row.page == r) ≡ b → (o == q) ≡ c
+        → slot_of q r (without_object o rows) ≡ (if c then None else slot_of q r rows)
         → slot_of q r (if a then without_object o rows else row ∷ without_object o rows) ≡ (if c then None else (if b then Some row.slot else slot_of q r rows))
     by true true true one two three rest = rest
     by true true false one two three rest = absurd (grind (arith, nat_tests, one, two, three))
@@ -81,7 +83,8 @@ pub taken_of : (rows : List Slotted) (s : ℕ) → Once rows → is_taken s rows
 taken_of [] s once is = absurd (false≢true is)
 taken_of (row ∷ rows) s once is = by (row.slot == s) refl (λ holds. taken_of rows s once.1 holds) is
   where
-    later : (w : IsOf rows s) (t : Bool) → (row.object == w.object && row.page == w.page) ≡ t → (if t then Some row.slot else slot_of w.object w.page rows) ≡ Some s
+    later : (w : IsOf rows s) (t : Bool) → (row.object == w.object && row.page == w.page) ≡ t
+        → (if t then Some row.slot else slot_of w.object w.page rows) ≡ Some s
     later w true same =
         let object_is : row.object ≡ w.object = grind (arith, nat_tests, same) in
         let page_is : row.page ≡ w.page = grind (arith, nat_tests, same) in
@@ -104,24 +107,29 @@ of_taken (row ∷ rows) o p s is = by (row.object == o && row.page == p) (λ hol
     or_true true = refl
     or_true false = refl
 
-    by : (t : Bool) → (slot_of o p rows ≡ Some s → is_taken s rows ≡ true) → (if t then Some row.slot else slot_of o p rows) ≡ Some s → (row.slot == s || is_taken s rows) ≡ true
+    by : (t : Bool) → (slot_of o p rows ≡ Some s → is_taken s rows ≡ true) → (if t then Some row.slot else slot_of o p rows) ≡ Some s
+        → (row.slot == s || is_taken s rows) ≡ true
     by true rest holds = let slot_is : row.slot ≡ s = same_Some row.slot s holds in rw (slot_is, itself s) refl
     by false rest holds = rw (rest holds) (or_true (row.slot == s))
 
 -- the first of the free slots
-pub first_is : (n from s : ℕ) (rows : List Slotted) → from ≤ s → s < from + n → is_taken s rows ≡ false → ((t : ℕ) → t < s → is_taken t rows ≡ true) → first_free n from rows ≡ Some s
+pub first_is : (n from s : ℕ) (rows : List Slotted) → from ≤ s → s < from + n → is_taken s rows ≡ false → ((t : ℕ) → t < s → is_taken t rows ≡ true)
+    → first_free n from rows ≡ Some s
 first_is zero from s rows low high free below = absurd (omega (arith, low, high))
-first_is (suc n) from s rows low high free below = by (is_taken from rows) refl (λ less. first_is n (from + 1) s rows (omega (arith, less)) (omega (arith, high)) free below)
+first_is (suc n) from s rows low high free below =
+    by (is_taken from rows) refl (λ less. first_is n (from + 1) s rows (omega (arith, less)) (omega (arith, high)) free below)
   where
     less_if : (e : Bool) → (from == s) ≡ e → is_taken from rows ≡ true → from < s
-    less_if true same is = let here : from ≡ s = grind (arith, nat_tests, same) in absurd (false≢true (sym free ∙ subst (λ (k : ℕ). is_taken k rows ≡ true) here is))
+    less_if true same is =
+        let here : from ≡ s = grind (arith, nat_tests, same) in absurd (false≢true (sym free ∙ subst (λ (k : ℕ). is_taken k rows ≡ true) here is))
     less_if false apart is = grind (arith, nat_tests, low, apart)
 
     same_if_free : (e : Bool) → (from == s) ≡ e → is_taken from rows ≡ false → from ≡ s
     same_if_free true same is = grind (arith, nat_tests, same)
     same_if_free false apart is = absurd (false≢true (sym is ∙ below from (grind (arith, nat_tests, low, apart))))
 
-    by : (t : Bool) → is_taken from rows ≡ t → (from < s → first_free n (from + 1) rows ≡ Some s) → (if t then first_free n (from + 1) rows else Some from) ≡ Some s
+    by : (t : Bool) → is_taken from rows ≡ t → (from < s → first_free n (from + 1) rows ≡ Some s)
+        → (if t then first_free n (from + 1) rows else Some from) ≡ Some s
     by true is rest = rest (less_if (from == s) refl is)
     by false is rest = ap Some (same_if_free (from == s) refl is)
 
@@ -131,17 +139,20 @@ full_is (suc n) from rows all = rw (all from (omega arith)) (full_is n (from + 1
 
 pub full_of : (n from : ℕ) (rows : List Slotted) → first_free n from rows ≡ None → (t : ℕ) → from ≤ t → t < from + n → is_taken t rows ≡ true
 full_of zero from rows none t low high = absurd (omega (arith, low, high))
-full_of (suc n) from rows none t low high = by (is_taken from rows) refl (λ rest less. full_of n (from + 1) rows rest t (omega (arith, less)) (omega (arith, high))) none
+full_of (suc n) from rows none t low high =
+    by (is_taken from rows) refl (λ rest less. full_of n (from + 1) rows rest t (omega (arith, less)) (omega (arith, high))) none
   where
     next : (e : Bool) → (from == t) ≡ e → is_taken from rows ≡ true → (from < t → is_taken t rows ≡ true) → is_taken t rows ≡ true
     next true same is rest = let here : from ≡ t = grind (arith, nat_tests, same) in subst (λ (k : ℕ). is_taken k rows ≡ true) here is
     next false apart is rest = rest (grind (arith, nat_tests, low, apart))
 
-    by : (b : Bool) → is_taken from rows ≡ b → (first_free n (from + 1) rows ≡ None → from < t → is_taken t rows ≡ true) → (if b then first_free n (from + 1) rows else Some from) ≡ None → is_taken t rows ≡ true
+    by : (b : Bool) → is_taken from rows ≡ b → (first_free n (from + 1) rows ≡ None → from < t → is_taken t rows ≡ true)
+        → (if b then first_free n (from + 1) rows else Some from) ≡ None → is_taken t rows ≡ true
     by true is rest free = next (from == t) refl is (rest free)
     by false is rest free = absurd (none-some from (sym free))
 
-pub slot_other : (count o p q r : ℕ) (was : Option ℕ) (rows : List Slotted) → (o == q && p == r) ≡ false → slot_of q r (slotted count o p was rows) ≡ slot_of q r rows
+pub slot_other : (count o p q r : ℕ) (was : Option ℕ) (rows : List Slotted) → (o == q && p == r) ≡ false
+    → slot_of q r (slotted count o p was rows) ≡ slot_of q r rows
 slot_other count o p q r (Some s) rows apart = refl
 slot_other count o p q r None rows apart = by (first_free count 0 rows)
   where

@@ -67,12 +67,13 @@ taking host object m past = event.Taken (up host object.0) m ∷ past
 
 -- a pager whose slots stand for a history answers a message about a temporary object of its host, of which it
 -- didn't take the end before
-pub record PagerServes (header : Header) (host : ℕ) (past : List Event) (object : ObjectId) (m : Message) (old new : SlotTable) (events : List Event) : Type 0 where
-  pub temporary : named header ≤ object.0
-  pub unended : is_ended host object.0 past ≡ false
-  pub own : is_heard_elsewhere host object.0 past ≡ false
-  pub stands : PagerStands header host old past
-  pub answered : PagerAnswer m object old new events
+pub record PagerServes (header : Header) (host : ℕ) (past : List Event) (object : ObjectId) (m : Message) (old new : SlotTable) (events : List Event) : Type 0
+  where
+    pub temporary : named header ≤ object.0
+    pub unended : is_ended host object.0 past ≡ false
+    pub own : is_heard_elsewhere host object.0 past ≡ false
+    pub stands : PagerStands header host old past
+    pub answered : PagerAnswer m object old new events
 
 -- slots and backing fit one content, where they fitted another before
 pub record CarriesOver (before after : List ℕ → Told) (old new : SlotTable) (was now : Content) : Type 0 where

@@ -35,17 +35,20 @@ pub fn answers_are_legal()
         → IsOther header host e past → PagerStands header host slots past → PagerStands header host slots (e ∷ past) }
 
     // Where the paging area tells, a supply must have the bytes that were stored.
-    ensures causes { (header : Header) (outside : Outside) (doing : Command) (host : ℕ) (past : List Event) (object : ObjectId) (m : Message) (old new : SlotTable) (events : List Event)
+    ensures causes { (header : Header) (outside : Outside) (doing : Command) (host : ℕ) (past : List Event) (object : ObjectId) (m : Message)
+        (old new : SlotTable) (events : List Event)
         → PagerServes header host past object m old new events
         → (outside.paging ≡ true → SuppliesStored object events (content_of header host past))
         → AllInTurn header outside doing events (taking host object m past) }
     ensures paid { (header : Header) (host : ℕ) (past : List Event) (object : ObjectId) (m : Message) (old new : SlotTable) (events : List Event)
         → PagerServes header host past object m old new events → IsPaid header (events ++ taking host object m past) }
-    ensures carries { (header : Header) (host : ℕ) (past : List Event) (object : ObjectId) (m : Message) (old new : SlotTable) (events : Listed Event) (before after : List ℕ → Told)
+    ensures carries { (header : Header) (host : ℕ) (past : List Event) (object : ObjectId) (m : Message) (old new : SlotTable) (events : Listed Event)
+        (before after : List ℕ → Told)
         → PagerServes header host past object m old new events.items
         → CarriesContent before after old new (after_message m object (Ok events))
         → CarriesOver before after old new (content_of header host past) (content_of header host (events.items ++ taking host object m past)) }
-    ensures others_carry { (header : Header) (host : ℕ) (slots : SlotTable) (e : Event) (past : List Event) (areas : List ℕ → Told) → IsOther header host e past → IsApart header host (e ∷ past)
+    ensures others_carry { (header : Header) (host : ℕ) (slots : SlotTable) (e : Event) (past : List Event) (areas : List ℕ → Told) → IsOther header host e past
+        → IsApart header host (e ∷ past)
         → CarriesOver areas areas slots slots (content_of header host past) (content_of header host (e ∷ past)) }
     ensures empty { (header : Header) (host o p : ℕ) → content_of header host [] o p ≡ None }
 {}

@@ -1,6 +1,7 @@
 // The default pager of a host.
 ghost use Rattle.std.specs.Prelude.{ℕ, ◌≡◌, ◌<◌, ◌≤◌, [], List, None, IfOk, OnErr, false, length};
-ghost use Rattle.pg_default.specs.Answers.{AnswerHasCause, EndsInReply, IsToPager, LeavesAreas, LeavesBacking, PagerAnswer, ReturnsWhole, SuppliesStored, after_message};
+ghost use Rattle.pg_default.specs.Answers.{AnswerHasCause, EndsInReply, IsToPager, LeavesAreas, LeavesBacking, PagerAnswer, ReturnsWhole, SuppliesStored};
+ghost use Rattle.pg_default.specs.Answers.{after_message};
 ghost use Rattle.pg_default.specs.Calls.{PagerMakes};
 ghost use Rattle.pg_slots.specs.Contents.{CarriesContent, Content, IsAreaTold, SlotsFit};
 ghost use Rattle.pg_slots.specs.Slots.{KeepsShape};

@@ -1,5 +1,6 @@
 -- Each event of an answer has its cause.
-use Rattle.std.proofs.Common.{ℕ, ◌≡◌, ◌≤◌, ◌*◌, ◌||◌, not, nat_lt, Bool, true, false, List, [], ◌∷◌, length, replicate, drop, Option, Some, None, refl, sym, ◌∙◌, ap, subst, arith, if◌then◌else◌, inl, inr}
+use Rattle.std.proofs.Common.{ℕ, ◌≡◌, ◌≤◌, ◌*◌, ◌||◌, not, nat_lt, Bool, true, false, List, [], ◌∷◌, length, replicate, drop, Option, Some, None, refl, sym}
+use Rattle.std.proofs.Common.{◌∙◌, ap, subst, arith, if◌then◌else◌, inl, inr}
 use Rattle.std.proofs.lemmas.Bool.{false≢true}
 use Rattle.std.proofs.lemmas.List.{take-replicate}
 use Rattle.std.proofs.Math.ListN.{drop_of_length-le}
@@ -34,7 +35,8 @@ or_second false b is = is
 -- the file pager answers for declared files
 sends : (header : Header) (outside : Outside) (doing : Command) (host object control : ℕ) (m : Message) (past : List Event) → is_file header object ≡ true
     → MaySendDown header outside doing host object control m past → PagerSends (kind_of header object) header outside doing host object control m past
-sends header outside doing host object control m past file may = paged_sends header outside doing host object control m past (or_second (not (nat_lt object (named header))) (is_file header object) file) may
+sends header outside doing host object control m past file may =
+    paged_sends header outside doing host object control m past (or_second (not (nat_lt object (named header))) (is_file header object) file) may
 
 chosen : {X : Type 0} (b : Bool) (x y : X) → b ≡ true → (if b then x else y) ≡ x
 chosen true x y is = refl
@@ -49,7 +51,8 @@ absent_zeros size page None lacks = beyond [] (page * size) size (omega arith)
 absent_zeros size page (Some bytes) lacks = beyond bytes (page * size) size lacks
 
 -- what the pager has of a page that isn't lost is what the file has now
-has_page : (header : Header) (outside : Outside) (host object page : ℕ) (past events : List Event) → is_file header object ≡ true → is_lost object page past ≡ false → (kept : AnswersKept header outside host object past events)
+has_page : (header : Header) (outside : Outside) (host object page : ℕ) (past events : List Event) → is_file header object ≡ true
+    → is_lost object page past ≡ false → (kept : AnswersKept header outside host object past events)
     → pager_has header outside host object page past ≡ Some (read_at (unwrap_or kept.now []) (page * header.size) header.size)
 has_page header outside host object page past events file stored kept =
     ap (λ (x : Option (List ℕ)). newer (last_return host object page past) x) begun ∙ sym (kept.kept.page page stored)
@@ -57,12 +60,14 @@ has_page header outside host object page past events file stored kept =
     start_is : start_page header outside object page ≡ read_at (unwrap_or kept.start []) (page * header.size) header.size
     start_is = ap (λ (files : FilesAtStart). start_in header files object page) kept.told.told ∙ kept.told.page page
 
-    begun : (if is_file header object then Some (start_page header outside object page) else None) ≡ Some (read_at (unwrap_or kept.start []) (page * header.size) header.size)
+    begun : (if is_file header object then Some (start_page header outside object page) else None) ≡ Some
+        (read_at (unwrap_or kept.start []) (page * header.size) header.size)
     begun = chosen (is_file header object) (Some (start_page header outside object page)) None file ∙ ap Some start_is
 
 -- what is licensed where the answer tells what the file has
 abbrev CausedInTurn : Header → Outside → Command → ℕ → ℕ → List Event → List Event → List Event → Type 0
-CausedInTurn header outside doing host object past first events = (tells header outside object ≡ true → AnswersKept header outside host object past events) → AllInTurn header outside doing events first
+CausedInTurn header outside doing host object past first events =
+    (tells header outside object ≡ true → AnswersKept header outside host object past events) → AllInTurn header outside doing events first
 
 -- the history in which a request was taken
 abbrev asked : ℕ → ℕ → ℕ → PageNo → ℕ → List Event → List Event
@@ -77,7 +82,8 @@ has_asked header outside host object control page access past =
 no_file : {X : Type 0} (header : Header) (object : ℕ) → is_file header object ≡ true → is_file header object ≡ false → X
 no_file header object file other = absurd (false≢true (sym other ∙ file))
 
-supplies : (header : Header) (outside : Outside) (doing : Command) (host object control : ℕ) (page : PageNo) (access : ℕ) (bytes : List ℕ) (past : List Event) → is_file header object ≡ true → is_lost object page.0 past ≡ false
+supplies : (header : Header) (outside : Outside) (doing : Command) (host object control : ℕ) (page : PageNo) (access : ℕ) (bytes : List ℕ) (past : List Event)
+    → is_file header object ≡ true → is_lost object page.0 past ≡ false
     → CausedInTurn header outside doing host object past (asked host object control page access past) (sent_to host object control (supply page bytes) ∷ [])
 supplies header outside doing host object control page access bytes past file stored kept = (
   (
@@ -94,11 +100,16 @@ supplies header outside doing host object control page access bytes past file st
   tt,
 )
   where
-    has : AnswersKept header outside host object past (sent_to host object control (supply page bytes) ∷ []) → pager_has header outside host object page.0 (asked host object control page access past) ≡ Some bytes
-    has k = has_asked header outside host object control page access past ∙ has_page header outside host object page.0 past _ file stored k ∙ ap Some (sym k.tells.1)
+    has : AnswersKept header outside host object past (sent_to host object control (supply page bytes) ∷ [])
+        → pager_has header outside host object page.0 (asked host object control page access past) ≡ Some bytes
+    has k =
+        has_asked header outside host object control page access past ∙ has_page header outside host object page.0 past _ file stored k
+        ∙ ap Some (sym k.tells.1)
 
-lacks : (header : Header) (outside : Outside) (doing : Command) (host object control : ℕ) (page : PageNo) (access : ℕ) (past : List Event) → is_file header object ≡ true → is_lost object page.0 past ≡ false
-    → CausedInTurn header outside doing host object past (asked host object control page access past) (sent_to host object control (message.Unavailable page) ∷ [])
+lacks : (header : Header) (outside : Outside) (doing : Command) (host object control : ℕ) (page : PageNo) (access : ℕ) (past : List Event)
+    → is_file header object ≡ true → is_lost object page.0 past ≡ false
+    → CausedInTurn header outside doing host object past (asked host object control page access past)
+    (sent_to host object control (message.Unavailable page) ∷ [])
 lacks header outside doing host object control page access past file stored kept = (
   (
     sends header outside doing host object control (message.Unavailable page) (asked host object control page access past) file (
@@ -111,23 +122,28 @@ lacks header outside doing host object control page access past file stored kept
   tt,
 )
   where
-    has : AnswersKept header outside host object past (sent_to host object control (message.Unavailable page) ∷ []) → pager_has header outside host object page.0 (asked host object control page access past) ≡ Some (replicate header.size 0)
+    has : AnswersKept header outside host object past (sent_to host object control (message.Unavailable page) ∷ [])
+        → pager_has header outside host object page.0 (asked host object control page access past) ≡ Some (replicate header.size 0)
     has k =
         has_asked header outside host object control page access past ∙ has_page header outside host object page.0 past _ file stored k
         ∙ ap Some (absent_zeros header.size page.0 k.now k.tells)
 
-lost_error : (header : Header) (outside : Outside) (doing : Command) (host object control : ℕ) (page : PageNo) (access : ℕ) (past : List Event) → is_file header object ≡ true → is_lost object page.0 past ≡ true
+lost_error : (header : Header) (outside : Outside) (doing : Command) (host object control : ℕ) (page : PageNo) (access : ℕ) (past : List Event)
+    → is_file header object ≡ true → is_lost object page.0 past ≡ true
     → AllInTurn header outside doing (sent_to host object control (error page) ∷ []) (asked host object control page access past)
 lost_error header outside doing host object control page access past file lost = (
   (
-    sends header outside doing host object control (error page) (asked host object control page access past) file (record { access = access; taken = refl; unanswered = refl }, refl, inl lost),
+    sends header outside doing host object control (error page) (asked host object control page access past) file
+        (record { access = access; taken = refl; unanswered = refl }, refl, inl lost),
     tt,
   ),
   tt,
 )
 
-unread : (header : Header) (outside : Outside) (doing : Command) (host object control : ℕ) (page : PageNo) (access : ℕ) (past : List Event) → is_file header object ≡ true
-    → AllInTurn header outside doing (sent_to host object control (error page) ∷ device_failed Read object page ∷ []) (asked host object control page access past)
+unread : (header : Header) (outside : Outside) (doing : Command) (host object control : ℕ) (page : PageNo) (access : ℕ) (past : List Event)
+    → is_file header object ≡ true
+    → AllInTurn header outside doing (sent_to host object control (error page) ∷ device_failed Read object page ∷ [])
+    (asked host object control page access past)
 unread header outside doing host object control page access past file = (
   (
     sends header outside doing host object control (error page) (device_failed Read object page ∷ asked host object control page access past) file
@@ -137,35 +153,55 @@ unread header outside doing host object control page access past file = (
   (((file, (host, record { control = control; access = access; is = refl }, tt)), tt), tt),
 )
 
-requested : (header : Header) (outside : Outside) (doing : Command) (size host object control : ℕ) (page : PageNo) (access : ℕ) (past : List Event) (lost : Bool) (events : List Event) → is_file header object ≡ true → is_lost object page.0 past ≡ lost
-    → RequestAnswer size host object control page lost events → CausedInTurn header outside doing host object past (asked host object control page access past) events
+requested : (header : Header) (outside : Outside) (doing : Command) (size host object control : ℕ) (page : PageNo) (access : ℕ) (past : List Event)
+    (lost : Bool) (events : List Event) → is_file header object ≡ true → is_lost object page.0 past ≡ lost
+    → RequestAnswer size host object control page lost events
+    → CausedInTurn header outside doing host object past (asked host object control page access past) events
 requested header outside doing size host object control page access past true events file lost is =
-    subst (CausedInTurn header outside doing host object past _) (sym is) (λ kept. lost_error header outside doing host object control page access past file lost)
+    subst (CausedInTurn header outside doing host object past _) (sym is) (λ kept. lost_error header outside doing host object control page access past file
+    lost)
 requested header outside doing size host object control page access past false events file stored (inl is) =
-    subst (CausedInTurn header outside doing host object past _) (sym is.2) (supplies header outside doing host object control page access is.0 past file stored)
+    subst (CausedInTurn header outside doing host object past _) (sym is.2) (supplies header outside doing host object control page access is.0 past file
+    stored)
 requested header outside doing size host object control page access past false events file stored (inr (inl is)) =
     subst (CausedInTurn header outside doing host object past _) (sym is) (lacks header outside doing host object control page access past file stored)
 requested header outside doing size host object control page access past false events file stored (inr (inr is)) =
     subst (CausedInTurn header outside doing host object past _) (sym is) (λ kept. unread header outside doing host object control page access past file)
 
-returned : (header : Header) (outside : Outside) (doing : Command) (host object control : ℕ) (page : PageNo) (dirty keep : Bool) (bytes : List ℕ) (past : List Event) (stored : Bool) → is_file header object ≡ true
+returned : (header : Header) (outside : Outside) (doing : Command) (host object control : ℕ) (page : PageNo) (dirty keep : Bool) (bytes : List ℕ)
+    (past : List Event) (stored : Bool) → is_file header object ≡ true
     → AllInTurn header outside doing (told_of stored object page) (taking host object (message.Return control page dirty keep bytes) past)
 returned header outside doing host object control page dirty keep bytes past true file = tt
-returned header outside doing host object control page dirty keep bytes past false file = (((file, (host, record { control = control; dirty = dirty; keep = keep; bytes = bytes; is = refl }, tt)), tt), tt)
+returned header outside doing host object control page dirty keep bytes past false file =
+    (((file, (host, record { control = control; dirty = dirty; keep = keep; bytes = bytes; is = refl }, tt)), tt), tt)
 
 -- a pager is ready once
 ready_init : (header : Header) (outside : Outside) (doing : Command) (host object control size : ℕ) (past : List Event) → is_file header object ≡ true
     → AllInTurn header outside doing (sent_to host object control (message.Ready false 0) ∷ []) (taking host object (message.Init control size) past)
-ready_init header outside doing host object control size past file =
-    ((sends header outside doing host object control (message.Ready false 0) (taking host object (message.Init control size) past) file (size, refl, refl, inr (refl, refl)), tt), tt)
+ready_init header outside doing host object control size past file = (
+  (
+    sends header outside doing host object control (message.Ready false 0) (taking host object (message.Init control size) past) file
+        (size, refl, refl, inr (refl, refl)),
+    tt,
+  ),
+  tt,
+)
 
 ready_create : (header : Header) (outside : Outside) (doing : Command) (host object control size : ℕ) (past : List Event) → is_file header object ≡ true
     → AllInTurn header outside doing (sent_to host object control (message.Ready false 3) ∷ []) (taking host object (message.Create control size) past)
-ready_create header outside doing host object control size past file =
-    ((sends header outside doing host object control (message.Ready false 3) (taking host object (message.Create control size) past) file (size, refl, refl, inl (refl, refl)), tt), tt)
+ready_create header outside doing host object control size past file = (
+  (
+    sends header outside doing host object control (message.Ready false 3) (taking host object (message.Create control size) past) file
+        (size, refl, refl, inl (refl, refl)),
+    tt,
+  ),
+  tt,
+)
 
-pub causes : (header : Header) (outside : Outside) (doing : Command) (host : ℕ) (past : List Event) (object : ℕ) (m : Message) (old new : FileTable) (events : List Event)
-    → PagerServes header host past object m old new events → (tells header outside object ≡ true → AnswersKept header outside host object past events) → AllInTurn header outside doing events (taking host object m past)
+pub causes : (header : Header) (outside : Outside) (doing : Command) (host : ℕ) (past : List Event) (object : ℕ) (m : Message) (old new : FileTable)
+    (events : List Event)
+    → PagerServes header host past object m old new events → (tells header outside object ≡ true → AnswersKept header outside host object past events)
+    → AllInTurn header outside doing events (taking host object m past)
 causes header outside doing host past object m old new events serves kept = by m serves.answered
   where
     at : (control : ℕ) (reply : Message) → events ≡ sent_to host old.object control reply ∷ [] → events ≡ sent_to host object control reply ∷ []
@@ -175,14 +211,21 @@ causes header outside doing host past object m old new events serves kept = by m
     nothing first is = subst (λ (es : List Event). AllInTurn header outside doing es first) (sym is) tt
 
     by : (m : Message) → FileAnswer m host old new events → AllInTurn header outside doing events (taking host object m past)
-    by (message.Init control size) a = subst (λ (es : List Event). AllInTurn header outside doing es (taking host object (message.Init control size) past)) (sym (at control _ a.1)) (ready_init header outside doing host object control size past serves.stands.file)
-    by (message.Create control size) a = subst (λ (es : List Event). AllInTurn header outside doing es (taking host object (message.Create control size) past)) (sym (at control _ a.1)) (ready_create header outside doing host object control size past serves.stands.file)
+    by (message.Init control size) a =
+        subst (λ (es : List Event). AllInTurn header outside doing es (taking host object (message.Init control size) past)) (sym (at control _ a.1))
+        (ready_init header outside doing host object control size past serves.stands.file)
+    by (message.Create control size) a =
+        subst (λ (es : List Event). AllInTurn header outside doing es (taking host object (message.Create control size) past)) (sym (at control _ a.1))
+        (ready_create header outside doing host object control size past serves.stands.file)
     by (message.Request control page access) a =
-        requested header outside doing old.size host object control page access past (has_lost old page.0) events serves.stands.file (sym (serves.stands.lost_is page.0))
+        requested header outside doing old.size host object control page access past (has_lost old page.0) events serves.stands.file
+        (sym (serves.stands.lost_is page.0))
         (subst (λ (o : ℕ). RequestAnswer old.size host o control page (has_lost old page.0) events) serves.stands.object_is a.1) kept
     by (message.Return control page dirty keep bytes) a =
-        let told : events ≡ told_of (is_stored events) object page = subst (λ (o : ℕ). events ≡ told_of (is_stored events) o page) serves.stands.object_is a.told in
-        subst (λ (es : List Event). AllInTurn header outside doing es (taking host object (message.Return control page dirty keep bytes) past)) (sym told) (returned header outside doing host object control page dirty keep bytes past (is_stored events) serves.stands.file)
+        let told : events ≡ told_of (is_stored events) object page = subst (λ (o : ℕ). events ≡ told_of (is_stored events) o page) serves.stands.object_is
+        a.told in
+        subst (λ (es : List Event). AllInTurn header outside doing es (taking host object (message.Return control page dirty keep bytes) past)) (sym told)
+        (returned header outside doing host object control page dirty keep bytes past (is_stored events) serves.stands.file)
     by (message.Terminate control) a = nothing (taking host object (message.Terminate control) past) a.1
     by (message.Unlock control page access) a = nothing (taking host object (message.Unlock control page access) past) a.1
     by (message.Completed control page count) a = nothing (taking host object (message.Completed control page count) past) a.1
@@ -201,15 +244,20 @@ behind_line e [] begun = absurd (false≢true begun)
 behind_line e (event.Line line ∷ past) begun = tt
 behind_line e (other ∷ past) begun = absurd (false≢true begun)
 
-pub cleans : (header : Header) (outside : Outside) (doing : Command) (past : List Event) (object : ℕ) (table : FileTable) (page : PageNo) (count : ℕ) (flush : Bool) (events : List Event)
-    → PagerStands header object table past → just_begun past ≡ true → IsClean doing object page.0 count flush → CleanEvents table.known table.object page count flush events → AllInTurn header outside doing events past
-cleans header outside doing past object table page count flush events s begun doing_is a = by table.known s.known_is (subst (λ (o : ℕ). CleanEvents table.known o page count flush events) s.object_is a)
+pub cleans : (header : Header) (outside : Outside) (doing : Command) (past : List Event) (object : ℕ) (table : FileTable) (page : PageNo) (count : ℕ)
+    (flush : Bool) (events : List Event)
+    → PagerStands header object table past → just_begun past ≡ true → IsClean doing object page.0 count flush
+    → CleanEvents table.known table.object page count flush events → AllInTurn header outside doing events past
+cleans header outside doing past object table page count flush events s begun doing_is a =
+    by table.known s.known_is (subst (λ (o : ℕ). CleanEvents table.known o page count flush events) s.object_is a)
   where
-    by : (known : Option KnownControl) → IsKnownAs object known past → CleanEvents known object page count flush events → AllInTurn header outside doing events past
+    by : (known : Option KnownControl) → IsKnownAs object known past → CleanEvents known object page count flush events
+        → AllInTurn header outside doing events past
     by None is none = subst (λ (es : List Event). AllInTurn header outside doing es past) (sym none) tt
     by (Some known) is asks = subst (λ (es : List Event). AllInTurn header outside doing es past) (sym asks) (
       (
-        sends header outside doing known.host.0 object known.control (clean_request page count flush) past s.file (s.file, refl, refl, refl, is, doing_is, begun),
+        sends header outside doing known.host.0 object known.control (clean_request page count flush) past s.file
+            (s.file, refl, refl, refl, is, doing_is, begun),
         behind_line (sent_to known.host.0 object known.control (clean_request page count flush)) past begun,
       ),
       tt,

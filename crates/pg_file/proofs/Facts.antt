@@ -1,5 +1,6 @@
 -- What a message and the events of its answer change of what the history says of a file.
-use Rattle.std.proofs.Common.{ℕ, ◌≡◌, ◌≢◌, ◌==◌, ◌&&◌, ◌||◌, not, Bool, true, false, List, ◌∷◌, ◌++◌, Option, Some, None, refl, sym, subst, arith, if◌then◌else◌, inl, inr}
+use Rattle.std.proofs.Common.{ℕ, ◌≡◌, ◌≢◌, ◌==◌, ◌&&◌, ◌||◌, not, Bool, true, false, List, ◌∷◌, ◌++◌, Option, Some, None, refl, sym, subst, arith}
+use Rattle.std.proofs.Common.{if◌then◌else◌, inl, inr}
 use Rattle.std.proofs.lemmas.Bool.Decides.{nat_tests}
 use Rattle.vm_base.specs.declared.ids.PageNo.{PageNo}
 use Rattle.vm_model.specs.declared.event.Event.{Event}
@@ -31,17 +32,20 @@ nothing_new object past = record { known = λ h. refl; holds = record { last = �
 pub on_sent : (object host about control : ℕ) (m : Message) (past : List Event) → Leaves object past (sent_to host about control m ∷ past)
 on_sent object host about control m past = record { known = λ h. refl; holds = record { last = λ h p. refl; lost = λ p. refl } }
 
-on_unread : (object host about control : ℕ) (m : Message) (page : PageNo) (past : List Event) → Leaves object past (sent_to host about control m ∷ device_failed Read about page ∷ past)
+on_unread : (object host about control : ℕ) (m : Message) (page : PageNo) (past : List Event)
+    → Leaves object past (sent_to host about control m ∷ device_failed Read about page ∷ past)
 on_unread object host about control m page past = record { known = λ h. refl; holds = record { last = λ h p. refl; lost = λ p. refl } }
 
 pub leaves_all : (object : ℕ) (events is past : List Event) → events ≡ is → Leaves object past (is ++ past) → Leaves object past (events ++ past)
 leaves_all object events is past e leaves = subst (λ (es : List Event). Leaves object past (es ++ past)) (sym e) leaves
 
-pub requested : (object size host about control : ℕ) (page : PageNo) (lost : Bool) (events past : List Event) → RequestAnswer size host about control page lost events → Leaves object past (events ++ past)
+pub requested : (object size host about control : ℕ) (page : PageNo) (lost : Bool) (events past : List Event)
+    → RequestAnswer size host about control page lost events → Leaves object past (events ++ past)
 requested object size host about control page true events past is = leaves_all object events _ past is (on_sent object host about control _ past)
 requested object size host about control page false events past (inl is) = leaves_all object events _ past is.2 (on_sent object host about control _ past)
 requested object size host about control page false events past (inr (inl is)) = leaves_all object events _ past is (on_sent object host about control _ past)
-requested object size host about control page false events past (inr (inr is)) = leaves_all object events _ past is (on_unread object host about control _ page past)
+requested object size host about control page false events past (inr (inr is)) =
+    leaves_all object events _ past is (on_unread object host about control _ page past)
 
 -- no page is returned
 abbrev pub IsNoReturn : Message → Type 0
@@ -59,17 +63,20 @@ IsNoTurn (message.Create control size) = ⊥
 IsNoTurn (message.Terminate control) = ⊥
 IsNoTurn m = Unit {0}
 
-pub known_taken : (host object : ℕ) (m : Message) (past : List Event) → IsNoTurn m → (h : ℕ) → known_control h object (taking host object m past) ≡ known_control h object past
+pub known_taken : (host object : ℕ) (m : Message) (past : List Event) → IsNoTurn m → (h : ℕ)
+    → known_control h object (taking host object m past) ≡ known_control h object past
 known_taken host object (message.Init control size) past quiet h = elim quiet [ ]
 known_taken host object (message.Create control size) past quiet h = elim quiet [ ]
 known_taken host object (message.Terminate control) past quiet h = elim quiet [ ]
 known_taken host object m past quiet h = same_if (host == h && object == object) _
 
 -- what is known on the host that the message came from
-pub known_there : (host object : ℕ) (m : Message) (past : List Event) → known_control host object (taking host object m past) ≡ known_after m (known_control host object past)
+pub known_there : (host object : ℕ) (m : Message) (past : List Event)
+    → known_control host object (taking host object m past) ≡ known_after m (known_control host object past)
 known_there host object m past = rw (itself host, itself object) refl
 
-pub known_elsewhere : (host object h : ℕ) (m : Message) (past : List Event) → (host == h) ≡ false → known_control h object (taking host object m past) ≡ known_control h object past
+pub known_elsewhere : (host object h : ℕ) (m : Message) (past : List Event) → (host == h) ≡ false
+    → known_control h object (taking host object m past) ≡ known_control h object past
 known_elsewhere host object h m past apart = rw apart refl
 
 -- one page was returned, and is stored or not
@@ -110,7 +117,8 @@ and_no : (a b : Bool) → (a && (false && b)) ≡ false
 and_no true b = refl
 and_no false b = refl
 
-lost_elsewhere : (object host about p : ℕ) (m : Message) (past : List Event) → about ≢ object → is_lost object p (taking host about m past) ≡ is_lost object p past
+lost_elsewhere : (object host about p : ℕ) (m : Message) (past : List Event) → about ≢ object
+    → is_lost object p (taking host about m past) ≡ is_lost object p past
 lost_elsewhere object host about p (message.Return control page dirty keep bytes) past apart = rw (apart_test object about apart) refl
 lost_elsewhere object host about p m past apart = refl
 

@@ -21,7 +21,8 @@ removed page (x ∷ xs) p = by (x.0 == page) refl (removed page xs p)
     none true here same = refl
     none false here apart = let no : (x.0 == p) ≡ false = grind (arith, nat_tests, here, apart) in rw no refl
 
-    swap : (t s : Bool) → (x.0 == page) ≡ false → (page == p) ≡ t → (x.0 == p) ≡ s → (s || (if t then false else is_among p xs)) ≡ (if t then false else (s || is_among p xs))
+    swap : (t s : Bool) → (x.0 == page) ≡ false → (page == p) ≡ t → (x.0 == p) ≡ s
+        → (s || (if t then false else is_among p xs)) ≡ (if t then false else (s || is_among p xs))
     swap false s other apart is = refl
     swap true true other same is = let bad : true ≡ false = grind (arith, nat_tests, other, same, is) in bad
     swap true false other same is = refl
@@ -31,7 +32,8 @@ removed page (x ∷ xs) p = by (x.0 == page) refl (removed page xs p)
     by true here rest = rw here (rest ∙ none (page == p) here refl)
     by false other rest = rw (other, rest) (swap (page == p) (x.0 == p) other refl refl)
 
-pub taken_out : (page spare : ℕ) (was left : List PageNo) (table : LostPages) → record { pages = was; spare = spare } ≡ table → left ≡ filter (is_apart page) was → Marks page false table.pages left
+pub taken_out : (page spare : ℕ) (was left : List PageNo) (table : LostPages) → record { pages = was; spare = spare } ≡ table
+    → left ≡ filter (is_apart page) was → Marks page false table.pages left
 taken_out page spare was left table shown is p =
     let same : was ≡ table.pages = ap (λ (z : LostPages). z.pages) shown in
     ap (is_among p) is ∙ removed page was p ∙ ap (λ (xs : List PageNo). if page == p then false else is_among p xs) same

@@ -35,7 +35,8 @@ pub fn answers_are_legal()
         → IsOther object e → PagerStands header object table past → PagerStands header object table (e ∷ past) }
 
     // Where files are told, an answer must say what its file has.
-    ensures causes { (header : Header) (outside : Outside) (doing : Command) (host : ℕ) (past : List Event) (object : ℕ) (m : Message) (old new : FileTable) (events : List Event)
+    ensures causes { (header : Header) (outside : Outside) (doing : Command) (host : ℕ) (past : List Event) (object : ℕ) (m : Message) (old new : FileTable)
+        (events : List Event)
         → PagerServes header host past object m old new events
         → (tells header outside object ≡ true → AnswersKept header outside host object past events)
         → AllInTurn header outside doing events (taking host object m past) }
@@ -43,14 +44,17 @@ pub fn answers_are_legal()
         → PagerServes header host past object m old new events → IsPaid header (events ++ taking host object m past) }
 
     // A clean stands right behind its line.
-    ensures cleans { (header : Header) (outside : Outside) (doing : Command) (past : List Event) (object : ℕ) (table : FileTable) (page : PageNo) (count : ℕ) (flush : Bool) (events : List Event)
+    ensures cleans { (header : Header) (outside : Outside) (doing : Command) (past : List Event) (object : ℕ) (table : FileTable) (page : PageNo) (count : ℕ)
+        (flush : Bool) (events : List Event)
         → PagerStands header object table past → just_begun past ≡ true → IsClean doing object page.0 count flush
         → CleanEvents table.known table.object page count flush events → AllInTurn header outside doing events past }
-    ensures clean_stands { (header : Header) (past : List Event) (object : ℕ) (table : FileTable) (page : PageNo) (count : ℕ) (flush : Bool) (events : List Event)
+    ensures clean_stands { (header : Header) (past : List Event) (object : ℕ) (table : FileTable) (page : PageNo) (count : ℕ) (flush : Bool)
+        (events : List Event)
         → PagerStands header object table past → CleanEvents table.known table.object page count flush events
         → PagerStands header object table (events ++ past) }
 
-    ensures carries { (header : Header) (host : ℕ) (past : List Event) (object : ℕ) (m : Message) (old new : FileTable) (events : Listed Event) (before after : List ℕ → Told)
+    ensures carries { (header : Header) (host : ℕ) (past : List Event) (object : ℕ) (m : Message) (old new : FileTable) (events : Listed Event)
+        (before after : List ℕ → Told)
         → PagerServes header host past object m old new events.items
         → LeavesFile m old before after (Ok events)
         → CarriesFile header.size host object old.name before after past (events.items ++ taking host object m past) }

@@ -1,7 +1,8 @@
 // The pager of a file.
 ghost use Rattle.std.specs.Prelude.{ℕ, ◌≡◌, ◌≤◌, ◌*◌, [], List, None, Some, IfOk, OnErr, length, not};
 ghost use Rattle.std.specs.declared.option.Option.{Option};
-ghost use Rattle.pg_file.specs.Answers.{AnswerHasCause, CleanEvents, EndsInReply, FileAnswer, IsToPager, LeavesBacking, LeavesFile, ReturnsWhole, TellsPage, write_answer};
+ghost use Rattle.pg_file.specs.Answers.{AnswerHasCause, CleanEvents, EndsInReply, FileAnswer, IsToPager, LeavesBacking, LeavesFile, ReturnsWhole, TellsPage};
+ghost use Rattle.pg_file.specs.Answers.{write_answer};
 ghost use Rattle.pg_file.specs.Calls.{FileMakes, FindMakes, StoreMakes};
 ghost use Rattle.pg_file.specs.Files.{KeepsShape, MarksPage, has_lost, without_known};
 ghost use Rattle.pg_file.specs.Finding.{FindHasCause, IsFoundAs, IsFoundIn, IsWholePage, StoreHasCause};
@@ -176,7 +177,8 @@ impl FilePager {
     ) -> Result<bool, NoMemory>
         ensures marks { IfOk result (λ stored. MarksPage page.0 (not stored) self.old self.new) }
         ensures err { OnErr result (self.new ≡ self.old) }
-        ensures told { IfOk result (λ stored. WriteTold (F.area files.old) (F.area files.new) self.old.name (page.0 * self.old.size) bytes.now (write_answer stored)) }
+        ensures told { IfOk result (λ stored. WriteTold (F.area files.old) (F.area files.new) self.old.name (page.0 * self.old.size) bytes.now
+            (write_answer stored)) }
         ensures same { OnErr result (SameAreas (F.area files.old) (F.area files.new)) }
         ensures cause { StoreHasCause (F.faults files.old) (F.faults files.new) result }
         ensures later { F.later files.old files.new }

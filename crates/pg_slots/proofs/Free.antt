@@ -1,5 +1,6 @@
 -- Which slots are free, by the heap of those that were given back.
-use Rattle.std.proofs.Common.{ℕ, ◌≡◌, ◌<◌, ◌≤◌, ◌==◌, Bool, true, false, List, [], ◌∷◌, length, if◌then◌else◌, not, Option, Some, None, IfSome, IsSome, slice_index_or, nat_eq, nat_lt, refl, sym, ◌∙◌, ap, ⊎_elim, arith}
+use Rattle.std.proofs.Common.{ℕ, ◌≡◌, ◌<◌, ◌≤◌, ◌==◌, Bool, true, false, List, [], ◌∷◌, length, if◌then◌else◌, not, Option, Some, None, IfSome, IsSome}
+use Rattle.std.proofs.Common.{slice_index_or, nat_eq, nat_lt, refl, sym, ◌∙◌, ap, ⊎_elim, arith}
 use Rattle.std.proofs.lemmas.Bool.{cases_Bool, cases_order, false≢true}
 use Rattle.std.proofs.lemmas.Bool.Decides.{nat_tests}
 use Rattle.std.proofs.lemmas.List.{length-map}
@@ -24,7 +25,8 @@ unfolding IsDistinct
 none_given count room fits = record { inside = omega arith; room_for = fits; below = λ s is. absurd (false≢true is); apart = tt }
 
 -- the top has the lowest number
-none_below : (top : Reverse ℕ) (given : List (Reverse ℕ)) (s : ℕ) → IsUpperBound (λ x y. nat_cmp y.0 x.0) top given → s < top.0 → list_any (nat_eq s) (slots_of given) ≡ false
+none_below : (top : Reverse ℕ) (given : List (Reverse ℕ)) (s : ℕ) → IsUpperBound (λ x y. nat_cmp y.0 x.0) top given → s < top.0
+    → list_any (nat_eq s) (slots_of given) ≡ false
 none_below top [] s bound less = refl
 none_below top (x ∷ xs) s bound less =
     let rest = none_below top xs s bound.1 less in
@@ -37,7 +39,8 @@ top_among top [] some is = absurd (omega arith)
 top_among top (x ∷ xs) some is = let same : (nat_eq top.0 x.0) ≡ true = grind (arith, nat_tests, ap (λ (r : Reverse ℕ). r.0) is) in rw same refl
 
 -- the top is the lowest free slot
-pub lowest_given : (count unused room : ℕ) (given : List (Reverse ℕ)) (top : Reverse ℕ) → AreFree (marks count unused given) room → 0 < length given → top ≡ slice_index_or given 0 top → IsUpperBound (λ x y. nat_cmp y.0 x.0) top given
+pub lowest_given : (count unused room : ℕ) (given : List (Reverse ℕ)) (top : Reverse ℕ) → AreFree (marks count unused given) room → 0 < length given
+    → top ≡ slice_index_or given 0 top → IsUpperBound (λ x y. nat_cmp y.0 x.0) top given
     → IsUnmarked (marks count unused given) top.0
 lowest_given count unused room given top free some is bound =
     let here = top_among top given some is in
@@ -80,12 +83,15 @@ pub record Changes (slot : ℕ) (now : Bool) (room : ℕ) (old new : SlotMarks) 
   pub free : AreFree new room
   pub taken : (s : ℕ) → is_taken new s ≡ (if slot == s then now else is_taken old s)
 
-pub popped : (count unused room : ℕ) (given rest : List (Reverse ℕ)) (top : Reverse ℕ) → AreFree (marks count unused given) room → IsPermutation given (top ∷ rest) → Changes top.0 true room (marks count unused given) (marks count unused rest)
+pub popped : (count unused room : ℕ) (given rest : List (Reverse ℕ)) (top : Reverse ℕ) → AreFree (marks count unused given) room
+    → IsPermutation given (top ∷ rest) → Changes top.0 true room (marks count unused given) (marks count unused rest)
 popped count unused room given rest top free moved =
     let numbers : IsPermutation (slots_of given) (top.0 ∷ slots_of rest) = IsPermutation-map (λ (r : Reverse ℕ). r.0) given (top ∷ rest) moved in
-    let distinct : IsDistinct nat_eq (top.0 ∷ slots_of rest) = IsDistinct-IsPermutation nat_eq flips (slots_of given) (top.0 ∷ slots_of rest) numbers free.apart in
+    let distinct : IsDistinct nat_eq (top.0 ∷ slots_of rest) = IsDistinct-IsPermutation nat_eq flips (slots_of given) (top.0 ∷ slots_of rest) numbers
+    free.apart in
     let none = first_apart top.0 (slots_of rest) distinct in
-    let any : (s : ℕ) → list_any (nat_eq s) (slots_of given) ≡ list_any (nat_eq s) (top.0 ∷ slots_of rest) = λ s. list_any-IsPermutation (nat_eq s) (slots_of given) (top.0 ∷ slots_of rest) numbers in
+    let any : (s : ℕ) → list_any (nat_eq s) (slots_of given) ≡ list_any (nat_eq s) (top.0 ∷ slots_of rest) = λ s. list_any-IsPermutation (nat_eq s)
+    (slots_of given) (top.0 ∷ slots_of rest) numbers in
     let here : list_any (nat_eq top.0) (slots_of given) ≡ true = any top.0 ∙ grind (arith, nat_tests) in
     let less = free.below top.0 here in
     record {
@@ -108,8 +114,10 @@ popped count unused room given rest top free moved =
     }
 
 -- what is popped is the lowest free slot
-pub popped_lowest : (count unused room slot : ℕ) (given rest : List (Reverse ℕ)) (result : Option (Reverse ℕ)) → IsLowestFirst given → AreFree (marks count unused given) room → IsSome result → 0 < length given
-    → IfSome result (λ top. top ≡ slice_index_or given 0 top) → IfSome result (λ top. IsPermutation given (top ∷ rest)) → IfSome result (λ top. PopsGreatest (λ x y. nat_cmp y.0 x.0) given top rest) → IsUnmarked (marks count unused given) slot
+pub popped_lowest : (count unused room slot : ℕ) (given rest : List (Reverse ℕ)) (result : Option (Reverse ℕ)) → IsLowestFirst given
+    → AreFree (marks count unused given) room → IsSome result → 0 < length given
+    → IfSome result (λ top. top ≡ slice_index_or given 0 top) → IfSome result (λ top. IsPermutation given (top ∷ rest))
+    → IfSome result (λ top. PopsGreatest (λ x y. nat_cmp y.0 x.0) given top rest) → IsUnmarked (marks count unused given) slot
     → IsLowestFirst rest × Changes slot true room (marks count unused given) (marks count unused rest)
 popped_lowest count unused room slot given rest None order free some full first moved pops low = absurd (false≢true some)
 popped_lowest count unused room slot given rest (Some top) order free some full first moved pops low =
@@ -118,12 +126,14 @@ popped_lowest count unused room slot given rest (Some top) order free some full 
     (kept.0, rw (← same) (popped count unused room given rest top free moved))
 
 -- what was found is the lowest free slot
-pub found_lowest : (slots : SlotMarks) (result : Option ℕ) (slot : ℕ) → false ≡ not (option_eq nat_eq result (Some slot)) → MatchOption result (AllMarked slots) (IsUnmarked slots) → IsUnmarked slots slot
+pub found_lowest : (slots : SlotMarks) (result : Option ℕ) (slot : ℕ) → false ≡ not (option_eq nat_eq result (Some slot))
+    → MatchOption result (AllMarked slots) (IsUnmarked slots) → IsUnmarked slots slot
 found_lowest slots None slot is low = absurd (false≢true is)
 found_lowest slots (Some s) slot is low = let same : s ≡ slot = grind (arith, nat_tests, is) in rw (← same) low
 
 -- there is room for one slot more
-pub has_room : (count unused room slot : ℕ) (given : List (Reverse ℕ)) → AreFree (marks count unused given) room → is_taken (marks count unused given) slot ≡ true → length given < room
+pub has_room : (count unused room slot : ℕ) (given : List (Reverse ℕ)) → AreFree (marks count unused given) room
+    → is_taken (marks count unused given) slot ≡ true → length given < room
 has_room count unused room slot given free taken =
     let none : list_any (nat_eq slot) (slots_of given) ≡ false = grind (arith, taken) in
     let less : slot < unused = grind (arith, nat_tests, taken) in
@@ -133,15 +143,23 @@ has_room count unused room slot given free taken =
     (λ (same : nat_eq s slot ≡ true). let e : s ≡ slot = grind (arith, nat_tests) in omega (arith, e, less))
     (λ (other : nat_eq s slot ≡ false). free.below s (rw other at is))
     (cases_Bool (nat_eq s slot)) in
-    omega (arith, length-le_from_distinct_below (slot ∷ slots_of given) unused distinct below, length-map given (λ (r : Reverse ℕ). r.0), free.inside, free.room_for)
+    omega (
+      arith,
+      length-le_from_distinct_below (slot ∷ slots_of given) unused distinct below,
+      length-map given (λ (r : Reverse ℕ). r.0),
+      free.inside,
+      free.room_for,
+    )
 
-pub pushed : (count unused room space slot : ℕ) (given new : List (Reverse ℕ)) → AreFree (marks count unused given) room → room ≤ space → is_taken (marks count unused given) slot ≡ true → IsPermutation (record { 0 = slot } ∷ given) new
+pub pushed : (count unused room space slot : ℕ) (given new : List (Reverse ℕ)) → AreFree (marks count unused given) room → room ≤ space
+    → is_taken (marks count unused given) slot ≡ true → IsPermutation (record { 0 = slot } ∷ given) new
     → Changes slot false space (marks count unused given) (marks count unused new)
 pushed count unused room space slot given new free more taken moved =
     let numbers : IsPermutation (slot ∷ slots_of given) (slots_of new) = IsPermutation-map (λ (r : Reverse ℕ). r.0) (record { 0 = slot } ∷ given) new moved in
     let none : list_any (nat_eq slot) (slots_of given) ≡ false = grind (arith, taken) in
     let less : slot < unused = grind (arith, nat_tests, taken) in
-    let any : (s : ℕ) → list_any (nat_eq s) (slot ∷ slots_of given) ≡ list_any (nat_eq s) (slots_of new) = λ s. list_any-IsPermutation (nat_eq s) (slot ∷ slots_of given) (slots_of new) numbers in
+    let any : (s : ℕ) → list_any (nat_eq s) (slot ∷ slots_of given) ≡ list_any (nat_eq s) (slots_of new) = λ s. list_any-IsPermutation (nat_eq s)
+    (slot ∷ slots_of given) (slots_of new) numbers in
     record {
       free = record {
         inside = free.inside;
@@ -150,7 +168,9 @@ pushed count unused room space slot given new free more taken moved =
             (λ (same : nat_eq s slot ≡ true). let e : s ≡ slot = grind (arith, nat_tests) in omega (arith, e, less))
             (λ (other : nat_eq s slot ≡ false). free.below s (rw other at (any s ∙ is)))
             (cases_Bool (nat_eq s slot));
-        apart = IsDistinct-IsPermutation nat_eq flips (slot ∷ slots_of given) (slots_of new) numbers (IsDistinct-cons nat_eq slot (slots_of given) (all_apart slot (slots_of given) none) free.apart);
+        apart =
+            IsDistinct-IsPermutation nat_eq flips (slot ∷ slots_of given) (slots_of new) numbers
+            (IsDistinct-cons nat_eq slot (slots_of given) (all_apart slot (slots_of given) none) free.apart);
       };
       taken = λ s. ⊎_elim
           (λ (same : (slot == s) ≡ true).

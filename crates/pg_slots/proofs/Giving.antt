@@ -29,8 +29,11 @@ pub record IsGiving (slot left : ℕ → Option ℕ) (old now : SlotMarks) : Typ
   pub kept : (s : ℕ) → is_taken old s ≡ true → ((p : ℕ) → slot p ≡ Some s → ⊥) → is_taken now s ≡ true
 
 -- a page more goes
-pub gone : (slot left rest : ℕ → Option ℕ) (page : ℕ) (own : Option ℕ) (old now new : SlotMarks) → AreGivable slot old → IsGiving slot left old now → left page ≡ own
-    → ((p : ℕ) → rest p ≡ (if page == p then None else left p)) → MatchOption own (new ≡ now) (λ t. (new.count ≡ now.count) × ((s : ℕ) → is_taken new s ≡ (if t == s then false else is_taken now s))) → IsGiving slot rest old new
+pub gone : (slot left rest : ℕ → Option ℕ) (page : ℕ) (own : Option ℕ) (old now new : SlotMarks) → AreGivable slot old → IsGiving slot left old now
+    → left page ≡ own
+    → ((p : ℕ) → rest p ≡ (if page == p then None else left p))
+    → MatchOption own (new ≡ now) (λ t. (new.count ≡ now.count) × ((s : ℕ) → is_taken new s ≡ (if t == s then false else is_taken now s)))
+    → IsGiving slot rest old new
 gone slot left rest page None old now new can giving own goes gives =
     rw gives record {
       count = giving.count;
@@ -85,13 +88,15 @@ none_given slot slots none = record {
 
 module _ {S : Type 0} (old new : IndexMap PageNo Held S) where
   -- the slot of the last page
-  pub slot_last : (page : PageNo) (held : Held) → old.entries ≡ new.entries ++ (page, held) ∷ [] → lookup (λ n. page.0 == n.0) new.entries ≡ None → slot_in_map (Some old) page.0 ≡ held_slot (Some held)
+  pub slot_last : (page : PageNo) (held : Held) → old.entries ≡ new.entries ++ (page, held) ∷ [] → lookup (λ n. page.0 == n.0) new.entries ≡ None
+      → slot_in_map (Some old) page.0 ≡ held_slot (Some held)
   slot_last page held is none =
       let found : lookup (λ n. page.0 == n.0) old.entries ≡ Some held = rw is (found_last (λ n. page.0 == n.0) new.entries page held none (itself page.0)) in
       ap held_slot found
 
   -- the slots without that page
-  pub slots_left : (page : ℕ) → ((p : ℕ) → lookup (λ n. p == n.0) new.entries ≡ (if page == p then None else lookup (λ n. p == n.0) old.entries)) → (p : ℕ) → slot_in_map (Some new) p ≡ (if page == p then None else slot_in_map (Some old) p)
+  pub slots_left : (page : ℕ) → ((p : ℕ) → lookup (λ n. p == n.0) new.entries ≡ (if page == p then None else lookup (λ n. p == n.0) old.entries)) → (p : ℕ)
+      → slot_in_map (Some new) p ≡ (if page == p then None else slot_in_map (Some old) p)
   slots_left page goes p =
       rw (goes p)
       (⊎_elim

@@ -1,6 +1,7 @@
 -- The rows of an object's pages, as they are read, written and taken out.
 use Rattle.indexmap.specs.IndexMap.{IndexMap, spare}
-use Rattle.std.proofs.Common.{ℕ, ◌≡◌, ◌==◌, Bool, true, false, List, [], ◌∷◌, ◌++◌, map, Option, Some, None, Result, Ok, Err, IsOk, IsSome, OnOk, if◌then◌else◌, refl, ◌∙◌, ap, ⊎_elim, arith}
+use Rattle.std.proofs.Common.{ℕ, ◌≡◌, ◌==◌, Bool, true, false, List, [], ◌∷◌, ◌++◌, map, Option, Some, None, Result, Ok, Err, IsOk, IsSome, OnOk, if◌then◌else◌}
+use Rattle.std.proofs.Common.{refl, ◌∙◌, ap, ⊎_elim, arith}
 use Rattle.std.proofs.lemmas.Bool.{cases_Bool}
 use Rattle.std.proofs.lemmas.Bool.Decides.{nat_tests}
 use Rattle.std.proofs.lemmas.Map.Made.{lookup-map_values}
@@ -22,7 +23,8 @@ module _ {X Y : Type 0} (f : X → Y) where
   seen e = (e.0, f e.1)
 
   -- the same of what is seen of each object
-  pub writes_seen : (object : ℕ) (now : Option X) (old new : List (ObjectId × X)) → Writes object now old new → Writes object (option_map f now) (map seen old) (map seen new)
+  pub writes_seen : (object : ℕ) (now : Option X) (old new : List (ObjectId × X)) → Writes object now old new
+      → Writes object (option_map f now) (map seen old) (map seen new)
   writes_seen object now old new writes o =
       rw (lookup-map_values f (λ id. o == id.0) new, lookup-map_values f (λ id. o == id.0) old, writes o)
       (⊎_elim
@@ -31,7 +33,8 @@ module _ {X Y : Type 0} (f : X → Y) where
       (cases_Bool (object == o)))
 
   -- a value that is seen as the old one leaves all as it is seen
-  pub seen_kept : (test : ObjectId → Bool) (es : List (ObjectId × X)) (was now : X) → lookup test es ≡ Some was → f now ≡ f was → map seen (set_value test es now) ≡ map seen es
+  pub seen_kept : (test : ObjectId → Bool) (es : List (ObjectId × X)) (was now : X) → lookup test es ≡ Some was → f now ≡ f was
+      → map seen (set_value test es now) ≡ map seen es
   seen_kept test [] was now is same = refl
   seen_kept test (e ∷ es) was now is same =
       ⊎_elim
@@ -40,11 +43,13 @@ module _ {X Y : Type 0} (f : X → Y) where
       (cases_Bool (test e.0))
 
 -- what is held of a page, as the maps have it
-pub held_seen : {S : Type 0} (es : List (ObjectId × IndexMap PageNo Held S)) (o p : ℕ) → held_among o p (map object_pages es) ≡ held_in p (option_map (λ m. m.entries) (lookup (λ id. o == id.0) es))
+pub held_seen : {S : Type 0} (es : List (ObjectId × IndexMap PageNo Held S)) (o p : ℕ)
+    → held_among o p (map object_pages es) ≡ held_in p (option_map (λ m. m.entries) (lookup (λ id. o == id.0) es))
 held_seen es o p = ap (held_in p) (lookup-map_values (λ m. m.entries) (λ id. o == id.0) es)
 
 -- the room for an object's pages, as the maps have it
-pub room_seen : {S : Type 0} (es : List (ObjectId × IndexMap PageNo Held S)) (object first : ℕ) → unwrap_or (lookup (λ id. object == id.0) (map object_room es)) first ≡ unwrap_or (option_map spare (lookup (λ id. object == id.0) es)) first
+pub room_seen : {S : Type 0} (es : List (ObjectId × IndexMap PageNo Held S)) (object first : ℕ)
+    → unwrap_or (lookup (λ id. object == id.0) (map object_room es)) first ≡ unwrap_or (option_map spare (lookup (λ id. object == id.0) es)) first
 room_seen es object first = ap (λ (o : Option ℕ). unwrap_or o first) (lookup-map_values spare (λ id. object == id.0) es)
 
 pub puts_row : (object page : ℕ) (held : Held) (old new : HeldRows) (pages : List (PageNo × Held)) → Writes object (Some pages) old new
@@ -72,7 +77,8 @@ pub some_of : {A : Type 0} (o : Option A) (x : A) → o ≡ Some x → IsSome o
 some_of o x is = rw is refl
 
 -- the last entry is found where no other has its key
-pub found_last : {K X : Type 0} (test : K → Bool) (es : List (K × X)) (k : K) (x : X) → lookup test es ≡ None → test k ≡ true → lookup test (es ++ (k, x) ∷ []) ≡ Some x
+pub found_last : {K X : Type 0} (test : K → Bool) (es : List (K × X)) (k : K) (x : X) → lookup test es ≡ None → test k ≡ true
+    → lookup test (es ++ (k, x) ∷ []) ≡ Some x
 found_last test [] k x none is = rw is refl
 found_last test (e ∷ es) k x none is =
     ⊎_elim

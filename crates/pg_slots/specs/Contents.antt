@@ -1,5 +1,6 @@
 -- What was stored of each page, and that slots and backing fit it.
-use Rattle.std.specs.Prelude.{ℕ, ◌≡◌, ◌≢◌, ◌<◌, ◌≤◌, ◌+◌, ◌*◌, ◌==◌, ◌&&◌, List, [], ◌∷◌, ◌++◌, length, codes, Option, Some, None, IsSome, unwrap_or, Result, Ok, Err, OnErr, if◌then◌else◌}
+use Rattle.std.specs.Prelude.{ℕ, ◌≡◌, ◌≢◌, ◌<◌, ◌≤◌, ◌+◌, ◌*◌, ◌==◌, ◌&&◌, List, [], ◌∷◌, ◌++◌, length, codes, Option, Some, None, IsSome, unwrap_or, Result}
+use Rattle.std.specs.Prelude.{Ok, Err, OnErr, if◌then◌else◌}
 use Rattle.pg_slots.specs.Slots.{SlotTable, held_at}
 use Rattle.pg_slots.specs.declared.answers.Got.{Got}
 use Rattle.pg_slots.specs.declared.answers.Got.TheVariants as got

@@ -27,7 +27,8 @@ impl Model for FreeSlots {
 
     ghost view = { λ s. record { count = s.count; unused = s.unused; given = slots_of (heap_items s.given) } };
 
-    ghost invariant = { λ s. IsLowestFirst (heap_items s.given) × AreFree (record { count = s.count; unused = s.unused; given = slots_of (heap_items s.given) }) (heap_capacity s.given) };
+    ghost invariant = { λ s. IsLowestFirst (heap_items s.given) × AreFree (record { count = s.count; unused = s.unused; given = slots_of (heap_items s.given) })
+        (heap_capacity s.given) };
 }
 
 impl FreeSlots {

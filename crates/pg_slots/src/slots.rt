@@ -1,7 +1,8 @@
 // The slots.
 ghost use Rattle.std.specs.Prelude.{ℕ, ◌≡◌, ◌*◌, ◌<◌, ◌≤◌, ◌↔◌, ◌==◌, [], List, None, Some, IfOk, IfSome, MatchOption, OnErr, length, true, if◌then◌else◌};
 ghost use Rattle.pg_slots.specs.Calls.{GetMakes, PutMakes};
-ghost use Rattle.pg_slots.specs.Contents.{AgreesWithContent, AnswersHeld, CarriesContent, Content, GetHasCause, GivesStored, IsAreaTold, IsGetAnswer, IsWholePage, PutHasCause, PutTold, SlotsFit, after_put, area_name, content_without, same_content};
+ghost use Rattle.pg_slots.specs.Contents.{AgreesWithContent, AnswersHeld, CarriesContent, Content, GetHasCause, GivesStored, IsAreaTold, IsGetAnswer};
+ghost use Rattle.pg_slots.specs.Contents.{IsWholePage, PutHasCause, PutTold, SlotsFit, after_put, area_name, content_without, same_content};
 ghost use Rattle.pg_slots.specs.Kept.{AreGivable, FreesSlots, MayTake, PutsRow, is_taken, room_of, slot_in_map};
 ghost use Rattle.pg_slots.specs.Slots.{DropsHeld, GoesTo, HasNoSlot, KeepsShape, PutEffects, held_at, slot_in_table};
 ghost use Rattle.vm_base.specs.Limits.{most_hosts, most_slots};

@@ -1,5 +1,6 @@
 -- Each reply of a directory that stands for its history has a cause, and the directory stands for the history with it.
-use Rattle.std.proofs.Common.{◌≡◌, ◌≢◌, ◌<◌, ◌≤◌, ◌==◌, ◌&&◌, ◌||◌, ℕ, zero, suc, List, [], ◌∷◌, ◌++◌, length, arith, refl, ap, subst, sym, ◌∙◌, Bool, true, false, not, if◌then◌else◌, Some, inl, inr, ◌⊎◌}
+use Rattle.std.proofs.Common.{◌≡◌, ◌≢◌, ◌<◌, ◌≤◌, ◌==◌, ◌&&◌, ◌||◌, ℕ, zero, suc, List, [], ◌∷◌, ◌++◌, length, arith, refl, ap, subst, sym, ◌∙◌, Bool, true}
+use Rattle.std.proofs.Common.{false, not, if◌then◌else◌, Some, inl, inr, ◌⊎◌}
 use Rattle.std.specs.Prelude.{slice_index, slice_set}
 use Rattle.std.specs.List.{list_all}
 use Rattle.std.proofs.lemmas.Bool.Decides.{nat_tests}
@@ -13,9 +14,11 @@ use Rattle.sms_pages.specs.declared.reply.Reply.{Reply}
 use Rattle.sms_pages.specs.declared.reply.Reply.TheVariants.{Supply, Flush, CleanLock, Unlock}
 use Rattle.sms_pages.specs.declared.holding.Turn.{Turn}
 use Rattle.sms_pages.specs.declared.holding.Turn.TheVariants.{Leaves, Recalls, Waits, Grants}
-use Rattle.sms_pages.specs.Directory.{is_recalled, any_recalled, leaves, turn, recall, recall_kind, recalls, recalled, grant, granted, Directory, Outcome, served, IsServedDirectory}
+use Rattle.sms_pages.specs.Directory.{is_recalled, any_recalled, leaves, turn, recall, recall_kind, recalls, recalled, grant, granted, Directory, Outcome}
+use Rattle.sms_pages.specs.Directory.{served, IsServedDirectory}
 use Rattle.vm_model.specs.Server.{NoUpgrade, NoRequest}
-use Rattle.sms_pages.specs.Stands.{AllAreRecalled, count_wanting, DirectoryStands, StandsFor, lock_number, reply_act, reply_acts, Hears, ServingFollows, RepliesHaveCause}
+use Rattle.sms_pages.specs.Stands.{AllAreRecalled, count_wanting, DirectoryStands, StandsFor, lock_number, reply_act, reply_acts, Hears, ServingFollows}
+use Rattle.sms_pages.specs.Stands.{RepliesHaveCause}
 use Rattle.vm_model.specs.Coherence.{SomebodyIsAwaited}
 use Rattle.sms_pages.proofs.Facts.{own_side, holds_set, awaits_set, holds_kept, awaits_kept, heard_kept, counted_none, counted_same, all_none}
 use Rattle.sms_pages.proofs.Recalls.{recalled_above}
@@ -46,7 +49,8 @@ turn_recalls w holds awaits is = by (any_recalled w holds awaits 8) refl where
   by true e = refl
   by false e = let at = rw e at is in absurd (grind (arith, at))
 
-turn_grants : (w : Wanting) (holds awaits : List ℕ) → turn w holds awaits ≡ Grants → (any_recalled w holds awaits 8 ≡ false) × (list_all (λ kind. kind == 0) awaits ≡ true)
+turn_grants : (w : Wanting) (holds awaits : List ℕ) → turn w holds awaits ≡ Grants → (any_recalled w holds awaits 8 ≡ false)
+    × (list_all (λ kind. kind == 0) awaits ≡ true)
 turn_grants w holds awaits is = (by (any_recalled w holds awaits 8) refl, all (list_all (λ kind. kind == 0) awaits) refl) where
   by : (r : Bool) → any_recalled w holds awaits 8 ≡ r → r ≡ false
   by true e = let at = rw e at is in absurd (grind (arith, at))
@@ -90,11 +94,14 @@ room_for writes = if writes then 0 else 1
 
 -- nobody else is recalled, so the others hold no more than the front allows
 
-any_none : (w : Wanting) (holds awaits : List ℕ) (n : ℕ) → any_recalled w holds awaits n ≡ false → (g : ℕ) → g < n → is_recalled w g (slice_index holds g) (slice_index awaits g) ≡ false
+any_none : (w : Wanting) (holds awaits : List ℕ) (n : ℕ) → any_recalled w holds awaits n ≡ false → (g : ℕ) → g < n
+    → is_recalled w g (slice_index holds g) (slice_index awaits g) ≡ false
 any_none w holds awaits zero none g lt = absurd (omega arith)
 any_none w holds awaits (suc n) none g lt = elim (ℕ_discrete g n) [
-  | yes is ↦ subst (λ (k : ℕ). is_recalled w k (slice_index holds k) (slice_index awaits k) ≡ false) (sym is) (last (any_recalled w holds awaits n) (is_recalled w n (slice_index holds n) (slice_index awaits n)) none)
-  | no apart ↦ any_none w holds awaits n (front (any_recalled w holds awaits n) (is_recalled w n (slice_index holds n) (slice_index awaits n)) none) g (omega arith)
+  | yes is ↦ subst (λ (k : ℕ). is_recalled w k (slice_index holds k) (slice_index awaits k) ≡ false) (sym is)
+      (last (any_recalled w holds awaits n) (is_recalled w n (slice_index holds n) (slice_index awaits n)) none)
+  | no apart ↦ any_none w holds awaits n (front (any_recalled w holds awaits n) (is_recalled w n (slice_index holds n) (slice_index awaits n)) none) g
+      (omega arith)
 ] where
   last : (b c : Bool) → (b || c) ≡ false → c ≡ false
   last b c is = grind arith
@@ -105,7 +112,8 @@ any_none w holds awaits (suc n) none g lt = elim (ℕ_discrete g n) [
 allowed : (w : Wanting) (g hold await : ℕ) → is_recalled w g hold await ≡ false → await ≡ 0 → g ≢ w.host → hold ≤ 2 → hold ≤ room_for (wants_write w)
 allowed w g hold await none free apart le = grind (arith, nat_tests)
 
-others_allowed : (size : ℕ) (w : Wanting) (holds awaits bytes : List ℕ) (ws : List Wanting) (past : List Act) → DirectoryStands size holds awaits bytes ws past → any_recalled w holds awaits 8 ≡ false → list_all (λ kind. kind == 0) awaits ≡ true → OthersHold (room_for (wants_write w)) w.host past
+others_allowed : (size : ℕ) (w : Wanting) (holds awaits bytes : List ℕ) (ws : List Wanting) (past : List Act) → DirectoryStands size holds awaits bytes ws past
+    → any_recalled w holds awaits 8 ≡ false → list_all (λ kind. kind == 0) awaits ≡ true → OthersHold (room_for (wants_write w)) w.host past
 others_allowed size w holds awaits bytes ws past s none free g apart =
     let same : (side g past).holds ≡ slice_index holds g = s.same_holds g in
     rw same (elim (lt_or g) [
@@ -119,17 +127,20 @@ others_allowed size w holds awaits bytes ws past s none free g apart =
 
 set_bounded : (holds : List ℕ) (k v : ℕ) → k < length holds → v ≤ 2 → ((g : ℕ) → slice_index holds g ≤ 2) → (g : ℕ) → slice_index (slice_set holds k v) g ≤ 2
 set_bounded holds k v lt small le g = elim (ℕ_discrete g k) [
-  | yes is ↦ let e : slice_index (slice_set holds k v) g ≡ v = subst (λ (h : ℕ). slice_index (slice_set holds k v) h ≡ v) (sym is) (get_or-set_same holds k v 0 lt) in omega arith
+  | yes is ↦ let e : slice_index (slice_set holds k v) g ≡ v =
+      subst (λ (h : ℕ). slice_index (slice_set holds k v) h ≡ v) (sym is) (get_or-set_same holds k v 0 lt) in omega arith
   | no apart ↦ let e : slice_index (slice_set holds k v) g ≡ slice_index holds g = get_or-set_other holds k g v 0 apart in omega (arith, le g)
 ]
 
-set_waiting : (holds : List ℕ) (k v : ℕ) (w : Wanting) (ws : List Wanting) → NoRequest k ws → ((g : ℕ) → 0 < slice_index holds g → NoRequest g (w ∷ ws)) → (g : ℕ) → 0 < slice_index (slice_set holds k v) g → NoRequest g ws
+set_waiting : (holds : List ℕ) (k v : ℕ) (w : Wanting) (ws : List Wanting) → NoRequest k ws → ((g : ℕ) → 0 < slice_index holds g → NoRequest g (w ∷ ws))
+    → (g : ℕ) → 0 < slice_index (slice_set holds k v) g → NoRequest g ws
 set_waiting holds k v w ws none was g some = elim (ℕ_discrete g k) [
   | yes is ↦ subst (λ (h : ℕ). NoRequest h ws) (sym is) none
   | no apart ↦ let e : slice_index (slice_set holds k v) g ≡ slice_index holds g = get_or-set_other holds k g v 0 apart in (was g (omega arith)).1
 ]
 
-set_writing : (holds : List ℕ) (k v : ℕ) (w : Wanting) (ws : List Wanting) → NoUpgrade k ws → ((g : ℕ) → slice_index holds g ≡ 2 → NoUpgrade g (w ∷ ws)) → (g : ℕ) → slice_index (slice_set holds k v) g ≡ 2 → NoUpgrade g ws
+set_writing : (holds : List ℕ) (k v : ℕ) (w : Wanting) (ws : List Wanting) → NoUpgrade k ws → ((g : ℕ) → slice_index holds g ≡ 2 → NoUpgrade g (w ∷ ws))
+    → (g : ℕ) → slice_index (slice_set holds k v) g ≡ 2 → NoUpgrade g ws
 set_writing holds k v w ws none was g two = elim (ℕ_discrete g k) [
   | yes is ↦ subst (λ (h : ℕ). NoUpgrade h ws) (sym is) none
   | no apart ↦ let e : slice_index (slice_set holds k v) g ≡ slice_index holds g = get_or-set_other holds k g v 0 apart in (was g (omega arith)).1
@@ -142,16 +153,22 @@ small_grant w = grind arith
 
 -- the supply of the front's request
 after_supply : (size lock : ℕ) (heard : ℕ → ℕ) (bytes holds awaits : List ℕ) (w : Wanting) (ws : List Wanting) (past : List Act)
-    → State size heard bytes holds awaits (w ∷ ws) past → leaves w holds ≡ false → any_recalled w holds awaits 8 ≡ false → list_all (λ kind. kind == 0) awaits ≡ true
+    → State size heard bytes holds awaits (w ∷ ws) past → leaves w holds ≡ false → any_recalled w holds awaits 8 ≡ false
+    → list_all (λ kind. kind == 0) awaits ≡ true
     → w.upgrade ≡ false → lock ≡ (if w.access == 3 then 0 else 2)
-    → State size heard bytes (slice_set holds w.host (granted w)) awaits ws (record { host = w.host; effect = SentDown (heard w.host) (Supplying lock false bytes) } ∷ past)
+    → State size heard bytes (slice_set holds w.host (granted w)) awaits ws (record
+    { host = w.host; effect = SentDown (heard w.host) (Supplying lock false bytes) } ∷ past)
 after_supply size lock heard bytes holds awaits w ws past s stays none free request is =
     record {
       licensed = ((s.hears w.host, refl, (λ g. s.stands.same_awaits g ∙ all_none awaits free g), sym s.stands.same_bytes, row), s.licensed);
       stands = record {
         same_holds = same_holds;
         same_awaits = awaits_kept w.host (SentDown (heard w.host) (Supplying lock false bytes)) awaits past refl s.stands.same_awaits;
-        same_line = ap (λ (l : List Wanting). trimmed_line w.host (side w.host (act ∷ past)).holds (without_request w.host l)) front ∙ (ap (λ (l : List Wanting). trimmed_line w.host (side w.host (act ∷ past)).holds l) (front_gone w (count_wanting holds ws) request) ∙ counted_none w.host (side w.host (act ∷ past)).holds holds (slice_set holds w.host (granted w)) ws s.stands.in_turn.1 (λ g apart. get_or-set_other holds w.host g (granted w) 0 apart));
+        same_line =
+            ap (λ (l : List Wanting). trimmed_line w.host (side w.host (act ∷ past)).holds (without_request w.host l)) front
+            ∙ (ap (λ (l : List Wanting). trimmed_line w.host (side w.host (act ∷ past)).holds l) (front_gone w (count_wanting holds ws) request)
+            ∙ counted_none w.host (side w.host (act ∷ past)).holds holds (slice_set holds w.host (granted w)) ws s.stands.in_turn.1
+            (λ g apart. get_or-set_other holds w.host g (granted w) 0 apart));
         same_bytes = s.stands.same_bytes;
         eight_hold = length-set holds w.host (granted w) ∙ s.stands.eight_hold;
         eight_await = s.stands.eight_await;
@@ -178,26 +195,40 @@ after_supply size lock heard bytes holds awaits w ws past s stays none free requ
       room w request = grind arith
 
       row : SupplyRow w.host lock past (first (line past))
-      row = subst (λ (l : List Wanting). SupplyRow w.host lock past (first l)) (sym front) (refl, request, is, subst (λ (n : ℕ). OthersHold n w.host past) (room w request) (others_allowed size w holds awaits bytes (w ∷ ws) past s.stands none free))
+      row =
+          subst (λ (l : List Wanting). SupplyRow w.host lock past (first l)) (sym front) (
+            refl,
+            request,
+            is,
+            subst (λ (n : ℕ). OthersHold n w.host past) (room w request)
+                (others_allowed size w holds awaits bytes (w ∷ ws) past s.stands none free),
+          )
 
       gives : (w : Wanting) (lock : ℕ) → w.upgrade ≡ false → lock ≡ (if w.access == 3 then 0 else 2) → right_of lock ≡ granted w
       gives w lock request is = grind (arith, nat_tests)
 
       same_holds : (g : ℕ) → (side g (act ∷ past)).holds ≡ slice_index (slice_set holds w.host (granted w)) g
-      same_holds = holds_set w.host (SentDown (heard w.host) (Supplying lock false bytes)) (granted w) holds past inside (gives w lock request is) s.stands.same_holds
+      same_holds =
+          holds_set w.host (SentDown (heard w.host) (Supplying lock false bytes)) (granted w) holds past inside (gives w lock request is) s.stands.same_holds
 
 -- the unlock of the front's upgrade
 after_unlock : (size : ℕ) (heard : ℕ → ℕ) (bytes holds awaits : List ℕ) (w : Wanting) (ws : List Wanting) (past : List Act)
-    → State size heard bytes holds awaits (w ∷ ws) past → leaves w holds ≡ false → any_recalled w holds awaits 8 ≡ false → list_all (λ kind. kind == 0) awaits ≡ true
+    → State size heard bytes holds awaits (w ∷ ws) past → leaves w holds ≡ false → any_recalled w holds awaits 8 ≡ false
+    → list_all (λ kind. kind == 0) awaits ≡ true
     → w.upgrade ≡ true
-    → State size heard bytes (slice_set holds w.host (granted w)) awaits ws (record { host = w.host; effect = SentDown (heard w.host) (Locking 1 0 false 0 false) } ∷ past)
+    → State size heard bytes (slice_set holds w.host (granted w)) awaits ws (record
+    { host = w.host; effect = SentDown (heard w.host) (Locking 1 0 false 0 false) } ∷ past)
 after_unlock size heard bytes holds awaits w ws past s stays none free up =
     record {
       licensed = ((s.hears w.host, refl, refl, refl, refl, (λ g. s.stands.same_awaits g ∙ all_none awaits free g), alone, row), s.licensed);
       stands = record {
         same_holds = same_holds;
         same_awaits = awaits_kept w.host (SentDown (heard w.host) (Locking 1 0 false 0 false)) awaits past refl s.stands.same_awaits;
-        same_line = ap (λ (l : List Wanting). trimmed_line w.host (side w.host (act ∷ past)).holds l) front ∙ (front_gone w (side w.host (act ∷ past)).holds (count_wanting holds ws) up writes ∙ counted_none w.host (side w.host (act ∷ past)).holds holds (slice_set holds w.host (granted w)) ws s.stands.in_turn.1 (λ g apart. get_or-set_other holds w.host g (granted w) 0 apart));
+        same_line =
+            ap (λ (l : List Wanting). trimmed_line w.host (side w.host (act ∷ past)).holds l) front
+            ∙ (front_gone w (side w.host (act ∷ past)).holds (count_wanting holds ws) up writes
+            ∙ counted_none w.host (side w.host (act ∷ past)).holds holds (slice_set holds w.host (granted w)) ws s.stands.in_turn.1
+            (λ g apart. get_or-set_other holds w.host g (granted w) 0 apart));
         same_bytes = s.stands.same_bytes;
         eight_hold = length-set holds w.host (granted w) ∙ s.stands.eight_hold;
         eight_await = s.stands.eight_await;
@@ -256,8 +287,11 @@ after_recall size n lock kind flush heard bytes holds awaits w ws past s stays l
       licensed = ((s.hears n, refl, refl, s.stands.same_awaits n ∙ free, subst (λ (m : ℕ). 0 < m) (sym (s.stands.same_holds n)) some, answers), s.licensed);
       stands = record {
         same_holds = same_holds;
-        same_awaits = awaits_set n (SentDown (heard n) (Locking 1 1 flush lock true)) kind awaits past (omega (arith, s.stands.eight_await)) is s.stands.same_awaits;
-        same_line = ap (λ (l : List Wanting). trimmed_line n (side n (recall_act heard n lock flush ∷ past)).holds l) s.stands.same_line ∙ counted_same n (side n (recall_act heard n lock flush ∷ past)).holds holds (w ∷ ws) (sym (same_holds n));
+        same_awaits =
+            awaits_set n (SentDown (heard n) (Locking 1 1 flush lock true)) kind awaits past (omega (arith, s.stands.eight_await)) is s.stands.same_awaits;
+        same_line =
+            ap (λ (l : List Wanting). trimmed_line n (side n (recall_act heard n lock flush ∷ past)).holds l) s.stands.same_line
+            ∙ counted_same n (side n (recall_act heard n lock flush ∷ past)).holds holds (w ∷ ws) (sym (same_holds n));
         same_bytes = s.stands.same_bytes;
         eight_hold = s.stands.eight_hold;
         eight_await = length-set awaits n kind ∙ s.stands.eight_await;
@@ -272,19 +306,25 @@ after_recall size n lock kind flush heard bytes holds awaits w ws past s stays l
       front = s.stands.same_line ∙ is_counted w holds ws stays
 
       answers : RecallRow n flush lock (side n past).holds (first (line past))
-      answers = subst (λ (l : List Wanting). RecallRow n flush lock (side n past).holds (first l)) (sym front) (subst (λ (m : ℕ). RecallRow n flush lock m (Some w)) (sym (s.stands.same_holds n)) row)
+      answers =
+          subst (λ (l : List Wanting). RecallRow n flush lock (side n past).holds (first l)) (sym front)
+          (subst (λ (m : ℕ). RecallRow n flush lock m (Some w)) (sym (s.stands.same_holds n)) row)
 
       same_holds : (g : ℕ) → (side g (recall_act heard n lock flush ∷ past)).holds ≡ slice_index holds g
       same_holds = holds_kept n (SentDown (heard n) (Locking 1 1 flush lock true)) holds past refl s.stands.same_holds
 
 -- who is recalled
 
-recalled_facts : (w : Wanting) (n hold await : ℕ) → is_recalled w n hold await ≡ true → (w.host ≢ n) × (await ≡ 0) × (0 < hold) × (wants_write w ≡ false → hold ≡ 2)
-recalled_facts w n hold await is = (λ same. absurd (grind (arith, nat_tests)), grind (arith, nat_tests), grind (arith, nat_tests), λ reads. grind (arith, nat_tests))
+recalled_facts : (w : Wanting) (n hold await : ℕ) → is_recalled w n hold await ≡ true → (w.host ≢ n) × (await ≡ 0) × (0 < hold)
+    × (wants_write w ≡ false → hold ≡ 2)
+recalled_facts w n hold await is =
+    (λ same. absurd (grind (arith, nat_tests)), grind (arith, nat_tests), grind (arith, nat_tests), λ reads. grind (arith, nat_tests))
 
 after_recall_of : (size n : ℕ) (b : Bool) (heard : ℕ → ℕ) (bytes holds awaits : List ℕ) (w : Wanting) (ws : List Wanting) (past : List Act)
-    → State size heard bytes holds awaits (w ∷ ws) past → leaves w holds ≡ false → n < 8 → is_recalled w n (slice_index holds n) (slice_index awaits n) ≡ true → wants_write w ≡ b
-    → State size heard bytes holds (slice_set awaits n (if b then 2 else 1)) (w ∷ ws) (reply_act heard (if b then Flush (record { 0 = n }) else CleanLock (record { 0 = n })) ∷ past)
+    → State size heard bytes holds awaits (w ∷ ws) past → leaves w holds ≡ false → n < 8 → is_recalled w n (slice_index holds n) (slice_index awaits n) ≡ true
+    → wants_write w ≡ b
+    → State size heard bytes holds (slice_set awaits n (if b then 2 else 1)) (w ∷ ws)
+    (reply_act heard (if b then Flush (record { 0 = n }) else CleanLock (record { 0 = n })) ∷ past)
 after_recall_of size n true heard bytes holds awaits w ws past s stays lt is writes =
     let f = recalled_facts w n (slice_index holds n) (slice_index awaits n) is in
     after_recall size n 8 2 true heard bytes holds awaits w ws past s stays lt f.1 f.2 (f.0, refl, writes) refl
@@ -293,9 +333,12 @@ after_recall_of size n false heard bytes holds awaits w ws past s stays lt is re
     after_recall size n 2 1 false heard bytes holds awaits w ws past s stays lt f.1 f.2 (f.0, refl, reads, f.3 reads) refl
 
 recall_step : (size n : ℕ) (b : Bool) (heard : ℕ → ℕ) (bytes holds awaits : List ℕ) (w : Wanting) (ws : List Wanting) (rs : List Reply) (past : List Act)
-    → State size heard bytes holds awaits (w ∷ ws) (reply_acts heard rs ++ past) → leaves w holds ≡ false → n < 8 → is_recalled w n (slice_index holds n) (slice_index awaits n) ≡ b
-    → State size heard bytes holds (if b then slice_set awaits n (recall_kind w) else awaits) (w ∷ ws) (reply_acts heard (if b then recall w n ∷ rs else rs) ++ past)
-recall_step size n true heard bytes holds awaits w ws rs past s stays lt is = after_recall_of size n (wants_write w) heard bytes holds awaits w ws (reply_acts heard rs ++ past) s stays lt is refl
+    → State size heard bytes holds awaits (w ∷ ws) (reply_acts heard rs ++ past) → leaves w holds ≡ false → n < 8
+    → is_recalled w n (slice_index holds n) (slice_index awaits n) ≡ b
+    → State size heard bytes holds (if b then slice_set awaits n (recall_kind w) else awaits) (w ∷ ws)
+    (reply_acts heard (if b then recall w n ∷ rs else rs) ++ past)
+recall_step size n true heard bytes holds awaits w ws rs past s stays lt is =
+    after_recall_of size n (wants_write w) heard bytes holds awaits w ws (reply_acts heard rs ++ past) s stays lt is refl
 recall_step size n false heard bytes holds awaits w ws rs past s stays lt is = s
 
 after_recalls : (size : ℕ) (heard : ℕ → ℕ) (bytes holds awaits : List ℕ) (w : Wanting) (ws : List Wanting) (past : List Act) (n : ℕ)
@@ -305,26 +348,32 @@ after_recalls size heard bytes holds awaits w ws past zero s stays le = s
 after_recalls size heard bytes holds awaits w ws past (suc n) s stays le =
     let before = after_recalls size heard bytes holds awaits w ws past n s stays (omega arith) in
     let same : slice_index (recalled w holds awaits n) n ≡ slice_index awaits n = recalled_above w holds awaits n n (omega arith) in
-    recall_step size n (is_recalled w n (slice_index holds n) (slice_index awaits n)) heard bytes holds (recalled w holds awaits n) w ws (recalls w holds awaits n) past before stays (omega arith)
+    recall_step size n (is_recalled w n (slice_index holds n) (slice_index awaits n)) heard bytes holds (recalled w holds awaits n) w ws
+    (recalls w holds awaits n) past before stays (omega arith)
     (ap (λ (m : ℕ). is_recalled w n (slice_index holds n) m) same)
 
 -- the whole line
 
-acts_append : (heard : ℕ → ℕ) (rs qs : List Reply) (past : List Act) → reply_acts heard (rs ++ qs) ++ past ≡ reply_acts heard rs ++ (reply_acts heard qs ++ past)
+acts_append : (heard : ℕ → ℕ) (rs qs : List Reply) (past : List Act)
+    → reply_acts heard (rs ++ qs) ++ past ≡ reply_acts heard rs ++ (reply_acts heard qs ++ past)
 acts_append heard [] qs past = refl
 acts_append heard (r ∷ rs) qs past = ap (λ (l : List Act). reply_act heard r ∷ l) (acts_append heard rs qs past)
 
 after_grant : (size : ℕ) (b : Bool) (heard : ℕ → ℕ) (bytes holds awaits : List ℕ) (w : Wanting) (ws : List Wanting) (past : List Act)
-    → State size heard bytes holds awaits (w ∷ ws) past → leaves w holds ≡ false → any_recalled w holds awaits 8 ≡ false → list_all (λ kind. kind == 0) awaits ≡ true
+    → State size heard bytes holds awaits (w ∷ ws) past → leaves w holds ≡ false → any_recalled w holds awaits 8 ≡ false
+    → list_all (λ kind. kind == 0) awaits ≡ true
     → w.upgrade ≡ b
-    → State size heard bytes (slice_set holds w.host (granted w)) awaits ws (reply_act heard (if b then Unlock (record { 0 = w.host }) else Supply (record { 0 = w.host }) (record { read = false; write = not (wants_write w) }) bytes) ∷ past)
+    → State size heard bytes (slice_set holds w.host (granted w)) awaits ws (reply_act heard
+    (if b then Unlock (record { 0 = w.host }) else Supply (record { 0 = w.host }) (record { read = false; write = not (wants_write w) }) bytes) ∷ past)
 after_grant size true heard bytes holds awaits w ws past s stays none free up = after_unlock size heard bytes holds awaits w ws past s stays none free up
 after_grant size false heard bytes holds awaits w ws past s stays none free request =
-    after_supply size (lock_number (record { read = false; write = not (wants_write w) })) heard bytes holds awaits w ws past s stays none free request (lock_is w request) where
+    after_supply size (lock_number (record { read = false; write = not (wants_write w) })) heard bytes holds awaits w ws past s stays none free request
+    (lock_is w request) where
       lock_is : (w : Wanting) → w.upgrade ≡ false → lock_number (record { read = false; write = not (wants_write w) }) ≡ (if w.access == 3 then 0 else 2)
       lock_is w request = grind (arith, nat_tests)
 
-left : (size : ℕ) (heard : ℕ → ℕ) (bytes holds awaits : List ℕ) (w : Wanting) (ws : List Wanting) (past : List Act) → State size heard bytes holds awaits (w ∷ ws) past → leaves w holds ≡ true → State size heard bytes holds awaits ws past
+left : (size : ℕ) (heard : ℕ → ℕ) (bytes holds awaits : List ℕ) (w : Wanting) (ws : List Wanting) (past : List Act)
+    → State size heard bytes holds awaits (w ∷ ws) past → leaves w holds ≡ true → State size heard bytes holds awaits ws past
 left size heard bytes holds awaits w ws past s is =
     record {
       licensed = s.licensed;
@@ -352,7 +401,8 @@ served_follows size heard bytes holds awaits (w ∷ ws) sent past s =
     (λ t. served_follows size heard bytes (slice_set holds w.host (granted w)) awaits ws (grant w bytes ∷ sent) past t) where
       by_turn : (t : Turn) → turn w holds awaits ≡ t
           → (State size heard bytes holds awaits ws (reply_acts heard sent ++ past) → ServingFollows size heard bytes (served sent holds awaits bytes ws) past)
-          → (State size heard bytes (slice_set holds w.host (granted w)) awaits ws (reply_acts heard (grant w bytes ∷ sent) ++ past) → ServingFollows size heard bytes (served (grant w bytes ∷ sent) (slice_set holds w.host (granted w)) awaits bytes ws) past)
+          → (State size heard bytes (slice_set holds w.host (granted w)) awaits ws (reply_acts heard (grant w bytes ∷ sent) ++ past)
+          → ServingFollows size heard bytes (served (grant w bytes ∷ sent) (slice_set holds w.host (granted w)) awaits bytes ws) past)
           → ServingFollows size heard bytes (elim t as (λ t. Outcome) [
             | Leaves ↦ served sent holds awaits bytes ws
             | Recalls ↦ record { holds = holds; awaits = recalled w holds awaits 8; line = w ∷ ws; replies = recalls w holds awaits 8 ++ sent }
@@ -361,7 +411,8 @@ served_follows size heard bytes holds awaits (w ∷ ws) sent past s =
           ]) past
       by_turn Leaves is on given = on (left size heard bytes holds awaits w ws (reply_acts heard sent ++ past) s (turn_leaves w holds awaits is))
       by_turn Recalls is on given =
-          let r = after_recalls size heard bytes holds awaits w ws (reply_acts heard sent ++ past) 8 s (turn_stays w holds awaits Recalls (λ e. absurd (cc)) is) (omega arith) in
+          let r = after_recalls size heard bytes holds awaits w ws (reply_acts heard sent ++ past) 8 s (turn_stays w holds awaits Recalls (λ e. absurd (cc)) is)
+          (omega arith) in
           let e = acts_append heard (recalls w holds awaits 8) sent past in
           record {
             licensed = subst (λ (l : List Act). ActsLicensed size l) (sym e) r.licensed;
@@ -370,31 +421,40 @@ served_follows size heard bytes holds awaits (w ∷ ws) sent past s =
       by_turn Waits is on given = record { licensed = s.licensed; stands = s.stands }
       by_turn Grants is on given =
           let f = turn_grants w holds awaits is in
-          given (after_grant size w.upgrade heard bytes holds awaits w ws (reply_acts heard sent ++ past) s (turn_stays w holds awaits Grants (λ e. absurd (cc)) is) f.0 f.1 refl)
+          given (after_grant size w.upgrade heard bytes holds awaits w ws (reply_acts heard sent ++ past) s
+          (turn_stays w holds awaits Grants (λ e. absurd (cc)) is) f.0 f.1 refl)
 
 -- where somebody still waits, some host is awaited
 
 recalled_long : (w : Wanting) (holds awaits : List ℕ) (n : ℕ) → length awaits ≡ 8 → length (recalled w holds awaits n) ≡ 8
 recalled_long w holds awaits zero eight = eight
-recalled_long w holds awaits (suc n) eight = keeps (is_recalled w n (slice_index holds n) (slice_index awaits n)) (recalled w holds awaits n) n (recall_kind w) (recalled_long w holds awaits n eight) where
-  keeps : (b : Bool) (xs : List ℕ) (m kind : ℕ) → length xs ≡ 8 → length (if b then slice_set xs m kind else xs) ≡ 8
-  keeps true xs m kind is = length-set xs m kind ∙ is
-  keeps false xs m kind is = is
+recalled_long w holds awaits (suc n) eight =
+    keeps (is_recalled w n (slice_index holds n) (slice_index awaits n)) (recalled w holds awaits n) n (recall_kind w) (recalled_long w holds awaits n eight)
+  where
+    keeps : (b : Bool) (xs : List ℕ) (m kind : ℕ) → length xs ≡ 8 → length (if b then slice_set xs m kind else xs) ≡ 8
+    keeps true xs m kind is = length-set xs m kind ∙ is
+    keeps false xs m kind is = is
 
-is_awaited : (w : Wanting) (holds awaits : List ℕ) (n : ℕ) → length awaits ≡ 8 → suc n ≤ 8 → 0 < slice_index (slice_set (recalled w holds awaits n) n (recall_kind w)) n
+is_awaited : (w : Wanting) (holds awaits : List ℕ) (n : ℕ) → length awaits ≡ 8 → suc n ≤ 8
+    → 0 < slice_index (slice_set (recalled w holds awaits n) n (recall_kind w)) n
 is_awaited w holds awaits n eight le =
-    let e : slice_index (slice_set (recalled w holds awaits n) n (recall_kind w)) n ≡ recall_kind w = get_or-set_same (recalled w holds awaits n) n (recall_kind w) 0 (omega (arith, recalled_long w holds awaits n eight)) in
+    let e : slice_index (slice_set (recalled w holds awaits n) n (recall_kind w)) n ≡ recall_kind w = get_or-set_same (recalled w holds awaits n) n
+    (recall_kind w) 0 (omega (arith, recalled_long w holds awaits n eight)) in
     omega (arith, some_kind w) where
       some_kind : (w : Wanting) → 0 < recall_kind w
       some_kind w = grind arith
 
-some_recalled : (w : Wanting) (holds awaits : List ℕ) (n : ℕ) → length awaits ≡ 8 → n ≤ 8 → any_recalled w holds awaits n ≡ true → (g : ℕ) × (0 < slice_index (recalled w holds awaits n) g)
+some_recalled : (w : Wanting) (holds awaits : List ℕ) (n : ℕ) → length awaits ≡ 8 → n ≤ 8 → any_recalled w holds awaits n ≡ true → (g : ℕ)
+    × (0 < slice_index (recalled w holds awaits n) g)
 some_recalled w holds awaits zero eight le any = absurd (cc)
-some_recalled w holds awaits (suc n) eight le any = by_host (is_recalled w n (slice_index holds n) (slice_index awaits n)) (any_recalled w holds awaits n) any (some_recalled w holds awaits n eight (omega arith)) where
-  by_host : (b c : Bool) → (c || b) ≡ true → (c ≡ true → (g : ℕ) × (0 < slice_index (recalled w holds awaits n) g)) → (g : ℕ) × (0 < slice_index (if b then slice_set (recalled w holds awaits n) n (recall_kind w) else recalled w holds awaits n) g)
-  by_host true c is before = (n, is_awaited w holds awaits n eight le)
-  by_host false true is before = before refl
-  by_host false false is before = absurd (cc)
+some_recalled w holds awaits (suc n) eight le any =
+    by_host (is_recalled w n (slice_index holds n) (slice_index awaits n)) (any_recalled w holds awaits n) any
+    (some_recalled w holds awaits n eight (omega arith)) where
+      by_host : (b c : Bool) → (c || b) ≡ true → (c ≡ true → (g : ℕ) × (0 < slice_index (recalled w holds awaits n) g)) → (g : ℕ)
+          × (0 < slice_index (if b then slice_set (recalled w holds awaits n) n (recall_kind w) else recalled w holds awaits n) g)
+      by_host true c is before = (n, is_awaited w holds awaits n eight le)
+      by_host false true is before = before refl
+      by_host false false is before = absurd (cc)
 
 not_all_none : (awaits : List ℕ) → list_all (λ kind. kind == 0) awaits ≡ false → (g : ℕ) × (0 < slice_index awaits g)
 not_all_none [] is = absurd (cc)
@@ -408,11 +468,14 @@ not_all_none (a ∷ more) is = elim (ℕ_discrete a 0) [
 abbrev Awaited : Outcome → Type 0
 Awaited s = s.line ≢ [] → (g : ℕ) × (0 < slice_index s.awaits g)
 
-pub served_awaited : (sent : List Reply) (holds awaits bytes : List ℕ) (wants : List Wanting) → length awaits ≡ 8 → (served sent holds awaits bytes wants).line ≢ [] → (g : ℕ) × (0 < slice_index (served sent holds awaits bytes wants).awaits g)
+pub served_awaited : (sent : List Reply) (holds awaits bytes : List ℕ) (wants : List Wanting) → length awaits ≡ 8
+    → (served sent holds awaits bytes wants).line ≢ [] → (g : ℕ) × (0 < slice_index (served sent holds awaits bytes wants).awaits g)
 served_awaited sent holds awaits bytes [] eight = λ some. absurd (some refl)
 served_awaited sent holds awaits bytes (w ∷ ws) eight =
-    by_turn (turn w holds awaits) refl (served_awaited sent holds awaits bytes ws eight) (served_awaited (grant w bytes ∷ sent) (slice_set holds w.host (granted w)) awaits bytes ws eight) where
-      by_turn : (t : Turn) → turn w holds awaits ≡ t → Awaited (served sent holds awaits bytes ws) → Awaited (served (grant w bytes ∷ sent) (slice_set holds w.host (granted w)) awaits bytes ws)
+    by_turn (turn w holds awaits) refl (served_awaited sent holds awaits bytes ws eight)
+    (served_awaited (grant w bytes ∷ sent) (slice_set holds w.host (granted w)) awaits bytes ws eight) where
+      by_turn : (t : Turn) → turn w holds awaits ≡ t → Awaited (served sent holds awaits bytes ws)
+          → Awaited (served (grant w bytes ∷ sent) (slice_set holds w.host (granted w)) awaits bytes ws)
           → Awaited (elim t as (λ t. Outcome) [
             | Leaves ↦ served sent holds awaits bytes ws
             | Recalls ↦ record { holds = holds; awaits = recalled w holds awaits 8; line = w ∷ ws; replies = recalls w holds awaits 8 ++ sent }
@@ -428,40 +491,54 @@ served_awaited sent holds awaits bytes (w ∷ ws) eight =
 
 -- the front stays, and nobody is left whom it would recall
 abbrev HasRecalled : Outcome → Type 0
-HasRecalled s = (w : Wanting) → first s.line ≡ Some w → (leaves w s.holds ≡ false) × ((g : ℕ) → g < 8 → is_recalled w g (slice_index s.holds g) (slice_index s.awaits g) ≡ false)
+HasRecalled s =
+    (w : Wanting) → first s.line ≡ Some w → (leaves w s.holds ≡ false)
+    × ((g : ℕ) → g < 8 → is_recalled w g (slice_index s.holds g) (slice_index s.awaits g) ≡ false)
 
 none_twice : (w : Wanting) (g hold await : ℕ) → 0 < await → is_recalled w g hold await ≡ false
 none_twice w g hold await some = grind (arith, nat_tests)
 
-none_left : (w : Wanting) (holds awaits : List ℕ) (n : ℕ) → length awaits ≡ 8 → n ≤ 8 → (g : ℕ) → g < n → is_recalled w g (slice_index holds g) (slice_index (recalled w holds awaits n) g) ≡ false
+none_left : (w : Wanting) (holds awaits : List ℕ) (n : ℕ) → length awaits ≡ 8 → n ≤ 8 → (g : ℕ) → g < n
+    → is_recalled w g (slice_index holds g) (slice_index (recalled w holds awaits n) g) ≡ false
 none_left w holds awaits zero eight le g lt = absurd (omega arith)
-none_left w holds awaits (suc n) eight le g lt = by_host (is_recalled w n (slice_index holds n) (slice_index awaits n)) refl (λ below. none_left w holds awaits n eight (omega arith) g below) where
-  kept : slice_index (recalled w holds awaits n) n ≡ slice_index awaits n
-  kept = recalled_above w holds awaits n n (omega arith)
+none_left w holds awaits (suc n) eight le g lt =
+    by_host (is_recalled w n (slice_index holds n) (slice_index awaits n)) refl (λ below. none_left w holds awaits n eight (omega arith) g below) where
+      kept : slice_index (recalled w holds awaits n) n ≡ slice_index awaits n
+      kept = recalled_above w holds awaits n n (omega arith)
 
-  by_host : (b : Bool) → is_recalled w n (slice_index holds n) (slice_index awaits n) ≡ b → (g < n → is_recalled w g (slice_index holds g) (slice_index (recalled w holds awaits n) g) ≡ false)
-      → is_recalled w g (slice_index holds g) (slice_index (if b then slice_set (recalled w holds awaits n) n (recall_kind w) else recalled w holds awaits n) g) ≡ false
-  by_host true is before = elim (ℕ_discrete g n) [
-    | yes same ↦ subst (λ (k : ℕ). is_recalled w k (slice_index holds k) (slice_index (slice_set (recalled w holds awaits n) n (recall_kind w)) k) ≡ false) (sym same) (none_twice w n (slice_index holds n) (slice_index (slice_set (recalled w holds awaits n) n (recall_kind w)) n) (is_awaited w holds awaits n eight le))
-    | no apart ↦ subst (λ (m : ℕ). is_recalled w g (slice_index holds g) m ≡ false) (sym (get_or-set_other (recalled w holds awaits n) n g (recall_kind w) 0 apart)) (before (omega arith))
-  ]
-  by_host false is before = elim (ℕ_discrete g n) [
-    | yes same ↦ subst (λ (k : ℕ). is_recalled w k (slice_index holds k) (slice_index (recalled w holds awaits n) k) ≡ false) (sym same) (subst (λ (m : ℕ). is_recalled w n (slice_index holds n) m ≡ false) (sym kept) is)
-    | no apart ↦ before (omega arith)
-  ]
+      by_host : (b : Bool) → is_recalled w n (slice_index holds n) (slice_index awaits n) ≡ b
+          → (g < n → is_recalled w g (slice_index holds g) (slice_index (recalled w holds awaits n) g) ≡ false)
+          → is_recalled w g (slice_index holds g) (slice_index (if b then slice_set (recalled w holds awaits n) n (recall_kind w) else recalled w holds awaits
+          n)
+          g) ≡ false
+      by_host true is before = elim (ℕ_discrete g n) [
+        | yes same ↦ subst (λ (k : ℕ). is_recalled w k (slice_index holds k) (slice_index (slice_set (recalled w holds awaits n) n (recall_kind w)) k) ≡ false)
+            (sym same) (none_twice w n (slice_index holds n) (slice_index (slice_set (recalled w holds awaits n) n (recall_kind w)) n)
+            (is_awaited w holds awaits n eight le))
+        | no apart ↦ subst (λ (m : ℕ). is_recalled w g (slice_index holds g) m ≡ false)
+            (sym (get_or-set_other (recalled w holds awaits n) n g (recall_kind w) 0 apart)) (before (omega arith))
+      ]
+      by_host false is before = elim (ℕ_discrete g n) [
+        | yes same ↦ subst (λ (k : ℕ). is_recalled w k (slice_index holds k) (slice_index (recalled w holds awaits n) k) ≡ false) (sym same)
+            (subst (λ (m : ℕ). is_recalled w n (slice_index holds n) m ≡ false) (sym kept) is)
+        | no apart ↦ before (omega arith)
+      ]
 
 -- what holds of the one in front
 of_front : (P : Wanting → Type 0) (w v : Wanting) (ws : List Wanting) → P w → first (w ∷ ws) ≡ Some v → P v
 of_front P w v ws holds is = let e : w ≡ v = cc in subst P e holds
 
-served_recalled : (sent : List Reply) (holds awaits bytes : List ℕ) (wants : List Wanting) → length awaits ≡ 8 → HasRecalled (served sent holds awaits bytes wants)
+served_recalled : (sent : List Reply) (holds awaits bytes : List ℕ) (wants : List Wanting) → length awaits ≡ 8
+    → HasRecalled (served sent holds awaits bytes wants)
 served_recalled sent holds awaits bytes [] eight = λ w is. absurd (cc)
 served_recalled sent holds awaits bytes (w ∷ ws) eight =
-    by_turn (turn w holds awaits) refl (served_recalled sent holds awaits bytes ws eight) (served_recalled (grant w bytes ∷ sent) (slice_set holds w.host (granted w)) awaits bytes ws eight) where
+    by_turn (turn w holds awaits) refl (served_recalled sent holds awaits bytes ws eight)
+    (served_recalled (grant w bytes ∷ sent) (slice_set holds w.host (granted w)) awaits bytes ws eight) where
       stays : (t : Turn) → t ≢ Leaves → turn w holds awaits ≡ t → leaves w holds ≡ false
       stays t apart is = turn_stays w holds awaits t apart is
 
-      by_turn : (t : Turn) → turn w holds awaits ≡ t → HasRecalled (served sent holds awaits bytes ws) → HasRecalled (served (grant w bytes ∷ sent) (slice_set holds w.host (granted w)) awaits bytes ws)
+      by_turn : (t : Turn) → turn w holds awaits ≡ t → HasRecalled (served sent holds awaits bytes ws)
+          → HasRecalled (served (grant w bytes ∷ sent) (slice_set holds w.host (granted w)) awaits bytes ws)
           → HasRecalled (elim t as (λ t. Outcome) [
             | Leaves ↦ served sent holds awaits bytes ws
             | Recalls ↦ record { holds = holds; awaits = recalled w holds awaits 8; line = w ∷ ws; replies = recalls w holds awaits 8 ++ sent }
@@ -469,14 +546,19 @@ served_recalled sent holds awaits bytes (w ∷ ws) eight =
             | Grants ↦ served (grant w bytes ∷ sent) (slice_set holds w.host (granted w)) awaits bytes ws
           ])
       by_turn Leaves is on given = on
-      by_turn Recalls is on given = λ v front. of_front (λ (u : Wanting). (leaves u holds ≡ false) × ((g : ℕ) → g < 8 → is_recalled u g (slice_index holds g) (slice_index (recalled w holds awaits 8) g) ≡ false)) w v ws
+      by_turn Recalls is on given =
+          λ v front. of_front (λ (u : Wanting). (leaves u holds ≡ false)
+          × ((g : ℕ) → g < 8 → is_recalled u g (slice_index holds g) (slice_index (recalled w holds awaits 8) g) ≡ false)) w v ws
           (stays Recalls (λ e. absurd (cc)) is, none_left w holds awaits 8 eight (omega arith)) front
-      by_turn Waits is on given = λ v front. of_front (λ (u : Wanting). (leaves u holds ≡ false) × ((g : ℕ) → g < 8 → is_recalled u g (slice_index holds g) (slice_index awaits g) ≡ false)) w v ws
+      by_turn Waits is on given =
+          λ v front. of_front (λ (u : Wanting). (leaves u holds ≡ false)
+          × ((g : ℕ) → g < 8 → is_recalled u g (slice_index holds g) (slice_index awaits g) ≡ false)) w v ws
           (stays Waits (λ e. absurd (cc)) is, any_none w holds awaits 8 (turn_settles w holds awaits is)) front
       by_turn Grants is on given = given
 
 -- the first that counts is the first in line, where that one stays
-front_counted : (holds : List ℕ) (wants : List Wanting) (w : Wanting) → ((v : Wanting) → first wants ≡ Some v → leaves v holds ≡ false) → first (count_wanting holds wants) ≡ Some w → first wants ≡ Some w
+front_counted : (holds : List ℕ) (wants : List Wanting) (w : Wanting) → ((v : Wanting) → first wants ≡ Some v → leaves v holds ≡ false)
+    → first (count_wanting holds wants) ≡ Some w → first wants ≡ Some w
 front_counted holds [] w stays is = is
 front_counted holds (v ∷ vs) w stays is = ap (λ (l : List Wanting). first l) (sym (is_counted v holds vs (stays v refl))) ∙ is
 
@@ -490,9 +572,11 @@ must_await w g hold await none way = elim (ℕ_discrete await 0) [
 nothing_recalled : (w : Wanting) (g hold : ℕ) → hold ≡ 0 → is_recalled w g hold 0 ≡ true → ⊥
 nothing_recalled w g hold none way = grind (arith, nat_tests)
 
-all_recalled : (size : ℕ) (bytes : List ℕ) (s : Outcome) (past : List Act) → DirectoryStands size s.holds s.awaits bytes s.line past → HasRecalled s → AllAreRecalled past
+all_recalled : (size : ℕ) (bytes : List ℕ) (s : Outcome) (past : List Act) → DirectoryStands size s.holds s.awaits bytes s.line past → HasRecalled s
+    → AllAreRecalled past
 all_recalled size bytes s past stands recalled host w is way =
-    let front : first s.line ≡ Some w = front_counted s.holds s.line w (λ v at. (recalled v at).0) (ap (λ (l : List Wanting). first l) (sym stands.same_line) ∙ is) in
+    let front : first s.line ≡ Some w = front_counted s.holds s.line w (λ v at. (recalled v at).0)
+    (ap (λ (l : List Wanting). first l) (sym stands.same_line) ∙ is) in
     let here : is_recalled w host (slice_index s.holds host) 0 ≡ true = subst (λ (n : ℕ). is_recalled w host n 0 ≡ true) (stands.same_holds host) way in
     subst (λ (n : ℕ). 0 < n) (sym (stands.same_awaits host)) (elim (lt_or host) [
       | inl lt ↦ must_await w host (slice_index s.holds host) (slice_index s.awaits host) ((recalled w front).1 host lt) here
@@ -508,22 +592,31 @@ some_counted holds [] some is = some refl
 some_counted holds (w ∷ ws) some is = absurd (cc)
 
 pub serving : (size : ℕ) (heard : ℕ → ℕ) (changed after : Directory) (replies : List Reply) (past : List Act)
-    → ActsLicensed size past → StandsFor size changed past → Hears heard past → IsServedDirectory changed after replies → RepliesHaveCause size heard after replies past
+    → ActsLicensed size past → StandsFor size changed past → Hears heard past → IsServedDirectory changed after replies
+    → RepliesHaveCause size heard after replies past
 serving size heard changed after replies past licensed stands hears is =
     record {
       licensed = f.licensed;
-      stands = subst (λ (bytes : List ℕ). DirectoryStands size after.holds after.awaits bytes after.line (reply_acts heard replies ++ past)) (sym is.bytes) f.stands;
+      stands =
+          subst (λ (bytes : List ℕ). DirectoryStands size after.holds after.awaits bytes after.line (reply_acts heard replies ++ past)) (sym is.bytes) f.stands;
       served = served_past;
-      recalled = all_recalled size changed.bytes done (reply_acts heard replies ++ past) f.stands (subst HasRecalled (sym is.exact) (served_recalled [] changed.holds changed.awaits changed.bytes changed.line stands.eight_await));
+      recalled =
+          all_recalled size changed.bytes done (reply_acts heard replies ++ past) f.stands
+          (subst HasRecalled (sym is.exact) (served_recalled [] changed.holds changed.awaits changed.bytes changed.line stands.eight_await));
     } where
       done : Outcome
       done = record { holds = after.holds; awaits = after.awaits; line = after.line; replies = replies }
 
       f : ServingFollows size heard changed.bytes (record { holds = after.holds; awaits = after.awaits; line = after.line; replies = replies }) past
-      f = subst (λ (s : Outcome). ServingFollows size heard changed.bytes s past) (sym is.exact) (served_follows size heard changed.bytes changed.holds changed.awaits changed.line [] past (record { licensed = licensed; stands = stands; hears = hears }))
+      f =
+          subst (λ (s : Outcome). ServingFollows size heard changed.bytes s past) (sym is.exact)
+          (served_follows size heard changed.bytes changed.holds changed.awaits changed.line [] past
+          (record { licensed = licensed; stands = stands; hears = hears }))
 
       waits : after.line ≢ [] → (g : ℕ) × (0 < slice_index after.awaits g)
-      waits = subst (λ (s : Outcome). s.line ≢ [] → (g : ℕ) × (0 < slice_index s.awaits g)) (sym is.exact) (served_awaited [] changed.holds changed.awaits changed.bytes changed.line stands.eight_await)
+      waits =
+          subst (λ (s : Outcome). s.line ≢ [] → (g : ℕ) × (0 < slice_index s.awaits g)) (sym is.exact)
+          (served_awaited [] changed.holds changed.awaits changed.bytes changed.line stands.eight_await)
 
       served_past : SomebodyIsAwaited (reply_acts heard replies ++ past)
       served_past some =

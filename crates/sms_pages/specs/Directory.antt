@@ -1,5 +1,6 @@
 -- A page's directory, and the rules by which it answers.
-use Rattle.std.specs.Prelude.{ℕ, zero, suc, ◌≡◌, ◌+◌, ◌==◌, ◌&&◌, ◌||◌, Bool, true, false, not, if◌then◌else◌, nat_lt, List, [], ◌∷◌, ◌++◌, length, replicate, slice_index, slice_set}
+use Rattle.std.specs.Prelude.{ℕ, zero, suc, ◌≡◌, ◌+◌, ◌==◌, ◌&&◌, ◌||◌, Bool, true, false, not, if◌then◌else◌, nat_lt, List, [], ◌∷◌, ◌++◌, length, replicate}
+use Rattle.std.specs.Prelude.{slice_index, slice_set}
 use Rattle.vm_base.specs.Limits.{most_hosts}
 use Rattle.std.specs.List.{list_all}
 use Rattle.vm_base.specs.declared.ids.Access.{Access}
@@ -35,7 +36,8 @@ requested host access d =
 abbrev pub unlock_heard : ℕ → Directory → Directory
 unlock_heard host d =
     record d {
-      line = if slice_index d.holds host == 1 && slice_index d.awaits host == 0 then d.line ++ record { host = host; upgrade = true; access = 3 } ∷ [] else d.line;
+      line =
+          if slice_index d.holds host == 1 && slice_index d.awaits host == 0 then d.line ++ record { host = host; upgrade = true; access = 3 } ∷ [] else d.line;
     }
 
 abbrev pub saved : ℕ → Bool → List ℕ → Directory → Directory
@@ -129,7 +131,8 @@ served sent holds awaits bytes (w ∷ ws) = elim (turn w holds awaits) [
 
 -- the directory and the replies after a call that changed it so
 pub record IsServedDirectory (changed after : Directory) (replies : List Reply) : Type 0 where
-  pub exact : record { holds = after.holds; awaits = after.awaits; line = after.line; replies = replies } ≡ served [] changed.holds changed.awaits changed.bytes changed.line
+  pub exact : record { holds = after.holds; awaits = after.awaits; line = after.line; replies = replies } ≡ served [] changed.holds changed.awaits changed.bytes
+      changed.line
   pub bytes : after.bytes ≡ changed.bytes
 
 -- the same but for the memory at hand

@@ -1,7 +1,8 @@
 // The state of a directory, and how its line is served.
 ghost use Rattle.std.specs.List.{list_all};
 ghost use Rattle.vm_base.specs.Limits.{most_hosts};
-ghost use Rattle.std.specs.Prelude.{◌≡◌, ◌==◌, ◌+◌, ◌-◌, ◌<◌, ◌≤◌, ◌∷◌, [], ◌++◌, List, ℕ, length, slice_index, slice_get, slice_set, Some, true, false, not, IsOk, OnOk, IfOk, Ok};
+ghost use Rattle.std.specs.Prelude.{◌≡◌, ◌==◌, ◌+◌, ◌-◌, ◌<◌, ◌≤◌, ◌∷◌, [], ◌++◌, List, ℕ, length, slice_index, slice_get, slice_set, Some, true, false, not};
+ghost use Rattle.std.specs.Prelude.{IsOk, OnOk, IfOk, Ok};
 ghost use Rattle.vm_base.specs.Listing.{Listed};
 ghost use Rattle.sms_pages.specs.Directory.{is_recalled, recall, recall_kind, recalls, recalled, grant, granted, served, turn, any_recalled};
 ghost use Rattle.sms_pages.specs.Desk.{AllLong, IsElsewhereSame, awaits_with, replies_with, DeskServes, HasRoom};

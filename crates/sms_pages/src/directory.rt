@@ -2,7 +2,8 @@
 ghost use Rattle.std.specs.Prelude.{◌≡◌, ◌+◌, ◌<◌, ◌≤◌, [], replicate, length, true, false, IsOk, OnOk, OnErr, IfOk};
 ghost use Rattle.vm_base.specs.Limits.{most_hosts};
 ghost use Rattle.sms_pages.specs.Desk.{AllLong, DeskServes, HasRoom};
-ghost use Rattle.sms_pages.specs.Directory.{wanted_access, requested, unlock_heard, saved, finished, left_by, ended, IsServedDirectory, IsSame, IsNewDirectory, most_replies};
+ghost use Rattle.sms_pages.specs.Directory.{wanted_access, requested, unlock_heard, saved, finished, left_by, ended, IsServedDirectory, IsSame, IsNewDirectory};
+ghost use Rattle.sms_pages.specs.Directory.{most_replies};
 
 use crate::Replies;
 use crate::desk::{Desk, HOSTS, make_pages, overwrite};
@@ -35,7 +36,13 @@ impl Model for PageDirectory {
 
     ghost Value = { Directory };
 
-    ghost view = { λ s. record { holds = s.desk.holds; awaits = s.desk.awaits; line = s.desk.line.items; bytes = s.desk.bytes; prepared = is_prepared (length s.desk.line.items) (deque_capacity s.desk.line) (length s.desk.spare.items) s.ready.room } };
+    ghost view = { λ s. record {
+      holds = s.desk.holds;
+      awaits = s.desk.awaits;
+      line = s.desk.line.items;
+      bytes = s.desk.bytes;
+      prepared = is_prepared (length s.desk.line.items) (deque_capacity s.desk.line) (length s.desk.spare.items) s.ready.room;
+    } };
 
     ghost invariant = { λ s. AllLong (length s.desk.bytes) s.desk.spare.items × (s.ready.items ≡ []) };
 }

@@ -7,7 +7,8 @@ use Rattle.vm_model.specs.declared.message.Message.{Message}
 use Rattle.vm_model.specs.declared.message.Message.TheVariants as message
 use Rattle.vm_model.specs.declared.event.Event.{Event}
 use Rattle.vm_model.specs.declared.event.Event.TheVariants as event
-use Rattle.vm_model.specs.Words.{Act, UpWord, DownWord, ActEffect, Opens, SendsUp, TakenUp, SentDown, TakesDown, Drops, Begins, Loads, Stores, StepBegins, Nothing, down_word, sent_act_effect, to_others, act_of}
+use Rattle.vm_model.specs.Words.{Act, UpWord, DownWord, ActEffect, Opens, SendsUp, TakenUp, SentDown, TakesDown, Drops, Begins, Loads, Stores, StepBegins}
+use Rattle.vm_model.specs.Words.{Nothing, down_word, sent_act_effect, to_others, act_of}
 use Rattle.vm_model.specs.Side.{Side, side, side_after, side_taken_down, is_open_to, side_sent_up}
 use Rattle.vm_model.specs.Waiters.{Waiter, waiters, waiters_after}
 use Rattle.vm_model.specs.Server.{Wanting, line, joined, kept, kept_after, trimmed_line}
@@ -60,12 +61,16 @@ own_keeps (TakenUp word) page own = absurd (cc)
 own_keeps (SentDown control word) page own = absurd (cc)
 own_keeps e page own = refl
 
-pub stands_act : (size h : ℕ) (e : ActEffect) (d : Directory) (past : List Act) → is_own e ≡ true → StandsFor size d past → StandsFor size d (record { host = h; effect = e } ∷ past)
+pub stands_act : (size h : ℕ) (e : ActEffect) (d : Directory) (past : List Act) → is_own e ≡ true → StandsFor size d past
+    → StandsFor size d (record { host = h; effect = e } ∷ past)
 stands_act size h e d past own s =
     record {
       same_holds = holds_kept h e d.holds past (own_holds e (side h past) own) s.same_holds;
       same_awaits = awaits_kept h e d.awaits past (own_awaits e (side h past) own) s.same_awaits;
-      same_line = ap (trimmed_line h (side h (record { host = h; effect = e } ∷ past)).holds) (own_joins e (side h past) h (line past) own ∙ s.same_line) ∙ counted_same h (side h (record { host = h; effect = e } ∷ past)).holds d.holds d.line (sym (holds_kept h e d.holds past (own_holds e (side h past) own) s.same_holds h));
+      same_line =
+          ap (trimmed_line h (side h (record { host = h; effect = e } ∷ past)).holds) (own_joins e (side h past) h (line past) own ∙ s.same_line)
+          ∙ counted_same h (side h (record { host = h; effect = e } ∷ past)).holds d.holds d.line
+          (sym (holds_kept h e d.holds past (own_holds e (side h past) own) s.same_holds h));
       same_bytes = own_keeps e (kept size past) own ∙ s.same_bytes;
       eight_hold = s.eight_hold;
       eight_await = s.eight_await;
@@ -91,7 +96,8 @@ pub kept_act : (g h : ℕ) (e : ActEffect) (past : List Act) → h ≢ g → (si
 kept_act g h e past apart none = other_side g (record { host = h; effect = e }) past apart ∙ idle_others e (side g past) none
 
 pub kept_wait : (g h : ℕ) (e : ActEffect) (past : List Act) → h ≢ g → waiters g (record { host = h; effect = e } ∷ past) ≡ waiters g past
-kept_wait g h e past apart = ap (λ (x : ActEffect). waiters_after x (waiters g past)) (other_effect g (record { host = h; effect = e }) apart) ∙ others_wait e (waiters g past)
+kept_wait g h e past apart =
+    ap (λ (x : ActEffect). waiters_after x (waiters g past)) (other_effect g (record { host = h; effect = e }) apart) ∙ others_wait e (waiters g past)
 
 -- events
 
@@ -132,13 +138,18 @@ pub away : (a g h : ℕ) → a ≡ h → g ≢ h → a ≢ g
 away a g h own apart is = apart (sym is ∙ own)
 
 -- a beginning, with or without a new control
-begun_side : (g h : ℕ) (e : ActEffect) (control : ℕ) (live : Bool) (past : List Act) → h ≢ g → (side g past).step ≡ 0 → side g (record { host = h; effect = e } ∷ (if live then past else record { host = h; effect = Opens control true } ∷ past)) ≡ side g past
+begun_side : (g h : ℕ) (e : ActEffect) (control : ℕ) (live : Bool) (past : List Act) → h ≢ g → (side g past).step ≡ 0
+    → side g (record { host = h; effect = e } ∷ (if live then past else record { host = h; effect = Opens control true } ∷ past)) ≡ side g past
 begun_side g h e control true past apart none = kept_act g h e past apart none
-begun_side g h e control false past apart none = kept_act g h e (record { host = h; effect = Opens control true } ∷ past) apart (ap (λ (s : Side). s.step) (kept_act g h (Opens control true) past apart none) ∙ none) ∙ kept_act g h (Opens control true) past apart none
+begun_side g h e control false past apart none =
+    kept_act g h e (record { host = h; effect = Opens control true } ∷ past) apart
+    (ap (λ (s : Side). s.step) (kept_act g h (Opens control true) past apart none) ∙ none) ∙ kept_act g h (Opens control true) past apart none
 
-begun_wait : (g h : ℕ) (e : ActEffect) (control : ℕ) (live : Bool) (past : List Act) → h ≢ g → waiters g (record { host = h; effect = e } ∷ (if live then past else record { host = h; effect = Opens control true } ∷ past)) ≡ waiters g past
+begun_wait : (g h : ℕ) (e : ActEffect) (control : ℕ) (live : Bool) (past : List Act) → h ≢ g
+    → waiters g (record { host = h; effect = e } ∷ (if live then past else record { host = h; effect = Opens control true } ∷ past)) ≡ waiters g past
 begun_wait g h e control true past apart = kept_wait g h e past apart
-begun_wait g h e control false past apart = kept_wait g h e (record { host = h; effect = Opens control true } ∷ past) apart ∙ kept_wait g h (Opens control true) past apart
+begun_wait g h e control false past apart =
+    kept_wait g h e (record { host = h; effect = Opens control true } ∷ past) apart ∙ kept_wait g h (Opens control true) past apart
 
 -- what an event is to the page
 abbrev pub event_act : ℕ → Event → Act
@@ -152,8 +163,11 @@ no_opening : (s : Side) (h : ℕ) (e : ActEffect) (past : List Act) → is_begin
 no_opening s h (Begins task store at size value) past plain = absurd (cc)
 no_opening s h e past plain = refl
 
-plain_part : (size : ℕ) (e : Event) (past : List Event) → is_beginning (event_act size e).effect ≡ false → world_part size (e ∷ past) ≡ event_act size e ∷ world_part size past
-plain_part size e past plain = ap (λ (l : List Act). event_act size e ∷ l) (no_opening (side (event_act size e).host (world_part size past)) (event_act size e).host (event_act size e).effect (world_part size past) plain)
+plain_part : (size : ℕ) (e : Event) (past : List Event) → is_beginning (event_act size e).effect ≡ false
+    → world_part size (e ∷ past) ≡ event_act size e ∷ world_part size past
+plain_part size e past plain =
+    ap (λ (l : List Act). event_act size e ∷ l) (no_opening (side (event_act size e).host (world_part size past)) (event_act size e).host
+    (event_act size e).effect (world_part size past) plain)
 
 sent_own : (b : Bool) (m : Message) → is_own (if b then sent_act_effect 0 m else Nothing) ≡ true
 sent_own true (message.Init control size) = refl
@@ -208,28 +222,40 @@ hosts_own size h (event.Stored task object page at bytes value) own = own_if (ob
 hosts_own size h e own = absurd own
 
 kept_up : (size g h : ℕ) (e : Event) (past : List Event) → IsHosts h e → g ≢ h → up_queue g 0 (e ∷ past) ≡ up_queue g 0 past
-kept_up size g h (event.Sent (Up host object) m) past own apart = not_mine host.0 g (object.0 == 0) (up_queue g 0 past ++ m ∷ []) (up_queue g 0 past) (away host.0 g h own apart)
+kept_up size g h (event.Sent (Up host object) m) past own apart =
+    not_mine host.0 g (object.0 == 0) (up_queue g 0 past ++ m ∷ []) (up_queue g 0 past) (away host.0 g h own apart)
 kept_up size g h (event.Sent (Down host object control) m) past own apart = absurd own
 kept_up size g h (event.Taken (Up host object) m) past own apart = absurd own
 kept_up size g h e past own apart = refl
 
 kept_down : (size g h : ℕ) (e : Event) (past : List Event) → IsHosts h e → g ≢ h → (n : ℕ) → down_queue g 0 n (e ∷ past) ≡ down_queue g 0 n past
-kept_down size g h (event.Taken (Down host object control) m) past own apart n = not_mine host.0 g (object.0 == 0 && control == n) _ (down_queue g 0 n past) (away host.0 g h own apart)
+kept_down size g h (event.Taken (Down host object control) m) past own apart n =
+    not_mine host.0 g (object.0 == 0 && control == n) _ (down_queue g 0 n past) (away host.0 g h own apart)
 kept_down size g h (event.Taken (Up host object) m) past own apart n = absurd own
 kept_down size g h (event.Sent (Down host object control) m) past own apart n = absurd own
 kept_down size g h e past own apart n = refl
 
-pub kept_event : (size g h : ℕ) (e : Event) (past : List Event) → IsHosts h e → g ≢ h → (side g (world_part size past)).step ≡ 0 → SameHostSide size g past (e ∷ past)
+pub kept_event : (size g h : ℕ) (e : Event) (past : List Event) → IsHosts h e → g ≢ h → (side g (world_part size past)).step ≡ 0
+    → SameHostSide size g past (e ∷ past)
 kept_event size g h e past own apart none =
     record {
-      same_side = ap (λ (l : List Act). side g l) (plain_part size e past (hosts_plain size h e own)) ∙ kept_act g (event_act size e).host (event_act size e).effect (world_part size past) (away (event_act size e).host g h (hosts_act size h e own) apart) none;
-      same_waits = ap (λ (l : List Act). waiters g l) (plain_part size e past (hosts_plain size h e own)) ∙ kept_wait g (event_act size e).host (event_act size e).effect (world_part size past) (away (event_act size e).host g h (hosts_act size h e own) apart);
+      same_side =
+          ap (λ (l : List Act). side g l) (plain_part size e past (hosts_plain size h e own))
+          ∙ kept_act g (event_act size e).host (event_act size e).effect (world_part size past)
+          (away (event_act size e).host g h (hosts_act size h e own) apart) none;
+      same_waits =
+          ap (λ (l : List Act). waiters g l) (plain_part size e past (hosts_plain size h e own))
+          ∙ kept_wait g (event_act size e).host (event_act size e).effect (world_part size past)
+          (away (event_act size e).host g h (hosts_act size h e own) apart);
       same_up = kept_up size g h e past own apart;
       same_down = kept_down size g h e past own apart;
     }
 
-pub stands_event : (size h : ℕ) (e : Event) (d : Directory) (past : List Event) → IsHosts h e → StandsFor size d (world_part size past) → StandsFor size d (world_part size (e ∷ past))
-stands_event size h e d past own s = subst (λ (l : List Act). StandsFor size d l) (sym (plain_part size e past (hosts_plain size h e own))) (stands_act size (event_act size e).host (event_act size e).effect d (world_part size past) (hosts_own size h e own) s)
+pub stands_event : (size h : ℕ) (e : Event) (d : Directory) (past : List Event) → IsHosts h e → StandsFor size d (world_part size past)
+    → StandsFor size d (world_part size (e ∷ past))
+stands_event size h e d past own s =
+    subst (λ (l : List Act). StandsFor size d l) (sym (plain_part size e past (hosts_plain size h e own)))
+    (stands_act size (event_act size e).host (event_act size e).effect d (world_part size past) (hosts_own size h e own) s)
 
 sent_step : (b : Bool) (m : Message) → begins_step (if b then sent_act_effect 0 m else Nothing) ≡ false
 sent_step true (message.Init control size) = refl
@@ -253,15 +279,20 @@ does_step size h e own = absurd own
 
 -- no step begins behind the first event of a step
 pub steps_event : (size h : ℕ) (e : Event) (past : List Event) → HostDoes h e → StepsDone (world_part size past) → StepsDone (world_part size (e ∷ past))
-steps_event size h e past own s = subst (λ (l : List Act). StepsDone l) (sym (plain_part size e past (hosts_plain size h e (does_own h e own)))) (λ b. absurd (no_step (begins_step (event_act size e).effect) (does_step size h e own) b), s)
+steps_event size h e past own s =
+    subst (λ (l : List Act). StepsDone l) (sym (plain_part size e past (hosts_plain size h e (does_own h e own))))
+    (λ b. absurd (no_step (begins_step (event_act size e).effect) (does_step size h e own) b), s)
 
 -- the beginning of an access
 
-begun_stands : (size h : ℕ) (e : ActEffect) (control : ℕ) (live : Bool) (d : Directory) (past : List Act) → is_own e ≡ true → StandsFor size d past → StandsFor size d (record { host = h; effect = e } ∷ (if live then past else record { host = h; effect = Opens control true } ∷ past))
+begun_stands : (size h : ℕ) (e : ActEffect) (control : ℕ) (live : Bool) (d : Directory) (past : List Act) → is_own e ≡ true → StandsFor size d past
+    → StandsFor size d (record { host = h; effect = e } ∷ (if live then past else record { host = h; effect = Opens control true } ∷ past))
 begun_stands size h e control true d past own s = stands_act size h e d past own s
-begun_stands size h e control false d past own s = stands_act size h e d (record { host = h; effect = Opens control true } ∷ past) own (stands_act size h (Opens control true) d past refl s)
+begun_stands size h e control false d past own s =
+    stands_act size h e d (record { host = h; effect = Opens control true } ∷ past) own (stands_act size h (Opens control true) d past refl s)
 
-begun_steps : (h : ℕ) (e : ActEffect) (control : ℕ) (live : Bool) (past : List Act) → begins_step e ≡ false → StepsDone past → StepsDone (record { host = h; effect = e } ∷ (if live then past else record { host = h; effect = Opens control true } ∷ past))
+begun_steps : (h : ℕ) (e : ActEffect) (control : ℕ) (live : Bool) (past : List Act) → begins_step e ≡ false → StepsDone past
+    → StepsDone (record { host = h; effect = e } ∷ (if live then past else record { host = h; effect = Opens control true } ∷ past))
 begun_steps h e control true past none s = (λ b. absurd (no_step (begins_step e) none b), s)
 begun_steps h e control false past none s = (λ b. absurd (no_step (begins_step e) none b), (λ b. absurd (cc), s))
 
@@ -269,26 +300,43 @@ begun_load : (size h : ℕ) (task : TaskId) (address bytes : ℕ) (past : List E
 begun_load size h task address bytes past own =
     record {
       kept = λ g apart none. record {
-        same_side = begun_side g task.0 (Begins task.0 false (address % size) bytes 0) ((side task.0 (world_part size past)).control + 1) (side task.0 (world_part size past)).live (world_part size past) (away task.0 g h own apart) none;
-        same_waits = begun_wait g task.0 (Begins task.0 false (address % size) bytes 0) ((side task.0 (world_part size past)).control + 1) (side task.0 (world_part size past)).live (world_part size past) (away task.0 g h own apart);
+        same_side =
+            begun_side g task.0 (Begins task.0 false (address % size) bytes 0) ((side task.0 (world_part size past)).control + 1)
+            (side task.0 (world_part size past)).live (world_part size past) (away task.0 g h own apart) none;
+        same_waits =
+            begun_wait g task.0 (Begins task.0 false (address % size) bytes 0) ((side task.0 (world_part size past)).control + 1)
+            (side task.0 (world_part size past)).live (world_part size past) (away task.0 g h own apart);
         same_up = refl;
         same_down = λ n. refl;
       };
-      steps = λ done s. begun_steps task.0 (Begins task.0 false (address % size) bytes 0) ((side task.0 (world_part size past)).control + 1) (side task.0 (world_part size past)).live (world_part size past) refl s;
-      stands = λ d s. begun_stands size task.0 (Begins task.0 false (address % size) bytes 0) ((side task.0 (world_part size past)).control + 1) (side task.0 (world_part size past)).live d (world_part size past) refl s;
+      steps =
+          λ done s. begun_steps task.0 (Begins task.0 false (address % size) bytes 0) ((side task.0 (world_part size past)).control + 1)
+          (side task.0 (world_part size past)).live (world_part size past) refl s;
+      stands =
+          λ d s. begun_stands size task.0 (Begins task.0 false (address % size) bytes 0) ((side task.0 (world_part size past)).control + 1)
+          (side task.0 (world_part size past)).live d (world_part size past) refl s;
     }
 
-begun_store : (size h : ℕ) (task : TaskId) (address bytes value : ℕ) (past : List Event) → task.0 ≡ h → Moved size h past (event.BegunStore task address bytes value ∷ past)
+begun_store : (size h : ℕ) (task : TaskId) (address bytes value : ℕ) (past : List Event) → task.0 ≡ h
+    → Moved size h past (event.BegunStore task address bytes value ∷ past)
 begun_store size h task address bytes value past own =
     record {
       kept = λ g apart none. record {
-        same_side = begun_side g task.0 (Begins task.0 true (address % size) bytes value) ((side task.0 (world_part size past)).control + 1) (side task.0 (world_part size past)).live (world_part size past) (away task.0 g h own apart) none;
-        same_waits = begun_wait g task.0 (Begins task.0 true (address % size) bytes value) ((side task.0 (world_part size past)).control + 1) (side task.0 (world_part size past)).live (world_part size past) (away task.0 g h own apart);
+        same_side =
+            begun_side g task.0 (Begins task.0 true (address % size) bytes value) ((side task.0 (world_part size past)).control + 1)
+            (side task.0 (world_part size past)).live (world_part size past) (away task.0 g h own apart) none;
+        same_waits =
+            begun_wait g task.0 (Begins task.0 true (address % size) bytes value) ((side task.0 (world_part size past)).control + 1)
+            (side task.0 (world_part size past)).live (world_part size past) (away task.0 g h own apart);
         same_up = refl;
         same_down = λ n. refl;
       };
-      steps = λ done s. begun_steps task.0 (Begins task.0 true (address % size) bytes value) ((side task.0 (world_part size past)).control + 1) (side task.0 (world_part size past)).live (world_part size past) refl s;
-      stands = λ d s. begun_stands size task.0 (Begins task.0 true (address % size) bytes value) ((side task.0 (world_part size past)).control + 1) (side task.0 (world_part size past)).live d (world_part size past) refl s;
+      steps =
+          λ done s. begun_steps task.0 (Begins task.0 true (address % size) bytes value) ((side task.0 (world_part size past)).control + 1)
+          (side task.0 (world_part size past)).live (world_part size past) refl s;
+      stands =
+          λ d s. begun_stands size task.0 (Begins task.0 true (address % size) bytes value) ((side task.0 (world_part size past)).control + 1)
+          (side task.0 (world_part size past)).live d (world_part size past) refl s;
     }
 
 -- the first event of a host's step
@@ -305,7 +353,9 @@ pub moved_head : (size h : ℕ) (e : Event) (old : List Event) → IsHead h e �
 moved_head size h (event.Taken (Down host object control) m) old own =
     record {
       kept = λ g apart none. kept_event size g h (event.Taken (Down host object control) m) old own apart none;
-      steps = λ done s. subst (λ (l : List Act). StepsDone l) (sym (plain_part size (event.Taken (Down host object control) m) old (took_plain (object.0 == 0) control (down_word 0 m)))) (λ b. done, s);
+      steps =
+          λ done s. subst (λ (l : List Act). StepsDone l) (sym (plain_part size (event.Taken (Down host object control) m) old
+          (took_plain (object.0 == 0) control (down_word 0 m)))) (λ b. done, s);
       stands = λ d s. stands_event size h (event.Taken (Down host object control) m) d old own s;
     }
 moved_head size h (event.Taken (Up host object) m) old own = absurd own
@@ -319,7 +369,9 @@ moved_adds size h old base _ (More e past own rest) m = one (moved_adds size h o
   one : Moved size h old past → Moved size h old (e ∷ past)
   one n =
       record {
-        kept = λ g apart none. kept_more size g old past (e ∷ past) (n.kept g apart none) (kept_event size g h e past (does_own h e own) apart (ap (λ (s : Side). s.step) (n.kept g apart none).same_side ∙ none));
+        kept =
+            λ g apart none. kept_more size g old past (e ∷ past) (n.kept g apart none)
+            (kept_event size g h e past (does_own h e own) apart (ap (λ (s : Side). s.step) (n.kept g apart none).same_side ∙ none));
         steps = λ done s. steps_event size h e past own (n.steps done s);
         stands = λ d s. stands_event size h e d past (does_own h e own) (n.stands d s);
       }

@@ -83,7 +83,8 @@ fits_mailed old new k m n f =
 
 -- the server takes a letter
 
-pub taken_part : (size : ℕ) (host : HostId) (l : Letter) (past : List Event) → world_part size (letter_taken host l ∷ past) ≡ record { host = host.0; effect = TakenUp (letter_word l) } ∷ world_part size past
+pub taken_part : (size : ℕ) (host : HostId) (l : Letter) (past : List Event)
+    → world_part size (letter_taken host l ∷ past) ≡ record { host = host.0; effect = TakenUp (letter_word l) } ∷ world_part size past
 taken_part size host (letter.Request control access) past = refl
 taken_part size host (letter.Unlock control) past = refl
 taken_part size host (letter.Return control keep bytes) past = refl
@@ -91,11 +92,16 @@ taken_part size host (letter.Completed control) past = refl
 taken_part size host (letter.Terminate control) past = refl
 
 heard_same : (s : Side) (l : Letter) → SameHost s (side_taken_up s (letter_word l))
-heard_same s (letter.Request asker access) = record { control = refl; live = refl; ready = refl; right = refl; lock = refl; bytes = refl; dirty = refl; asked = refl; unlocking = refl }
-heard_same s (letter.Unlock control) = record { control = refl; live = refl; ready = refl; right = refl; lock = refl; bytes = refl; dirty = refl; asked = refl; unlocking = refl }
-heard_same s (letter.Return control keep bytes) = record { control = refl; live = refl; ready = refl; right = refl; lock = refl; bytes = refl; dirty = refl; asked = refl; unlocking = refl }
-heard_same s (letter.Completed control) = record { control = refl; live = refl; ready = refl; right = refl; lock = refl; bytes = refl; dirty = refl; asked = refl; unlocking = refl }
-heard_same s (letter.Terminate control) = record { control = refl; live = refl; ready = refl; right = refl; lock = refl; bytes = refl; dirty = refl; asked = refl; unlocking = refl }
+heard_same s (letter.Request asker access) =
+    record { control = refl; live = refl; ready = refl; right = refl; lock = refl; bytes = refl; dirty = refl; asked = refl; unlocking = refl }
+heard_same s (letter.Unlock control) =
+    record { control = refl; live = refl; ready = refl; right = refl; lock = refl; bytes = refl; dirty = refl; asked = refl; unlocking = refl }
+heard_same s (letter.Return control keep bytes) =
+    record { control = refl; live = refl; ready = refl; right = refl; lock = refl; bytes = refl; dirty = refl; asked = refl; unlocking = refl }
+heard_same s (letter.Completed control) =
+    record { control = refl; live = refl; ready = refl; right = refl; lock = refl; bytes = refl; dirty = refl; asked = refl; unlocking = refl }
+heard_same s (letter.Terminate control) =
+    record { control = refl; live = refl; ready = refl; right = refl; lock = refl; bytes = refl; dirty = refl; asked = refl; unlocking = refl }
 
 heard_step : (s : Side) (l : Letter) → (side_taken_up s (letter_word l)).step ≡ 0
 heard_step s (letter.Request asker access) = refl
@@ -138,17 +144,25 @@ mine a x y = grind (arith, nat_tests)
 same_side : (s t : Side) (u : Side) → t ≡ u → SameHost s u → SameHost s t
 same_side s t u is same = subst (λ (v : Side). SameHost s v) (sym is) same
 
-pub fits_heard : (history : List Event) (k m : Kernel) (l : Letter) → KernelFits history k → k.up.items ≡ l ∷ m.up.items → m.down.items ≡ k.down.items → m.heard ≡ heard_by k.heard l → KernelFits (letter_taken k.host l ∷ history) (mailed k m)
+pub fits_heard : (history : List Event) (k m : Kernel) (l : Letter) → KernelFits history k → k.up.items ≡ l ∷ m.up.items → m.down.items ≡ k.down.items
+    → m.heard ≡ heard_by k.heard l → KernelFits (letter_taken k.host l ∷ history) (mailed k m)
 fits_heard history k m l f first down heard =
     fits_mailed history (letter_taken k.host l ∷ history) k m
     (record {
-      same = same_side (kernel_side history k) (kernel_side (letter_taken k.host l ∷ history) k) (side_taken_up (kernel_side history k) (letter_word l)) now (heard_same (kernel_side history k) l);
+      same =
+          same_side (kernel_side history k) (kernel_side (letter_taken k.host l ∷ history) k) (side_taken_up (kernel_side history k) (letter_word l)) now
+          (heard_same (kernel_side history k) l);
       step = ap (λ (t : Side). t.step) now ∙ heard_step (kernel_side history k) l;
       up = ap (λ (t : Side). t.up) now ∙ (heard_rest (kernel_side history k) l ∙ (ap rest f.up ∙ ap (λ (ls : List Letter). rest (map letter_word ls)) first));
       down = ap (λ (t : Side). t.down) now ∙ (heard_down (kernel_side history k) l ∙ (f.down ∙ ap (map order_word) (sym down)));
       heard = ap (λ (t : Side). t.heard) now ∙ (heard_heard (kernel_side history k) l ∙ (ap (λ (n : ℕ). heard_by n l) f.heard ∙ sym heard));
-      waits = ap (λ (a : List Act). waiters k.host.0 a) (taken_part k.size k.host l history) ∙ ap (λ (e : ActEffect). waiters_after e (waiters k.host.0 (world_part k.size history))) (own_effect (record { host = k.host.0; effect = TakenUp (letter_word l) }));
-      sent = mine k.host.0 (rest (up_queue k.host.0 0 history)) (up_queue k.host.0 0 history) ∙ (ap rest f.sent ∙ ap (λ (ls : List Letter). rest (map letter_message ls)) first);
+      waits =
+          ap (λ (a : List Act). waiters k.host.0 a) (taken_part k.size k.host l history)
+          ∙ ap (λ (e : ActEffect). waiters_after e (waiters k.host.0 (world_part k.size history)))
+          (own_effect (record { host = k.host.0; effect = TakenUp (letter_word l) }));
+      sent =
+          mine k.host.0 (rest (up_queue k.host.0 0 history)) (up_queue k.host.0 0 history)
+          ∙ (ap rest f.sent ∙ ap (λ (ls : List Letter). rest (map letter_message ls)) first);
       coming = λ live. f.coming live ∙ ap (map order_message) (sym down);
       later = λ n lt. refl;
       gone_down = λ gone. down ∙ f.gone_down gone;
@@ -161,21 +175,28 @@ fits_heard history k m l f first down heard =
       each = subst (λ (ls : List Letter). Each (IsProper k.size k.control) ls) first f.proper
 
       now : kernel_side (letter_taken k.host l ∷ history) k ≡ side_taken_up (kernel_side history k) (letter_word l)
-      now = ap (λ (a : List Act). side k.host.0 a) (taken_part k.size k.host l history) ∙ own_side (record { host = k.host.0; effect = TakenUp (letter_word l) }) (world_part k.size history)
+      now =
+          ap (λ (a : List Act). side k.host.0 a) (taken_part k.size k.host l history)
+          ∙ own_side (record { host = k.host.0; effect = TakenUp (letter_word l) }) (world_part k.size history)
 
 -- the server sends an order
 
-pub sent_part : (size : ℕ) (host : HostId) (control : ℕ) (o : Order) (past : List Event) → world_part size (order_sent host control o ∷ past) ≡ record { host = host.0; effect = SentDown control (order_word o) } ∷ world_part size past
+pub sent_part : (size : ℕ) (host : HostId) (control : ℕ) (o : Order) (past : List Event)
+    → world_part size (order_sent host control o ∷ past) ≡ record { host = host.0; effect = SentDown control (order_word o) } ∷ world_part size past
 sent_part size host control (order.Supply writes bytes) past = refl
 sent_part size host control order.Flush past = refl
 sent_part size host control order.Clean past = refl
 sent_part size host control order.Unlock past = refl
 
 sent_same : (s : Side) (control : ℕ) (o : Order) → SameHost s (side_sent_down s control (order_word o))
-sent_same s control (order.Supply writes bytes) = record { control = refl; live = refl; ready = refl; right = refl; lock = refl; bytes = refl; dirty = refl; asked = refl; unlocking = refl }
-sent_same s control order.Flush = record { control = refl; live = refl; ready = refl; right = refl; lock = refl; bytes = refl; dirty = refl; asked = refl; unlocking = refl }
-sent_same s control order.Clean = record { control = refl; live = refl; ready = refl; right = refl; lock = refl; bytes = refl; dirty = refl; asked = refl; unlocking = refl }
-sent_same s control order.Unlock = record { control = refl; live = refl; ready = refl; right = refl; lock = refl; bytes = refl; dirty = refl; asked = refl; unlocking = refl }
+sent_same s control (order.Supply writes bytes) =
+    record { control = refl; live = refl; ready = refl; right = refl; lock = refl; bytes = refl; dirty = refl; asked = refl; unlocking = refl }
+sent_same s control order.Flush =
+    record { control = refl; live = refl; ready = refl; right = refl; lock = refl; bytes = refl; dirty = refl; asked = refl; unlocking = refl }
+sent_same s control order.Clean =
+    record { control = refl; live = refl; ready = refl; right = refl; lock = refl; bytes = refl; dirty = refl; asked = refl; unlocking = refl }
+sent_same s control order.Unlock =
+    record { control = refl; live = refl; ready = refl; right = refl; lock = refl; bytes = refl; dirty = refl; asked = refl; unlocking = refl }
 
 record SameServer (s t : Side) : Type 0 where
   step : t.step ≡ s.step
@@ -188,7 +209,8 @@ sent_server s control order.Flush = record { step = refl; up = refl; heard = ref
 sent_server s control order.Clean = record { step = refl; up = refl; heard = refl }
 sent_server s control order.Unlock = record { step = refl; up = refl; heard = refl }
 
-sent_queue : (s : Side) (control : ℕ) (o : Order) → (side_sent_down s control (order_word o)).down ≡ (if is_open_to s control then s.down ++ order_word o ∷ [] else s.down)
+sent_queue : (s : Side) (control : ℕ) (o : Order) → (side_sent_down s control (order_word o)).down ≡ (if is_open_to s control then s.down ++ order_word o ∷
+    [] else s.down)
 sent_queue s control (order.Supply writes bytes) = refl
 sent_queue s control order.Flush = refl
 sent_queue s control order.Clean = refl
@@ -199,17 +221,21 @@ abbrev pub posted : Bool → List Order → Order → List Order
 posted true os o = os ++ o ∷ []
 posted false os o = os
 
-posted_words : (b : Bool) (os : List Order) (o : Order) → (if b then map order_word os ++ order_word o ∷ [] else map order_word os) ≡ map order_word (posted b os o)
+posted_words : (b : Bool) (os : List Order) (o : Order)
+    → (if b then map order_word os ++ order_word o ∷ [] else map order_word os) ≡ map order_word (posted b os o)
 posted_words true os o = sym (map_end order_word os o)
 posted_words false os o = refl
 
-posted_whole : (size : ℕ) (b : Bool) (os : List Order) (o : Order) → Each (IsWholeOrder size) os → IsWholeOrder size o → Each (IsWholeOrder size) (posted b os o)
+posted_whole : (size : ℕ) (b : Bool) (os : List Order) (o : Order) → Each (IsWholeOrder size) os → IsWholeOrder size o
+    → Each (IsWholeOrder size) (posted b os o)
 posted_whole size true os o each own = each_end (IsWholeOrder size) os o each own
 posted_whole size false os o each own = each
 
-posted_queue : (h control heard : ℕ) (live : Bool) (q : List Message) (os : List Order) (o : Order) → live ≡ true → q ≡ map order_message os → (if (h == h) && (true && heard == control) then q ++ order_message o ∷ [] else q) ≡ map order_message (posted (live && control == heard) os o)
+posted_queue : (h control heard : ℕ) (live : Bool) (q : List Message) (os : List Order) (o : Order) → live ≡ true → q ≡ map order_message os
+    → (if (h == h) && (true && heard == control) then q ++ order_message o ∷ [] else q) ≡ map order_message (posted (live && control == heard) os o)
 posted_queue h control heard live q os o is same = by_control (control == heard) refl where
-  by_control : (b : Bool) → (control == heard) ≡ b → (if (h == h) && (true && heard == control) then q ++ order_message o ∷ [] else q) ≡ map order_message (posted (live && control == heard) os o)
+  by_control : (b : Bool) → (control == heard) ≡ b → (if (h == h) && (true && heard == control) then q ++ order_message o ∷ [] else q) ≡ map order_message
+      (posted (live && control == heard) os o)
   by_control true e = grind (arith, nat_tests, map_end order_message os o)
   by_control false e = grind (arith, nat_tests)
 
@@ -220,24 +246,42 @@ posted_gone false b os o gone none = none
 posted_later : (h heard n : ℕ) (q r : List Message) → heard < n → (if (h == h) && (true && heard == n) then r else q) ≡ q
 posted_later h heard n q r lt = grind (arith, nat_tests)
 
-pub fits_posted : (history : List Event) (k m : Kernel) (o : Order) → KernelFits history k → m.up.items ≡ k.up.items → m.down.items ≡ posted (k.live && k.control == k.heard) k.down.items o → m.heard ≡ k.heard → IsWholeOrder k.size o → KernelFits (order_sent k.host k.heard o ∷ history) (mailed k m)
+pub fits_posted : (history : List Event) (k m : Kernel) (o : Order) → KernelFits history k → m.up.items ≡ k.up.items
+    → m.down.items ≡ posted (k.live && k.control == k.heard) k.down.items o → m.heard ≡ k.heard → IsWholeOrder k.size o
+    → KernelFits (order_sent k.host k.heard o ∷ history) (mailed k m)
 fits_posted history k m o f up down heard whole =
     fits_mailed history (order_sent k.host k.heard o ∷ history) k m
     (record {
-      same = same_side (kernel_side history k) (kernel_side (order_sent k.host k.heard o ∷ history) k) (side_sent_down (kernel_side history k) k.heard (order_word o)) now (sent_same (kernel_side history k) k.heard o);
+      same =
+          same_side (kernel_side history k) (kernel_side (order_sent k.host k.heard o ∷ history) k)
+          (side_sent_down (kernel_side history k) k.heard (order_word o)) now (sent_same (kernel_side history k) k.heard o);
       step = ap (λ (t : Side). t.step) now ∙ ((sent_server (kernel_side history k) k.heard o).step ∙ f.step);
       up = ap (λ (t : Side). t.up) now ∙ ((sent_server (kernel_side history k) k.heard o).up ∙ (f.up ∙ ap (map letter_word) (sym up)));
-      down = ap (λ (t : Side). t.down) now ∙ (sent_queue (kernel_side history k) k.heard o ∙ (ap (λ (b : Bool). if b && (kernel_side history k).control == k.heard then (kernel_side history k).down ++ order_word o ∷ [] else (kernel_side history k).down) f.live ∙ (ap (λ (n : ℕ). if k.live && n == k.heard then (kernel_side history k).down ++ order_word o ∷ [] else (kernel_side history k).down) f.control ∙ (ap (λ (ws : List DownWord). if k.live && k.control == k.heard then ws ++ order_word o ∷ [] else ws) f.down ∙ (posted_words (k.live && k.control == k.heard) k.down.items o ∙ ap (map order_word) (sym down))))));
+      down =
+          ap (λ (t : Side). t.down) now ∙ (sent_queue (kernel_side history k) k.heard o
+          ∙ (ap (λ (b : Bool). if b && (kernel_side history k).control == k.heard then (kernel_side history k).down ++ order_word o ∷ [] else
+          (kernel_side history k).down) f.live ∙ (ap (λ (n : ℕ). if k.live && n == k.heard then (kernel_side history k).down ++ order_word o ∷ [] else
+          (kernel_side history k).down) f.control ∙ (ap (λ (ws : List DownWord). if k.live && k.control == k.heard then ws ++ order_word o ∷ [] else ws) f.down
+          ∙ (posted_words (k.live && k.control == k.heard) k.down.items o ∙ ap (map order_word) (sym down))))));
       heard = ap (λ (t : Side). t.heard) now ∙ ((sent_server (kernel_side history k) k.heard o).heard ∙ (f.heard ∙ sym heard));
-      waits = ap (λ (a : List Act). waiters k.host.0 a) (sent_part k.size k.host k.heard o history) ∙ ap (λ (e : ActEffect). waiters_after e (waiters k.host.0 (world_part k.size history))) (own_effect (record { host = k.host.0; effect = SentDown k.heard (order_word o) }));
+      waits =
+          ap (λ (a : List Act). waiters k.host.0 a) (sent_part k.size k.host k.heard o history)
+          ∙ ap (λ (e : ActEffect). waiters_after e (waiters k.host.0 (world_part k.size history)))
+          (own_effect (record { host = k.host.0; effect = SentDown k.heard (order_word o) }));
       sent = f.sent ∙ ap (map letter_message) (sym up);
-      coming = λ live. posted_queue k.host.0 k.control k.heard k.live (down_queue k.host.0 0 k.control history) k.down.items o live (f.coming live) ∙ ap (map order_message) (sym down);
+      coming =
+          λ live. posted_queue k.host.0 k.control k.heard k.live (down_queue k.host.0 0 k.control history) k.down.items o live (f.coming live)
+          ∙ ap (map order_message) (sym down);
       later = λ n lt. posted_later k.host.0 k.heard n (down_queue k.host.0 0 n history) _ (omega (arith, f.heard_before));
       gone_down = λ gone. down ∙ posted_gone k.live (k.control == k.heard) k.down.items o gone (f.gone_down gone);
       heard_before = subst (λ (n : ℕ). n ≤ k.control) (sym heard) f.heard_before;
       proper = subst (λ (ls : List Letter). Each (IsProper k.size k.control) ls) (sym up) f.proper;
-      supplies = subst (λ (os : List Order). Each (IsWholeOrder k.size) os) (sym down) (posted_whole k.size (k.live && k.control == k.heard) k.down.items o f.supplies whole);
+      supplies =
+          subst (λ (os : List Order). Each (IsWholeOrder k.size) os) (sym down) (posted_whole k.size (k.live && k.control == k.heard) k.down.items o f.supplies
+          whole);
     })
     f where
       now : kernel_side (order_sent k.host k.heard o ∷ history) k ≡ side_sent_down (kernel_side history k) k.heard (order_word o)
-      now = ap (λ (a : List Act). side k.host.0 a) (sent_part k.size k.host k.heard o history) ∙ own_side (record { host = k.host.0; effect = SentDown k.heard (order_word o) }) (world_part k.size history)
+      now =
+          ap (λ (a : List Act). side k.host.0 a) (sent_part k.size k.host k.heard o history)
+          ∙ own_side (record { host = k.host.0; effect = SentDown k.heard (order_word o) }) (world_part k.size history)

@@ -36,10 +36,13 @@ kept_at size g old new (Some k) p kept = kept_present size g old new k p kept
 
 pub step_at : (size g : ℕ) (history : List Event) (o : Option Kernel) → StandsAt size g history o → (side g (world_part size history)).step ≡ 0
 step_at size g history None a = ap (λ (s : Side). s.step) a.nothing
-step_at size g history (Some k) p = subst (λ (n : ℕ). (side g (world_part n history)).step ≡ 0) p.same_size (subst (λ (n : ℕ). (side n (world_part k.size history)).step ≡ 0) p.same_host p.fits.step)
+step_at size g history (Some k) p =
+    subst (λ (n : ℕ). (side g (world_part n history)).step ≡ 0) p.same_size (subst (λ (n : ℕ). (side n (world_part k.size history)).step ≡ 0) p.same_host
+    p.fits.step)
 
 pub get_set_same : (ks : List Kernel) (h : ℕ) (k : Kernel) → h < length ks → slice_get (set ks h k) h ≡ Some k
-get_set_same ks h k within = slice_get-get_or (set ks h k) h k (omega (arith, length-set {A = Kernel} ks h k)) ∙ ap (λ (x : Kernel). Some x) (get_or-set_same ks h k k within)
+get_set_same ks h k within =
+    slice_get-get_or (set ks h k) h k (omega (arith, length-set {A = Kernel} ks h k)) ∙ ap (λ (x : Kernel). Some x) (get_or-set_same ks h k k within)
 
 pub get_set_other : (ks : List Kernel) (h g : ℕ) (k : Kernel) → g ≢ h → slice_get (set ks h k) g ≡ slice_get ks g
 get_set_other [] h g k apart = refl
@@ -48,9 +51,11 @@ get_set_other (x ∷ ks) zero (suc g) k apart = refl
 get_set_other (x ∷ ks) (suc h) zero k apart = refl
 get_set_other (x ∷ ks) (suc h) (suc g) k apart = get_set_other ks h g k (λ e. apart (ap (λ (n : ℕ). suc n) e))
 
-pub each_after : (size : ℕ) (ks : List Kernel) (h : ℕ) (k : Kernel) (old new : List Event) → h < length ks → ((g : ℕ) → StandsAt size g old (slice_get ks g)) → ((g : ℕ) → g ≢ h → SameHostSide size g old new) → Present size h new k → (g : ℕ) → StandsAt size g new (slice_get (set ks h k) g)
+pub each_after : (size : ℕ) (ks : List Kernel) (h : ℕ) (k : Kernel) (old new : List Event) → h < length ks → ((g : ℕ) → StandsAt size g old (slice_get ks g))
+    → ((g : ℕ) → g ≢ h → SameHostSide size g old new) → Present size h new k → (g : ℕ) → StandsAt size g new (slice_get (set ks h k) g)
 each_after size ks h k old new within each kept own g = elim (ℕ_discrete g h) [
-  | yes e ↦ subst (λ (n : ℕ). StandsAt size n new (slice_get (set ks h k) n)) (sym e) (subst (λ (o : Option Kernel). StandsAt size h new o) (sym (get_set_same ks h k within)) own)
+  | yes e ↦ subst (λ (n : ℕ). StandsAt size n new (slice_get (set ks h k) n)) (sym e)
+      (subst (λ (o : Option Kernel). StandsAt size h new o) (sym (get_set_same ks h k within)) own)
   | no e ↦ subst (λ (o : Option Kernel). StandsAt size g new o) (sym (get_set_other ks h g k e)) (kept_at size g old new (slice_get ks g) (each g) (kept g e))
 ]
 
@@ -60,7 +65,8 @@ served_same size d old new a b served some =
     let awaited = served (λ none. some (b.same_line ∙ (sym a.same_line ∙ none))) in
     (awaited.0, subst (λ (n : ℕ). 0 < n) (a.same_awaits awaited.0 ∙ sym (b.same_awaits awaited.0)) awaited.1)
 
-pub stands_host : (size : ℕ) (ks : List Kernel) (d : Directory) (old new : List Event) (h : ℕ) (k : Kernel) → h < length ks → WorldStands size ks d old → Present size h new k → ActsLicensed size (world_part size new) → Moved size h old new → WorldStands size (set ks h k) d new
+pub stands_host : (size : ℕ) (ks : List Kernel) (d : Directory) (old new : List Event) (h : ℕ) (k : Kernel) → h < length ks → WorldStands size ks d old
+    → Present size h new k → ActsLicensed size (world_part size new) → Moved size h old new → WorldStands size (set ks h k) d new
 stands_host size ks d old new h k within w own licensed moved =
     record {
       licensed = licensed;

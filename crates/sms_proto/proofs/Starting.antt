@@ -15,7 +15,8 @@ get_end (x ∷ ks) k (suc g) = elim (get_end ks k g) [
   | inr end ↦ inr (ap (λ (n : ℕ). suc n) end.0, end.1)
 ]
 
-pub pushed_each : (size : ℕ) (ks : List Kernel) (k : Kernel) → ((g : ℕ) → StandsAt size g [] (slice_get ks g)) → Present size (length ks) [] k → (g : ℕ) → StandsAt size g [] (slice_get (ks ++ k ∷ []) g)
+pub pushed_each : (size : ℕ) (ks : List Kernel) (k : Kernel) → ((g : ℕ) → StandsAt size g [] (slice_get ks g)) → Present size (length ks) [] k → (g : ℕ)
+    → StandsAt size g [] (slice_get (ks ++ k ∷ []) g)
 pushed_each size ks k each own g = elim (get_end ks k g) [
   | inl same ↦ subst (λ (o : Option Kernel). StandsAt size g [] o) (sym same) (each g)
   | inr end ↦ subst (λ (o : Option Kernel). StandsAt size g [] o) (sym end.1) (subst (λ (n : ℕ). Present size n [] k) (sym end.0) own)
@@ -24,7 +25,8 @@ pushed_each size ks k each own g = elim (get_end ks k g) [
 pub none_each : (size g : ℕ) → StandsAt size g [] (slice_get [] g)
 none_each size g = record { nothing = refl; no_waits = refl }
 
-pub starts : (size : ℕ) (ks : List Kernel) (d : Directory) → IsNewDirectory size d → ((g : ℕ) → StandsAt size g [] (slice_get ks g)) → length ks ≤ 8 → length d.bytes ≡ size → WorldStands size ks d []
+pub starts : (size : ℕ) (ks : List Kernel) (d : Directory) → IsNewDirectory size d → ((g : ℕ) → StandsAt size g [] (slice_get ks g)) → length ks ≤ 8
+    → length d.bytes ≡ size → WorldStands size ks d []
 starts size ks d new each few long =
     record {
       licensed = tt;

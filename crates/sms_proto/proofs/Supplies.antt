@@ -23,6 +23,7 @@ pub supplied_yes : (right lock : ℕ) (asked : Bool) → asked ≡ true → supp
 supplied_yes right lock true is = refl
 supplied_yes right lock false is = absurd (cc)
 
-pub first_whole : (size : ℕ) (items : List Order) (writes : Bool) (bytes : List ℕ) → first items ≡ Some (order.Supply writes bytes) → Each (IsWholeOrder size) items → length bytes ≡ size
+pub first_whole : (size : ℕ) (items : List Order) (writes : Bool) (bytes : List ℕ) → first items ≡ Some (order.Supply writes bytes)
+    → Each (IsWholeOrder size) items → length bytes ≡ size
 first_whole size [] writes bytes is each = absurd (cc)
 first_whole size (o ∷ os) writes bytes is each = grind (arith, each.0)

@@ -115,7 +115,8 @@ abbrev pub evicted_by : Kernel → List Event → List Event
 evicted_by k old = where_idle k.want (given_up k ++ old) old
 
 abbrev pub kernel_leaves : Kernel → List Event → List Event
-kernel_leaves k old = if k.live then where_idle k.want (event.Sent (Up k.host (record { 0 = 0 })) (message.Terminate k.control) ∷ given_up k ++ old) old else old
+kernel_leaves k old =
+    if k.live then where_idle k.want (event.Sent (Up k.host (record { 0 = 0 })) (message.Terminate k.control) ∷ given_up k ++ old) old else old
 
 -- the same host, with the same access waiting and the same of the page
 pub record SamePage (k m : Kernel) : Type 0 where

@@ -55,15 +55,18 @@ left h s ws old =
 
 -- what a step makes of the events; where it isn't possible they are as before
 abbrev pub Takes : ℕ → WorldStep → List Event → List Event → Type 0
-Takes size (step.Load host) old new = StepEvents (HostDoes host.0) (when_idle (waiters host.0 (world_part size old)) (Some (begun_event host.0 false 0)) None) old new
-Takes size (step.Store host value) old new = StepEvents (HostDoes host.0) (when_idle (waiters host.0 (world_part size old)) (Some (begun_event host.0 true value)) None) old new
+Takes size (step.Load host) old new =
+    StepEvents (HostDoes host.0) (when_idle (waiters host.0 (world_part size old)) (Some (begun_event host.0 false 0)) None) old new
+Takes size (step.Store host value) old new =
+    StepEvents (HostDoes host.0) (when_idle (waiters host.0 (world_part size old)) (Some (begun_event host.0 true value)) None) old new
 Takes size (step.Evict host) old new = new ≡ when_idle (waiters host.0 (world_part size old)) (gives_up host.0 (side host.0 (world_part size old)) ++ old) old
 Takes size (step.Leave host) old new =
     new ≡ left host.0 (side host.0 (world_part size old)) (waiters host.0 (world_part size old)) old
 Takes size (step.TakeUp host) old new =
     StepEvents ServerDoes (taken_head (Up host (record { 0 = 0 })) (up_queue host.0 0 old)) old new
 Takes size (step.TakeDown host) old new =
-    StepEvents (HostDoes host.0) (down_head host (side host.0 (world_part size old)).live (side host.0 (world_part size old)).control (down_queue host.0 0 (side host.0 (world_part size old)).control old)) old new
+    StepEvents (HostDoes host.0) (down_head host (side host.0 (world_part size old)).live (side host.0 (world_part size old)).control
+    (down_queue host.0 0 (side host.0 (world_part size old)).control old)) old new
 
 -- the steps, taken one by one
 abbrev pub TakesSteps : ℕ → List WorldStep → List Event → List Event → Type 0

@@ -31,7 +31,8 @@ AllWithin hosts (s ∷ steps) = ((step_host s).0 < hosts) × AllWithin hosts ste
 -- nothing is on the way to the server, or from it to a live control
 abbrev pub AllDelivered : ℕ → ℕ → List Event → Type 0
 AllDelivered size hosts events =
-    (h : ℕ) → h < hosts → (up_queue h 0 events ≡ []) × ((side h (world_part size events)).live ≡ true → down_queue h 0 (side h (world_part size events)).control events ≡ [])
+    (h : ℕ) → h < hosts → (up_queue h 0 events ≡ []) × ((side h (world_part size events)).live ≡ true
+    → down_queue h 0 (side h (world_part size events)).control events ≡ [])
 
 -- the page behaves as one memory, and where nothing is on the way no access waits
 pub record IsPageWorld (size hosts : ℕ) (events : List Event) : Type 0 where

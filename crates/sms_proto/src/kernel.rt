@@ -1,5 +1,6 @@
 // What a host's kernel has of the page, and what it does of itself.
-ghost use Rattle.std.specs.Prelude.{◌≡◌, ◌≢◌, ◌+◌, ◌≤◌, ◌<◌, ◌^◌, ◌∷◌, true, false, None, Some, [], OnOk, OnErr, IfOk, IsOk, length, replicate, if◌then◌else◌, ℕ};
+ghost use Rattle.std.specs.Prelude.{◌≡◌, ◌≢◌, ◌+◌, ◌≤◌, ◌<◌, ◌^◌, ◌∷◌, true, false, None, Some, [], OnOk, OnErr, IfOk, IsOk, length, replicate, if◌then◌else◌};
+ghost use Rattle.std.specs.Prelude.{ℕ};
 ghost use Rattle.vm_model.specs.PagePart.{world_part};
 ghost use Rattle.vm_model.specs.PageLicences.{ActsLicensed};
 ghost use Rattle.sms_pages.specs.Directory.{wanted_access};
@@ -203,7 +204,8 @@ impl Kernel {
         ensures licensed { OnOk result (ActsLicensed self.new.size (world_part self.new.size events.new.items)) }
         ensures adds { OnOk result (Adds (HostDoes self.old.host.0) events.old.items events.new.items) }
         ensures same { (self.new.host ≡ self.old.host) × (self.new.size ≡ self.old.size) }
-        ensures exact { OnOk result (events.new.items ≡ Sent (Up self.old.host (record { 0 = 0 })) (Return self.old.control (record { 0 = 0 }) true false self.old.bytes) ∷ events.old.items) }
+        ensures exact { OnOk result (events.new.items ≡ Sent (Up self.old.host (record { 0 = 0 }))
+            (Return self.old.control (record { 0 = 0 }) true false self.old.bytes) ∷ events.old.items) }
         ensures kept { OnOk result ((self.new.right ≡ 0) × (self.new.want ≡ self.old.want)
             × (self.new.live ≡ self.old.live) × (self.new.asked ≡ self.old.asked)) }
         ensures err { OnErr result (KernelFits events.new.items self.new × (events.new.items ≡ events.old.items)) }

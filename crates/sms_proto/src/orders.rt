@@ -62,7 +62,8 @@ impl Kernel {
         ensures ok { IsOk result }
         ensures fits { OnOk result (KernelFits events.new.items self.new) }
         ensures licensed { OnOk result (ActsLicensed self.new.size (world_part self.new.size events.new.items)) }
-        ensures adds { OnOk result (Adds (HostDoes self.old.host.0) (order_taken self.old.host self.old.control (order.Supply writes bytes) ∷ events.old.items) events.new.items) }
+        ensures adds { OnOk result (Adds (HostDoes self.old.host.0) (order_taken self.old.host self.old.control (order.Supply writes bytes) ∷ events.old.items)
+            events.new.items) }
         ensures same { (self.new.host ≡ self.old.host) × (self.new.size ≡ self.old.size)
             × (self.new.live ≡ self.old.live) }
         ensures room { OnOk result (HasRoom 1 events.new self.new) }
@@ -91,7 +92,8 @@ impl Kernel {
         ensures ok { IsOk result }
         ensures fits { OnOk result (KernelFits events.new.items self.new) }
         ensures licensed { OnOk result (ActsLicensed self.new.size (world_part self.new.size events.new.items)) }
-        ensures adds { OnOk result (Adds (HostDoes self.old.host.0) (order_taken self.old.host self.old.control order.Unlock ∷ events.old.items) events.new.items) }
+        ensures adds { OnOk result (Adds (HostDoes self.old.host.0) (order_taken self.old.host self.old.control order.Unlock ∷ events.old.items)
+            events.new.items) }
         ensures same { (self.new.host ≡ self.old.host) × (self.new.size ≡ self.old.size)
             × (self.new.live ≡ self.old.live) }
         ensures room { OnOk result (HasRoom 1 events.new self.new) }
@@ -115,7 +117,8 @@ impl Kernel {
         ensures ok { IsOk result }
         ensures fits { OnOk result (KernelFits events.new.items self.new) }
         ensures licensed { OnOk result (ActsLicensed self.new.size (world_part self.new.size events.new.items)) }
-        ensures adds { OnOk result (Adds (HostDoes self.old.host.0) (order_taken self.old.host self.old.control order.Flush ∷ events.old.items) events.new.items) }
+        ensures adds { OnOk result (Adds (HostDoes self.old.host.0) (order_taken self.old.host self.old.control order.Flush ∷ events.old.items)
+            events.new.items) }
         ensures same { (self.new.host ≡ self.old.host) × (self.new.size ≡ self.old.size)
             × (self.new.live ≡ self.old.live) }
         ensures room { OnOk result (HasRoom 1 events.new self.new) }
@@ -143,7 +146,8 @@ impl Kernel {
         ensures ok { IsOk result }
         ensures fits { OnOk result (KernelFits events.new.items self.new) }
         ensures licensed { OnOk result (ActsLicensed self.new.size (world_part self.new.size events.new.items)) }
-        ensures adds { OnOk result (Adds (HostDoes self.old.host.0) (order_taken self.old.host self.old.control order.Flush ∷ events.old.items) events.new.items) }
+        ensures adds { OnOk result (Adds (HostDoes self.old.host.0) (order_taken self.old.host self.old.control order.Flush ∷ events.old.items)
+            events.new.items) }
         ensures same { (self.new.host ≡ self.old.host) × (self.new.size ≡ self.old.size)
             × (self.new.live ≡ self.old.live) }
         ensures room { OnOk result (HasRoom 1 events.new self.new) }
@@ -173,7 +177,8 @@ impl Kernel {
         requires licensed { ActsLicensed self.old.size (world_part self.old.size events.old.items) }
         ensures fits { OnOk result (KernelFits events.new.items self.new) }
         ensures licensed { OnOk result (ActsLicensed self.new.size (world_part self.new.size events.new.items)) }
-        ensures adds { OnOk result (Adds (HostDoes self.old.host.0) (order_taken self.old.host self.old.control order.Flush ∷ events.old.items) events.new.items) }
+        ensures adds { OnOk result (Adds (HostDoes self.old.host.0) (order_taken self.old.host self.old.control order.Flush ∷ events.old.items)
+            events.new.items) }
         ensures same { (self.new.host ≡ self.old.host) × (self.new.size ≡ self.old.size)
             × (self.new.live ≡ self.old.live) }
         ensures room { OnOk result (HasRoom 1 events.new self.new) }
@@ -211,7 +216,8 @@ impl Kernel {
         ensures ok { IsOk result }
         ensures fits { OnOk result (KernelFits events.new.items self.new) }
         ensures licensed { OnOk result (ActsLicensed self.new.size (world_part self.new.size events.new.items)) }
-        ensures adds { OnOk result (Adds (HostDoes self.old.host.0) (order_taken self.old.host self.old.control order.Clean ∷ events.old.items) events.new.items) }
+        ensures adds { OnOk result (Adds (HostDoes self.old.host.0) (order_taken self.old.host self.old.control order.Clean ∷ events.old.items)
+            events.new.items) }
         ensures same { (self.new.host ≡ self.old.host) × (self.new.size ≡ self.old.size)
             × (self.new.live ≡ self.old.live) }
         ensures room { OnOk result (HasRoom 1 events.new self.new) }
@@ -240,7 +246,8 @@ impl Kernel {
         requires licensed { ActsLicensed self.old.size (world_part self.old.size events.old.items) }
         ensures fits { OnOk result (KernelFits events.new.items self.new) }
         ensures licensed { OnOk result (ActsLicensed self.new.size (world_part self.new.size events.new.items)) }
-        ensures adds { OnOk result (Adds (HostDoes self.old.host.0) (order_taken self.old.host self.old.control order.Clean ∷ events.old.items) events.new.items) }
+        ensures adds { OnOk result (Adds (HostDoes self.old.host.0) (order_taken self.old.host self.old.control order.Clean ∷ events.old.items)
+            events.new.items) }
         ensures same { (self.new.host ≡ self.old.host) × (self.new.size ≡ self.old.size)
             × (self.new.live ≡ self.old.live) }
         ensures room { OnOk result (HasRoom 1 events.new self.new) }
@@ -275,7 +282,8 @@ impl Kernel {
         requires licensed { ActsLicensed self.old.size (world_part self.old.size events.old.items) }
         ensures fits { OnOk result (KernelFits events.new.items self.new) }
         ensures licensed { OnOk result (ActsLicensed self.new.size (world_part self.new.size events.new.items)) }
-        ensures adds { OnOk result (Adds (HostDoes self.old.host.0) (order_taken self.old.host self.old.control order.Flush ∷ events.old.items) events.new.items) }
+        ensures adds { OnOk result (Adds (HostDoes self.old.host.0) (order_taken self.old.host self.old.control order.Flush ∷ events.old.items)
+            events.new.items) }
         ensures same { (self.new.host ≡ self.old.host) × (self.new.size ≡ self.old.size)
             × (self.new.live ≡ self.old.live) }
         ensures room { OnOk result (HasRoom 1 events.new self.new) }
@@ -300,7 +308,8 @@ impl Kernel {
         requires licensed { ActsLicensed self.old.size (world_part self.old.size events.old.items) }
         ensures fits { OnOk result (KernelFits events.new.items self.new) }
         ensures licensed { OnOk result (ActsLicensed self.new.size (world_part self.new.size events.new.items)) }
-        ensures adds { OnOk result (Adds (HostDoes self.old.host.0) (order_taken self.old.host self.old.control order.Clean ∷ events.old.items) events.new.items) }
+        ensures adds { OnOk result (Adds (HostDoes self.old.host.0) (order_taken self.old.host self.old.control order.Clean ∷ events.old.items)
+            events.new.items) }
         ensures same { (self.new.host ≡ self.old.host) × (self.new.size ≡ self.old.size)
             × (self.new.live ≡ self.old.live) }
         ensures room { OnOk result (HasRoom 1 events.new self.new) }
@@ -321,7 +330,8 @@ impl Kernel {
         requires licensed { ActsLicensed self.old.size (world_part self.old.size events.old.items) }
         ensures fits { KernelFits events.new.items self.new }
         ensures licensed { ActsLicensed self.new.size (world_part self.new.size events.new.items) }
-        ensures goes { OnOk result (StepEvents (HostDoes self.old.host.0) (taken_first self.old.host self.old.control (first self.old.down.items)) events.old.items events.new.items) }
+        ensures goes { OnOk result (StepEvents (HostDoes self.old.host.0) (taken_first self.old.host self.old.control (first self.old.down.items))
+            events.old.items events.new.items) }
         ensures same { (self.new.host ≡ self.old.host) × (self.new.size ≡ self.old.size)
             × (self.new.live ≡ self.old.live) }
         ensures room { OnOk result (HasRoom 1 events.new self.new) }

@@ -246,8 +246,10 @@ impl Stage {
         ensures same { (self.new.size ≡ self.old.size)
             × (length self.new.kernels.items ≡ length self.old.kernels.items)
             × (self.new.spare.items ≡ self.old.spare.items) }
-        ensures taken { OnOk result (AddsFirst (taken_head (Up host (record { 0 = 0 })) (up_queue host.0 0 self.old.events.items)) self.old.events.items self.new.events.items) }
-        ensures err { OnErr result (WorldStands self.new.size self.new.kernels.items self.new.directory self.new.events.items × (self.new.events.items ≡ self.old.events.items)) }
+        ensures taken { OnOk result (AddsFirst (taken_head (Up host (record { 0 = 0 })) (up_queue host.0 0 self.old.events.items)) self.old.events.items
+            self.new.events.items) }
+        ensures err { OnErr result (WorldStands self.new.size self.new.kernels.items self.new.directory self.new.events.items
+            × (self.new.events.items ≡ self.old.events.items)) }
     {
         let index = host.0 as usize;
         let Some(letter) = self.kernels[index].up.front() else {

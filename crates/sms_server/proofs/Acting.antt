@@ -13,7 +13,9 @@ use Rattle.vm_model.specs.PageLicences.{ActsLicensed}
 use Rattle.vm_model.specs.PagePart.{page_part}
 use Rattle.vm_model.specs.Side.{side}
 use Rattle.vm_model.specs.TaskPlace.{means_page, task_host}
-use Rattle.vm_model.specs.Words.{Supplying, Locking, Lacking, Failing, Readying, OtherDown, ActEffect, Opens, SendsUp, TakenUp, SentDown, TakesDown, Puts, Drops, Begins, Loads, Stores, Fails, BeginsCopy, Copies, EndsCopy, StepBegins, Nothing, Act, act_if, act_of, down_word, in_range, sent_act_effect, up_word}
+use Rattle.vm_model.specs.Words.{Supplying, Locking, Lacking, Failing, Readying, OtherDown, ActEffect, Opens, SendsUp, TakenUp, SentDown, TakesDown, Puts}
+use Rattle.vm_model.specs.Words.{Drops, Begins, Loads, Stores, Fails, BeginsCopy, Copies, EndsCopy, StepBegins, Nothing, Act, act_if, act_of, down_word}
+use Rattle.vm_model.specs.Words.{in_range, sent_act_effect, up_word}
 use Rattle.vm_model.specs.declared.event.Event.{Event}
 use Rattle.vm_model.specs.declared.event.Event.TheVariants as event
 use Rattle.vm_model.specs.declared.message.Channel.TheVariants.{Up, Down}
@@ -29,7 +31,8 @@ use Rattle.sms_server.specs.Table.{ServerTable, directory_at, heard_at}
 -- what an event is to a page, behind a past
 abbrev pub act_in : ℕ → ℕ → ℕ → Event → List Event → Act
 act_in size o p e past =
-    act_of size o p (λ task. task_host task past) (λ task address. means_page size o p task address past) (λ host object page. (side host (page_part size object page past)).bytes) e
+    act_of size o p (λ task. task_host task past) (λ task address. means_page size o p task address past)
+    (λ host object page. (side host (page_part size object page past)).bytes) e
 
 quiet_if : (b : Bool) (h : ℕ) (e : ActEffect) → is_word e ≡ false → is_word (act_if b h e).effect ≡ false
 quiet_if true h e none = none
@@ -64,24 +67,31 @@ apart_from header o q shared other =
     (λ (no : (q == o) ≡ false). no)
     (cases_Bool (q == o))
 
-quiet_other : (header : Header) (o p : ℕ) (host_of : ℕ → ℕ) (means : ℕ → ℕ → Bool) (held : ℕ → ℕ → ℕ → List ℕ) (e : Event) → is_shared header o ≡ true → IsOther header e
+quiet_other : (header : Header) (o p : ℕ) (host_of : ℕ → ℕ) (means : ℕ → ℕ → Bool) (held : ℕ → ℕ → ℕ → List ℕ) (e : Event) → is_shared header o ≡ true
+    → IsOther header e
     → is_word (act_of header.size o p host_of means held e).effect ≡ false
 quiet_other header o p host_of means held (event.Sent (Up host object) m) shared other = quiet_if (object.0 == o) host.0 (sent_act_effect p m) (sent_quiet p m)
 quiet_other header o p host_of means held (event.Sent (Down host object control) m) shared other = rw (apart_from header o object.0 shared other) refl
 quiet_other header o p host_of means held (event.Taken (Up host object) m) shared other = rw (apart_from header o object.0 shared other) refl
-quiet_other header o p host_of means held (event.Taken (Down host object control) m) shared other = quiet_else (object.0 == o) (TakesDown control (down_word p m)) StepBegins refl refl
+quiet_other header o p host_of means held (event.Taken (Down host object control) m) shared other =
+    quiet_else (object.0 == o) (TakesDown control (down_word p m)) StepBegins refl refl
 quiet_other header o p host_of means held (event.Dropped host object page) shared other = quiet_if (object.0 == o && page.0 == p) host.0 Drops refl
 quiet_other header o p host_of means held (event.Zeroed host object page) shared other = quiet_if (object.0 == o && page.0 == p) host.0 _ refl
-quiet_other header o p host_of means held (event.Raised host lower lower_page upper upper_page) shared other = quiet_if (upper.0 == o && upper_page.0 == p) host.0 _ refl
+quiet_other header o p host_of means held (event.Raised host lower lower_page upper upper_page) shared other =
+    quiet_if (upper.0 == o && upper_page.0 == p) host.0 _ refl
 quiet_other header o p host_of means held (event.BegunCopy task address bytes to) shared other = refl
 quiet_other header o p host_of means held (event.CopiedPage task page object object_page target) shared other =
-    quiet_else (target.0 == o && page.0 == p) _ (if object.0 == o && object_page.0 == p then Copies task.0 else Nothing) refl (quiet_else (object.0 == o && object_page.0 == p) (Copies task.0) Nothing refl refl)
+    quiet_else (target.0 == o && page.0 == p) _ (if object.0 == o && object_page.0 == p then Copies task.0 else Nothing) refl
+    (quiet_else (object.0 == o && object_page.0 == p) (Copies task.0) Nothing refl refl)
 quiet_other header o p host_of means held (event.CopyEnded task) shared other = refl
 quiet_other header o p host_of means held (event.BegunLoad task address bytes) shared other = quiet_if (means task.0 address) (host_of task.0) _ refl
 quiet_other header o p host_of means held (event.BegunStore task address bytes value) shared other = quiet_if (means task.0 address) (host_of task.0) _ refl
-quiet_other header o p host_of means held (event.Loaded task object page value) shared other = quiet_if (object.0 == o && page.0 == p) (host_of task.0) (Loads task.0 value) refl
-quiet_other header o p host_of means held (event.Stored task object page at bytes value) shared other = quiet_if (object.0 == o && page.0 == p) (host_of task.0) (Stores task.0 at bytes value) refl
-quiet_other header o p host_of means held (event.Failed task object page) shared other = quiet_else (object.0 == o && page.0 == p) (Fails task.0) (EndsCopy task.0) refl refl
+quiet_other header o p host_of means held (event.Loaded task object page value) shared other =
+    quiet_if (object.0 == o && page.0 == p) (host_of task.0) (Loads task.0 value) refl
+quiet_other header o p host_of means held (event.Stored task object page at bytes value) shared other =
+    quiet_if (object.0 == o && page.0 == p) (host_of task.0) (Stores task.0 at bytes value) refl
+quiet_other header o p host_of means held (event.Failed task object page) shared other =
+    quiet_else (object.0 == o && page.0 == p) (Fails task.0) (EndsCopy task.0) refl refl
 quiet_other header o p host_of means held (event.Line line) shared other = refl
 quiet_other header o p host_of means held (event.Refused code) shared other = refl
 quiet_other header o p host_of means held (event.TaskMade task host) shared other = refl
@@ -97,15 +107,22 @@ quiet_other header o p host_of means held (event.Wired host count) shared other 
 quiet_other header o p host_of means held (event.DeviceFailed who way object page) shared other = refl
 quiet_other header o p host_of means held (event.NoSlot object page) shared other = refl
 
-pub quiet_event : (header : Header) (o p : ℕ) (e : Event) (past : List Event) → is_shared header o ≡ true → IsOther header e → is_word (act_in header.size o p e past).effect ≡ false
+pub quiet_event : (header : Header) (o p : ℕ) (e : Event) (past : List Event) → is_shared header o ≡ true → IsOther header e
+    → is_word (act_in header.size o p e past).effect ≡ false
 quiet_event header o p e past shared other =
-    quiet_other header o p (λ task. task_host task past) (λ task address. means_page header.size o p task address past) (λ host object page. (side host (page_part header.size object page past)).bytes) e shared other
+    quiet_other header o p (λ task. task_host task past) (λ task address. means_page header.size o p task address past)
+    (λ host object page. (side host (page_part header.size object page past)).bytes) e shared other
 
-pub others_stand : (header : Header) (table : ServerTable) (e : Event) (past : List Event) → IsOther header e → ServerStands header table past → ServerStands header table (e ∷ past)
+pub others_stand : (header : Header) (table : ServerTable) (e : Event) (past : List Event) → IsOther header e → ServerStands header table past
+    → ServerStands header table (e ∷ past)
 others_stand header table e past other s = record {
   size = s.size;
-  pages = λ o p shared. stands_quiet header.size (directory_at table o p) (act_in header.size o p e past) (page_part header.size o p past) (quiet_event header o p e past shared other) (s.pages o p shared);
-  heard = λ o p shared. hears_quiet (heard_at table o p) (act_in header.size o p e past) (page_part header.size o p past) (quiet_event header o p e past shared other) (s.heard o p shared);
+  pages =
+      λ o p shared. stands_quiet header.size (directory_at table o p) (act_in header.size o p e past) (page_part header.size o p past)
+      (quiet_event header o p e past shared other) (s.pages o p shared);
+  heard =
+      λ o p shared. hears_quiet (heard_at table o p) (act_in header.size o p e past) (page_part header.size o p past)
+      (quiet_event header o p e past shared other) (s.heard o p shared);
 }
 
 pub others_serve : (header : Header) (e : Event) (past : List Event) → IsOther header e → AllServed header past → AllServed header (e ∷ past)
@@ -114,7 +131,8 @@ others_serve header e past other served o p shared =
 
 pub others_recall : (header : Header) (e : Event) (past : List Event) → IsOther header e → AllRecalled header past → AllRecalled header (e ∷ past)
 others_recall header e past other recalled o p host w shared front way =
-    recalled_quiet (act_in header.size o p e past) (page_part header.size o p past) (quiet_event header o p e past shared other) (λ g v at stands. recalled o p g v shared at stands) host w front way
+    recalled_quiet (act_in header.size o p e past) (page_part header.size o p past) (quiet_event header o p e past shared other)
+    (λ g v at stands. recalled o p g v shared at stands) host w front way
 
 -- What the server takes, and what it sends.
 
@@ -159,7 +177,8 @@ free_quiet (Copies task) free = refl
 free_quiet (EndsCopy task) free = refl
 free_quiet StepBegins free = refl
 
-pub free_licensed : (size h : ℕ) (e : ActEffect) (past : List Act) → is_free e ≡ true → ActsLicensed size past → ActsLicensed size (record { host = h; effect = e } ∷ past)
+pub free_licensed : (size h : ℕ) (e : ActEffect) (past : List Act) → is_free e ≡ true → ActsLicensed size past
+    → ActsLicensed size (record { host = h; effect = e } ∷ past)
 free_licensed size h (SentDown control (Supplying lock precious bytes)) past free was = absurd (false≢true free)
 free_licensed size h (SentDown control (Locking count returns flush lock reply)) past free was = absurd (false≢true free)
 free_licensed size h (SentDown control Lacking) past free was = absurd (false≢true free)
@@ -187,10 +206,13 @@ abbrev pub AreFree : ℕ → ℕ → ℕ → List Event → List Event → Type 
 AreFree size o p [] past = Unit {0}
 AreFree size o p (e ∷ es) past = (is_free (act_in size o p e (es ++ past)).effect ≡ true) × AreFree size o p es past
 
-pub free_both : (size o p : ℕ) (later front past : List Event) → AreFree size o p later (front ++ past) → AreFree size o p front past → AreFree size o p (later ++ front) past
+pub free_both : (size o p : ℕ) (later front past : List Event) → AreFree size o p later (front ++ past) → AreFree size o p front past
+    → AreFree size o p (later ++ front) past
 free_both size o p [] front past one two = two
-free_both size o p (e ∷ es) front past one two =
-    (subst (λ (l : List Event). is_free (act_in size o p e l).effect ≡ true) (sym (append_assoc es front past)) one.0, free_both size o p es front past one.1 two)
+free_both size o p (e ∷ es) front past one two = (
+  subst (λ (l : List Event). is_free (act_in size o p e l).effect ≡ true) (sym (append_assoc es front past)) one.0,
+  free_both size o p es front past one.1 two,
+)
 
 -- a reply of a page is a word of no other page
 free_down : (p q : ℕ) (control : ℕ) (r : Reply) → (p == q) ≡ false → is_free (SentDown control (down_word q (reply_message (page_no p) r))) ≡ true
@@ -203,12 +225,19 @@ pub free_if : (b : Bool) (h : ℕ) (e : ActEffect) → (b ≡ true → is_free e
 free_if true h e free = free refl
 free_if false h e free = refl
 
-pub replies_free : (size o q p : ℕ) (object : ObjectId) (heard : ℕ → ℕ) (rs : List Reply) (past : List Event) → (object.0 ≡ o → (p == q) ≡ false) → AreFree size o q (reply_events object (page_no p) heard rs) past
+pub replies_free : (size o q p : ℕ) (object : ObjectId) (heard : ℕ → ℕ) (rs : List Reply) (past : List Event) → (object.0 ≡ o → (p == q) ≡ false)
+    → AreFree size o q (reply_events object (page_no p) heard rs) past
 replies_free size o q p object heard [] past apart = tt
-replies_free size o q p object heard (r ∷ rs) past apart =
-    (free_if (object.0 == o) (reply_host r).0 (SentDown (heard (reply_host r).0) (down_word q (reply_message (page_no p) r))) (λ same. free_down p q (heard (reply_host r).0) r (apart (grind (arith, nat_tests, same)))), replies_free size o q p object heard rs past apart)
+replies_free size o q p object heard (r ∷ rs) past apart = (
+  free_if (object.0 == o) (reply_host r).0 (SentDown (heard (reply_host r).0) (down_word q (reply_message (page_no p) r)))
+      (λ same. free_down p q (heard (reply_host r).0) r (apart (grind (arith, nat_tests, same)))),
+  replies_free size o q p object heard rs past apart,
+)
 
-own_down : (p : ℕ) (heard : ℕ → ℕ) (r : Reply) → record { host = (reply_host r).0; effect = SentDown (heard (reply_host r).0) (down_word p (reply_message (page_no p) r)) } ≡ reply_act heard r
+own_down : (p : ℕ) (heard : ℕ → ℕ) (r : Reply) → record {
+  host = (reply_host r).0;
+  effect = SentDown (heard (reply_host r).0) (down_word p (reply_message (page_no p) r));
+} ≡ reply_act heard r
 own_down p heard (Supply host lock bytes) = rw (itself p) refl
 own_down p heard (Flush host) = let inside : in_range p p 1 ≡ true = grind (arith, nat_tests) in rw inside refl
 own_down p heard (CleanLock host) = let inside : in_range p p 1 ≡ true = grind (arith, nat_tests) in rw inside refl

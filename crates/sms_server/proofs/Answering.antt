@@ -1,5 +1,6 @@
 -- What a page's answer is to the table.
-use Rattle.std.proofs.Common.{ℕ, zero, suc, ◌≡◌, ◌≢◌, ◌<◌, ◌≤◌, ◌+◌, ◌==◌, Bool, true, false, if◌then◌else◌, List, [], ◌∷◌, ◌++◌, length, replicate, set, Option, Some, None, refl, sym, ◌∙◌, ap, subst, ⊎_elim, arith}
+use Rattle.std.proofs.Common.{ℕ, zero, suc, ◌≡◌, ◌≢◌, ◌<◌, ◌≤◌, ◌+◌, ◌==◌, Bool, true, false, if◌then◌else◌, List, [], ◌∷◌, ◌++◌, length, replicate, set}
+use Rattle.std.proofs.Common.{Option, Some, None, refl, sym, ◌∙◌, ap, subst, ⊎_elim, arith}
 use Rattle.std.proofs.lemmas.Bool.{cases_Bool, false≢true}
 use Rattle.std.proofs.lemmas.Bool.Decides.{nat_tests}
 use Rattle.std.proofs.lemmas.List.{get_or-set_other, get_or-set_same}
@@ -18,9 +19,11 @@ use Rattle.vm_model.specs.declared.event.Event.{Event}
 use Rattle.vm_model.specs.declared.message.Message.{Message}
 use Rattle.vm_model.specs.declared.message.Message.TheVariants as message
 use Rattle.sms_server.proofs.Words.{both_words, row_whole, row_words}
-use Rattle.sms_server.specs.Answers.{AnswerEvents, DirectoryAfter, IsAbout, IsEnd, IsOfOnePage, PageAfter, ReturnsWhole, RisesFrom, RowAfter, ServerAnswer, AreServerWords, heard_by, is_among, heard_row, page_events, page_no, replies_to, reply_events, row_events, stretches}
+use Rattle.sms_server.specs.Answers.{AnswerEvents, DirectoryAfter, IsAbout, IsEnd, IsOfOnePage, PageAfter, ReturnsWhole, RisesFrom, RowAfter, ServerAnswer}
+use Rattle.sms_server.specs.Answers.{AreServerWords, heard_by, is_among, heard_row, page_events, page_no, replies_to, reply_events, row_events, stretches}
 use Rattle.sms_server.specs.Kept.{AreWhole, ByKey, IsRowAfter, RowsAfter, events_among}
-use Rattle.sms_server.specs.Table.{IsSamePage, IsSameTable, ServerTable, directory_at, directory_in, heard_at, most_events, new_directory, replies_among, row_among}
+use Rattle.sms_server.specs.Table.{IsSamePage, IsSameTable, ServerTable, directory_at, directory_in, heard_at, most_events, new_directory, replies_among}
+use Rattle.sms_server.specs.Table.{row_among}
 use Rattle.sms_server.specs.declared.page_row.PageRow.{PageRow}
 
 -- a table that is the same but for the memory at hand answers the same
@@ -65,18 +68,25 @@ heard_by_same h (Doing control count) old now same g = same g
 heard_by_same h (Ending control) old now same g = same g
 heard_by_same h OtherUp old now same g = same g
 
-events_heard : (object : ObjectId) (p : ℕ) (old now : ℕ → ℕ) (rs : List Reply) → ((g : ℕ) → now g ≡ old g) → reply_events object (page_no p) now rs ≡ reply_events object (page_no p) old rs
+events_heard : (object : ObjectId) (p : ℕ) (old now : ℕ → ℕ) (rs : List Reply) → ((g : ℕ) → now g ≡ old g)
+    → reply_events object (page_no p) now rs ≡ reply_events object (page_no p) old rs
 events_heard object p old now rs same = ap (λ (f : ℕ → ℕ). reply_events object (page_no p) f rs) (λ i g. same g i)
 
-page_events_same : (old now : ServerTable) (h : ℕ) (object : ObjectId) (m : Message) (p : ℕ) → IsSamePage object.0 p old now → page_events now h object m p ≡ page_events old h object m p
+page_events_same : (old now : ServerTable) (h : ℕ) (object : ObjectId) (m : Message) (p : ℕ) → IsSamePage object.0 p old now
+    → page_events now h object m p ≡ page_events old h object m p
 page_events_same old now h object m p same =
-    ap (reply_events object (page_no p) (heard_by h (up_word p m) (heard_at now object.0 p))) (replies_same_word h (up_word p m) (directory_at old object.0 p) (directory_at now object.0 p) same.directory)
-    ∙ events_heard object p (heard_by h (up_word p m) (heard_at old object.0 p)) (heard_by h (up_word p m) (heard_at now object.0 p)) (replies_to h (up_word p m) (directory_at old object.0 p)) (heard_by_same h (up_word p m) (heard_at old object.0 p) (heard_at now object.0 p) same.heard)
+    ap (reply_events object (page_no p) (heard_by h (up_word p m) (heard_at now object.0 p)))
+    (replies_same_word h (up_word p m) (directory_at old object.0 p) (directory_at now object.0 p) same.directory)
+    ∙ events_heard object p (heard_by h (up_word p m) (heard_at old object.0 p)) (heard_by h (up_word p m) (heard_at now object.0 p))
+    (replies_to h (up_word p m) (directory_at old object.0 p)) (heard_by_same h (up_word p m) (heard_at old object.0 p) (heard_at now object.0 p)
+    same.heard)
 
-stretches_same : (old now : ServerTable) (h : ℕ) (object : ObjectId) (m : Message) (ps : List ℕ) → IsSameTable old now → stretches now h object m ps ≡ stretches old h object m ps
+stretches_same : (old now : ServerTable) (h : ℕ) (object : ObjectId) (m : Message) (ps : List ℕ) → IsSameTable old now
+    → stretches now h object m ps ≡ stretches old h object m ps
 stretches_same old now h object m [] same = refl
 stretches_same old now h object m (p ∷ ps) same =
-    ap (λ (es : List Event). es ++ page_events now h object m p) (stretches_same old now h object m ps same) ∙ ap (λ (es : List Event). stretches old h object m ps ++ es) (page_events_same old now h object m p (same.pages object.0 p))
+    ap (λ (es : List Event). es ++ page_events now h object m p) (stretches_same old now h object m ps same)
+    ∙ ap (λ (es : List Event). stretches old h object m ps ++ es) (page_events_same old now h object m p (same.pages object.0 p))
 
 page_after_same : (h o : ℕ) (m : Message) (p : ℕ) (old now new : ServerTable) → IsSamePage o p old now → PageAfter h o m p now new → PageAfter h o m p old new
 page_after_same h o m p old now new same after = record {
@@ -87,7 +97,8 @@ page_after_same h o m p old now new same after = record {
 -- the heard controls, as a row keeps them
 heard_row_is : (h : ℕ) (w : UpWord) (heard : List ℕ) → h < length heard → (g : ℕ) → slice_index (heard_row h w heard) g ≡ heard_by h w (slice_index heard) g
 heard_row_is h (Asking control access) heard within g = elim (ℕ_discrete g h) [
-  | yes e ↦ subst (λ (k : ℕ). slice_index (slice_set heard h control) k ≡ (if h == k then control else slice_index heard k)) (sym e) (let yes_is : (h == h) ≡ true = grind (arith, nat_tests) in rw yes_is (get_or-set_same heard h control 0 within))
+  | yes e ↦ subst (λ (k : ℕ). slice_index (slice_set heard h control) k ≡ (if h == k then control else slice_index heard k)) (sym e)
+      (let yes_is : (h == h) ≡ true = grind (arith, nat_tests) in rw yes_is (get_or-set_same heard h control 0 within))
   | no e ↦ let no_is : (h == g) ≡ false = grind (arith, nat_tests) in rw no_is (get_or-set_other heard h g control 0 e)
 ]
 heard_row_is h (Unlocking access) heard within g = refl
@@ -97,9 +108,12 @@ heard_row_is h (Ending control) heard within g = refl
 heard_row_is h OtherUp heard within g = refl
 
 -- one page's answer, in the table's words
-pub row_events_are : (table : ServerTable) (h : ℕ) (object : ObjectId) (m : Message) (x : PageRow) → row_among object.0 x.key.page.0 table.rows ≡ Some x → x.key.object ≡ object → h < length x.heard → row_events h m x ≡ page_events table h object m x.key.page.0
+pub row_events_are : (table : ServerTable) (h : ℕ) (object : ObjectId) (m : Message) (x : PageRow) → row_among object.0 x.key.page.0 table.rows ≡ Some x
+    → x.key.object ≡ object → h < length x.heard → row_events h m x ≡ page_events table h object m x.key.page.0
 row_events_are table h object m x among own within =
-    rw (own, among) (events_heard object x.key.page.0 (heard_by h (up_word x.key.page.0 m) (slice_index x.heard)) (slice_index (heard_row h (up_word x.key.page.0 m) x.heard)) (replies_to h (up_word x.key.page.0 m) x.directory) (heard_row_is h (up_word x.key.page.0 m) x.heard within))
+    rw (own, among) (events_heard object x.key.page.0 (heard_by h (up_word x.key.page.0 m) (slice_index x.heard))
+    (slice_index (heard_row h (up_word x.key.page.0 m) x.heard)) (replies_to h (up_word x.key.page.0 m) x.directory)
+    (heard_row_is h (up_word x.key.page.0 m) x.heard within))
 
 -- the page that a message of one page speaks of
 
@@ -107,7 +121,8 @@ other_word : (m : Message) (p q : ℕ) → IsAbout p m → IsOfOnePage m → (p 
 other_word (message.Request control page access) p q about one apart = let e = about.0 in rw e (rw apart refl)
 other_word (message.Unlock control page access) p q about one apart = let e : page.0 ≡ p = about in rw e (rw apart refl)
 other_word (message.Return control page dirty keep bytes) p q about one apart = let e : page.0 ≡ p = about in rw e (rw apart refl)
-other_word (message.Completed control page count) p q about one apart = let e = about.0 in let n = about.1 in let out : in_range q page.0 count ≡ false = grind (arith, nat_tests) in rw out refl
+other_word (message.Completed control page count) p q about one apart =
+    let e = about.0 in let n = about.1 in let out : in_range q page.0 count ≡ false = grind (arith, nat_tests) in rw out refl
 other_word (message.Terminate control) p q about one apart = absurd one
 other_word (message.Init control size) p q about one apart = absurd about
 other_word (message.Create control size) p q about one apart = absurd about
@@ -120,11 +135,16 @@ other_word (message.Attributes cache strategy reply) p q about one apart = absur
 other_word (message.Destroy reason) p q about one apart = absurd about
 other_word (message.Changed control cache strategy) p q about one apart = absurd about
 
-answer_of : (table : ServerTable) (h : ℕ) (object : ObjectId) (m : Message) (p : ℕ) (events : List Event) → IsAbout p m → IsOfOnePage m → events ≡ page_events table h object m p → AnswerEvents table h object m events
-answer_of table h object (message.Request control page access) p events about one is = is ∙ ap (page_events table h object (message.Request control page access)) (sym about.0)
-answer_of table h object (message.Unlock control page access) p events about one is = is ∙ ap (page_events table h object (message.Unlock control page access)) (sym about)
-answer_of table h object (message.Return control page dirty keep bytes) p events about one is = is ∙ ap (page_events table h object (message.Return control page dirty keep bytes)) (sym about)
-answer_of table h object (message.Completed control page count) p events about one is = is ∙ ap (page_events table h object (message.Completed control page count)) (sym about.0)
+answer_of : (table : ServerTable) (h : ℕ) (object : ObjectId) (m : Message) (p : ℕ) (events : List Event) → IsAbout p m → IsOfOnePage m
+    → events ≡ page_events table h object m p → AnswerEvents table h object m events
+answer_of table h object (message.Request control page access) p events about one is =
+    is ∙ ap (page_events table h object (message.Request control page access)) (sym about.0)
+answer_of table h object (message.Unlock control page access) p events about one is =
+    is ∙ ap (page_events table h object (message.Unlock control page access)) (sym about)
+answer_of table h object (message.Return control page dirty keep bytes) p events about one is =
+    is ∙ ap (page_events table h object (message.Return control page dirty keep bytes)) (sym about)
+answer_of table h object (message.Completed control page count) p events about one is =
+    is ∙ ap (page_events table h object (message.Completed control page count)) (sym about.0)
 answer_of table h object (message.Terminate control) p events about one is = absurd one
 answer_of table h object (message.Init control size) p events about one is = absurd about
 answer_of table h object (message.Create control size) p events about one is = absurd about
@@ -139,7 +159,8 @@ answer_of table h object (message.Changed control cache strategy) p events about
 
 -- rows in which one is another now
 
-pub by_key_set : (object page i : ℕ) (x new : PageRow) (rows : List PageRow) → ByKey object page rows → slice_get rows i ≡ Some x → x.key ≡ new.key → ByKey object page (set rows i new)
+pub by_key_set : (object page i : ℕ) (x new : PageRow) (rows : List PageRow) → ByKey object page rows → slice_get rows i ≡ Some x → x.key ≡ new.key
+    → ByKey object page (set rows i new)
 by_key_set object page i x new [] by_key is same = absurd (none-some x is)
 by_key_set object page zero x new (y ∷ ys) by_key is same =
     let e : y.key ≡ new.key = ap (λ (z : PageRow). z.key) (same_Some y x is) ∙ same in
@@ -152,33 +173,40 @@ from_at object page zero x (y ∷ ys) by_key is = subst (λ (z : PageRow). IsFro
 from_at object page (suc i) x (y ∷ ys) by_key is = later object page y.key x.key by_key.0 (from_at y.key.object.0 (suc y.key.page.0) i x ys by_key.1 is)
 
 -- a page's row is the one that stands somewhere
-pub among_at : (object page i : ℕ) (x : PageRow) (rows : List PageRow) → ByKey object page rows → slice_get rows i ≡ Some x → row_among x.key.object.0 x.key.page.0 rows ≡ Some x
+pub among_at : (object page i : ℕ) (x : PageRow) (rows : List PageRow) → ByKey object page rows → slice_get rows i ≡ Some x
+    → row_among x.key.object.0 x.key.page.0 rows ≡ Some x
 among_at object page i x [] by_key is = absurd (none-some x is)
 among_at object page zero x (y ∷ ys) by_key is = let e = same_Some y x is in rw e (rw (itself x.key) refl)
 among_at object page (suc i) x (y ∷ ys) by_key is =
     let low = from_at y.key.object.0 (suc y.key.page.0) i x ys by_key.1 is in
     let apart : is_page y.key x.key.object.0 x.key.page.0 ≡ false = ⊎_elim
-    (λ (here : is_page y.key x.key.object.0 x.key.page.0 ≡ true). absurd (false≢true (sym (behind_apart y.key x.key x.key.object.0 x.key.page.0 low here) ∙ itself x.key)))
+    (λ (here : is_page y.key x.key.object.0 x.key.page.0 ≡ true). absurd (false≢true
+    (sym (behind_apart y.key x.key x.key.object.0 x.key.page.0 low here) ∙ itself x.key)))
     (λ (no_page : is_page y.key x.key.object.0 x.key.page.0 ≡ false). no_page)
     (cases_Bool (is_page y.key x.key.object.0 x.key.page.0)) in
     rw apart (among_at y.key.object.0 (suc y.key.page.0) i x ys by_key.1 is)
 
-pub row_set : (object page i o p : ℕ) (x new : PageRow) (rows : List PageRow) → ByKey object page rows → slice_get rows i ≡ Some x → x.key ≡ new.key → row_among o p (set rows i new) ≡ (if is_page new.key o p then Some new else row_among o p rows)
+pub row_set : (object page i o p : ℕ) (x new : PageRow) (rows : List PageRow) → ByKey object page rows → slice_get rows i ≡ Some x → x.key ≡ new.key
+    → row_among o p (set rows i new) ≡ (if is_page new.key o p then Some new else row_among o p rows)
 row_set object page i o p x new [] by_key is same = absurd (none-some x is)
 row_set object page zero o p x new (y ∷ ys) by_key is same =
     let read : is_page y.key o p ≡ is_page new.key o p = ap (λ (key : PageKey). is_page key o p) (ap (λ (z : PageRow). z.key) (same_Some y x is) ∙ same) in
-    ⊎_elim (λ (here : is_page new.key o p ≡ true). rw here refl) (λ (apart : is_page new.key o p ≡ false). rw (read, apart) refl) (cases_Bool (is_page new.key o p))
+    ⊎_elim (λ (here : is_page new.key o p ≡ true). rw here refl) (λ (apart : is_page new.key o p ≡ false). rw (read, apart) refl)
+    (cases_Bool (is_page new.key o p))
 row_set object page (suc i) o p x new (y ∷ ys) by_key is same =
     let rest = row_set y.key.object.0 (suc y.key.page.0) i o p x new ys by_key.1 is same in
-    let behind : IsFrom y.key.object.0 (suc y.key.page.0) new.key = subst (IsFrom y.key.object.0 (suc y.key.page.0)) same (from_at y.key.object.0 (suc y.key.page.0) i x ys by_key.1 is) in
+    let behind : IsFrom y.key.object.0 (suc y.key.page.0) new.key = subst (IsFrom y.key.object.0 (suc y.key.page.0)) same
+    (from_at y.key.object.0 (suc y.key.page.0) i x ys by_key.1 is) in
     rw rest (swap_tests (is_page y.key o p) (is_page new.key o p) (Some y) (Some new) (row_among o p ys) (λ here. behind_apart y.key new.key o p behind here))
 
-pub whole_at : (size i : ℕ) (x : PageRow) (rows : List PageRow) → AreWhole size rows → slice_get rows i ≡ Some x → (length x.directory.bytes ≡ size) × (length x.heard ≡ 8)
+pub whole_at : (size i : ℕ) (x : PageRow) (rows : List PageRow) → AreWhole size rows → slice_get rows i ≡ Some x → (length x.directory.bytes ≡ size)
+    × (length x.heard ≡ 8)
 whole_at size i x [] whole is = absurd (none-some x is)
 whole_at size zero x (y ∷ ys) whole is = subst (λ (z : PageRow). (length z.directory.bytes ≡ size) × (length z.heard ≡ 8)) (same_Some y x is) (whole.0, whole.1)
 whole_at size (suc i) x (y ∷ ys) whole is = whole_at size i x ys whole.2 is
 
-pub whole_set : (size i : ℕ) (new : PageRow) (rows : List PageRow) → AreWhole size rows → length new.directory.bytes ≡ size → length new.heard ≡ 8 → AreWhole size (set rows i new)
+pub whole_set : (size i : ℕ) (new : PageRow) (rows : List PageRow) → AreWhole size rows → length new.directory.bytes ≡ size → length new.heard ≡ 8
+    → AreWhole size (set rows i new)
 whole_set size zero new [] whole bytes eight = tt
 whole_set size (suc i) new [] whole bytes eight = tt
 whole_set size zero new (y ∷ ys) whole bytes eight = (bytes, eight, whole.2)
@@ -196,9 +224,11 @@ pub record Answers (h : ℕ) (object : ObjectId) (page : ℕ) (m : Message) (row
   pub within : h < length x.heard
 
 page_itself : (o p : ℕ) (table now : ServerTable) → now.size ≡ table.size → row_among o p now.rows ≡ row_among o p table.rows → IsSamePage o p table now
-page_itself o p table now size row = record { directory = rw (size, row) (record { holds = refl; awaits = refl; line = refl; bytes = refl }); heard = λ g. rw row refl }
+page_itself o p table now size row =
+    record { directory = rw (size, row) (record { holds = refl; awaits = refl; line = refl; bytes = refl }); heard = λ g. rw row refl }
 
-other_page_after : (h o p : ℕ) (m : Message) (table now : ServerTable) → up_word p m ≡ OtherUp → now.size ≡ table.size → row_among o p now.rows ≡ row_among o p table.rows → PageAfter h o m p table now
+other_page_after : (h o p : ℕ) (m : Message) (table now : ServerTable) → up_word p m ≡ OtherUp → now.size ≡ table.size
+    → row_among o p now.rows ≡ row_among o p table.rows → PageAfter h o m p table now
 other_page_after h o p m table now other size row =
     let same = page_itself o p table now size row in
     record {
@@ -206,20 +236,25 @@ other_page_after h o p m table now other size row =
       heard = λ g. subst (λ (w : UpWord). heard_at now o p g ≡ heard_by h w (heard_at table o p) g) (sym other) (same.heard g);
     }
 
-own_page_after : (h o p : ℕ) (m : Message) (table now : ServerTable) (x y : PageRow) → row_among o p table.rows ≡ Some x → row_among o p now.rows ≡ Some y → DirectoryAfter h (up_word p m) x.directory y.directory → y.heard ≡ heard_row h (up_word p m) x.heard → h < length x.heard
+own_page_after : (h o p : ℕ) (m : Message) (table now : ServerTable) (x y : PageRow) → row_among o p table.rows ≡ Some x → row_among o p now.rows ≡ Some y
+    → DirectoryAfter h (up_word p m) x.directory y.directory → y.heard ≡ heard_row h (up_word p m) x.heard → h < length x.heard
     → PageAfter h o m p table now
 own_page_after h o p m table now x y was is after heard within = record {
   directory = rw (was, is) after;
   heard = λ g. rw (was, is) (ap (λ (hs : List ℕ). slice_index hs g) heard ∙ heard_row_is h (up_word p m) x.heard within g);
 }
 
-pub one_answer : (h : ℕ) (object : ObjectId) (page : ℕ) (m : Message) (rows : List PageRow) (i : ℕ) (x y : PageRow) (old table now : ServerTable) (events : List Event) → Answers h object page m rows i x y → IsSameTable old table → table.rows ≡ rows → now.size ≡ table.size → now.rows ≡ set rows i y
+pub one_answer : (h : ℕ) (object : ObjectId) (page : ℕ) (m : Message) (rows : List PageRow) (i : ℕ) (x y : PageRow) (old table now : ServerTable)
+    (events : List Event) → Answers h object page m rows i x y → IsSameTable old table → table.rows ≡ rows → now.size ≡ table.size → now.rows ≡ set rows i y
     → events ≡ row_events h m x → ServerAnswer h object m old now events
 one_answer h object page m rows i x y old table now events a same seen sized set_is told = record {
   size = sized ∙ same.size;
   pages = λ p. page_after_same h object.0 m p old table now (same.pages object.0 p) (own p);
   others = λ o p other. then_same o p (page_itself o p table now sized (left o p ∙ rw (elsewhere o p other) refl));
-  told = answer_of old h object m page events a.about a.one (told ∙ (row_events_are table h object m x among_x a.own a.within ∙ (ap (page_events table h object m) a.at_page ∙ page_events_same old table h object m page (same.pages object.0 page))));
+  told =
+      answer_of old h object m page events a.about a.one (told
+      ∙ (row_events_are table h object m x among_x a.own a.within
+      ∙ (ap (page_events table h object m) a.at_page ∙ page_events_same old table h object m page (same.pages object.0 page))));
 } where
   key_same : x.key ≡ y.key
   key_same = sym a.after.key
@@ -228,13 +263,17 @@ one_answer h object page m rows i x y old table now events a same seen sized set
   of = ap (λ (z : ObjectId). z.0) a.own
 
   among_page : (p : ℕ) → x.key.page.0 ≡ p → row_among object.0 p table.rows ≡ Some x
-  among_page p e = subst (λ (k : ℕ). row_among object.0 k table.rows ≡ Some x) e (subst (λ (k : ℕ). row_among k x.key.page.0 table.rows ≡ Some x) of (subst (λ (l : List PageRow). row_among x.key.object.0 x.key.page.0 l ≡ Some x) (sym seen) (among_at 0 0 i x rows a.by_key a.is)))
+  among_page p e =
+      subst (λ (k : ℕ). row_among object.0 k table.rows ≡ Some x) e (subst (λ (k : ℕ). row_among k x.key.page.0 table.rows ≡ Some x) of
+      (subst (λ (l : List PageRow). row_among x.key.object.0 x.key.page.0 l ≡ Some x) (sym seen) (among_at 0 0 i x rows a.by_key a.is)))
 
   among_x : row_among object.0 x.key.page.0 table.rows ≡ Some x
   among_x = among_page x.key.page.0 refl
 
   left : (o p : ℕ) → row_among o p now.rows ≡ (if is_page y.key o p then Some y else row_among o p table.rows)
-  left o p = ap (row_among o p) set_is ∙ (row_set 0 0 i o p x y rows a.by_key a.is key_same ∙ ap (λ (l : List PageRow). if is_page y.key o p then Some y else row_among o p l) (sym seen))
+  left o p =
+      ap (row_among o p) set_is ∙ (row_set 0 0 i o p x y rows a.by_key a.is key_same
+      ∙ ap (λ (l : List PageRow). if is_page y.key o p then Some y else row_among o p l) (sym seen))
 
   test : (o p : ℕ) → is_page y.key o p ≡ is_page x.key o p
   test o p = ap (λ (key : PageKey). is_page key o p) a.after.key
@@ -246,7 +285,13 @@ one_answer h object page m rows i x y old table now events a same seen sized set
   then_same o p second =
       let first = same.pages o p in
       record {
-        directory = record { holds = second.directory.holds ∙ first.directory.holds; awaits = second.directory.awaits ∙ first.directory.awaits; line = second.directory.line ∙ first.directory.line; bytes = second.directory.bytes ∙ first.directory.bytes };
+        directory =
+            record {
+              holds = second.directory.holds ∙ first.directory.holds;
+              awaits = second.directory.awaits ∙ first.directory.awaits;
+              line = second.directory.line ∙ first.directory.line;
+              bytes = second.directory.bytes ∙ first.directory.bytes;
+            };
         heard = λ g. second.heard g ∙ first.heard g;
       }
 
@@ -257,10 +302,12 @@ one_answer h object page m rows i x y old table now events a same seen sized set
       let e : x.key.page.0 ≡ p = grind (arith, nat_tests, here) in
       let is_it : is_page y.key object.0 p ≡ true = test object.0 p ∙ grind (arith, nat_tests, of, here) in
       own_page_after h object.0 p m table now x y (among_page p e) (left object.0 p ∙ rw is_it refl)
-      (subst (λ (k : ℕ). DirectoryAfter h (up_word k m) x.directory y.directory) e a.after.directory) (subst (λ (k : ℕ). y.heard ≡ heard_row h (up_word k m) x.heard) e a.after.heard) a.within)
+      (subst (λ (k : ℕ). DirectoryAfter h (up_word k m) x.directory y.directory) e a.after.directory)
+      (subst (λ (k : ℕ). y.heard ≡ heard_row h (up_word k m) x.heard) e a.after.heard) a.within)
       (λ (apart : (x.key.page.0 == p) ≡ false).
       let not_it : is_page y.key object.0 p ≡ false = test object.0 p ∙ grind (arith, nat_tests, apart) in
-      other_page_after h object.0 p m table now (other_word m page p a.about a.one (ap (λ (k : ℕ). k == p) (sym a.at_page) ∙ apart)) sized (left object.0 p ∙ rw not_it refl))
+      other_page_after h object.0 p m table now (other_word m page p a.about a.one (ap (λ (k : ℕ). k == p) (sym a.at_page) ∙ apart)) sized
+      (left object.0 p ∙ rw not_it refl))
       (cases_Bool (x.key.page.0 == p))
 
 -- the replies of one page are among those of its object; a new page's are nine
@@ -284,7 +331,8 @@ most_of_page table o p = by (row_among o p table.rows) refl
     by None is = rw is (omega arith)
     by (Some x) is = let one = one_among o p table.rows x is in rw is (omega (arith, one))
 
-pub most_of_row : (old table : ServerTable) (rows : List PageRow) (i : ℕ) (x : PageRow) → IsSameTable old table → table.rows ≡ rows → ByKey 0 0 rows → slice_get rows i ≡ Some x → most_replies x.directory ≤ most_events x.key.object.0 old
+pub most_of_row : (old table : ServerTable) (rows : List PageRow) (i : ℕ) (x : PageRow) → IsSameTable old table → table.rows ≡ rows → ByKey 0 0 rows
+    → slice_get rows i ≡ Some x → most_replies x.directory ≤ most_events x.key.object.0 old
 most_of_row old table rows i x same seen by_key is =
     let among : row_among x.key.object.0 x.key.page.0 table.rows ≡ Some x = ap (row_among x.key.object.0 x.key.page.0) seen ∙ among_at 0 0 i x rows by_key is in
     let here : directory_at table x.key.object.0 x.key.page.0 ≡ x.directory = ap (directory_in table.size) among in
@@ -300,14 +348,16 @@ abbrev pub pages_among : ℕ → List PageRow → List ℕ
 pages_among o [] = []
 pages_among o (row ∷ rows) = if row.key.object.0 == o then row.key.page.0 ∷ pages_among o rows else pages_among o rows
 
-rises : (o ob pg n : ℕ) (rows : List PageRow) → ByKey ob pg rows → ((key : PageKey) → IsFrom ob pg key → key.object.0 ≡ o → n ≤ key.page.0) → RisesFrom n (pages_among o rows)
+rises : (o ob pg n : ℕ) (rows : List PageRow) → ByKey ob pg rows → ((key : PageKey) → IsFrom ob pg key → key.object.0 ≡ o → n ≤ key.page.0)
+    → RisesFrom n (pages_among o rows)
 rises o ob pg n [] by_key low = tt
 rises o ob pg n (x ∷ xs) by_key low =
     ⊎_elim
     (λ (own : (x.key.object.0 == o) ≡ true).
     let e : x.key.object.0 ≡ o = grind (arith, nat_tests, own) in
     rw own (low x.key by_key.0 e, rises o x.key.object.0 (suc x.key.page.0) (suc x.key.page.0) xs by_key.1 (λ key from same. from.inside (omega arith))))
-    (λ (other : (x.key.object.0 == o) ≡ false). rw other (rises o x.key.object.0 (suc x.key.page.0) n xs by_key.1 (λ key from same. low key (later ob pg x.key key by_key.0 from) same)))
+    (λ (other : (x.key.object.0 == o) ≡ false). rw other (rises o x.key.object.0 (suc x.key.page.0) n xs by_key.1
+    (λ key from same. low key (later ob pg x.key key by_key.0 from) same)))
     (cases_Bool (x.key.object.0 == o))
 
 unnamed : (o q : ℕ) (rows : List PageRow) → is_among q (pages_among o rows) ≡ false → row_among o q rows ≡ None
@@ -330,7 +380,9 @@ unnamed o q (x ∷ xs) none =
     not_first false c is = refl
 
 -- the events of some of the rows are stretches of the table's pages
-events_are : (table : ServerTable) (h : ℕ) (object : ObjectId) (m : Message) (rows : List PageRow) → ((k : ℕ) (x : PageRow) → slice_get rows k ≡ Some x → x.key.object.0 ≡ object.0 → (row_among object.0 x.key.page.0 table.rows ≡ Some x) × (h < length x.heard))
+events_are : (table : ServerTable) (h : ℕ) (object : ObjectId) (m : Message) (rows : List PageRow)
+    → ((k : ℕ) (x : PageRow) → slice_get rows k ≡ Some x → x.key.object.0 ≡ object.0 → (row_among object.0 x.key.page.0 table.rows ≡ Some x)
+    × (h < length x.heard))
     → events_among h m object.0 rows ≡ stretches table h object m (pages_among object.0 rows)
 events_are table h object m [] each = refl
 events_are table h object m (x ∷ xs) each =
@@ -361,7 +413,8 @@ row_after h m o p (x ∷ xs) (y ∷ ys) after =
     let test : is_page y.key o p ≡ is_page x.key o p = ap (λ (key : PageKey). is_page key o p) (after_key h m o x y (after 0)) in
     rw test (by (is_page x.key o p) (row_after h m o p xs ys (λ k. after (suc k))))
   where
-    by : (b : Bool) → IsRowAfter h m o (row_among o p xs) (row_among o p ys) → IsRowAfter h m o (if b then Some x else row_among o p xs) (if b then Some y else row_among o p ys)
+    by : (b : Bool) → IsRowAfter h m o (row_among o p xs) (row_among o p ys)
+        → IsRowAfter h m o (if b then Some x else row_among o p xs) (if b then Some y else row_among o p ys)
     by true rest = after 0
     by false rest = rest
 
@@ -388,13 +441,15 @@ by_key_after h m o ob pg (x ∷ xs) (y ∷ ys) after by_key =
     let rest = by_key_after h m o x.key.object.0 (suc x.key.page.0) xs ys (λ k. after (suc k)) by_key.1 in
     subst (λ (key : PageKey). IsFrom ob pg key × ByKey key.object.0 (suc key.page.0) ys) (sym (after_key h m o x y (after 0))) (by_key.0, rest)
 
-row_after_whole : (size h : ℕ) (m : Message) (o : ℕ) (x y : PageRow) → IsRowAfter h m o (Some x) (Some y) → ReturnsWhole size m → length x.directory.bytes ≡ size → length x.heard ≡ 8 → (length y.directory.bytes ≡ size) × (length y.heard ≡ 8)
+row_after_whole : (size h : ℕ) (m : Message) (o : ℕ) (x y : PageRow) → IsRowAfter h m o (Some x) (Some y) → ReturnsWhole size m
+    → length x.directory.bytes ≡ size → length x.heard ≡ 8 → (length y.directory.bytes ≡ size) × (length y.heard ≡ 8)
 row_after_whole size h m o x y after whole long eight = elim (ℕ_discrete x.key.object.0 o) [
   | yes e ↦ row_whole size h m x y (after.0 e) whole long eight
   | no e ↦ subst (λ (z : PageRow). (length z.directory.bytes ≡ size) × (length z.heard ≡ 8)) (sym (after.1 e)) (long, eight)
 ]
 
-pub whole_after : (size h : ℕ) (m : Message) (o : ℕ) (old new : List PageRow) → RowsAfter h m o old new → ReturnsWhole size m → AreWhole size old → AreWhole size new
+pub whole_after : (size h : ℕ) (m : Message) (o : ℕ) (old new : List PageRow) → RowsAfter h m o old new → ReturnsWhole size m → AreWhole size old
+    → AreWhole size new
 whole_after size h m o [] [] after returns whole = tt
 whole_after size h m o [] (y ∷ ys) after returns whole = absurd (after 0)
 whole_after size h m o (x ∷ xs) [] after returns whole = absurd (after 0)
@@ -402,7 +457,8 @@ whole_after size h m o (x ∷ xs) (y ∷ ys) after returns whole =
     let first = row_after_whole size h m o x y (after 0) returns whole.0 whole.1 in
     (first.0, first.1, whole_after size h m o xs ys (λ k. after (suc k)) returns whole.2)
 
-among_known : (size o p : ℕ) (rows : List PageRow) (x : PageRow) → AreWhole size rows → row_among o p rows ≡ Some x → (x.key.object.0 ≡ o) × (length x.heard ≡ 8)
+among_known : (size o p : ℕ) (rows : List PageRow) (x : PageRow) → AreWhole size rows → row_among o p rows ≡ Some x → (x.key.object.0 ≡ o)
+    × (length x.heard ≡ 8)
 among_known size o p [] x whole is = absurd (none-some x is)
 among_known size o p (y ∷ ys) x whole is =
     ⊎_elim
@@ -423,28 +479,36 @@ set_zeros (suc n) (suc h) = ap (λ (xs : List ℕ). 0 ∷ xs) (set_zeros n h)
 new_ended : (h control size : ℕ) → DirectoryAfter h (Ending control) (new_directory size) (new_directory size)
 new_ended h control size = record { exact = rw (set_zeros 8 h) refl; bytes = refl }
 
-pub end_words : (size h : ℕ) (object : ObjectId) (m : Message) (rows : List PageRow) → ReturnsWhole size m → AreWhole size rows → AreServerWords size object (events_among h m object.0 rows)
+pub end_words : (size h : ℕ) (object : ObjectId) (m : Message) (rows : List PageRow) → ReturnsWhole size m → AreWhole size rows
+    → AreServerWords size object (events_among h m object.0 rows)
 end_words size h object m [] returns whole = tt
 end_words size h object m (x ∷ xs) returns whole =
     let rest = end_words size h object m xs returns whole.2 in
     ⊎_elim
     (λ (own : (x.key.object.0 == object.0) ≡ true).
     let e : x.key.object.0 ≡ object.0 = grind (arith, nat_tests, own) in
-    let words = subst (λ (o : ObjectId). AreServerWords size o (row_events h m x)) (ap (λ (n : ℕ). let id : ObjectId = record { 0 = n } in id) e) (row_words size h m x returns whole.0) in
+    let words = subst (λ (o : ObjectId). AreServerWords size o (row_events h m x)) (ap (λ (n : ℕ). let id : ObjectId = record { 0 = n } in id) e)
+    (row_words size h m x returns whole.0) in
     rw own (both_words size object (events_among h m object.0 xs) (row_events h m x) rest words))
     (λ (other : (x.key.object.0 == object.0) ≡ false). rw other rest)
     (cases_Bool (x.key.object.0 == object.0))
 
-pub end_answer : (h : ℕ) (object : ObjectId) (control : ℕ) (rows left : List PageRow) (old table now : ServerTable) (events : List Event) → IsSameTable old table → table.rows ≡ rows → now.size ≡ table.size → now.rows ≡ left → ByKey 0 0 rows → AreWhole table.size rows → h < 8
-    → RowsAfter h (message.Terminate control) object.0 rows left → events ≡ events_among h (message.Terminate control) object.0 rows → ServerAnswer h object (message.Terminate control) old now events
+pub end_answer : (h : ℕ) (object : ObjectId) (control : ℕ) (rows left : List PageRow) (old table now : ServerTable) (events : List Event)
+    → IsSameTable old table → table.rows ≡ rows → now.size ≡ table.size → now.rows ≡ left → ByKey 0 0 rows → AreWhole table.size rows → h < 8
+    → RowsAfter h (message.Terminate control) object.0 rows left → events ≡ events_among h (message.Terminate control) object.0 rows
+    → ServerAnswer h object (message.Terminate control) old now events
 end_answer h object control rows left old table now events same seen sized left_is by_key whole low after told = record {
   size = sized ∙ same.size;
   pages = λ p. page_after_same h object.0 m p old table now (same.pages object.0 p) (own p);
-  others = λ o p other. then_same o p (page_itself o p table now sized (ap (row_among o p) left_is ∙ (row_elsewhere h m object.0 o p rows left after other ∙ ap (row_among o p) (sym seen))));
+  others =
+      λ o p other. then_same o p (page_itself o p table now sized (ap (row_among o p) left_is
+      ∙ (row_elsewhere h m object.0 o p rows left after other ∙ ap (row_among o p) (sym seen))));
   told = record {
     pages = pages_among object.0 rows;
     rising = rises object.0 0 0 0 rows by_key (λ key from e. omega arith);
-    silent = λ p none. sym (page_events_same old table h object m p (same.pages object.0 p)) ∙ silent p (ap (row_among object.0 p) seen ∙ unnamed object.0 p rows none);
+    silent =
+        λ p none. sym (page_events_same old table h object m p (same.pages object.0 p))
+        ∙ silent p (ap (row_among object.0 p) seen ∙ unnamed object.0 p rows none);
     are = told ∙ (events_are table h object m rows each ∙ stretches_same old table h object m (pages_among object.0 rows) same);
   };
 } where
@@ -454,7 +518,8 @@ end_answer h object control rows left old table now events same seen sized left_
   silent : (p : ℕ) → row_among object.0 p table.rows ≡ None → page_events table h object (message.Terminate control) p ≡ []
   silent p none = rw none refl
 
-  each : (k : ℕ) (x : PageRow) → slice_get rows k ≡ Some x → x.key.object.0 ≡ object.0 → (row_among object.0 x.key.page.0 table.rows ≡ Some x) × (h < length x.heard)
+  each : (k : ℕ) (x : PageRow) → slice_get rows k ≡ Some x → x.key.object.0 ≡ object.0 → (row_among object.0 x.key.page.0 table.rows ≡ Some x)
+      × (h < length x.heard)
   each k x is e =
       let long = whole_at table.size k x rows whole is in
       let eight = long.1 in (
@@ -466,16 +531,25 @@ end_answer h object control rows left old table now events same seen sized left_
   then_same o p second =
       let first = same.pages o p in
       record {
-        directory = record { holds = second.directory.holds ∙ first.directory.holds; awaits = second.directory.awaits ∙ first.directory.awaits; line = second.directory.line ∙ first.directory.line; bytes = second.directory.bytes ∙ first.directory.bytes };
+        directory =
+            record {
+              holds = second.directory.holds ∙ first.directory.holds;
+              awaits = second.directory.awaits ∙ first.directory.awaits;
+              line = second.directory.line ∙ first.directory.line;
+              bytes = second.directory.bytes ∙ first.directory.bytes;
+            };
         heard = λ g. second.heard g ∙ first.heard g;
       }
 
-  by : (p : ℕ) (was is : Option PageRow) → row_among object.0 p rows ≡ was → row_among object.0 p left ≡ is → IsRowAfter h (message.Terminate control) object.0 was is → PageAfter h object.0 (message.Terminate control) p table now
+  by : (p : ℕ) (was is : Option PageRow) → row_among object.0 p rows ≡ was → row_among object.0 p left ≡ is
+      → IsRowAfter h (message.Terminate control) object.0 was is → PageAfter h object.0 (message.Terminate control) p table now
   by p None None was is a = record {
     directory =
         let one : directory_at table object.0 p ≡ new_directory table.size = ap (directory_in table.size) (ap (row_among object.0 p) seen ∙ was) in
-        let two : directory_at now object.0 p ≡ new_directory table.size = ap (λ (n : ℕ). directory_in n (row_among object.0 p now.rows)) sized ∙ ap (directory_in table.size) (ap (row_among object.0 p) left_is ∙ is) in
-        subst (λ (d : Directory). DirectoryAfter h (Ending control) d (directory_at now object.0 p)) (sym one) (subst (DirectoryAfter h (Ending control) (new_directory table.size)) (sym two) (new_ended h control table.size));
+        let two : directory_at now object.0 p ≡ new_directory table.size = ap (λ (n : ℕ). directory_in n (row_among object.0 p now.rows)) sized
+        ∙ ap (directory_in table.size) (ap (row_among object.0 p) left_is ∙ is) in
+        subst (λ (d : Directory). DirectoryAfter h (Ending control) d (directory_at now object.0 p)) (sym one)
+        (subst (DirectoryAfter h (Ending control) (new_directory table.size)) (sym two) (new_ended h control table.size));
     heard = λ g. rw (ap (row_among object.0 p) seen ∙ was, ap (row_among object.0 p) left_is ∙ is) refl;
   }
   by p None (Some y) was is a = absurd a
@@ -483,14 +557,17 @@ end_answer h object control rows left old table now events same seen sized left_
   by p (Some x) (Some y) was is a =
       let known = among_known table.size object.0 p rows x whole was in
       let done = a.0 known.0 in
-      own_page_after h object.0 p (message.Terminate control) table now x y (ap (row_among object.0 p) seen ∙ was) (ap (row_among object.0 p) left_is ∙ is) done.directory done.heard (let eight = known.1 in omega (arith, eight, low))
+      own_page_after h object.0 p (message.Terminate control) table now x y (ap (row_among object.0 p) seen ∙ was) (ap (row_among object.0 p) left_is ∙ is)
+      done.directory done.heard (let eight = known.1 in omega (arith, eight, low))
 
   own : (p : ℕ) → PageAfter h object.0 (message.Terminate control) p table now
   own p = by p (row_among object.0 p rows) (row_among object.0 p left) refl refl (row_after h (message.Terminate control) object.0 p rows left after)
 
-pub end_answer_of : (h : ℕ) (object : ObjectId) (m : Message) (rows left : List PageRow) (old table now : ServerTable) (events : List Event) → IsEnd m → IsSameTable old table → table.rows ≡ rows → now.size ≡ table.size → now.rows ≡ left → ByKey 0 0 rows → AreWhole table.size rows → h < 8
+pub end_answer_of : (h : ℕ) (object : ObjectId) (m : Message) (rows left : List PageRow) (old table now : ServerTable) (events : List Event) → IsEnd m
+    → IsSameTable old table → table.rows ≡ rows → now.size ≡ table.size → now.rows ≡ left → ByKey 0 0 rows → AreWhole table.size rows → h < 8
     → RowsAfter h m object.0 rows left → events ≡ events_among h m object.0 rows → ServerAnswer h object m old now events
-end_answer_of h object (message.Terminate control) rows left old table now events end same seen sized left_is by_key whole low after told = end_answer h object control rows left old table now events same seen sized left_is by_key whole low after told
+end_answer_of h object (message.Terminate control) rows left old table now events end same seen sized left_is by_key whole low after told =
+    end_answer h object control rows left old table now events same seen sized left_is by_key whole low after told
 end_answer_of h object m rows left old table now events end same seen sized left_is by_key whole low after told = absurd end
 
 pub end_returns : (size : ℕ) (m : Message) → IsEnd m → ReturnsWhole size m

@@ -1,5 +1,6 @@
 -- Pages by rising key: where one stands, and which are not there.
-use Rattle.std.proofs.Common.{ℕ, zero, suc, ◌≡◌, ◌<◌, ◌≤◌, ◌+◌, Bool, true, false, List, [], ◌∷◌, length, get_or, Option, Some, None, refl, sym, ◌∙◌, ap, arith, nat_le, nat_lt}
+use Rattle.std.proofs.Common.{ℕ, zero, suc, ◌≡◌, ◌<◌, ◌≤◌, ◌+◌, Bool, true, false, List, [], ◌∷◌, length, get_or, Option, Some, None, refl, sym, ◌∙◌, ap, arith}
+use Rattle.std.proofs.Common.{nat_le, nat_lt}
 use Rattle.std.proofs.lemmas.Bool.Decides.{nat_tests}
 use Rattle.std.proofs.lemmas.Option.{get_or_from_slice_get, slice_get_within}
 use Rattle.std.specs.List.Sorted.{IsPartitionedBy}
@@ -31,12 +32,14 @@ row_found object page o p (x ∷ xs) by_key =
     cases_key x.key o p
     (λ (h : Ahead x.key o p). rw (h.apart, h.before) (row_found x.key.object.0 (suc x.key.page.0) o p xs by_key.1))
     (λ (h : Same x.key o p). rw (h.here, h.before) (rw h.here refl))
-    (λ (h : Behind x.key o p). let none = none_among x.key.object.0 (suc x.key.page.0) o p xs by_key.1 (from_ahead x.key o p h.place) in rw (h.apart, h.before, none) (rw h.apart refl))
+    (λ (h : Behind x.key o p). let none = none_among x.key.object.0 (suc x.key.page.0) o p xs by_key.1
+    (from_ahead x.key o p h.place) in rw (h.apart, h.before, none) (rw h.apart refl))
 
 pub low_bound : (object page j : ℕ) (rows : List PageRow) (d : PageRow) → ByKey object page rows → j < length rows → IsFrom object page (get_or rows j d).key
 low_bound object page j [] d by_key within = absurd (omega arith)
 low_bound object page zero (x ∷ xs) d by_key within = by_key.0
-low_bound object page (suc j) (x ∷ xs) d by_key within = later object page x.key (get_or xs j d).key by_key.0 (low_bound x.key.object.0 (suc x.key.page.0) j xs d by_key.1 (omega arith))
+low_bound object page (suc j) (x ∷ xs) d by_key within =
+    later object page x.key (get_or xs j d).key by_key.0 (low_bound x.key.object.0 (suc x.key.page.0) j xs d by_key.1 (omega arith))
 
 -- a mark of what comes first: whoever comes in front of one with it has it
 abbrev pub IsOfFirst : (PageRow → Bool) → Type 0
@@ -48,7 +51,8 @@ partitioned test first object page (x ∷ xs) by_key zero zero d le within marke
 partitioned test first object page (x ∷ xs) by_key zero (suc j) d le within marked =
     first x (get_or xs j d) (low_bound x.key.object.0 (suc x.key.page.0) j xs d by_key.1 (omega arith)) marked
 partitioned test first object page (x ∷ xs) by_key (suc i) zero d le within marked = absurd (omega arith)
-partitioned test first object page (x ∷ xs) by_key (suc i) (suc j) d le within marked = partitioned test first x.key.object.0 (suc x.key.page.0) xs by_key.1 i j d (omega arith) (omega arith) marked
+partitioned test first object page (x ∷ xs) by_key (suc i) (suc j) d le within marked =
+    partitioned test first x.key.object.0 (suc x.key.page.0) xs by_key.1 i j d (omega arith) (omega arith) marked
 
 -- a place with marked rows alone on its left, and none on its right
 pub leading_is : (test : PageRow → Bool) (i : ℕ) (rows : List PageRow) → i ≤ length rows
@@ -59,7 +63,8 @@ leading_is test i [] within low high = omega arith
 leading_is test zero (x ∷ xs) within low high = let no = high 0 x (omega arith) (omega arith) in rw no refl
 leading_is test (suc i) (x ∷ xs) within low high =
     let yes = low 0 x (omega arith) (omega arith) in
-    let rest = leading_is test i xs (omega arith) (λ k d le less. low (suc k) d (omega arith) (omega arith)) (λ k d le less. high (suc k) d (omega arith) (omega arith)) in
+    let rest = leading_is test i xs (omega arith) (λ k d le less. low (suc k) d (omega arith) (omega arith))
+    (λ k d le less. high (suc k) d (omega arith) (omega arith)) in
     rw yes (ap suc rest)
 
 pub before_first : (o p : ℕ) → IsOfFirst (is_row_before o p)
@@ -83,7 +88,8 @@ pub up_to_first : (o : ℕ) → IsOfFirst (is_up_to o)
 up_to_first o x y from below = let low = from.above in grind (arith, nat_tests)
 
 -- what is known of the row at a place
-on_row : (P : Option PageRow → Type 0) (rows : List PageRow) (k : ℕ) → P None → ((x : PageRow) → k < length rows → get_or rows k x ≡ x → P (Some x)) → P (slice_get rows k)
+on_row : (P : Option PageRow → Type 0) (rows : List PageRow) (k : ℕ) → P None → ((x : PageRow) → k < length rows → get_or rows k x ≡ x → P (Some x))
+    → P (slice_get rows k)
 on_row P rows k none some = by (slice_get rows k) refl
   where
     by : (r : Option PageRow) → slice_get rows k ≡ r → P r
@@ -91,10 +97,12 @@ on_row P rows k none some = by (slice_get rows k) refl
     by (Some x) is = some x (slice_get_within rows k x is) (get_or_from_slice_get rows k x x is)
 
 -- the marks on both sides of the place where they end
-pub below_marked : (test : PageRow → Bool) (n : ℕ) (rows : List PageRow) (i k : ℕ) → ((x : PageRow) → test x ≡ true → x.key.object.0 < n) → ((k : ℕ) (d : PageRow) → 0 ≤ k → k < i → test (get_or rows k d) ≡ true) → k < i → IsObjectBelow n (slice_get rows k)
+pub below_marked : (test : PageRow → Bool) (n : ℕ) (rows : List PageRow) (i k : ℕ) → ((x : PageRow) → test x ≡ true → x.key.object.0 < n)
+    → ((k : ℕ) (d : PageRow) → 0 ≤ k → k < i → test (get_or rows k d) ≡ true) → k < i → IsObjectBelow n (slice_get rows k)
 below_marked test n rows i k low marked less = on_row (IsObjectBelow n) rows k tt (λ x within is. low x (ap test (sym is) ∙ marked k x (omega arith) less))
 
-pub from_marked : (test : PageRow → Bool) (n : ℕ) (rows : List PageRow) (i k : ℕ) → ((x : PageRow) → test x ≡ false → n ≤ x.key.object.0) → ((k : ℕ) (d : PageRow) → i ≤ k → k < length rows → test (get_or rows k d) ≡ false) → i ≤ k → IsObjectFrom n (slice_get rows k)
+pub from_marked : (test : PageRow → Bool) (n : ℕ) (rows : List PageRow) (i k : ℕ) → ((x : PageRow) → test x ≡ false → n ≤ x.key.object.0)
+    → ((k : ℕ) (d : PageRow) → i ≤ k → k < length rows → test (get_or rows k d) ≡ false) → i ≤ k → IsObjectFrom n (slice_get rows k)
 from_marked test n rows i k high marked le = on_row (IsObjectFrom n) rows k tt (λ x within is. high x (ap test (sym is) ∙ marked k x le within))
 
 pub below_read : (o : ℕ) (x : PageRow) → is_below o x ≡ true → x.key.object.0 < o

@@ -1,5 +1,6 @@
 -- Going over the pages of an object, one after the other.
-use Rattle.std.proofs.Common.{ℕ, zero, suc, ◌≡◌, ◌≢◌, ◌<◌, ◌≤◌, ◌+◌, ◌==◌, Bool, true, false, if◌then◌else◌, List, [], ◌∷◌, ◌++◌, length, length-set, set, take, drop, Option, Some, None, refl, sym, ◌∙◌, ap, subst, ⊎_elim, add-one, append_assoc, arith}
+use Rattle.std.proofs.Common.{ℕ, zero, suc, ◌≡◌, ◌≢◌, ◌<◌, ◌≤◌, ◌+◌, ◌==◌, Bool, true, false, if◌then◌else◌, List, [], ◌∷◌, ◌++◌, length, length-set, set, take}
+use Rattle.std.proofs.Common.{drop, Option, Some, None, refl, sym, ◌∙◌, ap, subst, ⊎_elim, add-one, append_assoc, arith}
 use native.Mathlib.Decide.{ℕ_discrete}
 use Rattle.std.proofs.lemmas.Bool.{cases_lt}
 use Rattle.std.proofs.lemmas.Bool.Decides.{nat_tests}
@@ -70,10 +71,12 @@ no_replies o zero (x ∷ xs) none =
 no_replies o (suc i) (x ∷ xs) none = no_replies o i xs (λ k high. none (suc k) (omega arith))
 
 -- one page more
-pub replies_left : (o : ℕ) (rows : List PageRow) (i : ℕ) (x : PageRow) → slice_get rows i ≡ Some x → x.key.object.0 ≡ o → replies_among o (drop i rows) ≡ most_replies x.directory + replies_among o (drop (i + 1) rows)
+pub replies_left : (o : ℕ) (rows : List PageRow) (i : ℕ) (x : PageRow) → slice_get rows i ≡ Some x → x.key.object.0 ≡ o
+    → replies_among o (drop i rows) ≡ most_replies x.directory + replies_among o (drop (i + 1) rows)
 replies_left o rows i x is own = rw add-one (by rows i is)
   where
-    by : (rows : List PageRow) (i : ℕ) → slice_get rows i ≡ Some x → replies_among o (drop i rows) ≡ most_replies x.directory + replies_among o (drop (suc i) rows)
+    by : (rows : List PageRow) (i : ℕ) → slice_get rows i ≡ Some x
+        → replies_among o (drop i rows) ≡ most_replies x.directory + replies_among o (drop (suc i) rows)
     by [] i is = absurd (none-some x is)
     by (y ∷ ys) zero is =
         let same : y ≡ x = same_Some y x is in
@@ -81,12 +84,14 @@ replies_left o rows i x is own = rw add-one (by rows i is)
         rw (is_of o y.key.object.0 of) (ap (λ (z : PageRow). most_replies z.directory + replies_among o ys) same)
     by (y ∷ ys) (suc i) is = by ys i is
 
-pub skip_events : (h : ℕ) (m : Message) (o i : ℕ) (rows : List PageRow) → ((k : ℕ) → k < i → IsElsewhere o (slice_get rows k)) → events_among h m o (take i rows) ≡ []
+pub skip_events : (h : ℕ) (m : Message) (o i : ℕ) (rows : List PageRow) → ((k : ℕ) → k < i → IsElsewhere o (slice_get rows k))
+    → events_among h m o (take i rows) ≡ []
 skip_events h m o zero rows none = refl
 skip_events h m o (suc i) [] none = refl
 skip_events h m o (suc i) (x ∷ xs) none = rw (not_of o x.key.object.0 (none 0 (omega arith))) (skip_events h m o i xs (λ k low. none (suc k) (omega arith)))
 
-pub end_events : (h : ℕ) (m : Message) (o i : ℕ) (rows : List PageRow) → ((k : ℕ) → i ≤ k → IsElsewhere o (slice_get rows k)) → events_among h m o (take i rows) ≡ events_among h m o rows
+pub end_events : (h : ℕ) (m : Message) (o i : ℕ) (rows : List PageRow) → ((k : ℕ) → i ≤ k → IsElsewhere o (slice_get rows k))
+    → events_among h m o (take i rows) ≡ events_among h m o rows
 end_events h m o zero [] none = refl
 end_events h m o (suc i) [] none = refl
 end_events h m o zero (x ∷ xs) none = rw (not_of o x.key.object.0 (none 0 (omega arith))) (end_events h m o zero xs (λ k high. none (suc k) (omega arith)))
@@ -97,17 +102,22 @@ with_row : (b : Bool) (one two front row : List Event) → one ≡ front ++ two 
 with_row true one two front row is = ap (λ (es : List Event). es ++ row) is ∙ append_assoc front two row
 with_row false one two front row is = is
 
-pub events_of_more : (h : ℕ) (m : Message) (o : ℕ) (rows : List PageRow) (i : ℕ) (x : PageRow) (events : List Event) → slice_get rows i ≡ Some x → x.key.object.0 ≡ o
+pub events_of_more : (h : ℕ) (m : Message) (o : ℕ) (rows : List PageRow) (i : ℕ) (x : PageRow) (events : List Event) → slice_get rows i ≡ Some x
+    → x.key.object.0 ≡ o
     → events_among h m o (take (i + 1) rows) ++ events ≡ row_events h m x ++ (events_among h m o (take i rows) ++ events)
-events_of_more h m o rows i x events is own = rw add-one (ap (λ (es : List Event). es ++ events) (by rows i is) ∙ append_assoc (row_events h m x) (events_among h m o (take i rows)) events)
+events_of_more h m o rows i x events is own =
+    rw add-one (ap (λ (es : List Event). es ++ events) (by rows i is) ∙ append_assoc (row_events h m x) (events_among h m o (take i rows)) events)
   where
-    by : (rows : List PageRow) (i : ℕ) → slice_get rows i ≡ Some x → events_among h m o (take (suc i) rows) ≡ row_events h m x ++ events_among h m o (take i rows)
+    by : (rows : List PageRow) (i : ℕ) → slice_get rows i ≡ Some x
+        → events_among h m o (take (suc i) rows) ≡ row_events h m x ++ events_among h m o (take i rows)
     by [] i is = absurd (none-some x is)
     by (y ∷ ys) zero is =
         let same : y ≡ x = same_Some y x is in
         let of : y.key.object.0 ≡ o = ap (λ (z : PageRow). z.key.object.0) same ∙ own in
         rw (is_of o y.key.object.0 of) (ap (row_events h m) same ∙ sym (append-nil (row_events h m x)))
-    by (y ∷ ys) (suc i) is = with_row (y.key.object.0 == o) (events_among h m o (take (suc i) ys)) (events_among h m o (take i ys)) (row_events h m x) (row_events h m y) (by ys i is)
+    by (y ∷ ys) (suc i) is =
+        with_row (y.key.object.0 == o) (events_among h m o (take (suc i) ys)) (events_among h m o (take i ys)) (row_events h m x) (row_events h m y)
+        (by ys i is)
 
 pub same_row_itself : (r : Option PageRow) → IsSameRow r r
 same_row_itself None = tt
@@ -119,8 +129,17 @@ same_row_then None None (Some z) one two = two
 same_row_then None (Some y) c one two = absurd one
 same_row_then (Some x) None c one two = absurd one
 same_row_then (Some x) (Some y) None one two = two
-same_row_then (Some x) (Some y) (Some z) one two =
-    (two.0 ∙ one.0, record { holds = two.1.holds ∙ one.1.holds; awaits = two.1.awaits ∙ one.1.awaits; line = two.1.line ∙ one.1.line; bytes = two.1.bytes ∙ one.1.bytes }, two.2 ∙ one.2)
+same_row_then (Some x) (Some y) (Some z) one two = (
+  two.0 ∙ one.0,
+  record {
+    holds = two.1.holds ∙ one.1.holds;
+    awaits = two.1.awaits ∙ one.1.awaits;
+    line = two.1.line ∙ one.1.line;
+    bytes = two.1.bytes
+        ∙ one.1.bytes;
+  },
+  two.2 ∙ one.2,
+)
 
 elsewhere_prepared : (o : ℕ) (r : Option PageRow) → IsElsewhere o r → IsPreparedOf o r
 elsewhere_prepared o None other = tt
@@ -145,7 +164,8 @@ preparing_first o i old low =
       counted = omega (arith, skip);
     }
 
-pub same_with : (o : ℕ) (old rows : List PageRow) (i most : ℕ) (x y : PageRow) → Preparing o old rows i most → i < length rows → slice_get rows i ≡ Some x → IsSameRow (Some x) (Some y) → RowsAreSame old (set rows i y)
+pub same_with : (o : ℕ) (old rows : List PageRow) (i most : ℕ) (x y : PageRow) → Preparing o old rows i most → i < length rows → slice_get rows i ≡ Some x
+    → IsSameRow (Some x) (Some y) → RowsAreSame old (set rows i y)
 same_with o old rows i most x y p within is same =
     each_set (λ k r. IsSameRow (slice_get old k) r) rows i y within
     (same_row_then (slice_get old i) (Some x) (Some y) (subst (IsSameRow (slice_get old i)) is (p.same i)) same)
@@ -156,7 +176,8 @@ pub of_object : (o : ℕ) (r : Option PageRow) (x : PageRow) → r ≡ Some x �
 of_object o None x is high low = absurd (none-some x is)
 of_object o (Some y) x is high low = let same = same_Some y x is in ap (λ (z : PageRow). z.key.object.0) (sym same) ∙ omega arith
 
-pub preparing_more : (o : ℕ) (old rows : List PageRow) (i most more : ℕ) (x y : PageRow) → Preparing o old rows i most → i < length rows → slice_get rows i ≡ Some x → x.key.object.0 ≡ o → IsSameRow (Some x) (Some y)
+pub preparing_more : (o : ℕ) (old rows : List PageRow) (i most more : ℕ) (x y : PageRow) → Preparing o old rows i most → i < length rows
+    → slice_get rows i ≡ Some x → x.key.object.0 ≡ o → IsSameRow (Some x) (Some y)
     → y.directory.prepared ≡ true → more ≡ most_replies x.directory → Preparing o old (set rows i y) (i + 1) (most + more)
 preparing_more o old rows i most more x y p within is own same ready is_more =
     let was : slice_get old i ≡ Some x = sym (p.left i (omega arith)) ∙ is in
@@ -169,18 +190,21 @@ preparing_more o old rows i most more x y p within is own same ready is_more =
       counted = omega (arith, p.counted, rest, is_more);
     }
 
-pub preparing_room : (o : ℕ) (old rows : List PageRow) (i most more : ℕ) (x : PageRow) → Preparing o old rows i most → slice_get rows i ≡ Some x → x.key.object.0 ≡ o → more ≡ most_replies x.directory → most + more ≤ replies_among o old
+pub preparing_room : (o : ℕ) (old rows : List PageRow) (i most more : ℕ) (x : PageRow) → Preparing o old rows i most → slice_get rows i ≡ Some x
+    → x.key.object.0 ≡ o → more ≡ most_replies x.directory → most + more ≤ replies_among o old
 preparing_room o old rows i most more x p is own is_more =
     let was : slice_get old i ≡ Some x = sym (p.left i (omega arith)) ∙ is in
     let rest = replies_left o old i x was own in
     omega (arith, p.counted)
 
 -- all are prepared
-pub preparing_end : (o : ℕ) (old rows : List PageRow) (i most : ℕ) → Preparing o old rows i most → ((k : ℕ) → i ≤ k → IsObjectFrom (o + 1) (slice_get old k)) → ArePrepared o rows × (most ≡ replies_among o old)
+pub preparing_end : (o : ℕ) (old rows : List PageRow) (i most : ℕ) → Preparing o old rows i most → ((k : ℕ) → i ≤ k → IsObjectFrom (o + 1) (slice_get old k))
+    → ArePrepared o rows × (most ≡ replies_among o old)
 preparing_end o old rows i most p high =
     let none = no_replies o i old (λ k le. high_elsewhere o (slice_get old k) (high k le)) in (
       (λ k. ⊎_elim (λ (low : k < i). p.prepared k low)
-          (λ (le : i ≤ k). subst (IsPreparedOf o) (sym (p.left k le)) (elsewhere_prepared o (slice_get old k) (high_elsewhere o (slice_get old k) (high k le)))) (cases_lt k i)),
+          (λ (le : i ≤ k). subst (IsPreparedOf o) (sym (p.left k le)) (elsewhere_prepared o (slice_get old k) (high_elsewhere o (slice_get old k) (high k le))))
+          (cases_lt k i)),
       omega (arith, p.counted, none),
     )
 
@@ -197,7 +221,8 @@ elsewhere_after : (h : ℕ) (m : Message) (o : ℕ) (r : Option PageRow) → IsE
 elsewhere_after h m o None other = tt
 elsewhere_after h m o (Some x) other = ((λ same. absurd (other same)), (λ apart. refl))
 
-pub ending_first : (h : ℕ) (m : Message) (o i : ℕ) (old : List PageRow) (events : List Event) (room : ℕ) → replies_among o old ≤ room → ((k : ℕ) → k < i → IsObjectBelow o (slice_get old k)) → Ending h m o old old i events events room
+pub ending_first : (h : ℕ) (m : Message) (o i : ℕ) (old : List PageRow) (events : List Event) (room : ℕ) → replies_among o old ≤ room
+    → ((k : ℕ) → k < i → IsObjectBelow o (slice_get old k)) → Ending h m o old old i events events room
 ending_first h m o i old events room fits low =
     let none : (k : ℕ) → k < i → IsElsewhere o (slice_get old k) = λ k less. low_elsewhere o (slice_get old k) (low k less) in
     let skip = skip_replies o i old none in
@@ -210,7 +235,8 @@ ending_first h m o i old events room fits low =
       few = omega (arith, skip);
     }
 
-pub ending_more : (h : ℕ) (m : Message) (o : ℕ) (old rows : List PageRow) (i : ℕ) (first events more : List Event) (room less : ℕ) (x y : PageRow) → Ending h m o old rows i first events room → i < length rows → slice_get rows i ≡ Some x → x.key.object.0 ≡ o
+pub ending_more : (h : ℕ) (m : Message) (o : ℕ) (old rows : List PageRow) (i : ℕ) (first events more : List Event) (room less : ℕ) (x y : PageRow)
+    → Ending h m o old rows i first events room → i < length rows → slice_get rows i ≡ Some x → x.key.object.0 ≡ o
     → RowAfter h m x y → more ≡ row_events h m x ++ events → length more ≤ length events + most_replies x.directory → room ≤ less + most_replies x.directory
     → Ending h m o old (set rows i y) (i + 1) first more less
 ending_more h m o old rows i first events more room less x y e within is own after told few fits =
@@ -218,7 +244,10 @@ ending_more h m o old rows i first events more room less x y e within is own aft
     let rest = replies_left o old i x was own in
     record {
       count = length-set rows i y ∙ e.count;
-      done = each_set (λ k r. k < i + 1 → IsRowAfter h m o (slice_get old k) r) rows i y within (λ low. subst (λ (r : Option PageRow). IsRowAfter h m o r (Some y)) (sym was) ((λ same. after), (λ apart. absurd (apart own)))) (λ k other low. e.done k (omega arith));
+      done =
+          each_set (λ k r. k < i + 1 → IsRowAfter h m o (slice_get old k) r) rows i y within
+          (λ low. subst (λ (r : Option PageRow). IsRowAfter h m o r (Some y)) (sym was) ((λ same. after), (λ apart. absurd (apart own))))
+          (λ k other low. e.done k (omega arith));
       left = each_set (λ k r. i + 1 ≤ k → r ≡ slice_get old k) rows i y within (λ high. absurd (omega arith)) (λ k other high. e.left k (omega arith));
       told = told ∙ (ap (λ (es : List Event). row_events h m x ++ es) e.told ∙ sym (events_of_more h m o old i x first was own));
       fits = omega (arith, e.fits, rest, fits);
@@ -226,7 +255,8 @@ ending_more h m o old rows i first events more room less x y e within is own aft
     }
 
 -- the row at the place of the loop
-pub now_row : (h : ℕ) (m : Message) (o : ℕ) (old rows : List PageRow) (i : ℕ) (first events : List Event) (room : ℕ) (x : PageRow) → Ending h m o old rows i first events room → slice_get rows i ≡ Some x → x.key.object.0 ≡ o
+pub now_row : (h : ℕ) (m : Message) (o : ℕ) (old rows : List PageRow) (i : ℕ) (first events : List Event) (room : ℕ) (x : PageRow)
+    → Ending h m o old rows i first events room → slice_get rows i ≡ Some x → x.key.object.0 ≡ o
     → (slice_get old i ≡ Some x) × (most_replies x.directory ≤ room)
 now_row h m o old rows i first events room x e is own =
     let was : slice_get old i ≡ Some x = sym (e.left i (omega arith)) ∙ is in
@@ -238,11 +268,14 @@ pub record Ended (h : ℕ) (m : Message) (o : ℕ) (old rows : List PageRow) (fi
   pub told : events ≡ events_among h m o old ++ first
   pub few : length events ≤ length first + replies_among o old
 
-pub ending_end : (h : ℕ) (m : Message) (o : ℕ) (old rows : List PageRow) (i : ℕ) (first events : List Event) (room : ℕ) → Ending h m o old rows i first events room → ((k : ℕ) → i ≤ k → IsObjectFrom (o + 1) (slice_get old k)) → Ended h m o old rows first events
+pub ending_end : (h : ℕ) (m : Message) (o : ℕ) (old rows : List PageRow) (i : ℕ) (first events : List Event) (room : ℕ)
+    → Ending h m o old rows i first events room → ((k : ℕ) → i ≤ k → IsObjectFrom (o + 1) (slice_get old k)) → Ended h m o old rows first events
 ending_end h m o old rows i first events room e high =
     let none : (k : ℕ) → i ≤ k → IsElsewhere o (slice_get old k) = λ k le. high_elsewhere o (slice_get old k) (high k le) in
     record {
-      rows_are = λ k. ⊎_elim (λ (low : k < i). e.done k low) (λ (le : i ≤ k). subst (IsRowAfter h m o (slice_get old k)) (sym (e.left k le)) (elsewhere_after h m o (slice_get old k) (none k le))) (cases_lt k i);
+      rows_are =
+          λ k. ⊎_elim (λ (low : k < i). e.done k low) (λ (le : i ≤ k). subst (IsRowAfter h m o (slice_get old k)) (sym (e.left k le))
+          (elsewhere_after h m o (slice_get old k) (none k le))) (cases_lt k i);
       told = e.told ∙ ap (λ (es : List Event). es ++ first) (end_events h m o i old none);
       few = omega (arith, e.few);
     }

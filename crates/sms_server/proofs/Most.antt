@@ -21,11 +21,13 @@ told_at o p (message.Completed control page count) table about one = ap (λ (z :
 told_at o p (message.Terminate control) table about one = absurd one
 told_at o p other table about one = absurd about
 
-pub told_of_row : (o p : ℕ) (m : Message) (rows : List PageRow) (i : ℕ) (x : PageRow) (table other : ServerTable) → IsAbout p m → IsOfOnePage m → x.key.object.0 ≡ o → x.key.page.0 ≡ p → table.rows ≡ rows → ByKey 0 0 rows
+pub told_of_row : (o p : ℕ) (m : Message) (rows : List PageRow) (i : ℕ) (x : PageRow) (table other : ServerTable) → IsAbout p m → IsOfOnePage m
+    → x.key.object.0 ≡ o → x.key.page.0 ≡ p → table.rows ≡ rows → ByKey 0 0 rows
     → slice_get rows i ≡ Some x → (directory_at table o p).line ≡ (directory_at other o p).line → most_told o m other ≡ most_replies x.directory
 told_of_row o p m rows i x table other about one own at_page seen by_key is lines =
     let among : row_among x.key.object.0 x.key.page.0 table.rows ≡ Some x = ap (row_among x.key.object.0 x.key.page.0) seen ∙ among_at 0 0 i x rows by_key is in
-    let mine : row_among o p table.rows ≡ Some x = subst (λ (z : ℕ). row_among o z table.rows ≡ Some x) at_page (subst (λ (z : ℕ). row_among z x.key.page.0 table.rows ≡ Some x) own among) in
+    let mine : row_among o p table.rows ≡ Some x = subst (λ (z : ℕ). row_among o z table.rows ≡ Some x) at_page
+    (subst (λ (z : ℕ). row_among z x.key.page.0 table.rows ≡ Some x) own among) in
     let here : directory_at table o p ≡ x.directory = ap (directory_in table.size) mine in
     let now = ap most_replies here in
     let same = ap length lines in
@@ -33,8 +35,10 @@ told_of_row o p m rows i x table other about one own at_page seen by_key is line
     omega (arith, now, same, told)
 
 -- so it is of a table that is the same but for the memory at hand
-pub most_of_left : {E : Type 0} (r : Result ℕ E) (o p : ℕ) (m : Message) (rows : List PageRow) (i : ℕ) (x : PageRow) (table left : ServerTable) → IsAbout p m → IsOfOnePage m → x.key.object.0 ≡ o → x.key.page.0 ≡ p → table.rows ≡ rows
-    → ByKey 0 0 rows → slice_get rows i ≡ Some x → IsSameTable table left → IfOk r (λ most. most ≡ most_replies x.directory) → IfOk r (λ most. most ≡ most_told o m left)
+pub most_of_left : {E : Type 0} (r : Result ℕ E) (o p : ℕ) (m : Message) (rows : List PageRow) (i : ℕ) (x : PageRow) (table left : ServerTable) → IsAbout p m
+    → IsOfOnePage m → x.key.object.0 ≡ o → x.key.page.0 ≡ p → table.rows ≡ rows
+    → ByKey 0 0 rows → slice_get rows i ≡ Some x → IsSameTable table left → IfOk r (λ most. most ≡ most_replies x.directory)
+    → IfOk r (λ most. most ≡ most_told o m left)
 most_of_left (Ok n) o p m rows i x table left about one own at_page seen by_key is same most =
     most ∙ sym (told_of_row o p m rows i x table left about one own at_page seen by_key is (sym (same.pages o p).directory.line))
 most_of_left (Err e) o p m rows i x table left about one own at_page seen by_key is same most = tt

@@ -43,7 +43,8 @@ record SameStep (size : ℕ) (past now : List Event) : Type 0 where
 
 same_step : (size : ℕ) (es past : List Event) → AreSendings es → SameStep size past (es ++ past)
 same_step size [] past are = record { letter = refl; no_error = refl; no_absence = refl }
-same_step size (event.Sent channel m ∷ es) past are = let rest = same_step size es past are in record { letter = rest.letter; no_error = rest.no_error; no_absence = rest.no_absence }
+same_step size (event.Sent channel m ∷ es) past are =
+    let rest = same_step size es past are in record { letter = rest.letter; no_error = rest.no_error; no_absence = rest.no_absence }
 same_step size (e ∷ es) past are = absurd are
 
 both_sendings : (later front : List Event) → AreSendings later → AreSendings front → AreSendings (later ++ front)
@@ -58,14 +59,17 @@ replies_sendings object p heard (r ∷ rs) = replies_sendings object p heard rs
 stretches_sendings : (old : ServerTable) (h : ℕ) (object : ObjectId) (m : Message) (ps : List ℕ) → AreSendings (stretches old h object m ps)
 stretches_sendings old h object m [] = tt
 stretches_sendings old h object m (p ∷ ps) =
-    both_sendings (stretches old h object m ps) (page_events old h object m p) (stretches_sendings old h object m ps) (replies_sendings object p (heard_by h (up_word p m) (heard_at old object.0 p)) (replies_to h (up_word p m) (directory_at old object.0 p)))
+    both_sendings (stretches old h object m ps) (page_events old h object m p) (stretches_sendings old h object m ps)
+    (replies_sendings object p (heard_by h (up_word p m) (heard_at old object.0 p)) (replies_to h (up_word p m) (directory_at old object.0 p)))
 
 -- nothing is owed behind them
-owed_stretches : (old : ServerTable) (h : ℕ) (object : ObjectId) (m : Message) (ps : List ℕ) (past : List Event) → owed past ≡ None → owed (stretches old h object m ps ++ past) ≡ None
+owed_stretches : (old : ServerTable) (h : ℕ) (object : ObjectId) (m : Message) (ps : List ℕ) (past : List Event) → owed past ≡ None
+    → owed (stretches old h object m ps ++ past) ≡ None
 owed_stretches old h object m [] past none = none
 owed_stretches old h object m (p ∷ ps) past none =
     subst (λ (l : List Event). owed l ≡ None) (sym (append_assoc (stretches old h object m ps) (page_events old h object m p) past))
-    (owed_stretches old h object m ps (page_events old h object m p ++ past) (owed_replies object p (heard_by h (up_word p m) (heard_at old object.0 p)) (replies_to h (up_word p m) (directory_at old object.0 p)) past none))
+    (owed_stretches old h object m ps (page_events old h object m p ++ past) (owed_replies object p (heard_by h (up_word p m) (heard_at old object.0 p))
+    (replies_to h (up_word p m) (directory_at old object.0 p)) past none))
 
 -- a shared object is declared, and its pager may answer later
 kind_shared : (d : Option Declared) → is_shared_kind (kind_in d) ≡ true → is_file_kept d ≡ false
@@ -86,7 +90,9 @@ declared_of : (header : Header) (o : ℕ) → is_shared header o ≡ true → Is
 declared_of header o shared = by (nat_lt o (named header)) refl
   where
     by : (b : Bool) → nat_lt o (named header) ≡ b → IsDeclared header o
-    by true low = let shared_kind : is_shared_kind (kind_in (declared header o)) ≡ true = rw low at shared in record { low = low; unpaged = rw (low, kind_shared (declared header o) shared_kind) refl }
+    by true low =
+        let shared_kind : is_shared_kind (kind_in (declared header o)) ≡ true = rw low
+        at shared in record { low = low; unpaged = rw (low, kind_shared (declared header o) shared_kind) refl }
     by false high = let none : is_shared_kind Temp ≡ true = rw high at shared in absurd (false≢true none)
 
 abbrev object_in : Channel → ℕ
@@ -109,12 +115,17 @@ record Did (header : Header) (h : ℕ) (object : ObjectId) (m : Message) (now : 
   no_absence : absence_taken header.size now ≡ None
   ready : (control size : ℕ) → m ≡ message.Init control size → since (readies object.0) now ≡ true
 
-paid_of : (header : Header) (h : ℕ) (object : ObjectId) (m : Message) (now : List Event) → is_shared header object.0 ≡ true → (IsCreate m → ⊥) → Did header h object m now → IsPaid header now
+paid_of : (header : Header) (h : ℕ) (object : ObjectId) (m : Message) (now : List Event) → is_shared header object.0 ≡ true → (IsCreate m → ⊥)
+    → Did header h object m now → IsPaid header now
 paid_of header h object m now shared other did = record {
   none_owed = did.none_owed;
-  init = λ at o control size wild is. subst (λ (k : ℕ). since (readies k) now ≡ true) (ap object_of (sym did.took ∙ is)) (did.ready control size (ap message_of (sym did.took ∙ is)));
+  init =
+      λ at o control size wild is. subst (λ (k : ℕ). since (readies k) now ≡ true) (ap object_of (sym did.took ∙ is))
+      (did.ready control size (ap message_of (sym did.took ∙ is)));
   create = λ at o control size wild is. absurd (other (subst IsCreate (sym (ap message_of (sym did.took ∙ is))) tt));
-  request = λ at o control page access paged is. let d = declared_of header object.0 shared in absurd (false≢true (sym d.unpaged ∙ (ap (is_paged header) (ap object_of (sym did.took ∙ is)) ∙ paged)));
+  request =
+      λ at o control page access paged is. let d = declared_of header object.0 shared in absurd
+      (false≢true (sym d.unpaged ∙ (ap (is_paged header) (ap object_of (sym did.took ∙ is)) ∙ paged)));
   error = λ at o page is. absurd (none-some _ (sym did.no_error ∙ is));
   absence = λ at o page low is. absurd (none-some _ (sym did.no_absence ∙ is));
   lock = λ request is. no_request request now (no_lock now (ap came_down did.took)) is;
@@ -125,7 +136,8 @@ paid_of header h object m now shared other did = record {
       absurd (grind (arith, nat_tests));
 }
 
-turned : (header : Header) (h : ℕ) (past : List Event) (object : ObjectId) (m : Message) (old new : ServerTable) (events : List Event) → ServerServes header h past object m old new events → (IsCreate m → ⊥)
+turned : (header : Header) (h : ℕ) (past : List Event) (object : ObjectId) (m : Message) (old new : ServerTable) (events : List Event)
+    → ServerServes header h past object m old new events → (IsCreate m → ⊥)
     → ((control size : ℕ) → m ≡ message.Init control size → ⊥) → AnswersInTurn old h object m events → IsPaid header (events ++ taking h object m past)
 turned header h past object m old new events s other apart t =
     let first = taking h object m past in
@@ -139,11 +151,14 @@ turned header h past object m old new events s other apart t =
       ready = λ control size is. absurd (apart control size is);
     }))
 
-greeted : (header : Header) (h : ℕ) (past : List Event) (object : ObjectId) (control size : ℕ) (old new : ServerTable) (events : List Event) → ServerServes header h past object (message.Init control size) old new events
-    → events ≡ sent_to (record { 0 = h }) object control (message.Ready false 0) ∷ [] → IsPaid header (events ++ taking h object (message.Init control size) past)
+greeted : (header : Header) (h : ℕ) (past : List Event) (object : ObjectId) (control size : ℕ) (old new : ServerTable) (events : List Event)
+    → ServerServes header h past object (message.Init control size) old new events
+    → events ≡ sent_to (record { 0 = h }) object control (message.Ready false 0) ∷ []
+    → IsPaid header (events ++ taking h object (message.Init control size) past)
 greeted header h past object control size old new events s is =
     subst (λ (es : List Event). IsPaid header (es ++ taking h object (message.Init control size) past)) (sym is)
-    (paid_of header h object (message.Init control size) (sent_to (record { 0 = h }) object control (message.Ready false 0) ∷ taking h object (message.Init control size) past) s.shared (λ bad. bad) (record {
+    (paid_of header h object (message.Init control size) (sent_to (record { 0 = h }) object control (message.Ready false 0) ∷ taking h object
+    (message.Init control size) past) s.shared (λ bad. bad) (record {
       none_owed = refl;
       took = refl;
       no_error = refl;
@@ -155,7 +170,10 @@ abbrev init_test : Message → Bool
 init_test (message.Init control size) = true
 init_test m = false
 
-pub paid : (header : Header) (h : ℕ) (past : List Event) (object : ObjectId) (m : Message) (old new : ServerTable) (events : List Event) → ServerServes header h past object m old new events → (IsCreate m → ⊥)
+pub paid : (header : Header) (h : ℕ) (past : List Event) (object : ObjectId) (m : Message) (old new : ServerTable) (events : List Event)
+    → ServerServes header h past object m old new events → (IsCreate m → ⊥)
     → IsPaid header (events ++ taking h object m past)
 paid header h past object (message.Init control size) old new events s other = greeted header h past object control size old new events s s.answered.told
-paid header h past object m old new events s other = turned header h past object m old new events s other (λ control size is. false≢true (ap init_test is)) (turns old h object m events s.to_server refl s.answered.told)
+paid header h past object m old new events s other =
+    turned header h past object m old new events s other (λ control size is. false≢true (ap init_test is))
+    (turns old h object m events s.to_server refl s.answered.told)

@@ -8,7 +8,9 @@ use Rattle.vm_model.specs.Coherence.{SomebodyIsAwaited}
 use Rattle.vm_model.specs.Server.{Wanting, first, joined, kept, kept_after, line, trimmed_line}
 use Rattle.vm_model.specs.Side.{Side, is_open_to, side, side_after, side_taken_down}
 use Rattle.sms_server.proofs.Readers.{none_leaves, only_readers}
-use Rattle.vm_model.specs.Words.{UpWord, Asking, Unlocking, Returning, Doing, Ending, OtherUp, DownWord, Supplying, Locking, Lacking, Failing, Readying, OtherDown, ActEffect, Opens, SendsUp, TakenUp, SentDown, TakesDown, Puts, Drops, Begins, Loads, Stores, Fails, BeginsCopy, Copies, EndsCopy, StepBegins, Nothing, Act, effect_on, to_others}
+use Rattle.vm_model.specs.Words.{UpWord, Asking, Unlocking, Returning, Doing, Ending, OtherUp, DownWord, Supplying, Locking, Lacking, Failing, Readying}
+use Rattle.vm_model.specs.Words.{OtherDown, ActEffect, Opens, SendsUp, TakenUp, SentDown, TakesDown, Puts, Drops, Begins, Loads, Stores, Fails, BeginsCopy}
+use Rattle.vm_model.specs.Words.{Copies, EndsCopy, StepBegins, Nothing, Act, effect_on, to_others}
 
 -- the act is a word of the page to the server, or from it
 abbrev pub is_word : ActEffect → Bool
@@ -64,7 +66,9 @@ came_words s Readying = record { holds = refl; awaits = refl; heard = refl }
 came_words s OtherDown = record { holds = refl; awaits = refl; heard = refl }
 
 taken_words : (s : Side) (control : ℕ) (word : DownWord) → SameWords s (side_after s (TakesDown control word))
-taken_words s control word = if_words (is_open_to s control) s (side_taken_down s word) (record s { step = 0 }) (came_words s word) (record { holds = refl; awaits = refl; heard = refl })
+taken_words s control word =
+    if_words (is_open_to s control) s (side_taken_down s word) (record s { step = 0 }) (came_words s word)
+    (record { holds = refl; awaits = refl; heard = refl })
 
 quiet_words : (s : Side) (e : ActEffect) → is_word e ≡ false → SameWords s (side_after s e)
 quiet_words s (Opens control ready) none = record { holds = refl; awaits = refl; heard = refl }
@@ -166,14 +170,17 @@ kept_quiet Nothing page none = refl
 line_quiet : (a : Act) (past : List Act) → is_word a.effect ≡ false → line (a ∷ past) ≡ trimmed_line a.host (side a.host past).holds (line past)
 line_quiet a past none =
     let same = same_of a past none a.host in
-    ap (λ (n : ℕ). trimmed_line a.host n (joined (side a.host past) a.host a.effect (line past))) same.holds ∙ ap (trimmed_line a.host (side a.host past).holds) (joined_quiet (side a.host past) a.host a.effect (line past) none)
+    ap (λ (n : ℕ). trimmed_line a.host n (joined (side a.host past) a.host a.effect (line past))) same.holds
+    ∙ ap (trimmed_line a.host (side a.host past).holds) (joined_quiet (side a.host past) a.host a.effect (line past) none)
 
 -- a directory still stands for its page
 pub stands_quiet : (size : ℕ) (d : Directory) (a : Act) (past : List Act) → is_word a.effect ≡ false → StandsFor size d past → StandsFor size d (a ∷ past)
 stands_quiet size d a past none s = record {
   same_holds = λ h. let same = same_of a past none h in same.holds ∙ s.same_holds h;
   same_awaits = λ h. let same = same_of a past none h in same.awaits ∙ s.same_awaits h;
-  same_line = line_quiet a past none ∙ (ap (trimmed_line a.host (side a.host past).holds) s.same_line ∙ (counted_same a.host (side a.host past).holds d.holds d.line (sym (s.same_holds a.host))));
+  same_line =
+      line_quiet a past none ∙ (ap (trimmed_line a.host (side a.host past).holds) s.same_line
+      ∙ (counted_same a.host (side a.host past).holds d.holds d.line (sym (s.same_holds a.host))));
   same_bytes = kept_quiet a.effect (kept size past) none ∙ s.same_bytes;
   eight_hold = s.eight_hold;
   eight_await = s.eight_await;

@@ -6,7 +6,8 @@ use Rattle.vm_base.specs.declared.ids.PageNo.{PageNo}
 use Rattle.vm_model.specs.declared.event.Event.{Event}
 use Rattle.sms_server.specs.Answers.{reply_event, reply_events}
 
-pub events_of_both : (object : ObjectId) (page : PageNo) (heard : ℕ → ℕ) (one two : List Reply) → reply_events object page heard (one ++ two) ≡ reply_events object page heard one ++ reply_events object page heard two
+pub events_of_both : (object : ObjectId) (page : PageNo) (heard : ℕ → ℕ) (one two : List Reply)
+    → reply_events object page heard (one ++ two) ≡ reply_events object page heard one ++ reply_events object page heard two
 events_of_both object page heard [] two = refl
 events_of_both object page heard (x ∷ xs) two = ap (λ (es : List Event). reply_event object page heard x ∷ es) (events_of_both object page heard xs two)
 
@@ -14,7 +15,8 @@ events_of_both object page heard (x ∷ xs) two = ap (λ (es : List Event). repl
 pub one_sent : (object : ObjectId) (page : PageNo) (heard : ℕ → ℕ) (old new : List Reply) (reply : Reply) (events : List Event) → old ≡ new ++ reply ∷ []
     → reply_events object page heard new ++ (reply_event object page heard reply ∷ events) ≡ reply_events object page heard old ++ events
 one_sent object page heard old new reply events is =
-    sym (ap (λ (rs : List Reply). reply_events object page heard rs ++ events) is ∙ ap (λ (es : List Event). es ++ events) (events_of_both object page heard new (reply ∷ []))
+    sym (ap (λ (rs : List Reply). reply_events object page heard rs ++ events) is
+    ∙ ap (λ (es : List Event). es ++ events) (events_of_both object page heard new (reply ∷ []))
     ∙ append_assoc (reply_events object page heard new) (reply_event object page heard reply ∷ []) events)
 
 -- as many as the replies

@@ -125,7 +125,8 @@ pub record RowAfter (h : ℕ) (m : Message) (old new : PageRow) : Type 0 where
 -- the events of its answer
 abbrev pub row_events : ℕ → Message → PageRow → List Event
 row_events h m row =
-    reply_events row.key.object row.key.page (slice_index (heard_row h (up_word row.key.page.0 m) row.heard)) (replies_to h (up_word row.key.page.0 m) row.directory)
+    reply_events row.key.object row.key.page (slice_index (heard_row h (up_word row.key.page.0 m) row.heard))
+    (replies_to h (up_word row.key.page.0 m) row.directory)
 
 -- All pages.
 

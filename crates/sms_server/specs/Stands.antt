@@ -51,14 +51,15 @@ MeetsProtocol h (Ending control) past = 0 < (side h past).awaits → (side h pas
 MeetsProtocol h OtherUp past = Unit {0}
 
 -- a server that stands for a history answers a message about a shared object, which each page of the object may take
-pub record ServerServes (header : Header) (h : ℕ) (past : List Event) (object : ObjectId) (m : Message) (old new : ServerTable) (events : List Event) : Type 0 where
-  pub shared : is_shared header object.0 ≡ true
-  pub host : h < most_hosts
-  pub to_server : IsToServer m
-  pub stands : ServerStands header old past
-  pub protocol : (p : ℕ) → MeetsProtocol h (up_word p m) (page_part header.size object.0 p past)
-  pub licensed : (p : ℕ) → ActsLicensed header.size (page_part header.size object.0 p (taking h object m past))
-  pub answered : ServerAnswer h object m old new events
+pub record ServerServes (header : Header) (h : ℕ) (past : List Event) (object : ObjectId) (m : Message) (old new : ServerTable) (events : List Event) : Type 0
+  where
+    pub shared : is_shared header object.0 ≡ true
+    pub host : h < most_hosts
+    pub to_server : IsToServer m
+    pub stands : ServerStands header old past
+    pub protocol : (p : ℕ) → MeetsProtocol h (up_word p m) (page_part header.size object.0 p past)
+    pub licensed : (p : ℕ) → ActsLicensed header.size (page_part header.size object.0 p (taking h object m past))
+    pub answered : ServerAnswer h object m old new events
 
 -- a first control, which no kernel makes of a shared object
 abbrev pub IsCreate : Message → Type 0

@@ -1,5 +1,6 @@
 -- The pages of shared objects, as contracts see them.
-use Rattle.std.specs.Prelude.{ℕ, ◌≡◌, ◌+◌, ◌≤◌, ◌<◌, ◌^◌, ◌==◌, Bool, true, false, List, [], ◌∷◌, Option, Some, None, if◌then◌else◌, replicate, slice_get, slice_index}
+use Rattle.std.specs.Prelude.{ℕ, ◌≡◌, ◌+◌, ◌≤◌, ◌<◌, ◌^◌, ◌==◌, Bool, true, false, List, [], ◌∷◌, Option, Some, None, if◌then◌else◌, replicate, slice_get}
+use Rattle.std.specs.Prelude.{slice_index}
 use Rattle.sms_pages.specs.Directory.{Directory, IsSame, most_replies}
 use Rattle.vm_base.specs.Keys.{is_page}
 use Rattle.vm_base.specs.Limits.{most_hosts}

@@ -36,7 +36,8 @@ pub fn answers_are_legal()
     ensures stands { (header : Header) (h : ℕ) (past : List Event) (object : ObjectId) (m : Message) (old new : ServerTable) (events : List Event)
         → ServerServes header h past object m old new events
         → ServerStands header new (events ++ taking h object m past) }
-    ensures causes { (header : Header) (outside : Outside) (doing : Command) (h : ℕ) (past : List Event) (object : ObjectId) (m : Message) (old new : ServerTable) (events : List Event)
+    ensures causes { (header : Header) (outside : Outside) (doing : Command) (h : ℕ) (past : List Event) (object : ObjectId) (m : Message)
+        (old new : ServerTable) (events : List Event)
         → ServerServes header h past object m old new events
         → AllInTurn header outside doing events (taking h object m past) }
     ensures paid { (header : Header) (h : ℕ) (past : List Event) (object : ObjectId) (m : Message) (old new : ServerTable) (events : List Event)

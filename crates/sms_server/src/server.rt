@@ -44,7 +44,12 @@ impl Model for Server {
 
     ghost Value = { ServerTable };
 
-    ghost view = { λ s. record { size = s.size; rows = s.rows.items; spare = is_ready s.spare && nat_lt (length s.rows.items) (vec_capacity s.rows); room = s.events.room } };
+    ghost view = { λ s. record {
+      size = s.size;
+      rows = s.rows.items;
+      spare = is_ready s.spare && nat_lt (length s.rows.items) (vec_capacity s.rows);
+      room = s.events.room;
+    } };
 
     ghost invariant = { λ s. IsKept s.size s.rows.items s.spare s.events.items };
 }

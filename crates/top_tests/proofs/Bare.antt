@@ -29,7 +29,14 @@ pub untold : (header : Header) (outside : Outside) (start : List ℕ → Told) �
 untold header outside start none = record { at = λ object tells file. no_file header none object file }
 
 -- what the backings hold fits a system to which nothing has happened yet
-pub fits_at_start : (header : Header) (outside : Outside) (files paging : List ℕ → Told) (system : State) → PagingIsKept header outside paging system → FilesAreKept header outside files system → ((areas : List ℕ → Told) → FilesCarry header areas areas [])
+pub fits_at_start : (header : Header) (outside : Outside) (files paging : List ℕ → Told) (system : State) → PagingIsKept header outside paging system
+    → FilesAreKept header outside files system → ((areas : List ℕ → Told) → FilesCarry header areas areas [])
     → system.history.items ≡ [] → (start : List ℕ → Told) × BackingsFit header outside start files paging system
-fits_at_start header outside files paging system kept files_kept carried none =
-    (files, record { kept = kept; files_kept = files_kept; carried = subst (λ (history : List Event). FilesCarry header files files history) (sym none) (carried files) })
+fits_at_start header outside files paging system kept files_kept carried none = (
+  files,
+  record {
+    kept = kept;
+    files_kept = files_kept;
+    carried = subst (λ (history : List Event). FilesCarry header files files history) (sym none) (carried files);
+  },
+)

@@ -40,7 +40,8 @@ fn settle_all(
     ghost given: { Setting }
     requires header { given.header ≡ header.now }
     requires stands { SystemStands given.header given.outside system.old }
-    requires backings { (start : List ℕ → Told) × BackingsFit given.header given.outside start (⟦<SureBacking as Backing>⟧.area files.old.inner) (⟦<SureBacking as Backing>⟧.area paging.old.inner) system.old }
+    requires backings { (start : List ℕ → Told) × BackingsFit given.header given.outside start (⟦<SureBacking as Backing>⟧.area files.old.inner)
+        (⟦<SureBacking as Backing>⟧.area paging.old.inner) system.old }
 {
     let command = Command::Settle { count: 2 };
     let events = system.step(1, &command, files, paging)?;
@@ -56,7 +57,8 @@ fn take_all(
 ) -> Result<(bool, u32), SystemStop>
     ghost given: { Setting }
     requires stands { SystemStands given.header given.outside system.old }
-    requires backings { (start : List ℕ → Told) × BackingsFit given.header given.outside start (⟦<SureBacking as Backing>⟧.area files.old.inner) (⟦<SureBacking as Backing>⟧.area paging.old.inner) system.old }
+    requires backings { (start : List ℕ → Told) × BackingsFit given.header given.outside start (⟦<SureBacking as Backing>⟧.area files.old.inner)
+        (⟦<SureBacking as Backing>⟧.area paging.old.inner) system.old }
 {
     let took = system.take_oldest(files, paging)?;
     let taken = settle(system, 1, files, paging)?;

@@ -23,7 +23,8 @@ use Rattle.vm_abroad.proofs.Tasks.{lives_abroad, more_tasks, task_abroad}
 
 -- it reads the same behind each such event
 
-pub same_one : (header : Header) (outside : Outside) (h : ℕ) (e : Event) (past : List Event) → Sound header past → Knows header h past → IsAbroad header outside h e past → SameFacts header h past (e ∷ past)
+pub same_one : (header : Header) (outside : Outside) (h : ℕ) (e : Event) (past : List Event) → Sound header past → Knows header h past
+    → IsAbroad header outside h e past → SameFacts header h past (e ∷ past)
 same_one header outside h e past sound knows abroad = record {
   pages = pages_abroad header h e past abroad.foreign;
   lives = lives_abroad header h e past abroad.foreign;
@@ -80,11 +81,17 @@ same_more header h old mid new one two = record {
   pages = more_pages header.size h old mid new one.pages two.pages;
   lives = λ task. two.lives task ∙ one.lives task;
   task = λ task own. more_task header.size task old mid new (one.task task own) (two.task task (one.lives task ∙ own));
-  made = record { made = two.made.made ++ one.made.made; is = two.made.is ∙ (ap (λ z. two.made.made ++ z) one.made.is ∙ sym (append_assoc two.made.made one.made.made (tasks old))) };
+  made =
+      record {
+        made = two.made.made ++ one.made.made;
+        is = two.made.is
+            ∙ (ap (λ z. two.made.made ++ z) one.made.is ∙ sym (append_assoc two.made.made one.made.made (tasks old)));
+      };
   regions = let first = one.regions in let second = two.regions in omega (arith, first, second);
   objects = let first = one.objects in let second = two.objects in omega (arith, first, second);
   used = λ r temporary. two.used r temporary ∙ one.used r temporary;
-  region = λ r small own. two.region r (let first = one.regions in omega (arith, first, small)) (region_of_host header h r old mid one own) ∙ one.region r small own;
+  region =
+      λ r small own. two.region r (let first = one.regions in omega (arith, first, small)) (region_of_host header h r old mid one own) ∙ one.region r small own;
   backing = λ o small. two.backing o (let first = one.objects in omega (arith, first, small)) ∙ one.backing o small;
 }
 
@@ -113,12 +120,14 @@ held_same header h r old new same held =
       ];
     }
 
-chain_same : (header : Header) (h r : ℕ) (old new : List Event) → Sound header old → SameFacts header h old new → Knows header h old → IsRegionOf header h r new → IsMade header (region_of header r new).top new
+chain_same : (header : Header) (h r : ℕ) (old new : List Event) → Sound header old → SameFacts header h old new → Knows header h old → IsRegionOf header h r new
+    → IsMade header (region_of header r new).top new
 chain_same header h r old new sound same knows own n u below =
     let was : IsRegionOf header h r old = λ temporary. sym (same.used r temporary) ∙ own temporary in
     let small = small_region header h r old sound was in
     let made : IsMade header (region_of header r old).top old = knows.chains r small was in
-    let top : Below (λ k. backing_of header k new) n (region_of header r old).top u = subst (λ (z : Region). Below (λ k. backing_of header k new) n z.top u) (same.region r small was) below in
+    let top : Below (λ k. backing_of header k new) n (region_of header r old).top u = subst (λ (z : Region). Below (λ k. backing_of header k new) n z.top u)
+    (same.region r small was) below in
     let less = made n u (below_was header old new same.backing n (region_of header r old).top u made top) in
     let rise = same.objects in
     omega (arith, less, rise)
@@ -129,11 +138,13 @@ knows_same header h old new sound same knows = record {
   entries = λ task lives.
       let own : lives_on h task old ≡ true = sym (same.lives task) ∙ lives in
       subst (AllRows (λ row. IsRegionOf header h row.region.0 new)) (sym (same.task task own).entries)
-      (rows_map (λ row. IsRegionOf header h row.region.0 old) (λ row. IsRegionOf header h row.region.0 new) (λ row is. region_of_host header h row.region.0 old new same is) (entries_of header.size task old) (knows.entries task own));
+      (rows_map (λ row. IsRegionOf header h row.region.0 old) (λ row. IsRegionOf header h row.region.0 new)
+      (λ row is. region_of_host header h row.region.0 old new same is) (entries_of header.size task old) (knows.entries task own));
   chains = λ r small own. chain_same header h r old new sound same knows own;
 }
 
-pub stays : (header : Header) (outside : Outside) (h : ℕ) (events past : List Event) → Sound header past → Knows header h past → EachIn (IsAbroad header outside h) events past → SameForHost header h past (events ++ past)
+pub stays : (header : Header) (outside : Outside) (h : ℕ) (events past : List Event) → Sound header past → Knows header h past
+    → EachIn (IsAbroad header outside h) events past → SameForHost header h past (events ++ past)
 stays header outside h [] past sound knows abroad = record { same = same_none header h past; sound = sound; knows = knows }
 stays header outside h (e ∷ events) past sound knows abroad =
     let was = stays header outside h events past sound knows abroad.1 in
@@ -146,8 +157,10 @@ stays header outside h (e ∷ events) past sound knows abroad =
 
 -- where no region was made just now, what is used is in use
 
-pub use_same : (header : Header) (h r : ℕ) (old new : List Event) → SameFacts header h old new → named header ≤ r → is_open r old ≡ false → is_open r new ≡ false → in_use header h r new ≡ in_use header h r old
-use_same header h r old new same temporary was now = plain (in_use header h r new) (is_open r new) now ∙ (same.used r temporary ∙ sym (plain (in_use header h r old) (is_open r old) was))
+pub use_same : (header : Header) (h r : ℕ) (old new : List Event) → SameFacts header h old new → named header ≤ r → is_open r old ≡ false
+    → is_open r new ≡ false → in_use header h r new ≡ in_use header h r old
+use_same header h r old new same temporary was now =
+    plain (in_use header h r new) (is_open r new) now ∙ (same.used r temporary ∙ sym (plain (in_use header h r old) (is_open r old) was))
   where
     plain : (a b : Bool) → b ≡ false → a ≡ (a && not b)
     plain true b is = rw is refl

@@ -1,5 +1,6 @@
 -- The home of a region stays what it is, and so does that of an object; what wasn't made has none; and a region is in use on its home alone.
-use Rattle.std.proofs.Common.{◌≡◌, ◌≤◌, ◌<◌, ◌&&◌, ◌||◌, not, ℕ, ◌==◌, Bool, true, false, List, [], ◌∷◌, ◌++◌, Option, Some, None, ap, refl, subst, sym, ◌∙◌, arith, ◌⊎◌, inl, inr}
+use Rattle.std.proofs.Common.{◌≡◌, ◌≤◌, ◌<◌, ◌&&◌, ◌||◌, not, ℕ, ◌==◌, Bool, true, false, List, [], ◌∷◌, ◌++◌, Option, Some, None, ap, refl, subst, sym, ◌∙◌}
+use Rattle.std.proofs.Common.{arith, ◌⊎◌, inl, inr}
 use Rattle.std.proofs.lemmas.Bool.Decides.{eqb_tells, nat_tests}
 use Rattle.std.specs.Prelude.{if◌then◌else◌, nat_lt, unwrap_or}
 use Rattle.vm_base.specs.declared.ids.Inherit.{Inherit}
@@ -40,7 +41,8 @@ homes_stay r h [] past is = is
 homes_stay r h (e ∷ events) past is = home_stays r h e (events ++ past) (homes_stay r h events past is)
 
 -- the first entry on a region gives it its home
-pub home_entered : (h : ℕ) (task : TaskId) (address bytes : ℕ) (region : RegionId) (offset : ℕ) (prot : Prot) (inherit : Inherit) (past : List Event) → home_of region.0 past ≡ None → host_of task.0 past ≡ Some h
+pub home_entered : (h : ℕ) (task : TaskId) (address bytes : ℕ) (region : RegionId) (offset : ℕ) (prot : Prot) (inherit : Inherit) (past : List Event)
+    → home_of region.0 past ≡ None → host_of task.0 past ≡ Some h
     → home_of region.0 (event.Entered task address bytes region offset prot inherit ∷ past) ≡ Some h
 home_entered h task address bytes region offset prot inherit past none lives =
     let same : (region.0 == region.0) ≡ true = grind (arith, nat_tests) in
@@ -48,7 +50,8 @@ home_entered h task address bytes region offset prot inherit past none lives =
     ∙ (ap (λ z. first_of z (host_of task.0 past)) none ∙ lives)
 
 -- one more entry on a region that has a home leaves all homes as they were
-pub homes_kept : (f r : ℕ) (task : TaskId) (address bytes : ℕ) (region : RegionId) (offset : ℕ) (prot : Prot) (inherit : Inherit) (past : List Event) → home_of region.0 past ≡ Some f
+pub homes_kept : (f r : ℕ) (task : TaskId) (address bytes : ℕ) (region : RegionId) (offset : ℕ) (prot : Prot) (inherit : Inherit) (past : List Event)
+    → home_of region.0 past ≡ Some f
     → home_of r (event.Entered task address bytes region offset prot inherit ∷ past) ≡ home_of r past
 homes_kept f r task address bytes region offset prot inherit past has = elim (eqb_tells region.0 r) [
   | inl same ↦
@@ -58,16 +61,20 @@ homes_kept f r task address bytes region offset prot inherit past has = elim (eq
 ]
 
 -- an entry leaves the homes of other regions
-pub home_apart : (r : ℕ) (task : TaskId) (address bytes : ℕ) (region : RegionId) (offset : ℕ) (prot : Prot) (inherit : Inherit) (past : List Event) → (region.0 ≡ r → ⊥) → home_of r (event.Entered task address bytes region offset prot inherit ∷ past) ≡ home_of r past
+pub home_apart : (r : ℕ) (task : TaskId) (address bytes : ℕ) (region : RegionId) (offset : ℕ) (prot : Prot) (inherit : Inherit) (past : List Event)
+    → (region.0 ≡ r → ⊥) → home_of r (event.Entered task address bytes region offset prot inherit ∷ past) ≡ home_of r past
 home_apart r task address bytes region offset prot inherit past apart = rw (unlike region.0 r apart) refl
 
 -- nor does a region that is made move other regions; and it has no home, unless a slow copy fills it
 
-pub home_made : (r : ℕ) (region : RegionId) (object : ObjectId) (pages : ℕ) (past : List Event) → (region.0 ≡ r → ⊥) → home_of r (event.RegionMade region object pages ∷ past) ≡ home_of r past
+pub home_made : (r : ℕ) (region : RegionId) (object : ObjectId) (pages : ℕ) (past : List Event) → (region.0 ≡ r → ⊥)
+    → home_of r (event.RegionMade region object pages ∷ past) ≡ home_of r past
 home_made r region object pages past apart = rw (unlike region.0 r apart) refl
 
-pub home_plain : (r : ℕ) (region : RegionId) (object : ObjectId) (pages : ℕ) (past : List Event) → copying_host past ≡ None → home_of r (event.RegionMade region object pages ∷ past) ≡ home_of r past
-home_plain r region object pages past plain = ap (λ x. if region.0 == r then first_of (home_of r past) x else home_of r past) plain ∙ by (region.0 == r) (home_of r past)
+pub home_plain : (r : ℕ) (region : RegionId) (object : ObjectId) (pages : ℕ) (past : List Event) → copying_host past ≡ None
+    → home_of r (event.RegionMade region object pages ∷ past) ≡ home_of r past
+home_plain r region object pages past plain =
+    ap (λ x. if region.0 == r then first_of (home_of r past) x else home_of r past) plain ∙ by (region.0 == r) (home_of r past)
   where
     by : (b : Bool) (was : Option ℕ) → (if b then first_of was None else was) ≡ was
     by true None = refl
@@ -86,14 +93,19 @@ entered_abroad h true None x foreign = foreign
 entered_abroad h true (Some f) x foreign = refl
 entered_abroad h false was x foreign = refl
 
-pub home_abroad : (header : Header) (h r : ℕ) (e : Event) (past : List Event) → is_home header h e past ≡ false → is_on h (home_of r (e ∷ past)) ≡ is_on h (home_of r past)
-home_abroad header h r (event.Entered task address bytes region offset prot inherit) past foreign = entered_abroad h (region.0 == r) (home_of r past) (host_of task.0 past) foreign
-home_abroad header h r (event.RegionMade region object pages) past foreign = entered_abroad h (region.0 == r) (home_of r past) (copying_host past) (copied_here h past ∙ foreign)
+pub home_abroad : (header : Header) (h r : ℕ) (e : Event) (past : List Event) → is_home header h e past ≡ false
+    → is_on h (home_of r (e ∷ past)) ≡ is_on h (home_of r past)
+home_abroad header h r (event.Entered task address bytes region offset prot inherit) past foreign =
+    entered_abroad h (region.0 == r) (home_of r past) (host_of task.0 past) foreign
+home_abroad header h r (event.RegionMade region object pages) past foreign =
+    entered_abroad h (region.0 == r) (home_of r past) (copying_host past) (copied_here h past ∙ foreign)
 home_abroad header h r other past foreign = refl
 
-pub homes_abroad : (header : Header) (outside : Outside) (h r : ℕ) (events past : List Event) → EachIn (IsAbroad header outside h) events past → is_on h (home_of r (events ++ past)) ≡ is_on h (home_of r past)
+pub homes_abroad : (header : Header) (outside : Outside) (h r : ℕ) (events past : List Event) → EachIn (IsAbroad header outside h) events past
+    → is_on h (home_of r (events ++ past)) ≡ is_on h (home_of r past)
 homes_abroad header outside h r [] past abroad = refl
-homes_abroad header outside h r (e ∷ events) past abroad = home_abroad header h r e (events ++ past) abroad.0.foreign ∙ homes_abroad header outside h r events past abroad.1
+homes_abroad header outside h r (e ∷ events) past abroad =
+    home_abroad header h r e (events ++ past) abroad.0.foreign ∙ homes_abroad header outside h r events past abroad.1
 
 -- an object keeps the region that it was made for, and its home
 
@@ -117,16 +129,20 @@ itself : (n : ℕ) → (n == n) ≡ true
 itself n = grind (arith, nat_tests)
 
 -- a new object is made for its region
-pub region_made : (region : RegionId) (object : ObjectId) (pages : ℕ) (past : List Event) → region_for object.0 past ≡ None → region_for object.0 (event.RegionMade region object pages ∷ past) ≡ Some region.0
+pub region_made : (region : RegionId) (object : ObjectId) (pages : ℕ) (past : List Event) → region_for object.0 past ≡ None
+    → region_for object.0 (event.RegionMade region object pages ∷ past) ≡ Some region.0
 region_made region object pages past none =
-    ap (λ b. if b then first_of (region_for object.0 past) (Some region.0) else region_for object.0 past) (itself object.0) ∙ ap (λ z. first_of z (Some region.0)) none
+    ap (λ b. if b then first_of (region_for object.0 past) (Some region.0) else region_for object.0 past) (itself object.0)
+    ∙ ap (λ z. first_of z (Some region.0)) none
 
-pub region_shadowed : (region : RegionId) (new old : ObjectId) (past : List Event) → region_for new.0 past ≡ None → region_for new.0 (event.Shadowed region new old ∷ past) ≡ Some region.0
+pub region_shadowed : (region : RegionId) (new old : ObjectId) (past : List Event) → region_for new.0 past ≡ None
+    → region_for new.0 (event.Shadowed region new old ∷ past) ≡ Some region.0
 region_shadowed region new old past none =
     ap (λ b. if b then first_of (region_for new.0 past) (Some region.0) else region_for new.0 past) (itself new.0) ∙ ap (λ z. first_of z (Some region.0)) none
 
 -- a shadow is on the host of its region
-pub home_shadowed : (h : ℕ) (region : RegionId) (new old : ObjectId) (past : List Event) → region_for new.0 past ≡ None → home_of region.0 past ≡ Some h → object_home new.0 (event.Shadowed region new old ∷ past) ≡ Some h
+pub home_shadowed : (h : ℕ) (region : RegionId) (new old : ObjectId) (past : List Event) → region_for new.0 past ≡ None → home_of region.0 past ≡ Some h
+    → object_home new.0 (event.Shadowed region new old ∷ past) ≡ Some h
 home_shadowed h region new old past none home = ap (λ z. home_at z (event.Shadowed region new old ∷ past)) (region_shadowed region new old past none) ∙ home
 
 -- what has no home yet
@@ -141,15 +157,18 @@ object_later header (event.RegionMade region object pages) past o high = omega (
 object_later header (event.Shadowed region new old) past o high = omega (arith, high)
 object_later header other past o high = high
 
-regions_next : (header : Header) (outside : Outside) (e : Event) (past : List Event) (r : ℕ) → HasCause header outside e past → next_region header (e ∷ past) ≤ r → home_of r past ≡ None → home_of r (e ∷ past) ≡ None
+regions_next : (header : Header) (outside : Outside) (e : Event) (past : List Event) (r : ℕ) → HasCause header outside e past
+    → next_region header (e ∷ past) ≤ r → home_of r past ≡ None → home_of r (e ∷ past) ≡ None
 regions_next header outside (event.Entered task address bytes region offset prot inherit) past r cause high none =
     let made = cause.1.made in
     let apart : (region.0 == r) ≡ false = unlike region.0 r (λ same. omega (arith, same, made, high)) in
     ap (λ b. if b then first_of (home_of r past) (host_of task.0 past) else home_of r past) apart ∙ none
-regions_next header outside (event.RegionMade region object pages) past r cause high none = home_made r region object pages past (λ same. let number = cause.1.0 in omega (arith, same, number, high)) ∙ none
+regions_next header outside (event.RegionMade region object pages) past r cause high none =
+    home_made r region object pages past (λ same. let number = cause.1.0 in omega (arith, same, number, high)) ∙ none
 regions_next header outside other past r cause high none = none
 
-objects_next : (header : Header) (outside : Outside) (e : Event) (past : List Event) (o : ℕ) → HasCause header outside e past → next_object header (e ∷ past) ≤ o → region_for o past ≡ None → region_for o (e ∷ past) ≡ None
+objects_next : (header : Header) (outside : Outside) (e : Event) (past : List Event) (o : ℕ) → HasCause header outside e past
+    → next_object header (e ∷ past) ≤ o → region_for o past ≡ None → region_for o (e ∷ past) ≡ None
 objects_next header outside (event.RegionMade region object pages) past o cause high none =
     let number = cause.1.1 in
     let apart : (object.0 == o) ≡ false = unlike object.0 o (λ same. omega (arith, same, number, high)) in
@@ -170,9 +189,11 @@ same_some : (g h : ℕ) → Some g ≡ Some h → g ≡ h
 same_some g h is = cc
 
 -- the first entry says where, and the others can't say otherwise
-home_first : (header : Header) (g h r region : ℕ) (here : Bool) (b : Bool) (was x : Option ℕ) (past : List Event) → (region == r) ≡ b → ((not (r == region) || here) && in_use header g r past) ≡ true → (here ≡ true → x ≡ Some g)
+home_first : (header : Header) (g h r region : ℕ) (here : Bool) (b : Bool) (was x : Option ℕ) (past : List Event) → (region == r) ≡ b
+    → ((not (r == region) || here) && in_use header g r past) ≡ true → (here ≡ true → x ≡ Some g)
     → (if b then first_of was x else was) ≡ Some h → (was ≡ Some h → in_use header g r past ≡ true → g ≡ h) → g ≡ h
-home_first header g h r region here true (Some f) x past test used lives home stays = stays home (both (not (r == region) || here) (in_use header g r past) used).1
+home_first header g h r region here true (Some f) x past test used lives home stays =
+    stays home (both (not (r == region) || here) (in_use header g r past) used).1
 home_first header g h r region here true None x past test used lives home stays =
     let other : (r == region) ≡ true = grind (arith, nat_tests) in
     let first : (not (r == region) || here) ≡ true = (both (not (r == region) || here) (in_use header g r past) used).0 in
@@ -188,7 +209,8 @@ on_host g None is = absurd (let bad : false ≡ true = is in cc)
 on_host g (Some own) is = let same : own ≡ g = grind (arith, nat_tests) in ap Some same
 
 -- a region that is made now has no home
-new_homeless : (header : Header) (g h r n : ℕ) (b here : Bool) (past : List Event) → (r == n) ≡ b → n ≡ next_region header past → HaveHomes header past → (if b then here else in_use header g r past) ≡ true → home_of r past ≡ Some h
+new_homeless : (header : Header) (g h r n : ℕ) (b here : Bool) (past : List Event) → (r == n) ≡ b → n ≡ next_region header past → HaveHomes header past
+    → (if b then here else in_use header g r past) ≡ true → home_of r past ≡ Some h
     → (in_use header g r past ≡ true → g ≡ h) → g ≡ h
 new_homeless header g h r n true here past test number homes used home stays =
     let same : r ≡ n = grind (arith, nat_tests) in
@@ -201,7 +223,8 @@ made_there g h (event.BegunCopy task address bytes to ∷ past) here home = same
 made_there g h [] here home = absurd (let bad : None ≡ Some h = home in cc)
 made_there g h (e ∷ past) here home = absurd (let bad : None ≡ Some h = home in cc)
 
-made_where : (header : Header) (g h r n : ℕ) (b c : Bool) (past : List Event) → (r == n) ≡ b → (n == r) ≡ c → n ≡ next_region header past → HaveHomes header past → (if b then made_here g past else in_use header g r past) ≡ true
+made_where : (header : Header) (g h r n : ℕ) (b c : Bool) (past : List Event) → (r == n) ≡ b → (n == r) ≡ c → n ≡ next_region header past
+    → HaveHomes header past → (if b then made_here g past else in_use header g r past) ≡ true
     → (if c then first_of (home_of r past) (copying_host past) else home_of r past) ≡ Some h → g ≡ h
 made_where header g h r n true true past test turned number homes used home =
     let same : r ≡ n = grind (arith, nat_tests) in
@@ -211,13 +234,15 @@ made_where header g h r n false false past test turned number homes used home = 
 made_where header g h r n true false past test turned number homes used home = absurd (grind (arith, nat_tests))
 made_where header g h r n false true past test turned number homes used home = absurd (grind (arith, nat_tests))
 
-stay_next : (header : Header) (outside : Outside) (e : Event) (past : List Event) → HasCause header outside e past → HaveHomes header past → (g h r : ℕ) → in_use header g r (e ∷ past) ≡ true → home_of r (e ∷ past) ≡ Some h → g ≡ h
+stay_next : (header : Header) (outside : Outside) (e : Event) (past : List Event) → HasCause header outside e past → HaveHomes header past → (g h r : ℕ)
+    → in_use header g r (e ∷ past) ≡ true → home_of r (e ∷ past) ≡ Some h → g ≡ h
 stay_next header outside (event.RegionMade new object pages) past cause homes g h r used home =
     made_where header g h r new.0 (r == new.0) (new.0 == r) past refl refl cause.1.0 homes used home
 stay_next header outside (event.RegionCopied new source offset pages) past cause homes g h r used home =
     new_homeless header g h r new.0 (r == new.0) (in_use header g source.0 past) past refl cause.1.next homes used home (λ now. homes.stay g h r now home)
 stay_next header outside (event.Entered task address bytes region offset prot inherit) past cause homes g h r used home =
-    home_first header g h r region.0 (lives_on g task.0 past) (region.0 == r) (home_of r past) (host_of task.0 past) past refl used (on_host g (host_of task.0 past)) home (λ was now. homes.stay g h r now was)
+    home_first header g h r region.0 (lives_on g task.0 past) (region.0 == r) (home_of r past) (host_of task.0 past) past refl used
+    (on_host g (host_of task.0 past)) home (λ was now. homes.stay g h r now was)
 stay_next header outside (event.Removed task address bytes) past cause homes g h r used home =
     homes.stay g h r (both (is_kept header r (event.Removed task address bytes ∷ past)) (in_use header g r past) used).1 home
 stay_next header outside (event.TaskEnded task) past cause homes g h r used home =
@@ -228,13 +253,16 @@ stay_next header outside other past cause homes g h r used home = homes.stay g h
 
 -- a task of a host on which a region is in use gets an entry on it: there it is at home
 
-pub home_used : (header : Header) (h : ℕ) (task : TaskId) (address bytes : ℕ) (region : RegionId) (offset : ℕ) (prot : Prot) (inherit : Inherit) (past : List Event) → HaveHomes header past → in_use header h region.0 past ≡ true → host_of task.0 past ≡ Some h
+pub home_used : (header : Header) (h : ℕ) (task : TaskId) (address bytes : ℕ) (region : RegionId) (offset : ℕ) (prot : Prot) (inherit : Inherit)
+    (past : List Event) → HaveHomes header past → in_use header h region.0 past ≡ true → host_of task.0 past ≡ Some h
     → home_of region.0 (event.Entered task address bytes region offset prot inherit ∷ past) ≡ Some h
 home_used header h task address bytes region offset prot inherit past homes used lives = by (home_of region.0 past) refl
   where
     by : (home : Option ℕ) → home_of region.0 past ≡ home → home_of region.0 (event.Entered task address bytes region offset prot inherit ∷ past) ≡ Some h
     by None none = home_entered h task address bytes region offset prot inherit past none lives
-    by (Some g) some = home_stays region.0 g (event.Entered task address bytes region offset prot inherit) past some ∙ ap (λ (n : ℕ). Some n) (sym (homes.stay h g region.0 used some))
+    by (Some g) some =
+        home_stays region.0 g (event.Entered task address bytes region offset prot inherit) past some
+        ∙ ap (λ (n : ℕ). Some n) (sym (homes.stay h g region.0 used some))
 
 -- what is declared stays as it was
 
@@ -265,7 +293,8 @@ file_kept header r e past file =
     ap (λ b. b || is_held header.size r (tasks (e ∷ past)) (e ∷ past)) less
 
 -- on the host whose task gets the entry: the region's first, or one more
-file_entered : (header : Header) (g h r : ℕ) (was x : Option ℕ) (past : List Event) → HaveHomes header past → is_file header r ≡ true → home_of r past ≡ was → x ≡ Some g → in_use header g r past ≡ true
+file_entered : (header : Header) (g h r : ℕ) (was x : Option ℕ) (past : List Event) → HaveHomes header past → is_file header r ≡ true → home_of r past ≡ was
+    → x ≡ Some g → in_use header g r past ≡ true
     → (first_of was x ≡ None) ⊎ (first_of was x ≡ Some h) → (is_on h x ≡ true) × (in_use header h r past ≡ true)
 file_entered header g h r None x past homes file was lives used (inl none) = absurd (let bad : Some g ≡ None = sym lives ∙ none in cc)
 file_entered header g h r None x past homes file was lives used (inr first) =
@@ -276,37 +305,46 @@ file_entered header g h r (Some own) x past homes file was lives used (inr home)
     let same : g ≡ h = homes.stay g h r used (was ∙ home) in
     (ap (is_on h) (lives ∙ ap Some same) ∙ on_own h, subst (λ (z : ℕ). in_use header z r past ≡ true) same used)
 
-files_next : (header : Header) (outside : Outside) (e : Event) (past : List Event) → HasCause header outside e past → HaveHomes header past → (r h : ℕ) → is_file header r ≡ true
+files_next : (header : Header) (outside : Outside) (e : Event) (past : List Event) → HasCause header outside e past → HaveHomes header past → (r h : ℕ)
+    → is_file header r ≡ true
     → (home_of r (e ∷ past) ≡ None) ⊎ (home_of r (e ∷ past) ≡ Some h) → in_use header h r (e ∷ past) ≡ true
 files_next header outside (event.RegionMade new object pages) past cause homes r h file home =
     let other : (r == new.0) ≡ false = file_other header r new.0 past file cause.1.0 in
     let turned : (new.0 == r) ≡ false = grind (arith, nat_tests) in
     let before : (home_of r past ≡ None) ⊎ (home_of r past ≡ Some h) =
-    subst (λ (b : Bool). ((if b then first_of (home_of r past) (copying_host past) else home_of r past) ≡ None) ⊎ ((if b then first_of (home_of r past) (copying_host past) else home_of r past) ≡ Some h)) turned home in
+    subst (λ (b : Bool). ((if b then first_of (home_of r past) (copying_host past) else home_of r past) ≡ None)
+    ⊎ ((if b then first_of (home_of r past) (copying_host past) else home_of r past) ≡ Some h)) turned home in
     rw other (homes.files r h file before)
-files_next header outside (event.RegionCopied new source offset pages) past cause homes r h file home = rw (file_other header r new.0 past file cause.1.next) (homes.files r h file home)
+files_next header outside (event.RegionCopied new source offset pages) past cause homes r h file home =
+    rw (file_other header r new.0 past file cause.1.next) (homes.files r h file home)
 files_next header outside (event.Entered task address bytes region offset prot inherit) past cause homes r h file home = elim (eqb_tells r region.0) [
   | inl same ↦
       let turned : (region.0 == r) ≡ true = let is = same.1 in grind (arith, nat_tests) in
       let used : in_use header cause.1.host r past ≡ true =
       subst (λ (z : ℕ). in_use header cause.1.host z past ≡ true) (sym same.1) (cause.1.file (subst (λ (z : ℕ). is_file header z ≡ true) same.1 file)) in
       let after : (first_of (home_of r past) (host_of task.0 past) ≡ None) ⊎ (first_of (home_of r past) (host_of task.0 past) ≡ Some h) =
-      subst (λ (b : Bool). ((if b then first_of (home_of r past) (host_of task.0 past) else home_of r past) ≡ None) ⊎ ((if b then first_of (home_of r past) (host_of task.0 past) else home_of r past) ≡ Some h)) turned home in
+      subst (λ (b : Bool). ((if b then first_of (home_of r past) (host_of task.0 past) else home_of r past) ≡ None)
+      ⊎ ((if b then first_of (home_of r past) (host_of task.0 past) else home_of r past) ≡ Some h)) turned home in
       let there = file_entered header cause.1.host h r (home_of r past) (host_of task.0 past) past homes file refl cause.1.lives used after in
       let lives : lives_on h task.0 past ≡ true = there.0 in
       rw (same.0, lives) there.1
   | inr apart ↦
       let turned : (region.0 == r) ≡ false = unlike region.0 r (λ is. apart.1 (sym is)) in
       let before : (home_of r past ≡ None) ⊎ (home_of r past ≡ Some h) =
-      subst (λ (b : Bool). ((if b then first_of (home_of r past) (host_of task.0 past) else home_of r past) ≡ None) ⊎ ((if b then first_of (home_of r past) (host_of task.0 past) else home_of r past) ≡ Some h)) turned home in
+      subst (λ (b : Bool). ((if b then first_of (home_of r past) (host_of task.0 past) else home_of r past) ≡ None)
+      ⊎ ((if b then first_of (home_of r past) (host_of task.0 past) else home_of r past) ≡ Some h)) turned home in
       rw apart.0 (homes.files r h file before)
 ]
-files_next header outside (event.Removed task address bytes) past cause homes r h file home = rw (file_kept header r (event.Removed task address bytes) past file) (homes.files r h file home)
-files_next header outside (event.TaskEnded task) past cause homes r h file home = rw (file_kept header r (event.TaskEnded task) past file) (homes.files r h file home)
-files_next header outside (event.Failed task object page) past cause homes r h file home = rw (file_kept header r (event.Failed task object page) past file) (homes.files r h file home)
+files_next header outside (event.Removed task address bytes) past cause homes r h file home =
+    rw (file_kept header r (event.Removed task address bytes) past file) (homes.files r h file home)
+files_next header outside (event.TaskEnded task) past cause homes r h file home =
+    rw (file_kept header r (event.TaskEnded task) past file) (homes.files r h file home)
+files_next header outside (event.Failed task object page) past cause homes r h file home =
+    rw (file_kept header r (event.Failed task object page) past file) (homes.files r h file home)
 files_next header outside other past cause homes r h file home = homes.files r h file home
 
-whole_next : (header : Header) (outside : Outside) (e : Event) (past : List Event) → HasCause header outside e past → HaveHomes header past → (r : ℕ) → r < named header
+whole_next : (header : Header) (outside : Outside) (e : Event) (past : List Event) → HasCause header outside e past → HaveHomes header past → (r : ℕ)
+    → r < named header
     → region_of header r (e ∷ past) ≡ record { mark = false; top = r; shift = 0; pages = declared_pages header r }
 whole_next header outside (event.RegionMade new object pages) past cause homes r declared =
     let number = cause.1.0 in
@@ -322,11 +360,13 @@ whole_next header outside (event.RegionCopied new source offset pages) past caus
     rw (other, apart) (homes.whole r declared)
 whole_next header outside (event.Shadowed changed new old) past cause homes r declared =
     let marked = cause.1.marked in
-    let other : (r == changed.0) ≡ false = unlike r changed.0 (λ same. absurd (let plain : (region_of header changed.0 past).mark ≡ false = ap (λ z. (region_of header z past).mark) (sym same) ∙ ap (λ z. z.mark) (homes.whole r declared) in let bad : false ≡ true = sym plain ∙ marked in cc)) in
+    let other : (r == changed.0) ≡ false = unlike r changed.0 (λ same. absurd (let plain : (region_of header changed.0 past).mark ≡ false = ap
+    (λ z. (region_of header z past).mark) (sym same) ∙ ap (λ z. z.mark) (homes.whole r declared) in let bad : false ≡ true = sym plain ∙ marked in cc)) in
     rw other (homes.whole r declared)
 whole_next header outside other past cause homes r declared = homes.whole r declared
 
-bare_next : (header : Header) (outside : Outside) (e : Event) (past : List Event) → HasCause header outside e past → HaveHomes header past → (o : ℕ) → o < named header → (backing_of header o (e ∷ past)).backed ≡ false
+bare_next : (header : Header) (outside : Outside) (e : Event) (past : List Event) → HasCause header outside e past → HaveHomes header past → (o : ℕ)
+    → o < named header → (backing_of header o (e ∷ past)).backed ≡ false
 bare_next header outside (event.Shadowed changed new old) past cause homes o declared =
     let number = cause.1.next in
     let more = named_objects header past in
@@ -335,7 +375,8 @@ bare_next header outside (event.Shadowed changed new old) past cause homes o dec
 bare_next header outside other past cause homes o declared = homes.bare o declared
 
 -- a slow copy fills the region that was made for it
-fills_next : (header : Header) (outside : Outside) (e : Event) (past : List Event) → HasCause header outside e past → HaveHomes header past → (task : ℕ) (target : Target) → copy_target task (e ∷ past) ≡ Some target → named header ≤ target.region
+fills_next : (header : Header) (outside : Outside) (e : Event) (past : List Event) → HasCause header outside e past → HaveHomes header past
+    → (task : ℕ) (target : Target) → copy_target task (e ∷ past) ≡ Some target → named header ≤ target.region
 fills_next header outside (event.BegunCopy owner address bytes to) past cause homes task target is = by_test (owner.0 == task) is
   where
     by_test : (b : Bool) → (if b then None else copy_target task past) ≡ Some target → named header ≤ target.region
@@ -343,7 +384,8 @@ fills_next header outside (event.BegunCopy owner address bytes to) past cause ho
     by_test false was = homes.fills task target was
 fills_next header outside (event.RegionMade region object pages) past cause homes task target is = by_test (begins_copy task past) is
   where
-    by_test : (b : Bool) → (if b then Some (record { region = region.0; object = object.0 }) else copy_target task past) ≡ Some target → named header ≤ target.region
+    by_test : (b : Bool) → (if b then Some (record { region = region.0; object = object.0 }) else copy_target task past) ≡ Some target
+        → named header ≤ target.region
     by_test true now =
         let same : region.0 ≡ target.region = ap (λ z. (unwrap_or z target).region) now in
         let number = cause.1.0 in
@@ -353,7 +395,8 @@ fills_next header outside (event.RegionMade region object pages) past cause home
 fills_next header outside other past cause homes task target is = homes.fills task target is
 
 -- what has a home was made, whatever is added with its cause
-pub homes_next : (header : Header) (outside : Outside) (e : Event) (past : List Event) → HasCause header outside e past → HaveHomes header past → HaveHomes header (e ∷ past)
+pub homes_next : (header : Header) (outside : Outside) (e : Event) (past : List Event) → HasCause header outside e past → HaveHomes header past
+    → HaveHomes header (e ∷ past)
 homes_next header outside e past cause homes =
     record {
       regions = λ r high. regions_next header outside e past r cause high (homes.regions r (region_later header e past r high));

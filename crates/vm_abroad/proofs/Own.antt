@@ -40,28 +40,34 @@ effect_own header h place others (event.Taken (Down at object control) m) past i
 effect_own header h place others other past is = refl
 
 pub local_own : (header : Header) (h : ℕ) (e : Event) (past : List Event) → is_home header h e past ≡ true → (place : Place)
-    → local header.size h place (e ∷ past) ≡ local_after header.size (own_effect place (λ source. local header.size h source past) (live_control h place.object past) e) (local header.size h place past)
-local_own header h e past is place = ap (λ z. local_after header.size z (local header.size h place past)) (effect_own header h place (λ source. local header.size h source past) e past is)
+    → local header.size h place (e ∷ past) ≡ local_after header.size (own_effect place (λ source. local header.size h source past)
+    (live_control h place.object past) e) (local header.size h place past)
+local_own header h e past is place =
+    ap (λ z. local_after header.size z (local header.size h place past)) (effect_own header h place (λ source. local header.size h source past) e past is)
 
 -- controls
 
-live_sent : (h o : ℕ) (at : HostId) (object : ObjectId) (m : Message) (live : Option ℕ) → (at.0 == h) ≡ true → live_after h o (event.Sent (Up at object) m) live ≡ own_live o (event.Sent (Up at object) m) live
+live_sent : (h o : ℕ) (at : HostId) (object : ObjectId) (m : Message) (live : Option ℕ) → (at.0 == h) ≡ true
+    → live_after h o (event.Sent (Up at object) m) live ≡ own_live o (event.Sent (Up at object) m) live
 live_sent h o at object (message.Init control size) live is = rw is refl
 live_sent h o at object (message.Create control size) live is = rw is refl
 live_sent h o at object (message.Terminate control) live is = rw is refl
 live_sent h o at object other live is = refl
 
-pub live_own : (header : Header) (h : ℕ) (e : Event) (past : List Event) → is_home header h e past ≡ true → (o : ℕ) → live_control h o (e ∷ past) ≡ own_live o e (live_control h o past)
+pub live_own : (header : Header) (h : ℕ) (e : Event) (past : List Event) → is_home header h e past ≡ true → (o : ℕ)
+    → live_control h o (e ∷ past) ≡ own_live o e (live_control h o past)
 live_own header h (event.Sent (Up at object) m) past is o = live_sent h o at object m (live_control h o past) is
 live_own header h (event.Sent (Down at object control) m) past is o = refl
 live_own header h other past is o = refl
 
-last_sent : (h o : ℕ) (at : HostId) (object : ObjectId) (m : Message) (last : ℕ) → (at.0 == h) ≡ true → control_after h o (event.Sent (Up at object) m) last ≡ own_last o (event.Sent (Up at object) m) last
+last_sent : (h o : ℕ) (at : HostId) (object : ObjectId) (m : Message) (last : ℕ) → (at.0 == h) ≡ true
+    → control_after h o (event.Sent (Up at object) m) last ≡ own_last o (event.Sent (Up at object) m) last
 last_sent h o at object (message.Init control size) last is = rw is refl
 last_sent h o at object (message.Create control size) last is = rw is refl
 last_sent h o at object other last is = refl
 
-pub last_own : (header : Header) (h : ℕ) (e : Event) (past : List Event) → is_home header h e past ≡ true → (o : ℕ) → last_control h o (e ∷ past) ≡ own_last o e (last_control h o past)
+pub last_own : (header : Header) (h : ℕ) (e : Event) (past : List Event) → is_home header h e past ≡ true → (o : ℕ)
+    → last_control h o (e ∷ past) ≡ own_last o e (last_control h o past)
 last_own header h (event.Sent (Up at object) m) past is o = last_sent h o at object m (last_control h o past) is
 last_own header h (event.Sent (Down at object control) m) past is o = refl
 last_own header h other past is o = refl
@@ -73,11 +79,13 @@ ready_sent h o at object (message.Create control size) past is = rw is refl
 ready_sent h o at object other past is = refl
 
 ready_taken : (h o : ℕ) (at : HostId) (object : ObjectId) (control : ℕ) (m : Message) (past : List Event) → (at.0 == h) ≡ true
-    → is_ready h o (event.Taken (Down at object control) m ∷ past) ≡ own_ready o (live_control h o past) (event.Taken (Down at object control) m) (is_ready h o past)
+    → is_ready h o (event.Taken (Down at object control) m ∷ past) ≡ own_ready o (live_control h o past) (event.Taken (Down at object control) m)
+    (is_ready h o past)
 ready_taken h o at object control (message.Ready cache strategy) past is = rw is refl
 ready_taken h o at object control other past is = refl
 
-pub ready_own : (header : Header) (h : ℕ) (e : Event) (past : List Event) → is_home header h e past ≡ true → (o : ℕ) → is_ready h o (e ∷ past) ≡ own_ready o (live_control h o past) e (is_ready h o past)
+pub ready_own : (header : Header) (h : ℕ) (e : Event) (past : List Event) → is_home header h e past ≡ true → (o : ℕ)
+    → is_ready h o (e ∷ past) ≡ own_ready o (live_control h o past) e (is_ready h o past)
 ready_own header h (event.Sent (Up at object) m) past is o = ready_sent h o at object m past is
 ready_own header h (event.Sent (Down at object control) m) past is o = refl
 ready_own header h (event.Taken (Up at object) m) past is o = refl
@@ -92,7 +100,8 @@ change_taken b own (message.Error page reason) is = rw is refl
 change_taken b own other is = refl
 
 pub change_own : (header : Header) (h : ℕ) (e : Event) (past : List Event) → is_home header h e past ≡ true
-    → change header.size h e past ≡ own_change (λ o control page. is_control control (live_control h o past) && (local header.size h (record { object = o; page = page }) past).asked) e
+    → change header.size h e past ≡ own_change (λ o control page. is_control control (live_control h o past) &&
+    (local header.size h (record { object = o; page = page }) past).asked) e
 change_own header h (event.Zeroed at object page) past is = rw is refl
 change_own header h (event.Raised at lower lower_page upper upper_page) past is = rw is refl
 change_own header h (event.CopiedPage task page object object_page target) past is = rw is refl
@@ -101,27 +110,33 @@ change_own header h (event.Sent (Up at object) m) past is = ap (λ z. sent_up_ch
 change_own header h (event.Sent (Down at object control) m) past is = refl
 change_own header h (event.Taken (Up at object) m) past is = ap (λ z. taken_up_change z m) (both_left (at.0 == h) (gives_frame m) is)
 change_own header h (event.Taken (Down at object control) m) past is =
-    change_taken (at.0 == h) (λ page. is_control control (live_control h object.0 past) && (local header.size h (record { object = object.0; page = page }) past).asked) m is
+    change_taken (at.0 == h) (λ page. is_control control (live_control h object.0 past) &&
+    (local header.size h (record { object = object.0; page = page }) past).asked) m is
 change_own header h other past is = refl
 
 pub held_own : (header : Header) (h : ℕ) (e : Event) (past : List Event) → is_home header h e past ≡ true
     → frames_held header.size h (e ∷ past)
-    ≡ frames_after (own_change (λ o control page. is_control control (live_control h o past) && (local header.size h (record { object = o; page = page }) past).asked) e) (frames_held header.size h past)
+    ≡ frames_after (own_change (λ o control page. is_control control (live_control h o past) &&
+    (local header.size h (record { object = o; page = page }) past).asked) e) (frames_held header.size h past)
 held_own header h e past is = ap (λ z. frames_after z (frames_held header.size h past)) (change_own header h e past is)
 
-pub wired_own : (header : Header) (h : ℕ) (e : Event) (past : List Event) → is_home header h e past ≡ true → frames_wired h (e ∷ past) ≡ own_wired e (frames_wired h past)
+pub wired_own : (header : Header) (h : ℕ) (e : Event) (past : List Event) → is_home header h e past ≡ true
+    → frames_wired h (e ∷ past) ≡ own_wired e (frames_wired h past)
 wired_own header h (event.Wired at count) past is = rw is refl
 wired_own header h other past is = refl
 
-out_sent : (h : ℕ) (at : HostId) (object : ObjectId) (m : Message) (past : List Event) → (at.0 == h) ≡ true → returns_out h (event.Sent (Up at object) m ∷ past) ≡ own_out (event.Sent (Up at object) m) (returns_out h past)
+out_sent : (h : ℕ) (at : HostId) (object : ObjectId) (m : Message) (past : List Event) → (at.0 == h) ≡ true
+    → returns_out h (event.Sent (Up at object) m ∷ past) ≡ own_out (event.Sent (Up at object) m) (returns_out h past)
 out_sent h at object (message.Return control page dirty keep bytes) past is = rw is refl
 out_sent h at object other past is = refl
 
-out_taken : (h : ℕ) (at : HostId) (object : ObjectId) (m : Message) (past : List Event) → (at.0 == h) ≡ true → returns_out h (event.Taken (Up at object) m ∷ past) ≡ own_out (event.Taken (Up at object) m) (returns_out h past)
+out_taken : (h : ℕ) (at : HostId) (object : ObjectId) (m : Message) (past : List Event) → (at.0 == h) ≡ true
+    → returns_out h (event.Taken (Up at object) m ∷ past) ≡ own_out (event.Taken (Up at object) m) (returns_out h past)
 out_taken h at object (message.Return control page dirty keep bytes) past is = rw is refl
 out_taken h at object other past is = refl
 
-pub out_own : (header : Header) (h : ℕ) (e : Event) (past : List Event) → is_home header h e past ≡ true → returns_out h (e ∷ past) ≡ own_out e (returns_out h past)
+pub out_own : (header : Header) (h : ℕ) (e : Event) (past : List Event) → is_home header h e past ≡ true
+    → returns_out h (e ∷ past) ≡ own_out e (returns_out h past)
 out_own header h (event.Sent (Up at object) m) past is = out_sent h at object m past is
 out_own header h (event.Sent (Down at object control) m) past is = refl
 out_own header h (event.Taken (Up at object) m) past is = out_taken h at object m past (both_left (at.0 == h) (gives_frame m) is)

@@ -17,7 +17,8 @@ use Rattle.vm_abroad.specs.Same.{SamePages}
 
 -- places
 
-effect_abroad : (header : Header) (h : ℕ) (place : Place) (others : Place → Local) (e : Event) (past : List Event) → is_home header h e past ≡ false → effect h place others e past ≡ Elsewhere
+effect_abroad : (header : Header) (h : ℕ) (place : Place) (others : Place → Local) (e : Event) (past : List Event) → is_home header h e past ≡ false
+    → effect h place others e past ≡ Elsewhere
 effect_abroad header h place others (event.Zeroed at object page) past is = rw is refl
 effect_abroad header h place others (event.Raised at lower lower_page upper upper_page) past is = rw is refl
 effect_abroad header h place others (event.CopiedPage task page object object_page target) past is = rw is refl
@@ -29,42 +30,51 @@ effect_abroad header h place others (event.Taken (Up at object) m) past is = ref
 effect_abroad header h place others (event.Taken (Down at object control) m) past is = rw is refl
 effect_abroad header h place others other past is = refl
 
-pub local_abroad : (header : Header) (h : ℕ) (e : Event) (past : List Event) → is_home header h e past ≡ false → (place : Place) → local header.size h place (e ∷ past) ≡ local header.size h place past
-local_abroad header h e past is place = ap (λ z. local_after header.size z (local header.size h place past)) (effect_abroad header h place (λ source. local header.size h source past) e past is)
+pub local_abroad : (header : Header) (h : ℕ) (e : Event) (past : List Event) → is_home header h e past ≡ false → (place : Place)
+    → local header.size h place (e ∷ past) ≡ local header.size h place past
+local_abroad header h e past is place =
+    ap (λ z. local_after header.size z (local header.size h place past)) (effect_abroad header h place (λ source. local header.size h source past) e past is)
 
 -- controls
 
-live_sent : (h o : ℕ) (at : HostId) (object : ObjectId) (m : Message) (live : Option ℕ) → (at.0 == h) ≡ false → live_after h o (event.Sent (Up at object) m) live ≡ live
+live_sent : (h o : ℕ) (at : HostId) (object : ObjectId) (m : Message) (live : Option ℕ) → (at.0 == h) ≡ false
+    → live_after h o (event.Sent (Up at object) m) live ≡ live
 live_sent h o at object (message.Init control size) live is = rw is refl
 live_sent h o at object (message.Create control size) live is = rw is refl
 live_sent h o at object (message.Terminate control) live is = rw is refl
 live_sent h o at object other live is = refl
 
-pub live_abroad : (header : Header) (h : ℕ) (e : Event) (past : List Event) → is_home header h e past ≡ false → (o : ℕ) → live_control h o (e ∷ past) ≡ live_control h o past
+pub live_abroad : (header : Header) (h : ℕ) (e : Event) (past : List Event) → is_home header h e past ≡ false → (o : ℕ)
+    → live_control h o (e ∷ past) ≡ live_control h o past
 live_abroad header h (event.Sent (Up at object) m) past is o = live_sent h o at object m (live_control h o past) is
 live_abroad header h (event.Sent (Down at object control) m) past is o = refl
 live_abroad header h other past is o = refl
 
-last_sent : (h o : ℕ) (at : HostId) (object : ObjectId) (m : Message) (last : ℕ) → (at.0 == h) ≡ false → control_after h o (event.Sent (Up at object) m) last ≡ last
+last_sent : (h o : ℕ) (at : HostId) (object : ObjectId) (m : Message) (last : ℕ) → (at.0 == h) ≡ false
+    → control_after h o (event.Sent (Up at object) m) last ≡ last
 last_sent h o at object (message.Init control size) last is = rw is refl
 last_sent h o at object (message.Create control size) last is = rw is refl
 last_sent h o at object other last is = refl
 
-pub last_abroad : (header : Header) (h : ℕ) (e : Event) (past : List Event) → is_home header h e past ≡ false → (o : ℕ) → last_control h o (e ∷ past) ≡ last_control h o past
+pub last_abroad : (header : Header) (h : ℕ) (e : Event) (past : List Event) → is_home header h e past ≡ false → (o : ℕ)
+    → last_control h o (e ∷ past) ≡ last_control h o past
 last_abroad header h (event.Sent (Up at object) m) past is o = last_sent h o at object m (last_control h o past) is
 last_abroad header h (event.Sent (Down at object control) m) past is o = refl
 last_abroad header h other past is o = refl
 
-ready_sent : (h o : ℕ) (at : HostId) (object : ObjectId) (m : Message) (past : List Event) → (at.0 == h) ≡ false → is_ready h o (event.Sent (Up at object) m ∷ past) ≡ is_ready h o past
+ready_sent : (h o : ℕ) (at : HostId) (object : ObjectId) (m : Message) (past : List Event) → (at.0 == h) ≡ false
+    → is_ready h o (event.Sent (Up at object) m ∷ past) ≡ is_ready h o past
 ready_sent h o at object (message.Init control size) past is = rw is refl
 ready_sent h o at object (message.Create control size) past is = rw is refl
 ready_sent h o at object other past is = refl
 
-ready_taken : (h o : ℕ) (at : HostId) (object : ObjectId) (control : ℕ) (m : Message) (past : List Event) → (at.0 == h) ≡ false → is_ready h o (event.Taken (Down at object control) m ∷ past) ≡ is_ready h o past
+ready_taken : (h o : ℕ) (at : HostId) (object : ObjectId) (control : ℕ) (m : Message) (past : List Event) → (at.0 == h) ≡ false
+    → is_ready h o (event.Taken (Down at object control) m ∷ past) ≡ is_ready h o past
 ready_taken h o at object control (message.Ready cache strategy) past is = rw is refl
 ready_taken h o at object control other past is = refl
 
-pub ready_abroad : (header : Header) (h : ℕ) (e : Event) (past : List Event) → is_home header h e past ≡ false → (o : ℕ) → is_ready h o (e ∷ past) ≡ is_ready h o past
+pub ready_abroad : (header : Header) (h : ℕ) (e : Event) (past : List Event) → is_home header h e past ≡ false → (o : ℕ)
+    → is_ready h o (e ∷ past) ≡ is_ready h o past
 ready_abroad header h (event.Sent (Up at object) m) past is o = ready_sent h o at object m past is
 ready_abroad header h (event.Sent (Down at object control) m) past is o = refl
 ready_abroad header h (event.Taken (Up at object) m) past is o = refl
@@ -95,21 +105,25 @@ change_abroad header h (event.Sent (Up at object) m) past is = change_sent (at.0
 change_abroad header h (event.Sent (Down at object control) m) past is = refl
 change_abroad header h (event.Taken (Up at object) m) past is = change_returned (at.0 == h) m is
 change_abroad header h (event.Taken (Down at object control) m) past is =
-    change_answered (at.0 == h) (λ page. is_control control (live_control h object.0 past) && (local header.size h (record { object = object.0; page = page }) past).asked) m is
+    change_answered (at.0 == h) (λ page. is_control control (live_control h object.0 past) &&
+    (local header.size h (record { object = object.0; page = page }) past).asked) m is
 change_abroad header h other past is = refl
 
-pub held_abroad : (header : Header) (h : ℕ) (e : Event) (past : List Event) → is_home header h e past ≡ false → frames_held header.size h (e ∷ past) ≡ frames_held header.size h past
+pub held_abroad : (header : Header) (h : ℕ) (e : Event) (past : List Event) → is_home header h e past ≡ false
+    → frames_held header.size h (e ∷ past) ≡ frames_held header.size h past
 held_abroad header h e past is = ap (λ z. frames_after z (frames_held header.size h past)) (change_abroad header h e past is)
 
 pub wired_abroad : (header : Header) (h : ℕ) (e : Event) (past : List Event) → is_home header h e past ≡ false → frames_wired h (e ∷ past) ≡ frames_wired h past
 wired_abroad header h (event.Wired at count) past is = rw is refl
 wired_abroad header h other past is = refl
 
-out_sent : (h : ℕ) (at : HostId) (object : ObjectId) (m : Message) (past : List Event) → (at.0 == h) ≡ false → returns_out h (event.Sent (Up at object) m ∷ past) ≡ returns_out h past
+out_sent : (h : ℕ) (at : HostId) (object : ObjectId) (m : Message) (past : List Event) → (at.0 == h) ≡ false
+    → returns_out h (event.Sent (Up at object) m ∷ past) ≡ returns_out h past
 out_sent h at object (message.Return control page dirty keep bytes) past is = rw is refl
 out_sent h at object other past is = refl
 
-out_taken : (h : ℕ) (at : HostId) (object : ObjectId) (m : Message) (past : List Event) → (at.0 == h && gives_frame m) ≡ false → returns_out h (event.Taken (Up at object) m ∷ past) ≡ returns_out h past
+out_taken : (h : ℕ) (at : HostId) (object : ObjectId) (m : Message) (past : List Event) → (at.0 == h && gives_frame m) ≡ false
+    → returns_out h (event.Taken (Up at object) m ∷ past) ≡ returns_out h past
 out_taken h at object (message.Return control page dirty keep bytes) past is = rw is refl
 out_taken h at object other past is = refl
 

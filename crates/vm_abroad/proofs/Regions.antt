@@ -21,7 +21,8 @@ use Rattle.vm_abroad.proofs.Tasks.{task_abroad}
 
 -- what its tasks hold, they hold still
 
-held_among : (size r task : ℕ) (ts : List ℕ) (past : List Event) → IsAmong task ts → (has_entry r (entries_of size task past) || fills r (waiting task past) (copy_target task past)) ≡ true → is_held size r ts past ≡ true
+held_among : (size r task : ℕ) (ts : List ℕ) (past : List Event) → IsAmong task ts
+    → (has_entry r (entries_of size task past) || fills r (waiting task past) (copy_target task past)) ≡ true → is_held size r ts past ≡ true
 held_among size r task [] past among holds = absurd among
 held_among size r task (t ∷ ts) past (inl same) holds =
     first (has_entry r (entries_of size t past) || fills r (waiting t past) (copy_target t past)) (is_held size r ts past)
@@ -30,7 +31,9 @@ held_among size r task (t ∷ ts) past (inl same) holds =
     first : (a b : Bool) → a ≡ true → (a || b) ≡ true
     first true b is = refl
     first false b is = absurd (let bad : false ≡ true = is in cc)
-held_among size r task (t ∷ ts) past (inr later) holds = second (has_entry r (entries_of size t past) || fills r (waiting t past) (copy_target t past)) (is_held size r ts past) (held_among size r task ts past later holds)
+held_among size r task (t ∷ ts) past (inr later) holds =
+    second (has_entry r (entries_of size t past) || fills r (waiting t past) (copy_target t past)) (is_held size r ts past)
+    (held_among size r task ts past later holds)
   where
     second : (a b : Bool) → b ≡ true → (a || b) ≡ true
     second true b is = refl
@@ -41,15 +44,18 @@ holds_one true b is = refl
 holds_one false b (inl is) = absurd (let bad : false ≡ true = is in cc)
 holds_one false b (inr is) = is
 
-still_kept : (header : Header) (h r : ℕ) (e : Event) (past : List Event) → tasks (e ∷ past) ≡ tasks past → is_home header h e past ≡ false → IsHeldOn header h r past → is_kept header r (e ∷ past) ≡ true
+still_kept : (header : Header) (h r : ℕ) (e : Event) (past : List Event) → tasks (e ∷ past) ≡ tasks past → is_home header h e past ≡ false
+    → IsHeldOn header h r past → is_kept header r (e ∷ past) ≡ true
 still_kept header h r e past made foreign held =
     let same = task_abroad header h e past foreign held.task held.lives in
-    let holds : (has_entry r (entries_of header.size held.task (e ∷ past)) || fills r (waiting held.task (e ∷ past)) (copy_target held.task (e ∷ past))) ≡ true =
+    let holds : (has_entry r (entries_of header.size held.task (e ∷ past)) || fills r (waiting held.task (e ∷ past))
+    (copy_target held.task (e ∷ past))) ≡ true =
     ap (λ z. has_entry r z || fills r (waiting held.task (e ∷ past)) (copy_target held.task (e ∷ past))) same.entries
     ∙ (ap (λ z. has_entry r (entries_of header.size held.task past) || fills r z (copy_target held.task (e ∷ past))) same.waiting
     ∙ (ap (λ z. has_entry r (entries_of header.size held.task past) || fills r (waiting held.task past) z) same.target
     ∙ holds_one (has_entry r (entries_of header.size held.task past)) (fills r (waiting held.task past) (copy_target held.task past)) held.holds)) in
-    let is : is_held header.size r (tasks (e ∷ past)) (e ∷ past) ≡ true = held_among header.size r held.task (tasks (e ∷ past)) (e ∷ past) (subst (IsAmong held.task) (sym made) held.made) holds in
+    let is : is_held header.size r (tasks (e ∷ past)) (e ∷ past) ≡ true = held_among header.size r held.task (tasks (e ∷ past)) (e ∷ past)
+    (subst (IsAmong held.task) (sym made) held.made) holds in
     last (nat_lt r (named header)) (is_held header.size r (tasks (e ∷ past)) (e ∷ past)) is
   where
     last : (a b : Bool) → b ≡ true → (a || b) ≡ true
@@ -61,7 +67,8 @@ still_kept header h r e past made foreign held =
 was_shut : (b : Bool) (r : ℕ) (past : List Event) → is_open r past ≡ false → (b && true) ≡ (b && not (is_open r past))
 was_shut b r past shut = rw shut refl
 
-fresh_unused : (header : Header) (h r : ℕ) (past : List Event) → Sound header past → named header ≤ r → next_region header past ≤ r → is_used header h r past ≡ false
+fresh_unused : (header : Header) (h r : ℕ) (past : List Event) → Sound header past → named header ≤ r → next_region header past ≤ r
+    → is_used header h r past ≡ false
 fresh_unused header h r past sound temporary fresh = by_test (is_used header h r past) refl
   where
     by_test : (b : Bool) → is_used header h r past ≡ b → b ≡ false
@@ -74,7 +81,8 @@ made_unused h (event.BegunCopy task address bytes to ∷ past) none = rw none re
 made_unused h (e ∷ past) none = refl
 
 -- an entry of another host is on none of its regions
-entered_unused : (header : Header) (h r task bytes offset : ℕ) (past : List Event) → Sound header past → Enters header task bytes r offset past → lives_on h task past ≡ false → named header ≤ r → is_used header h r past ≡ false
+entered_unused : (header : Header) (h r task bytes offset : ℕ) (past : List Event) → Sound header past → Enters header task bytes r offset past
+    → lives_on h task past ≡ false → named header ≤ r → is_used header h r past ≡ false
 entered_unused header h r task bytes offset past sound enters away temporary = by_test (is_used header h r past) refl
   where
     by_test : (b : Bool) → is_used header h r past ≡ b → b ≡ false
@@ -86,7 +94,8 @@ entered_unused header h r task bytes offset past sound enters away temporary = b
         absurd (let bad : true ≡ false = sym here ∙ away in cc)
 
 -- what is kept while its tasks hold it
-kept_used : (header : Header) (h r : ℕ) (e : Event) (past : List Event) → EntersNext e past → enters r e ≡ false → (is_used header h r past ≡ true → is_kept header r (e ∷ past) ≡ true)
+kept_used : (header : Header) (h r : ℕ) (e : Event) (past : List Event) → EntersNext e past → enters r e ≡ false
+    → (is_used header h r past ≡ true → is_kept header r (e ∷ past) ≡ true)
     → ((is_kept header r (e ∷ past) && in_use header h r past) && true) ≡ is_used header h r past
 kept_used header h r e past next other keeps = by_test (in_use header h r past) refl
   where
@@ -101,10 +110,12 @@ kept_used header h r e past next other keeps = by_test (in_use header h r past) 
         none true = refl
         none false = refl
 
-pub used_abroad : (header : Header) (outside : Outside) (h : ℕ) (e : Event) (past : List Event) → Sound header past → Knows header h past → IsAbroad header outside h e past → (r : ℕ) → named header ≤ r → is_used header h r (e ∷ past) ≡ is_used header h r past
+pub used_abroad : (header : Header) (outside : Outside) (h : ℕ) (e : Event) (past : List Event) → Sound header past → Knows header h past
+    → IsAbroad header outside h e past → (r : ℕ) → named header ≤ r → is_used header h r (e ∷ past) ≡ is_used header h r past
 used_abroad header outside h (event.RegionMade new object pages) past sound knows abroad r temporary = by_test (r == new.0) refl
   where
-    by_test : (b : Bool) → (r == new.0) ≡ b → ((if b then made_here h past else in_use header h r past) && not (b && not (starts_copy past))) ≡ is_used header h r past
+    by_test : (b : Bool) → (r == new.0) ≡ b → ((if b then made_here h past else in_use header h r past) && not (b && not (starts_copy past))) ≡ is_used header h
+        r past
     by_test true is =
         let it : r ≡ new.0 = grind (arith, nat_tests) in
         let number = abroad.cause.1.0 in
@@ -123,23 +134,30 @@ used_abroad header outside h (event.Entered task address bytes entered offset pr
     by_test : (b : Bool) → (r == entered.0) ≡ b → (((not b || lives_on h task.0 past) && in_use header h r past) && true) ≡ is_used header h r past
     by_test true is =
         let it : r ≡ entered.0 = grind (arith, nat_tests) in
-        let none = entered_unused header h entered.0 task.0 bytes offset past sound abroad.cause.1 abroad.foreign (subst (λ (z : ℕ). named header ≤ z) it temporary) in
+        let none = entered_unused header h entered.0 task.0 bytes offset past sound abroad.cause.1 abroad.foreign
+        (subst (λ (z : ℕ). named header ≤ z) it temporary) in
         ap (λ z. (z && in_use header h r past) && true) abroad.foreign ∙ sym (ap (λ z. is_used header h z past) it ∙ none)
-    by_test false is = was_shut (in_use header h r past) r past (shut_before r (event.Entered task address bytes entered offset prot inherit) past abroad.enters is)
+    by_test false is =
+        was_shut (in_use header h r past) r past (shut_before r (event.Entered task address bytes entered offset prot inherit) past abroad.enters is)
 used_abroad header outside h (event.Removed task address bytes) past sound knows abroad r temporary =
-    kept_used header h r (event.Removed task address bytes) past abroad.enters refl (λ used. still_kept header h r (event.Removed task address bytes) past refl abroad.foreign (knows.held r temporary used))
+    kept_used header h r (event.Removed task address bytes) past abroad.enters refl
+    (λ used. still_kept header h r (event.Removed task address bytes) past refl abroad.foreign (knows.held r temporary used))
 used_abroad header outside h (event.TaskEnded task) past sound knows abroad r temporary =
-    kept_used header h r (event.TaskEnded task) past abroad.enters refl (λ used. still_kept header h r (event.TaskEnded task) past refl abroad.foreign (knows.held r temporary used))
+    kept_used header h r (event.TaskEnded task) past abroad.enters refl (λ used. still_kept header h r (event.TaskEnded task) past refl abroad.foreign
+    (knows.held r temporary used))
 used_abroad header outside h (event.Failed task object page) past sound knows abroad r temporary =
-    kept_used header h r (event.Failed task object page) past abroad.enters refl (λ used. still_kept header h r (event.Failed task object page) past refl abroad.foreign (knows.held r temporary used))
+    kept_used header h r (event.Failed task object page) past abroad.enters refl (λ used. still_kept header h r (event.Failed task object page) past refl
+    abroad.foreign (knows.held r temporary used))
 used_abroad header outside h other past sound knows abroad r temporary = was_shut (in_use header h r past) r past (shut_before r other past abroad.enters refl)
 
 -- what they are over
 
 -- a region of the host isn't one that is in use elsewhere alone
-not_elsewhere : (header : Header) (h r other : ℕ) (past : List Event) → IsRegionOf header h r past → named header ≤ r → in_use header h other past ≡ false → (r == other) ≡ false
+not_elsewhere : (header : Header) (h r other : ℕ) (past : List Event) → IsRegionOf header h r past → named header ≤ r → in_use header h other past ≡ false
+    → (r == other) ≡ false
 not_elsewhere header h r other past own temporary away =
-    unlike r other (λ same. let bad : true ≡ false = sym (use_of header h r past (own temporary)) ∙ (ap (λ z. in_use header h z past) same ∙ away) in absurd (cc))
+    unlike r other (λ same. let bad : true ≡ false = sym (use_of header h r past (own temporary))
+    ∙ (ap (λ z. in_use header h z past) same ∙ away) in absurd (cc))
 
 declared_or : (b : Bool) (n r : ℕ) → nat_lt r n ≡ b → (r < n) ⊎ (n ≤ r)
 declared_or true n r is = inl (grind (arith, nat_tests))
@@ -148,7 +166,8 @@ declared_or false n r is = inr (grind (arith, nat_tests))
 pub kind_of : (header : Header) (r : ℕ) → (r < named header) ⊎ (named header ≤ r)
 kind_of header r = declared_or (nat_lt r (named header)) (named header) r refl
 
-pub region_abroad : (header : Header) (outside : Outside) (h : ℕ) (e : Event) (past : List Event) → Sound header past → IsAbroad header outside h e past → (r : ℕ) → r < next_region header past → IsRegionOf header h r past
+pub region_abroad : (header : Header) (outside : Outside) (h : ℕ) (e : Event) (past : List Event) → Sound header past → IsAbroad header outside h e past
+    → (r : ℕ) → r < next_region header past → IsRegionOf header h r past
     → region_of header r (e ∷ past) ≡ region_of header r past
 region_abroad header outside h (event.RegionMade new object pages) past sound abroad r small own =
     let number = abroad.cause.1.0 in
@@ -170,7 +189,8 @@ region_abroad header outside h (event.Shadowed changed new old) past sound abroa
     rw away refl
 region_abroad header outside h other past sound abroad r small own = refl
 
-pub backing_abroad : (header : Header) (outside : Outside) (h : ℕ) (e : Event) (past : List Event) → IsAbroad header outside h e past → (o : ℕ) → o < next_object header past → backing_of header o (e ∷ past) ≡ backing_of header o past
+pub backing_abroad : (header : Header) (outside : Outside) (h : ℕ) (e : Event) (past : List Event) → IsAbroad header outside h e past → (o : ℕ)
+    → o < next_object header past → backing_of header o (e ∷ past) ≡ backing_of header o past
 backing_abroad header outside h (event.Shadowed changed new old) past abroad o small =
     let number = abroad.cause.1.next in
     let other : (o == new.0) ≡ false = unlike o new.0 (λ same. omega (arith, same, number, small)) in

@@ -63,7 +63,8 @@ one_home g h task past first second = go (host_of task past) first second
 
 -- a region in use was made
 
-made_next : (header : Header) (outside : Outside) (e : Event) (past : List Event) → Sound header past → HasCause header outside e past → (h r : ℕ) → named header ≤ r → in_use header h r (e ∷ past) ≡ true → r < next_region header (e ∷ past)
+made_next : (header : Header) (outside : Outside) (e : Event) (past : List Event) → Sound header past → HasCause header outside e past → (h r : ℕ)
+    → named header ≤ r → in_use header h r (e ∷ past) ≡ true → r < next_region header (e ∷ past)
 made_next header outside (event.RegionMade new object pages) past sound cause h r temporary used = by_test (r == new.0) refl used
   where
     by_test : (b : Bool) → (r == new.0) ≡ b → (if b then made_here h past else in_use header h r past) ≡ true → r < next_region header past + 1
@@ -86,35 +87,51 @@ made_next header outside other past sound cause h r temporary used = sound.made 
 
 -- on one host
 
-made_apart : (g h : ℕ) (past : List Event) → (made_here g past && not (not (starts_copy past))) ≡ true → (made_here h past && not (not (starts_copy past))) ≡ true → g ≡ h
-made_apart g h (event.BegunCopy task address bytes to ∷ past) one two = one_home g h task.0 past (both_left (lives_on g task.0 past) true one) (both_left (lives_on h task.0 past) true two)
+made_apart : (g h : ℕ) (past : List Event) → (made_here g past && not (not (starts_copy past))) ≡ true
+    → (made_here h past && not (not (starts_copy past))) ≡ true → g ≡ h
+made_apart g h (event.BegunCopy task address bytes to ∷ past) one two =
+    one_home g h task.0 past (both_left (lives_on g task.0 past) true one) (both_left (lives_on h task.0 past) true two)
 made_apart g h [] one two = absurd (let bad : false ≡ true = one in cc)
 made_apart g h (e ∷ past) one two = absurd (let bad : false ≡ true = one in cc)
 
 -- an event that makes no region, and enters this one on no host, leaves at most what was used
-was_used : (header : Header) (h r : ℕ) (e : Event) (past : List Event) → EntersNext e past → enters r e ≡ false → (in_use header h r past && true) ≡ true → is_used header h r past ≡ true
+was_used : (header : Header) (h r : ℕ) (e : Event) (past : List Event) → EntersNext e past → enters r e ≡ false → (in_use header h r past && true) ≡ true
+    → is_used header h r past ≡ true
 was_used header h r e past next other is = used_of header h r past (shut_before r e past next other) (both_left (in_use header h r past) true is)
 
-kept_used : (header : Header) (h r : ℕ) (kept : Bool) (e : Event) (past : List Event) → EntersNext e past → enters r e ≡ false → ((kept && in_use header h r past) && true) ≡ true → is_used header h r past ≡ true
-kept_used header h r kept e past next other is = used_of header h r past (shut_before r e past next other) (both_right kept (in_use header h r past) (both_left (kept && in_use header h r past) true is))
+kept_used : (header : Header) (h r : ℕ) (kept : Bool) (e : Event) (past : List Event) → EntersNext e past → enters r e ≡ false
+    → ((kept && in_use header h r past) && true) ≡ true → is_used header h r past ≡ true
+kept_used header h r kept e past next other is =
+    used_of header h r past (shut_before r e past next other) (both_right kept (in_use header h r past) (both_left (kept && in_use header h r past) true is))
 
 apart_next : (header : Header) (outside : Outside) (e : Event) (past : List Event) → Sound header past → HasCause header outside e past → EntersNext e past
     → (g h r : ℕ) → named header ≤ r → is_used header g r (e ∷ past) ≡ true → is_used header h r (e ∷ past) ≡ true → g ≡ h
 apart_next header outside (event.RegionMade new object pages) past sound cause next g h r temporary one two = by_test (r == new.0) one two
   where
-    by_test : (b : Bool) → ((if b then made_here g past else in_use header g r past) && not (b && not (starts_copy past))) ≡ true → ((if b then made_here h past else in_use header h r past) && not (b && not (starts_copy past))) ≡ true → g ≡ h
+    by_test : (b : Bool) → ((if b then made_here g past else in_use header g r past) && not (b && not (starts_copy past))) ≡ true
+        → ((if b then made_here h past else in_use header h r past) && not (b && not (starts_copy past))) ≡ true → g ≡ h
     by_test true one two = made_apart g h past one two
-    by_test false one two = sound.apart g h r temporary (was_used header g r (event.RegionMade new object pages) past next refl one) (was_used header h r (event.RegionMade new object pages) past next refl two)
+    by_test false one two =
+        sound.apart g h r temporary (was_used header g r (event.RegionMade new object pages) past next refl one)
+        (was_used header h r (event.RegionMade new object pages) past next refl two)
 apart_next header outside (event.RegionCopied new source offset pages) past sound cause next g h r temporary one two = by_test (r == new.0) one two
   where
-    by_test : (b : Bool) → ((if b then in_use header g source.0 past else in_use header g r past) && true) ≡ true → ((if b then in_use header h source.0 past else in_use header h r past) && true) ≡ true → g ≡ h
-    by_test true one two = sound.apart g h source.0 cause.1.temporary (was_used header g source.0 (event.RegionCopied new source offset pages) past next refl one) (was_used header h source.0 (event.RegionCopied new source offset pages) past next refl two)
-    by_test false one two = sound.apart g h r temporary (was_used header g r (event.RegionCopied new source offset pages) past next refl one) (was_used header h r (event.RegionCopied new source offset pages) past next refl two)
-apart_next header outside (event.Entered task address bytes entered offset prot inherit) past sound cause next g h r temporary one two = by_test (r == entered.0) refl one two
+    by_test : (b : Bool) → ((if b then in_use header g source.0 past else in_use header g r past) && true) ≡ true
+        → ((if b then in_use header h source.0 past else in_use header h r past) && true) ≡ true → g ≡ h
+    by_test true one two =
+        sound.apart g h source.0 cause.1.temporary (was_used header g source.0 (event.RegionCopied new source offset pages) past next refl one)
+        (was_used header h source.0 (event.RegionCopied new source offset pages) past next refl two)
+    by_test false one two =
+        sound.apart g h r temporary (was_used header g r (event.RegionCopied new source offset pages) past next refl one)
+        (was_used header h r (event.RegionCopied new source offset pages) past next refl two)
+apart_next header outside (event.Entered task address bytes entered offset prot inherit) past sound cause next g h r temporary one two =
+    by_test (r == entered.0) refl one two
   where
-    by_test : (b : Bool) → (r == entered.0) ≡ b → (((not b || lives_on g task.0 past) && in_use header g r past) && true) ≡ true → (((not b || lives_on h task.0 past) && in_use header h r past) && true) ≡ true → g ≡ h
+    by_test : (b : Bool) → (r == entered.0) ≡ b → (((not b || lives_on g task.0 past) && in_use header g r past) && true) ≡ true
+        → (((not b || lives_on h task.0 past) && in_use header h r past) && true) ≡ true → g ≡ h
     by_test true is one two =
-        one_home g h task.0 past (both_left (lives_on g task.0 past) (in_use header g r past) (both_left (lives_on g task.0 past && in_use header g r past) true one))
+        one_home g h task.0 past (both_left (lives_on g task.0 past) (in_use header g r past)
+        (both_left (lives_on g task.0 past && in_use header g r past) true one))
         (both_left (lives_on h task.0 past) (in_use header h r past) (both_left (lives_on h task.0 past && in_use header h r past) true two))
     by_test false is one two =
         let e : Event = event.Entered task address bytes entered offset prot inherit in
@@ -131,11 +148,13 @@ apart_next header outside (event.Failed task object page) past sound cause next 
     let e : Event = event.Failed task object page in
     let kept : Bool = is_kept header r (e ∷ past) in
     sound.apart g h r temporary (kept_used header g r kept e past next refl one) (kept_used header h r kept e past next refl two)
-apart_next header outside other past sound cause next g h r temporary one two = sound.apart g h r temporary (was_used header g r other past next refl one) (was_used header h r other past next refl two)
+apart_next header outside other past sound cause next g h r temporary one two =
+    sound.apart g h r temporary (was_used header g r other past next refl one) (was_used header h r other past next refl two)
 
 -- what is declared
 
-unmarked_next : (header : Header) (outside : Outside) (e : Event) (past : List Event) → Sound header past → HasCause header outside e past → (r : ℕ) → r < named header → (region_of header r (e ∷ past)).mark ≡ false
+unmarked_next : (header : Header) (outside : Outside) (e : Event) (past : List Event) → Sound header past → HasCause header outside e past → (r : ℕ)
+    → r < named header → (region_of header r (e ∷ past)).mark ≡ false
 unmarked_next header outside (event.RegionMade new object pages) past sound cause r declared =
     let number = cause.1.0 in
     let more = sound.named_regions in
@@ -156,11 +175,14 @@ unmarked_next header outside (event.Shadowed changed new old) past sound cause r
 unmarked_next header outside other past sound cause r declared = sound.unmarked r declared
 
 -- a region that gets a shadow is marked, so it is none of these
-pub no_shadow : (header : Header) (r changed : ℕ) (past : List Event) → Sound header past → r < named header → (region_of header changed past).mark ≡ true → (r == changed) ≡ false
+pub no_shadow : (header : Header) (r changed : ℕ) (past : List Event) → Sound header past → r < named header → (region_of header changed past).mark ≡ true
+    → (r == changed) ≡ false
 no_shadow header r changed past sound declared marked =
-    unlike r changed (λ same. let bad : false ≡ true = sym (sound.unmarked r declared) ∙ (ap (λ z. (region_of header z past).mark) same ∙ marked) in absurd (cc))
+    unlike r changed (λ same. let bad : false ≡ true = sym (sound.unmarked r declared)
+    ∙ (ap (λ z. (region_of header z past).mark) same ∙ marked) in absurd (cc))
 
-tops_next : (header : Header) (outside : Outside) (e : Event) (past : List Event) → Sound header past → HasCause header outside e past → (r : ℕ) → r < named header → (region_of header r (e ∷ past)).top ≡ r
+tops_next : (header : Header) (outside : Outside) (e : Event) (past : List Event) → Sound header past → HasCause header outside e past → (r : ℕ)
+    → r < named header → (region_of header r (e ∷ past)).top ≡ r
 tops_next header outside (event.RegionMade new object pages) past sound cause r declared =
     let number = cause.1.0 in
     let more = sound.named_regions in
@@ -176,7 +198,8 @@ tops_next header outside (event.Shadowed changed new old) past sound cause r dec
     rw other (sound.tops r declared)
 tops_next header outside other past sound cause r declared = sound.tops r declared
 
-bare_next : (header : Header) (outside : Outside) (e : Event) (past : List Event) → Sound header past → HasCause header outside e past → (o : ℕ) → o < named header → (backing_of header o (e ∷ past)).backed ≡ false
+bare_next : (header : Header) (outside : Outside) (e : Event) (past : List Event) → Sound header past → HasCause header outside e past → (o : ℕ)
+    → o < named header → (backing_of header o (e ∷ past)).backed ≡ false
 bare_next header outside (event.Shadowed changed new old) past sound cause o declared =
     let number = cause.1.next in
     let more = sound.named_objects in
@@ -196,7 +219,8 @@ objects_rise header (event.RegionMade new object pages) past = omega arith
 objects_rise header (event.Shadowed changed new old) past = omega arith
 objects_rise header other past = omega arith
 
-pub sound_next : (header : Header) (outside : Outside) (e : Event) (past : List Event) → Sound header past → HasCause header outside e past → EntersNext e past → Sound header (e ∷ past)
+pub sound_next : (header : Header) (outside : Outside) (e : Event) (past : List Event) → Sound header past → HasCause header outside e past → EntersNext e past
+    → Sound header (e ∷ past)
 sound_next header outside e past sound cause next = record {
   named_regions = let rise = regions_rise header e past in let was = sound.named_regions in omega (arith, rise, was);
   named_objects = let rise = objects_rise header e past in let was = sound.named_objects in omega (arith, rise, was);
@@ -221,6 +245,7 @@ sound_start header = record {
     made_first : (h r : ℕ) → named header ≤ r → is_file header r ≡ true → r < named header
     made_first h r temporary file = let less = both_left (nat_lt r (named header)) _ file in grind (arith, nat_tests)
 
-pub sound_of : (header : Header) (outside : Outside) (past : List Event) → EachEvent (HasCause header outside) past → EachEvent EntersNext past → Sound header past
+pub sound_of : (header : Header) (outside : Outside) (past : List Event) → EachEvent (HasCause header outside) past → EachEvent EntersNext past
+    → Sound header past
 sound_of header outside [] causes next = sound_start header
 sound_of header outside (e ∷ past) causes next = sound_next header outside e past (sound_of header outside past causes.1 next.1) causes.0 next.0

@@ -35,12 +35,20 @@ begins_not h task [] own is = refl
 begins_not h task (event.BegunCopy owner address bytes to ∷ past) own is = apart h task owner.0 past own is
 begins_not h task (e ∷ past) own is = refl
 
-pub task_abroad : (header : Header) (h : ℕ) (e : Event) (past : List Event) → is_home header h e past ≡ false → (task : ℕ) → lives_on h task past ≡ true → SameTask header.size task past (e ∷ past)
+pub task_abroad : (header : Header) (h : ℕ) (e : Event) (past : List Event) → is_home header h e past ≡ false → (task : ℕ) → lives_on h task past ≡ true
+    → SameTask header.size task past (e ∷ past)
 task_abroad header h (event.TaskMade made host) past is task own =
     let other = apart h task made.0 past own (no_or (host.0 == h) (lives_on h made.0 past) is) in
     record { host = rw other refl; entries = rw other refl; waiting = rw other refl; next = refl; begun = refl; target = refl }
 task_abroad header h (event.TaskEnded gone) past is task own =
-    let other = apart h task gone.0 past own is in record { host = rw other refl; entries = rw other refl; waiting = rw other refl; next = refl; begun = refl; target = refl }
+    let other = apart h task gone.0 past own is in record {
+      host = rw other refl;
+      entries = rw other refl;
+      waiting = rw other refl;
+      next = refl;
+      begun = refl;
+      target = refl;
+    }
 task_abroad header h (event.RegionMade region object pages) past is task own =
     let none = begins_not h task past own is in record { host = refl; entries = refl; waiting = refl; next = refl; begun = refl; target = rw none refl }
 task_abroad header h (event.Entered owner address bytes region offset prot inherit) past is task own =
@@ -52,11 +60,32 @@ task_abroad header h (event.Protected owner address bytes prot) past is task own
 task_abroad header h (event.Inherited owner address bytes inherit) past is task own =
     let other = apart h task owner.0 past own is in record { host = refl; entries = rw other refl; waiting = refl; next = refl; begun = refl; target = refl }
 task_abroad header h (event.BegunLoad owner address size) past is task own =
-    let other = apart h task owner.0 past own is in record { host = refl; entries = refl; waiting = rw other refl; next = refl; begun = rw other refl; target = refl }
+    let other = apart h task owner.0 past own is in record {
+      host = refl;
+      entries = refl;
+      waiting = rw other refl;
+      next = refl;
+      begun = rw other refl;
+      target = refl;
+    }
 task_abroad header h (event.BegunStore owner address size value) past is task own =
-    let other = apart h task owner.0 past own is in record { host = refl; entries = refl; waiting = rw other refl; next = refl; begun = rw other refl; target = refl }
+    let other = apart h task owner.0 past own is in record {
+      host = refl;
+      entries = refl;
+      waiting = rw other refl;
+      next = refl;
+      begun = rw other refl;
+      target = refl;
+    }
 task_abroad header h (event.BegunCopy owner address bytes to) past is task own =
-    let other = apart h task owner.0 past own is in record { host = refl; entries = refl; waiting = rw other refl; next = rw other refl; begun = rw other refl; target = rw other refl }
+    let other = apart h task owner.0 past own is in record {
+      host = refl;
+      entries = refl;
+      waiting = rw other refl;
+      next = rw other refl;
+      begun = rw other refl;
+      target = rw other refl;
+    }
 task_abroad header h (event.Loaded owner object page value) past is task own =
     let other = apart h task owner.0 past own is in record { host = refl; entries = refl; waiting = rw other refl; next = refl; begun = refl; target = refl }
 task_abroad header h (event.Stored owner object page at size value) past is task own =
@@ -71,7 +100,8 @@ task_abroad header h other past is task own = record { host = refl; entries = re
 
 -- who lives on the host
 
-made_lives : (h task : ℕ) (made : TaskId) (host : HostId) (past : List Event) (b : Bool) → (host.0 == h || lives_on h made.0 past) ≡ false → (made.0 == task) ≡ b
+made_lives : (h task : ℕ) (made : TaskId) (host : HostId) (past : List Event) (b : Bool) → (host.0 == h || lives_on h made.0 past) ≡ false
+    → (made.0 == task) ≡ b
     → is_on h (if b then Some host.0 else host_of task past) ≡ lives_on h task past
 made_lives h task made host past false is same = refl
 made_lives h task made host past true is same =
@@ -83,11 +113,13 @@ made_lives h task made host past true is same =
     first true b is = is
     first false b is = refl
 
-ended_lives : (h task : ℕ) (gone : TaskId) (past : List Event) (b : Bool) → lives_on h gone.0 past ≡ false → (gone.0 == task) ≡ b → is_on h (if b then None else host_of task past) ≡ lives_on h task past
+ended_lives : (h task : ℕ) (gone : TaskId) (past : List Event) (b : Bool) → lives_on h gone.0 past ≡ false → (gone.0 == task) ≡ b
+    → is_on h (if b then None else host_of task past) ≡ lives_on h task past
 ended_lives h task gone past false is same = refl
 ended_lives h task gone past true is same = let it : gone.0 ≡ task = grind (arith, nat_tests) in sym is ∙ ap (λ z. lives_on h z past) it
 
-pub lives_abroad : (header : Header) (h : ℕ) (e : Event) (past : List Event) → is_home header h e past ≡ false → (task : ℕ) → lives_on h task (e ∷ past) ≡ lives_on h task past
+pub lives_abroad : (header : Header) (h : ℕ) (e : Event) (past : List Event) → is_home header h e past ≡ false → (task : ℕ)
+    → lives_on h task (e ∷ past) ≡ lives_on h task past
 lives_abroad header h (event.TaskMade made host) past is task = made_lives h task made host past (made.0 == task) is refl
 lives_abroad header h (event.TaskEnded gone) past is task = ended_lives h task gone past (gone.0 == task) is refl
 lives_abroad header h other past is task = refl

@@ -41,7 +41,9 @@ entry r = record { address = 64; bytes = 16; region = region r; offset = 0; prot
 -- the events in front
 
 abbrev begun : List Event
-begun = event.BegunLoad (task 0) 64 1 ∷ event.Line 4 ∷ event.Entered (task 0) 64 16 (region 0) 0 all Copy ∷ event.RegionMade (region 0) (object 0) 1 ∷ event.Line 3 ∷ event.TaskMade (task 1) (host 1) ∷ event.Line 2 ∷ event.TaskMade (task 0) (host 0) ∷ event.Line 1 ∷ []
+begun =
+    event.BegunLoad (task 0) 64 1 ∷ event.Line 4 ∷ event.Entered (task 0) 64 16 (region 0) 0 all Copy ∷ event.RegionMade (region 0) (object 0) 1 ∷ event.Line 3
+    ∷ event.TaskMade (task 1) (host 1) ∷ event.Line 2 ∷ event.TaskMade (task 0) (host 0) ∷ event.Line 1 ∷ []
 
 zeros_below : Bottoms header 0 0 0 begun
 zeros_below = record {
@@ -62,7 +64,20 @@ begun_caused = (
   (
     (settling, tt),
     (
-      (settling, record { idle = refl; host = 0; lives = refl; whole = refl; inside = omega arith; made = omega arith; used = λ above. refl; file = λ is. refl; unfilled = refl }),
+      (
+        settling,
+        record {
+          idle = refl;
+          host = 0;
+          lives = refl;
+          whole = refl;
+          inside = omega arith;
+          made = omega arith;
+          used = λ above. refl;
+          file = λ is. refl;
+          unfilled = refl;
+        },
+      ),
       ((settling, (refl, refl)), ((settling, tt), ((settling, tt), ((settling, tt), ((settling, tt), ((settling, tt), tt)))))),
     ),
   ),
@@ -86,7 +101,19 @@ past_caused = (
 past_entered : EachEvent EntersNext past
 past_entered = (
   (λ r is. is),
-  ((λ r is. is), ((λ r is. is), ((λ r is. is), ((λ r is. both_left (r == 0) true is), ((λ r is. is), ((λ r is. is), ((λ r is. is), ((λ r is. is), ((λ r is. is), ((λ r is. is), tt)))))))))),
+  (
+    (λ r is. is),
+    (
+      (λ r is. is),
+      (
+        (λ r is. is),
+        (
+          (λ r is. both_left (r == 0) true is),
+          ((λ r is. is), ((λ r is. is), ((λ r is. is), ((λ r is. is), ((λ r is. is), ((λ r is. is), tt)))))),
+        ),
+      ),
+    ),
+  ),
 )
 
 pub sound : Sound header past
@@ -118,8 +145,12 @@ bare (suc n) u is = absurd (let bad : false ≡ true = is.0 in cc)
 pub knows : Knows header 0 past
 knows = record {
   held = λ r temporary used. subst (λ (z : ℕ). IsHeldOn header 0 z past) (none_made r temporary used) held_0;
-  entries = λ n lives. subst (λ (z : ℕ). AllRows (λ row. IsRegionOf header 0 row.region.0 past) (entries_of header.size z past)) (on_0 n lives) ((λ temporary. refl), tt);
-  chains = λ r small own. let first : 0 ≡ r = (let less : r < 1 = small in omega (arith, less)) in subst (λ (z : ℕ). IsMade header (region_of header z past).top past) first bare;
+  entries =
+      λ n lives. subst (λ (z : ℕ). AllRows (λ row. IsRegionOf header 0 row.region.0 past) (entries_of header.size z past)) (on_0 n lives)
+      ((λ temporary. refl), tt);
+  chains =
+      λ r small own. let first : 0 ≡ r = (let less : r < 1 = small in omega (arith, less)) in subst
+      (λ (z : ℕ). IsMade header (region_of header z past).top past) first bare;
 }
 
 -- what host 1 does, and its pager
@@ -130,11 +161,27 @@ abroad_0 e before = IsAbroad header outside 0 e before
 mapped_abroad : EachIn abroad_0 mapped past
 mapped_abroad = (
   record {
-    cause = (settling, record { idle = refl; host = 1; lives = refl; whole = refl; inside = omega arith; made = omega arith; used = λ above. refl; file = λ is. refl; unfilled = refl });
+    cause = (
+      settling,
+      record {
+        idle = refl;
+        host = 1;
+        lives = refl;
+        whole = refl;
+        inside = omega arith;
+        made = omega arith;
+        used = λ above. refl;
+        file = λ is. refl;
+        unfilled = refl;
+      },
+    );
     enters = λ r is. both_left (r == 1) true is;
     foreign = refl;
   },
-  (record { cause = (settling, (refl, refl)); enters = λ r is. is; foreign = refl }, (record { cause = (settling, tt); enters = λ r is. is; foreign = refl }, tt)),
+  (
+    record { cause = (settling, (refl, refl)); enters = λ r is. is; foreign = refl },
+    (record { cause = (settling, tt); enters = λ r is. is; foreign = refl }, tt),
+  ),
 )
 
 abbrev storing : List Event
@@ -172,7 +219,10 @@ stored_abroad = (
   },
   (
     record { cause = (settling, inr zeros_stored); enters = λ r is. is; foreign = refl },
-    (record { cause = (settling, refl); enters = λ r is. is; foreign = refl }, (record { cause = (settling, tt); enters = λ r is. is; foreign = refl }, mapped_abroad)),
+    (
+      record { cause = (settling, refl); enters = λ r is. is; foreign = refl },
+      (record { cause = (settling, tt); enters = λ r is. is; foreign = refl }, mapped_abroad),
+    ),
   ),
 )
 
@@ -195,7 +245,10 @@ returns = record {
 paged_out_abroad : EachIn abroad_0 paged_out past
 paged_out_abroad = (
   record { cause = (paging_out, returns); enters = λ r is. is; foreign = refl },
-  (record { cause = (paging_out, creates); enters = λ r is. is; foreign = refl }, (record { cause = (paging_out, tt); enters = λ r is. is; foreign = refl }, stored_abroad)),
+  (
+    record { cause = (paging_out, creates); enters = λ r is. is; foreign = refl },
+    (record { cause = (paging_out, tt); enters = λ r is. is; foreign = refl }, stored_abroad),
+  ),
 )
 
 pub others_abroad : EachIn (IsAbroad header outside 0) others past

@@ -43,19 +43,28 @@ module _ (header : Header) (h : ℕ) (old new : List Event) (sound : Sound heade
 
   sight_now : (o p : ℕ) → sight header h o p new ≡ sight header h o p old
   sight_now o p =
-      ap (λ z. let seen : Sight = record { page = z; may_have = is_some (live_control h o new) && not (is_known_absent header (record { object = o; page = p }) z) } in seen) (page_now o p)
-      ∙ ap (λ z. let seen : Sight = record { page = page_on header h o p old; may_have = is_some z && not (is_known_absent header (record { object = o; page = p }) (page_on header h o p old)) } in seen) (same.pages.live o)
+      ap (λ z. let seen : Sight = record {
+        page = z;
+        may_have = is_some (live_control h o new) && not
+            (is_known_absent header (record { object = o; page = p }) z);
+      } in seen) (page_now o p)
+      ∙ ap (λ z. let seen : Sight = record {
+        page = page_on header h o p old;
+        may_have = is_some z && not (is_known_absent header (record { object = o; page = p }) (page_on header h o p old));
+      } in seen) (same.pages.live o)
 
   region_now : (r : ℕ) → IsRegionOf header h r old → region_of header r new ≡ region_of header r old
   region_now r own = same.region r (small_region header h r old sound own) own
 
-  top_now : (r page top top_page : ℕ) → IsRegionOf header h r old → IsTop (region_of header r old) page top top_page → IsTop (region_of header r new) page top top_page
+  top_now : (r page top top_page : ℕ) → IsRegionOf header h r old → IsTop (region_of header r old) page top top_page
+      → IsTop (region_of header r new) page top top_page
   top_now r page top top_page own is = subst (λ (z : Region). IsTop z page top top_page) (sym (region_now r own)) is
 
   made_top : (r page top top_page : ℕ) → IsRegionOf header h r old → IsTop (region_of header r old) page top top_page → IsMade header top old
   made_top r page top top_page own is = subst (λ (z : ℕ). IsMade header z old) is.object (knows.chains r (small_region header h r old sound own) own)
 
-  place_now : (r page object object_page : ℕ) → IsRegionOf header h r old → HasPlace header r page object object_page old → HasPlace header r page object object_page new
+  place_now : (r page object object_page : ℕ) → IsRegionOf header h r old → HasPlace header r page object object_page old
+      → HasPlace header r page object object_page new
   place_now r page object object_page own is = record {
     top = is.top;
     top_page = is.top_page;
@@ -65,16 +74,21 @@ module _ (header : Header) (h : ℕ) (old new : List Event) (sound : Sound heade
   }
 
   walks_now : (r page top top_page n object object_page : ℕ) → IsRegionOf header h r old → IsTop (region_of header r old) page top top_page
-      → Walks (λ k q. sight header h k q old) (λ k. backing_of header k old) n top top_page object object_page → Walks (λ k q. sight header h k q new) (λ k. backing_of header k new) n top top_page object object_page
+      → Walks (λ k q. sight header h k q old) (λ k. backing_of header k old) n top top_page object object_page
+      → Walks (λ k q. sight header h k q new) (λ k. backing_of header k new) n top top_page object object_page
   walks_now r page top top_page n object object_page own is_top walks =
-      walks_is header old new same.backing (λ k q. sight header h k q old) (λ k q. sight header h k q new) sight_now n top top_page object object_page (made_top r page top top_page own is_top) walks
+      walks_is header old new same.backing (λ k q. sight header h k q old) (λ k q. sight header h k q new) sight_now n top top_page object object_page
+      (made_top r page top top_page own is_top) walks
 
   sinks_now : (r page top top_page n : ℕ) → IsRegionOf header h r old → IsTop (region_of header r old) page top top_page
-      → Sinks (λ k q. sight header h k q old) (λ k. backing_of header k old) n top top_page → Sinks (λ k q. sight header h k q new) (λ k. backing_of header k new) n top top_page
+      → Sinks (λ k q. sight header h k q old) (λ k. backing_of header k old) n top top_page
+      → Sinks (λ k q. sight header h k q new) (λ k. backing_of header k new) n top top_page
   sinks_now r page top top_page n own is_top sinks =
-      sinks_is header old new same.backing (λ k q. sight header h k q old) (λ k q. sight header h k q new) sight_now n top top_page (made_top r page top top_page own is_top) sinks
+      sinks_is header old new same.backing (λ k q. sight header h k q old) (λ k q. sight header h k q new) sight_now n top top_page
+      (made_top r page top top_page own is_top) sinks
 
-  comes_now : (r page object object_page : ℕ) → IsRegionOf header h r old → Comes header h r page object object_page old → Comes header h r page object object_page new
+  comes_now : (r page object object_page : ℕ) → IsRegionOf header h r old → Comes header h r page object object_page old
+      → Comes header h r page object object_page new
   comes_now r page object object_page own is = record {
     top = is.top;
     top_page = is.top_page;
@@ -94,7 +108,9 @@ module _ (header : Header) (h : ℕ) (old new : List Event) (sound : Sound heade
           host = w.at.host;
           entry = w.at.entry;
           lives = it.host ∙ w.at.lives;
-          found = ap (λ z. entry_at (address_of header.size z access) (entries_of header.size task new)) it.next ∙ (ap (entry_at (address_of header.size (next_page task old) access)) it.entries ∙ w.at.found);
+          found =
+              ap (λ z. entry_at (address_of header.size z access) (entries_of header.size task new)) it.next
+              ∙ (ap (entry_at (address_of header.size (next_page task old) access)) it.entries ∙ w.at.found);
         };
         left = subst (λ (z : ℕ). HasPageLeft header.size access z) (sym it.next) w.left;
       }
@@ -108,7 +124,9 @@ module _ (header : Header) (h : ℕ) (old new : List Event) (sound : Sound heade
           host = w.at.host;
           entry = w.at.entry;
           lives = sym it.host ∙ w.at.lives;
-          found = ap (entry_at (address_of header.size (next_page task old) access)) (sym it.entries) ∙ (ap (λ z. entry_at (address_of header.size z access) (entries_of header.size task new)) (sym it.next) ∙ w.at.found);
+          found =
+              ap (entry_at (address_of header.size (next_page task old) access)) (sym it.entries)
+              ∙ (ap (λ z. entry_at (address_of header.size z access) (entries_of header.size task new)) (sym it.next) ∙ w.at.found);
         };
         left = subst (λ (z : ℕ). HasPageLeft header.size access z) it.next w.left;
       }
@@ -121,28 +139,37 @@ module _ (header : Header) (h : ℕ) (old new : List Event) (sound : Sound heade
 
   own_region : (task : ℕ) (access : Access) (w : Waits header task access old) → w.at.host ≡ h → IsRegionOf header h w.at.entry.region.0 old
   own_region task access w on =
-      (found_row (λ row. IsRegionOf header h row.region.0 old) (address_of header.size (next_page task old) access) (entries_of header.size task old) w.at.entry (knows.entries task (lives_at h task old _ w.at.host w.at.lives on)) w.at.found).is
+      (found_row (λ row. IsRegionOf header h row.region.0 old) (address_of header.size (next_page task old) access) (entries_of header.size task old) w.at.entry
+      (knows.entries task (lives_at h task old _ w.at.host w.at.lives on)) w.at.found).is
 
-  index_now : (task : ℕ) (access : Access) (w : Waits header task access old) → w.at.host ≡ h → (entry : Entry) → page_of header task access old entry ≡ page_of header task access new entry
-  index_now task access w on entry = ap (λ z. page_at header.size (address_of header.size z access) entry) (sym (same.task task (lives_at h task old _ w.at.host w.at.lives on)).next)
+  index_now : (task : ℕ) (access : Access) (w : Waits header task access old) → w.at.host ≡ h → (entry : Entry)
+      → page_of header task access old entry ≡ page_of header task access new entry
+  index_now task access w on entry =
+      ap (λ z. page_at header.size (address_of header.size z access) entry) (sym (same.task task (lives_at h task old _ w.at.host w.at.lives on)).next)
 
-  wants_now : (task : ℕ) (access : Access) (r page : ℕ) → IsRegionOf header h r old → WantsFrame header h task access r page old → WantsFrame header h task access r page new
-  wants_now task access r page own (Nowhere top top_page steps is sinks) = Nowhere top top_page steps (top_now r page top top_page own is) (sinks_now r page top top_page steps own is sinks)
+  wants_now : (task : ℕ) (access : Access) (r page : ℕ) → IsRegionOf header h r old → WantsFrame header h task access r page old
+      → WantsFrame header h task access r page new
+  wants_now task access r page own (Nowhere top top_page steps is sinks) =
+      Nowhere top top_page steps (top_now r page top top_page own is) (sinks_now r page top top_page steps own is sinks)
   wants_now task access r page own (Elsewhere object object_page comes away unasked may ready) =
-      Elsewhere object object_page (comes_now r page object object_page own comes) (ap (λ z. z.here) (page_now object object_page) ∙ away) (ap (λ z. z.asked) (page_now object object_page) ∙ unasked)
+      Elsewhere object object_page (comes_now r page object object_page own comes) (ap (λ z. z.here) (page_now object object_page) ∙ away)
+      (ap (λ z. z.asked) (page_now object object_page) ∙ unasked)
       (ap (λ z. z.may_have) (sight_now object object_page) ∙ may) (same.pages.ready object ∙ ready)
   wants_now task access r page own (Copies object object_page comes here address bytes to is) =
       Copies object object_page (comes_now r page object object_page own comes) (ap (λ z. z.here) (page_now object object_page) ∙ here) address bytes to is
   wants_now task access r page own (Raises top top_page steps object object_page is walks here store) =
-      Raises top top_page steps object object_page (top_now r page top top_page own is) (walks_now r page top top_page (suc steps) object object_page own is walks) (ap (λ z. z.here) (page_now object object_page) ∙ here) store
+      Raises top top_page steps object object_page (top_now r page top top_page own is)
+      (walks_now r page top top_page (suc steps) object object_page own is walks) (ap (λ z. z.here) (page_now object object_page) ∙ here) store
 
   awaits_now : (store : Bool) (object page : ℕ) → Awaits header h store object page old → Awaits header h store object page new
   awaits_now store object page (AnAnswer asked) = AnAnswer (ap (λ z. z.asked) (page_now object page) ∙ asked)
   awaits_now store object page (AReady control live unready) = AReady control (same.pages.live object ∙ live) (same.pages.ready object ∙ unready)
   awaits_now store object page (AnUnlock here named unlocking) =
-      AnUnlock (ap (λ z. z.here) (page_now object page) ∙ here) (ap (λ z. names z.lock store) (page_now object page) ∙ named) (ap (λ z. z.unlocking) (page_now object page) ∙ unlocking)
+      AnUnlock (ap (λ z. z.here) (page_now object page) ∙ here) (ap (λ z. names z.lock store) (page_now object page) ∙ named)
+      (ap (λ z. z.unlocking) (page_now object page) ∙ unlocking)
 
-  place_of_wait : (task : ℕ) (access : Access) (w : Waits header task access old) → w.at.host ≡ h → (object page : ℕ) → HasPlace header w.at.entry.region.0 (page_of header task access old w.at.entry) object page old
+  place_of_wait : (task : ℕ) (access : Access) (w : Waits header task access old) → w.at.host ≡ h → (object page : ℕ)
+      → HasPlace header w.at.entry.region.0 (page_of header task access old w.at.entry) object page old
       → HasPlace header w.at.entry.region.0 (page_of header task access new w.at.entry) object page new
   place_of_wait task access w on object page is =
       subst (λ (z : ℕ). HasPlace header w.at.entry.region.0 z object page new) (index_now task access w on w.at.entry)
@@ -181,8 +208,12 @@ module _ (header : Header) (h : ℕ) (old new : List Event) (sound : Sound heade
         access = is.access;
         waits = waits_now is.task is.access is.waits is.on_host;
         on_host = is.on_host;
-        comes = subst (λ (z : ℕ). Comes header h is.waits.at.entry.region.0 z object page new) index (comes_now is.waits.at.entry.region.0 (page_of header is.task is.access old is.waits.at.entry) object page own is.comes);
-        wants = subst (λ (z : ℕ). WantsFrame header h is.task is.access is.waits.at.entry.region.0 z new) index (wants_now is.task is.access is.waits.at.entry.region.0 (page_of header is.task is.access old is.waits.at.entry) own is.wants);
+        comes =
+            subst (λ (z : ℕ). Comes header h is.waits.at.entry.region.0 z object page new) index
+            (comes_now is.waits.at.entry.region.0 (page_of header is.task is.access old is.waits.at.entry) object page own is.comes);
+        wants =
+            subst (λ (z : ℕ). WantsFrame header h is.task is.access is.waits.at.entry.region.0 z new) index
+            (wants_now is.task is.access is.waits.at.entry.region.0 (page_of header is.task is.access old is.waits.at.entry) own is.wants);
       }
 
   here_was : (o p : ℕ) → (page_on header h o p new).here ≡ true → (page_on header h o p old).here ≡ true
@@ -201,7 +232,8 @@ module _ (header : Header) (h : ℕ) (old new : List Event) (sound : Sound heade
   }
 
   pub vain_now : NoneInVain header h old → NoneInVain header h new
-  vain_now none task access waits on = elim (none task access (waits_was task access waits on) on) [ inl pager ↦ inl (for_pager_now task access pager) | inr full ↦ inr (full_now full) ]
+  vain_now none task access waits on =
+      elim (none task access (waits_was task access waits on) on) [ inl pager ↦ inl (for_pager_now task access pager) | inr full ↦ inr (full_now full) ]
 
   -- what is left of temporary objects
 
@@ -211,7 +243,8 @@ module _ (header : Header) (h : ℕ) (old new : List Event) (sound : Sound heade
 
   reach_now : ((r : ℕ) → is_open r old ≡ false) → (object : ℕ) → named header ≤ object → Reach header h object old → Reach header h object new
   reach_now shut object temporary reach = elim (kind_of header reach.0) [
-    | inl declared ↦ absurd (reach_declared reach.0 reach.1 object declared temporary (subst (λ (z : ℕ). Below (λ o. backing_of header o old) reach.1 z object) (sound.tops reach.0 declared) reach.3))
+    | inl declared ↦ absurd (reach_declared reach.0 reach.1 object declared temporary
+        (subst (λ (z : ℕ). Below (λ o. backing_of header o old) reach.1 z object) (sound.tops reach.0 declared) reach.3))
     | inr ours ↦
         let used : is_used header h reach.0 old ≡ true = used_of header h reach.0 old (shut reach.0) reach.2 in
         let own : IsRegionOf header h reach.0 old = λ is. used in (
@@ -219,7 +252,8 @@ module _ (header : Header) (h : ℕ) (old new : List Event) (sound : Sound heade
           reach.1,
           use_of header h reach.0 new (same.used reach.0 ours ∙ used),
           subst (λ (z : Region). Below (λ o. backing_of header o new) reach.1 z.top object) (sym (region_now reach.0 own))
-              (below_is header old new same.backing reach.1 (region_of header reach.0 old).top object (knows.chains reach.0 (small_region header h reach.0 old sound own) own) reach.3),
+              (below_is header old new same.backing reach.1 (region_of header reach.0 old).top object
+              (knows.chains reach.0 (small_region header h reach.0 old sound own) own) reach.3),
         )
   ]
 
@@ -230,7 +264,9 @@ module _ (header : Header) (h : ℕ) (old new : List Event) (sound : Sound heade
 
   pub swept_now : ((r : ℕ) → is_open r old ≡ false) → IsSwept header h old → IsSwept header h new
   swept_now shut is = record {
-    pages = λ object page temporary away. ap (λ z. z.here) (page_now object page) ∙ is.pages object page temporary (λ reach. away (reach_now shut object temporary reach));
+    pages =
+        λ object page temporary away. ap (λ z. z.here) (page_now object page)
+        ∙ is.pages object page temporary (λ reach. away (reach_now shut object temporary reach));
     controls = λ object temporary away. same.pages.live object ∙ is.controls object temporary (λ reach. away (reach_now shut object temporary reach));
     declared_pages = λ object page declared none. ap (λ z. z.here) (page_now object page) ∙ is.declared_pages object page declared (unheld_was object none);
     declared_controls = λ object declared none. same.pages.live object ∙ is.declared_controls object declared (unheld_was object none);

@@ -33,7 +33,8 @@ one_copy g h (event.BegunCopy task address bytes to ∷ past) one two = one_task
 one_copy g h [] one two = absurd (let bad : false ≡ true = one in cc)
 one_copy g h (e ∷ past) one two = absurd (let bad : false ≡ true = one in cc)
 
-pub own_of_home : (header : Header) (outside : Outside) (g : ℕ) (e : Event) (past : List Event) → Sound header past → HasCause header outside e past → EntersNext e past → IsNewTask e past → is_home header g e past ≡ true → IsOnlyOfHost header g e past
+pub own_of_home : (header : Header) (outside : Outside) (g : ℕ) (e : Event) (past : List Event) → Sound header past → HasCause header outside e past
+    → EntersNext e past → IsNewTask e past → is_home header g e past ≡ true → IsOnlyOfHost header g e past
 own_of_home header outside g (event.TaskMade task host) past sound cause next new home h there =
     let none : (k : ℕ) → lives_on k task.0 past ≡ false = λ k. ap (is_on k) new in
     one_number host.0 g h (first_of (host.0 == g) (lives_on g task.0 past) (none g) home) (first_of (host.0 == h) (lives_on h task.0 past) (none h) there)
@@ -42,7 +43,8 @@ own_of_home header outside g (event.RegionMade region object pages) past sound c
 own_of_home header outside g (event.RegionCopied region source offset pages) past sound cause next new home h there =
     let shut = shut_before source.0 (event.RegionCopied region source offset pages) past next refl in
     sound.apart h g source.0 cause.1.temporary (used_of header h source.0 past shut there) (used_of header g source.0 past shut home)
-own_of_home header outside g (event.Entered task address bytes region offset prot inherit) past sound cause next new home h there = one_task g h task.0 past home there
+own_of_home header outside g (event.Entered task address bytes region offset prot inherit) past sound cause next new home h there =
+    one_task g h task.0 past home there
 own_of_home header outside g (event.Removed task address bytes) past sound cause next new home h there = one_task g h task.0 past home there
 own_of_home header outside g (event.Protected task address bytes prot) past sound cause next new home h there = one_task g h task.0 past home there
 own_of_home header outside g (event.Inherited task address bytes inherit) past sound cause next new home h there = one_task g h task.0 past home there
@@ -56,7 +58,8 @@ own_of_home header outside g (event.CopyEnded task) past sound cause next new ho
 own_of_home header outside g (event.Failed task object page) past sound cause next new home h there = one_task g h task.0 past home there
 own_of_home header outside g (event.Sent (Up host object) m) past sound cause next new home h there = one_number host.0 g h home there
 own_of_home header outside g (event.Sent (Down host object control) m) past sound cause next new home h there = absurd (let bad : false ≡ true = home in cc)
-own_of_home header outside g (event.Taken (Up host object) m) past sound cause next new home h there = one_number host.0 g h (both_left (host.0 == g) (gives_frame m) home) (both_left (host.0 == h) (gives_frame m) there)
+own_of_home header outside g (event.Taken (Up host object) m) past sound cause next new home h there =
+    one_number host.0 g h (both_left (host.0 == g) (gives_frame m) home) (both_left (host.0 == h) (gives_frame m) there)
 own_of_home header outside g (event.Taken (Down host object control) m) past sound cause next new home h there = one_number host.0 g h home there
 own_of_home header outside g (event.Dropped host object page) past sound cause next new home h there = one_number host.0 g h home there
 own_of_home header outside g (event.Zeroed host object page) past sound cause next new home h there = one_number host.0 g h home there
@@ -77,7 +80,10 @@ foreign_of_own header g h e past own apart = by_test (is_home header h e past) r
     by_test false is = refl
     by_test true is = absurd (apart (own h is))
 
-pub abroad_of_own : (header : Header) (outside : Outside) (g h : ℕ) (events past : List Event) → h ≢ g → EachIn (IsOfHost header outside g) events past → EachIn (IsAbroad header outside h) events past
+pub abroad_of_own : (header : Header) (outside : Outside) (g h : ℕ) (events past : List Event) → h ≢ g → EachIn (IsOfHost header outside g) events past
+    → EachIn (IsAbroad header outside h) events past
 abroad_of_own header outside g h [] past apart each = tt
-abroad_of_own header outside g h (e ∷ events) past apart each =
-    (record { cause = each.0.cause; enters = each.0.enters; foreign = foreign_of_own header g h e (events ++ past) each.0.own apart }, abroad_of_own header outside g h events past apart each.1)
+abroad_of_own header outside g h (e ∷ events) past apart each = (
+  record { cause = each.0.cause; enters = each.0.enters; foreign = foreign_of_own header g h e (events ++ past) each.0.own apart },
+  abroad_of_own header outside g h events past apart each.1,
+)

@@ -1,4 +1,5 @@
--- On which host a region is, and an object: a region on that of the task that first got an entry on it, or that fills it by a slow copy; an object on that of the region that it was made for.
+-- On which host a region is, and an object: a region on that of the task that first got an entry on it, or that fills it by a slow copy; an object on that of
+-- the region that it was made for.
 use Rattle.std.specs.Prelude.{ℕ, ◌≡◌, ◌≤◌, ◌<◌, ◌⊎◌, ◌==◌, true, false, List, [], ◌∷◌, Option, Some, None, if◌then◌else◌}
 use Rattle.vm_model.specs.declared.event.Event.{Event}
 use Rattle.vm_model.specs.declared.event.Event.TheVariants as event
@@ -23,7 +24,8 @@ copying_host other = None
 abbrev pub home_of : ℕ → List Event → Option ℕ
 home_of r [] = None
 home_of r (event.RegionMade region object pages ∷ past) = if region.0 == r then first_of (home_of r past) (copying_host past) else home_of r past
-home_of r (event.Entered task address bytes region offset prot inherit ∷ past) = if region.0 == r then first_of (home_of r past) (host_of task.0 past) else home_of r past
+home_of r (event.Entered task address bytes region offset prot inherit ∷ past) =
+    if region.0 == r then first_of (home_of r past) (host_of task.0 past) else home_of r past
 home_of r (e ∷ past) = home_of r past
 
 -- the region that an object was made for; None where it wasn't made
@@ -41,8 +43,8 @@ home_at (Some r) past = home_of r past
 abbrev pub object_home : ℕ → List Event → Option ℕ
 object_home o past = home_at (region_for o past) past
 
--- No region has a home that wasn't made, and no object has a region; and a region that has a home is in use nowhere else. A file's region is in use everywhere until
--- it has a home, and then there. The declared regions and objects are as they were declared, and no slow copy fills one.
+-- No region has a home that wasn't made, and no object has a region; and a region that has a home is in use nowhere else. A file's region is in use everywhere
+-- until it has a home, and then there. The declared regions and objects are as they were declared, and no slow copy fills one.
 pub record HaveHomes (header : Header) (past : List Event) : Type 0 where
   pub regions : (r : ℕ) → next_region header past ≤ r → home_of r past ≡ None
   pub objects : (o : ℕ) → next_object header past ≤ o → region_for o past ≡ None

@@ -16,10 +16,12 @@ own_effect place others live (event.Raised at lower lower_page upper upper_page)
     if is_place place upper.0 upper_page.0 then Raises (others (record { object = lower.0; page = lower_page.0 })).bytes else Elsewhere
 own_effect place others live (event.CopiedPage task page object object_page target) =
     if is_place place target.0 page.0 then Raises (others (record { object = object.0; page = object_page.0 })).bytes else Elsewhere
-own_effect place others live (event.Stored task object page at size value) = if is_place place object.0 page.0 then Stores at (little_endian_bytes size value) else Elsewhere
+own_effect place others live (event.Stored task object page at size value) =
+    if is_place place object.0 page.0 then Stores at (little_endian_bytes size value) else Elsewhere
 own_effect place others live (event.Dropped at object page) = if is_place place object.0 page.0 then Drops else Elsewhere
 own_effect place others live (event.Sent (Up at object) m) = if object.0 == place.object then sent_effect place.page live m else Elsewhere
-own_effect place others live (event.Taken (Down at object control) m) = if object.0 == place.object && is_control control live then taken_effect place.page m else Elsewhere
+own_effect place others live (event.Taken (Down at object control) m) =
+    if object.0 == place.object && is_control control live then taken_effect place.page m else Elsewhere
 own_effect place others live other = Elsewhere
 
 -- to its frames; whether its live control of an object has asked for a page comes in as a function

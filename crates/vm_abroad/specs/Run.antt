@@ -67,7 +67,9 @@ bytes = 9 ∷ 0 ∷ 0 ∷ 0 ∷ 0 ∷ 0 ∷ 0 ∷ 0 ∷ 0 ∷ 0 ∷ 0 ∷ 0 ∷ 
 
 -- its host pages out
 abbrev pub paged_out : List Event
-paged_out = event.Sent (Up (host 1) (object 1)) (message.Return 1 page true false bytes) ∷ event.Sent (Up (host 1) (object 1)) (message.Create 1 16) ∷ event.Line 7 ∷ stored
+paged_out =
+    event.Sent (Up (host 1) (object 1)) (message.Return 1 page true false bytes) ∷ event.Sent (Up (host 1) (object 1)) (message.Create 1 16) ∷ event.Line 7 ∷
+    stored
 
 -- and the pager hears of the object
 abbrev pub others : List Event

@@ -30,45 +30,64 @@ ghost use Rattle.vm_abroad.specs.Whose.{IsNewTask, IsOfHost, IsShut};
 /// are nothing to it; and so it goes on.
 #[tactic(auto, using(crate::proofs::Facts::stays))]
 pub fn others_are_nothing()
-    ensures { (header : Header) (outside : Outside) (h : ℕ) (events past : List Event) → Sound header past → Knows header h past → EachIn (IsAbroad header outside h) events past → SameForHost header h past (events ++ past) }
+    ensures { (header : Header) (outside : Outside) (h : ℕ) (events past : List Event) → Sound header past → Knows header h past
+        → EachIn (IsAbroad header outside h) events past → SameForHost header h past (events ++ past) }
 {}
 
 /// Whoever waits on a host waits as before, with an entry that leads to its page, and for the same; its
 /// frames are as short as before, and nothing more is left behind.
 #[tactic(auto, using(crate::proofs::Waits::leads_now, crate::proofs::Waits::swept_now))]
 pub fn who_waits_waits_as_before()
-    ensures leads { (header : Header) (h : ℕ) (old new : List Event) → Sound header old → Knows header h old → SameFacts header h old new → EachLeads header h old → EachLeads header h new }
-    ensures full { (header : Header) (h : ℕ) (old new : List Event) → Sound header old → Knows header h old → SameFacts header h old new → HostIsFull header h old → HostIsFull header h new }
-    ensures vain { (header : Header) (h : ℕ) (old new : List Event) → Sound header old → Knows header h old → SameFacts header h old new → NoneInVain header h old → NoneInVain header h new }
-    ensures swept { (header : Header) (h : ℕ) (old new : List Event) → Sound header old → Knows header h old → SameFacts header h old new → IsShut old → IsSwept header h old → IsSwept header h new }
+    ensures leads { (header : Header) (h : ℕ) (old new : List Event) → Sound header old → Knows header h old → SameFacts header h old new
+        → EachLeads header h old → EachLeads header h new }
+    ensures full { (header : Header) (h : ℕ) (old new : List Event) → Sound header old → Knows header h old → SameFacts header h old new
+        → HostIsFull header h old → HostIsFull header h new }
+    ensures vain { (header : Header) (h : ℕ) (old new : List Event) → Sound header old → Knows header h old → SameFacts header h old new
+        → NoneInVain header h old → NoneInVain header h new }
+    ensures swept { (header : Header) (h : ℕ) (old new : List Event) → Sound header old → Knows header h old → SameFacts header h old new → IsShut old
+        → IsSwept header h old → IsSwept header h new }
 {}
 
 /// What a host's own event does to the host's pages, controls and frames: nothing is asked of numbers of hosts.
 #[tactic(auto, using(crate::proofs::Own::local_own, crate::proofs::Own::live_own, crate::proofs::Own::last_own, crate::proofs::Own::ready_own, crate::proofs::Own::held_own, crate::proofs::Own::wired_own, crate::proofs::Own::out_own))]
 pub fn own_events_move_their_host()
-    ensures local { (header : Header) (h : ℕ) (e : Event) (past : List Event) → is_home header h e past ≡ true → (place : Place) → local header.size h place (e ∷ past) ≡ local_after header.size (own_effect place (λ source. local header.size h source past) (live_control h place.object past) e) (local header.size h place past) }
-    ensures live { (header : Header) (h : ℕ) (e : Event) (past : List Event) → is_home header h e past ≡ true → (o : ℕ) → live_control h o (e ∷ past) ≡ own_live o e (live_control h o past) }
-    ensures last { (header : Header) (h : ℕ) (e : Event) (past : List Event) → is_home header h e past ≡ true → (o : ℕ) → last_control h o (e ∷ past) ≡ own_last o e (last_control h o past) }
-    ensures ready { (header : Header) (h : ℕ) (e : Event) (past : List Event) → is_home header h e past ≡ true → (o : ℕ) → is_ready h o (e ∷ past) ≡ own_ready o (live_control h o past) e (is_ready h o past) }
-    ensures held { (header : Header) (h : ℕ) (e : Event) (past : List Event) → is_home header h e past ≡ true → frames_held header.size h (e ∷ past) ≡ frames_after (own_change (λ o control page. is_control control (live_control h o past) && (local header.size h (record { object = o; page = page }) past).asked) e) (frames_held header.size h past) }
-    ensures wired { (header : Header) (h : ℕ) (e : Event) (past : List Event) → is_home header h e past ≡ true → frames_wired h (e ∷ past) ≡ own_wired e (frames_wired h past) }
-    ensures out { (header : Header) (h : ℕ) (e : Event) (past : List Event) → is_home header h e past ≡ true → returns_out h (e ∷ past) ≡ own_out e (returns_out h past) }
+    ensures local { (header : Header) (h : ℕ) (e : Event) (past : List Event) → is_home header h e past ≡ true → (place : Place)
+        → local header.size h place (e ∷ past) ≡ local_after header.size (own_effect place (λ source. local header.size h source past)
+        (live_control h place.object past) e) (local header.size h place past) }
+    ensures live { (header : Header) (h : ℕ) (e : Event) (past : List Event) → is_home header h e past ≡ true → (o : ℕ)
+        → live_control h o (e ∷ past) ≡ own_live o e (live_control h o past) }
+    ensures last { (header : Header) (h : ℕ) (e : Event) (past : List Event) → is_home header h e past ≡ true → (o : ℕ)
+        → last_control h o (e ∷ past) ≡ own_last o e (last_control h o past) }
+    ensures ready { (header : Header) (h : ℕ) (e : Event) (past : List Event) → is_home header h e past ≡ true → (o : ℕ)
+        → is_ready h o (e ∷ past) ≡ own_ready o (live_control h o past) e (is_ready h o past) }
+    ensures held { (header : Header) (h : ℕ) (e : Event) (past : List Event) → is_home header h e past ≡ true
+        → frames_held header.size h (e ∷ past) ≡ frames_after (own_change (λ o control page. is_control control (live_control h o past) &&
+        (local header.size h (record { object = o; page = page }) past).asked) e) (frames_held header.size h past) }
+    ensures wired { (header : Header) (h : ℕ) (e : Event) (past : List Event)
+        → is_home header h e past ≡ true → frames_wired h (e ∷ past) ≡ own_wired e (frames_wired h past) }
+    ensures out { (header : Header) (h : ℕ) (e : Event) (past : List Event) → is_home header h e past ≡ true
+        → returns_out h (e ∷ past) ≡ own_out e (returns_out h past) }
 {}
 
 /// An event of one host is no other's, so it is nothing to the others.
 #[tactic(auto, using(crate::proofs::Whose::abroad_of_own))]
 pub fn events_have_one_home()
-    ensures one { (header : Header) (outside : Outside) (g : ℕ) (e : Event) (past : List Event) → Sound header past → HasCause header outside e past → EntersNext e past → IsNewTask e past → is_home header g e past ≡ true → IsOnlyOfHost header g e past }
-    ensures others { (header : Header) (outside : Outside) (g h : ℕ) (events past : List Event) → h ≢ g → EachIn (IsOfHost header outside g) events past → EachIn (IsAbroad header outside h) events past }
+    ensures one { (header : Header) (outside : Outside) (g : ℕ) (e : Event) (past : List Event) → Sound header past → HasCause header outside e past
+        → EntersNext e past → IsNewTask e past → is_home header g e past ≡ true → IsOnlyOfHost header g e past }
+    ensures others { (header : Header) (outside : Outside) (g h : ℕ) (events past : List Event) → h ≢ g → EachIn (IsOfHost header outside g) events past
+        → EachIn (IsAbroad header outside h) events past }
 {}
 
 /// A temporary region is used on one host, and what is declared stays as it was: of each history that
 /// commands made.
 #[tactic(auto, using(crate::proofs::Sounds::sound_of))]
 pub fn regions_are_used_on_one_host()
-    ensures sound { (header : Header) (outside : Outside) (history : List Event) → EachEvent (HasCause header outside) history → EachEvent EntersNext history → Sound header history }
-    ensures entered { (header : Header) (outside : Outside) (commands : List Numbered) (history : List Event) → FollowsSoFar header outside commands history → EachEvent EntersNext history }
-    ensures shut { (header : Header) (outside : Outside) (commands : List Numbered) (history : List Event) → FollowsSoFar header outside commands history → IsShut history }
+    ensures sound { (header : Header) (outside : Outside) (history : List Event) → EachEvent (HasCause header outside) history → EachEvent EntersNext history
+        → Sound header history }
+    ensures entered { (header : Header) (outside : Outside) (commands : List Numbered) (history : List Event) → FollowsSoFar header outside commands history
+        → EachEvent EntersNext history }
+    ensures shut { (header : Header) (outside : Outside) (commands : List Numbered) (history : List Event) → FollowsSoFar header outside commands history
+        → IsShut history }
 {}
 
 /// A worked run of two hosts meets the premises: what host 1 and its pager do is nothing to host 0.

@@ -1,5 +1,6 @@
 -- The number that at most k little-endian bytes spell is below 256 to the power k.
-use Rattle.std.proofs.Common.{◌≡◌, ℕ, zero, suc, ◌+◌, ◌-◌, ◌/◌, ◌%◌, ◌^◌, ◌<◌, ◌≤◌, List, [], ◌∷◌, ◌++◌, length, take, get_or, slice_set, ap, sym, ◌∙◌, append_assoc, arith}
+use Rattle.std.proofs.Common.{◌≡◌, ℕ, zero, suc, ◌+◌, ◌-◌, ◌/◌, ◌%◌, ◌^◌, ◌<◌, ◌≤◌, List, [], ◌∷◌, ◌++◌, length, take, get_or, slice_set, ap, sym, ◌∙◌}
+use Rattle.std.proofs.Common.{append_assoc, arith}
 use Rattle.std.proofs.lemmas.List.{take_more_set}
 use Rattle.std.proofs.Math.Nat.{pow-suc}
 use Rattle.vm_base.specs.Pages.{little_endian, little_endian_bytes}
@@ -25,4 +26,5 @@ spelled_more n i value rest bytes inside whole spelled =
     let left : n - i ≡ suc (n - (i + 1)) = omega arith in
     let more : take (i + 1) (slice_set bytes i (rest % 256)) ≡ take i bytes ++ rest % 256 ∷ [] = take_more_set bytes i (rest % 256) inside in
     let split : little_endian_bytes (n - i) rest ≡ rest % 256 ∷ little_endian_bytes (n - (i + 1)) (rest / 256) = ap (λ z. little_endian_bytes z rest) left in
-    spelled ∙ (ap (λ z. take i bytes ++ z) split ∙ (sym (append_assoc (take i bytes) (rest % 256 ∷ []) (little_endian_bytes (n - (i + 1)) (rest / 256))) ∙ ap (λ z. z ++ little_endian_bytes (n - (i + 1)) (rest / 256)) (sym more)))
+    spelled ∙ (ap (λ z. take i bytes ++ z) split ∙ (sym (append_assoc (take i bytes) (rest % 256 ∷ []) (little_endian_bytes (n - (i + 1)) (rest / 256)))
+    ∙ ap (λ z. z ++ little_endian_bytes (n - (i + 1)) (rest / 256)) (sym more)))

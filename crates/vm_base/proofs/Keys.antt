@@ -67,7 +67,8 @@ higher_object key o p less = record {
 pub cases_key : {P : Type 0} (key : PageKey) (o p : ℕ) → (Ahead key o p → P) → (Same key o p → P) → (Behind key o p → P) → P
 cases_key {P} key o p ahead same behind =
     let inside : key.object.0 ≡ o → P
-    = λ e. ⊎_elim (λ (f : key.page.0 ≡ p). same (same_page key o p e f)) (⊎_elim (λ (l : key.page.0 < p). ahead (lower_page key o p e l)) (λ (l : p < key.page.0). behind (higher_page key o p e l))) (cases_order key.page.0 p) in
+    = λ e. ⊎_elim (λ (f : key.page.0 ≡ p). same (same_page key o p e f)) (⊎_elim (λ (l : key.page.0 < p). ahead (lower_page key o p e l))
+    (λ (l : p < key.page.0). behind (higher_page key o p e l))) (cases_order key.page.0 p) in
     ⊎_elim inside (⊎_elim (λ l. ahead (lower_object key o p l)) (λ l. behind (higher_object key o p l))) (cases_order key.object.0 o)
 
 -- what lies behind is not the page
@@ -75,7 +76,8 @@ pub apart : (key : PageKey) (object page o p : ℕ) → IsFrom object page key �
 apart key object page o p from ahead =
     cases_key key o p
     (λ (h : Ahead key o p). h.apart)
-    (λ (h : Same key o p). let l : object ≤ o = omega (arith, from.above, h.object) in let m = ahead.inside l in let n = from.inside (omega (arith, ahead.above, h.object)) in absurd (omega (arith, h.page)))
+    (λ (h : Same key o p). let l : object ≤ o = omega (arith, from.above, h.object) in let m = ahead.inside l in let n = from.inside
+    (omega (arith, ahead.above, h.object)) in absurd (omega (arith, h.page)))
     (λ (h : Behind key o p). h.apart)
 
 -- what stands behind a page is not the page
@@ -117,7 +119,8 @@ later object page key other from behind = record {
 }
 
 -- a page in front of another is not the other
-pub other_page : (key : PageKey) (other : PageKey) (o p : ℕ) → is_page key other.object.0 other.page.0 ≡ false → is_page key o p ≡ true → is_page other o p ≡ false
+pub other_page : (key : PageKey) (other : PageKey) (o p : ℕ) → is_page key other.object.0 other.page.0 ≡ false → is_page key o p ≡ true
+    → is_page other o p ≡ false
 other_page key other o p differ here =
     let is = page_read key o p here in
     cases_key other o p
@@ -135,7 +138,8 @@ pub key_is : (key : PageKey) (o p : ℕ) → key.object.0 ≡ o → key.page.0 �
 key_is key o p one two = rw (← one, ← two) refl
 
 -- two tests that don't both hold can be made in either order
-pub swap_tests : {X : Type 0} (a b : Bool) (u v w : X) → (a ≡ true → b ≡ false) → (if a then u else (if b then v else w)) ≡ (if b then v else (if a then u else w))
+pub swap_tests : {X : Type 0} (a b : Bool) (u v w : X) → (a ≡ true → b ≡ false)
+    → (if a then u else (if b then v else w)) ≡ (if b then v else (if a then u else w))
 swap_tests true true u v w other = absurd (false≢true (sym (other refl)))
 swap_tests true false u v w other = refl
 swap_tests false true u v w other = refl

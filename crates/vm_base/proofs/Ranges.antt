@@ -19,7 +19,8 @@ pub replaced : {T : Type 0} (xs ys turned left joined back : List T) (from to be
 replaced xs ys turned left joined back from to behind less within count turns cuts joins ends =
     let tail = drop to xs in
     let counted : behind ≡ length tail = omega (arith, length-drop to xs, count) in
-    let one : left ≡ tail ++ take from xs = cuts ∙ (rw (turns, counted) (take-append-add tail (take to xs) from) ∙ ap (λ z. tail ++ z) (take_less from to xs less within)) in
+    let one : left ≡ tail ++ take from xs = cuts ∙ (rw (turns, counted) (take-append-add tail (take to xs) from)
+    ∙ ap (λ z. tail ++ z) (take_less from to xs less within)) in
     let two : joined ≡ tail ++ (take from xs ++ ys) = joins ∙ (ap (λ z. z ++ ys) one ∙ append_assoc tail (take from xs) ys) in
     let front : drop behind joined ≡ take from xs ++ ys = rw (two, counted) (drop-append_seam tail (take from xs ++ ys)) in
     let last : take behind joined ≡ tail = rw (two, counted) (take-append_seam tail (take from xs ++ ys)) in

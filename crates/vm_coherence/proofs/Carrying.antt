@@ -28,7 +28,8 @@ up_is : (f : UpWord → ℕ) (test : UpWord → Bool) → ((w : UpWord) → 0 < 
 up_is f test is [] some = absurd (omega (arith, some))
 up_is f test is (w ∷ q) some = either_true (test w) (list_any test q) (f w) (sum_up f q) (is w) (up_is f test is q) some
 
-down_is : (f : DownWord → ℕ) (test : DownWord → Bool) → ((w : DownWord) → 0 < f w → test w ≡ true) → (q : List DownWord) → 0 < sum_down f q → list_any test q ≡ true
+down_is : (f : DownWord → ℕ) (test : DownWord → Bool) → ((w : DownWord) → 0 < f w → test w ≡ true) → (q : List DownWord) → 0 < sum_down f q
+    → list_any test q ≡ true
 down_is f test is [] some = absurd (omega (arith, some))
 down_is f test is (w ∷ q) some = either_true (test w) (list_any test q) (f w) (sum_down f q) (is w) (down_is f test is q) some
 
@@ -38,7 +39,8 @@ line_is f test is (w ∷ ws) some = either_true (test w) (list_any test ws) (f w
 
 -- what is there is counted
 
-down_counts : (f : DownWord → ℕ) (test : DownWord → Bool) → ((w : DownWord) → test w ≡ true → 0 < f w) → (q : List DownWord) → list_any test q ≡ true → 0 < sum_down f q
+down_counts : (f : DownWord → ℕ) (test : DownWord → Bool) → ((w : DownWord) → test w ≡ true → 0 < f w) → (q : List DownWord) → list_any test q ≡ true
+    → 0 < sum_down f q
 down_counts f test is [] some = absurd (let bad : false ≡ true = some in cc)
 down_counts f test is (w ∷ q) some = by (test w) (list_any test q) (f w) (sum_down f q) (is w) (down_counts f test is q) some
   where
@@ -105,10 +107,16 @@ carried size past licensed done h =
     record {
       asked = λ is. asked (first_of_two (sum_up asks s.up + s.pending) (sum_down supplies s.down) (k.asked_carried is));
       unlocking = λ is here. unlocking (first_of_two (unlocks_left s.up + upgrades h past) (sum_down locks s.down) (k.unlock_carried is here));
-      awaited = λ some. awaited (first_of_two (sum_down any_reply s.down + s.step) (sum_up (does_of s.awaited_control) s.up + sum_up (ends s.awaited_control) s.up) (k.awaited_carried some));
+      awaited =
+          λ some. awaited (first_of_two (sum_down any_reply s.down + s.step) (sum_up (does_of s.awaited_control) s.up + sum_up (ends s.awaited_control) s.up)
+          (k.awaited_carried some));
       living = λ is. lives s.live refl is;
       having = λ some. has s.live refl some;
-      reached = λ is. let some : 0 < sum_down any_reply s.down + s.step = omega (arith, down_counts any_reply spec.recalls recall_counts s.down is) in (ok.mine_live some, ok.mine some);
+      reached =
+          λ is. let some : 0 < sum_down any_reply s.down + s.step = omega (
+            arith,
+            down_counts any_reply spec.recalls recall_counts s.down is,
+          ) in (ok.mine_live some, ok.mine some);
     }
   where
     s : Side
@@ -134,31 +142,38 @@ carried size past licensed done h =
     asking : 0 < sum_up asks s.up → list_any (spec.asks_as s.control) s.up ≡ true
     asking some = up_is (asks_of s.control) (spec.asks_as s.control) (asks_test s.control) s.up (omega (arith, some, asks_sum s.control s.up, k.no_strange))
 
-    asked_up : (0 < sum_up asks s.up) ⊎ (0 < s.pending) → (list_any (spec.asks_as s.control) s.up ≡ true) ⊎ ((list_any (spec.requests h) (line past) ≡ true) ⊎ (list_any spec.supplies s.down ≡ true))
+    asked_up : (0 < sum_up asks s.up) ⊎ (0 < s.pending) → (list_any (spec.asks_as s.control) s.up ≡ true)
+        ⊎ ((list_any (spec.requests h) (line past) ≡ true) ⊎ (list_any spec.supplies s.down ≡ true))
     asked_up (inl some) = inl (asking some)
     asked_up (inr some) = inr (inl (line_is (request h) (spec.requests h) (request_test h) (line past) (omega (arith, some, w.counted h))))
 
-    asked : (0 < sum_up asks s.up + s.pending) ⊎ (0 < sum_down supplies s.down) → (list_any (spec.asks_as s.control) s.up ≡ true) ⊎ ((list_any (spec.requests h) (line past) ≡ true) ⊎ (list_any spec.supplies s.down ≡ true))
+    asked : (0 < sum_up asks s.up + s.pending) ⊎ (0 < sum_down supplies s.down) → (list_any (spec.asks_as s.control) s.up ≡ true)
+        ⊎ ((list_any (spec.requests h) (line past) ≡ true) ⊎ (list_any spec.supplies s.down ≡ true))
     asked (inl some) = asked_up (first_of_two (sum_up asks s.up) s.pending some)
     asked (inr some) = inr (inr (down_is supplies spec.supplies supplies_test s.down some))
 
-    unlocking_up : (0 < unlocks_left s.up) ⊎ (0 < upgrades h past) → (list_any spec.unlocks s.up ≡ true) ⊎ ((list_any (spec.upgrades h) (line past) ≡ true) ⊎ (list_any spec.locks s.down ≡ true))
+    unlocking_up : (0 < unlocks_left s.up) ⊎ (0 < upgrades h past) → (list_any spec.unlocks s.up ≡ true)
+        ⊎ ((list_any (spec.upgrades h) (line past) ≡ true) ⊎ (list_any spec.locks s.down ≡ true))
     unlocking_up (inl some) = inl (up_is unlocks spec.unlocks unlocks_test s.up (omega (arith, some, left_le s.up)))
     unlocking_up (inr some) = inr (inl (line_is (upgrade h) (spec.upgrades h) (upgrade_test h) (line past) some))
 
-    unlocking : (0 < unlocks_left s.up + upgrades h past) ⊎ (0 < sum_down locks s.down) → (list_any spec.unlocks s.up ≡ true) ⊎ ((list_any (spec.upgrades h) (line past) ≡ true) ⊎ (list_any spec.locks s.down ≡ true))
+    unlocking : (0 < unlocks_left s.up + upgrades h past) ⊎ (0 < sum_down locks s.down) → (list_any spec.unlocks s.up ≡ true)
+        ⊎ ((list_any (spec.upgrades h) (line past) ≡ true) ⊎ (list_any spec.locks s.down ≡ true))
     unlocking (inl some) = unlocking_up (first_of_two (unlocks_left s.up) (upgrades h past) some)
     unlocking (inr some) = inr (inr (down_is locks spec.locks locks_test s.down some))
 
-    awaited_down : (0 < sum_down any_reply s.down) ⊎ (0 < s.step) → (list_any spec.recalls s.down ≡ true) ⊎ ((0 < s.step) ⊎ ((list_any (spec.does_as s.awaited_control) s.up ≡ true) ⊎ (list_any (spec.ends_as s.awaited_control) s.up ≡ true)))
+    awaited_down : (0 < sum_down any_reply s.down) ⊎ (0 < s.step) → (list_any spec.recalls s.down ≡ true)
+        ⊎ ((0 < s.step) ⊎ ((list_any (spec.does_as s.awaited_control) s.up ≡ true) ⊎ (list_any (spec.ends_as s.awaited_control) s.up ≡ true)))
     awaited_down (inl some) = inl (down_is any_reply spec.recalls reply_test s.down some)
     awaited_down (inr some) = inr (inl some)
 
-    awaited_up : (0 < sum_up (does_of s.awaited_control) s.up) ⊎ (0 < sum_up (ends s.awaited_control) s.up) → (list_any spec.recalls s.down ≡ true) ⊎ ((0 < s.step) ⊎ ((list_any (spec.does_as s.awaited_control) s.up ≡ true) ⊎ (list_any (spec.ends_as s.awaited_control) s.up ≡ true)))
+    awaited_up : (0 < sum_up (does_of s.awaited_control) s.up) ⊎ (0 < sum_up (ends s.awaited_control) s.up) → (list_any spec.recalls s.down ≡ true)
+        ⊎ ((0 < s.step) ⊎ ((list_any (spec.does_as s.awaited_control) s.up ≡ true) ⊎ (list_any (spec.ends_as s.awaited_control) s.up ≡ true)))
     awaited_up (inl some) = inr (inr (inl (up_is (does_of s.awaited_control) (spec.does_as s.awaited_control) (does_test s.awaited_control) s.up some)))
     awaited_up (inr some) = inr (inr (inr (up_is (ends s.awaited_control) (spec.ends_as s.awaited_control) (ends_test s.awaited_control) s.up some)))
 
     awaited : (0 < sum_down any_reply s.down + s.step) ⊎ (0 < sum_up (does_of s.awaited_control) s.up + sum_up (ends s.awaited_control) s.up)
-        → (list_any spec.recalls s.down ≡ true) ⊎ ((0 < s.step) ⊎ ((list_any (spec.does_as s.awaited_control) s.up ≡ true) ⊎ (list_any (spec.ends_as s.awaited_control) s.up ≡ true)))
+        → (list_any spec.recalls s.down ≡ true) ⊎ ((0 < s.step)
+        ⊎ ((list_any (spec.does_as s.awaited_control) s.up ≡ true) ⊎ (list_any (spec.ends_as s.awaited_control) s.up ≡ true)))
     awaited (inl some) = awaited_down (first_of_two (sum_down any_reply s.down) s.step some)
     awaited (inr some) = awaited_up (first_of_two (sum_up (does_of s.awaited_control) s.up) (sum_up (ends s.awaited_control) s.up) some)

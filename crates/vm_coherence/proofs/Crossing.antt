@@ -6,7 +6,8 @@ use Rattle.vm_model.specs.declared.message.Channel.TheVariants.{Up, Down}
 use Rattle.vm_model.specs.declared.message.Message.TheVariants as message
 use Rattle.vm_model.specs.declared.event.Event.{Event}
 use Rattle.vm_model.specs.declared.event.Event.TheVariants as event
-use Rattle.vm_model.specs.Words.{Asking, Unlocking, Returning, Doing, Supplying, Locking, Opens, SendsUp, TakenUp, SentDown, TakesDown, Drops, Begins, Loads, Stores}
+use Rattle.vm_model.specs.Words.{Asking, Unlocking, Returning, Doing, Supplying, Locking, Opens, SendsUp, TakenUp, SentDown, TakesDown, Drops, Begins, Loads}
+use Rattle.vm_model.specs.Words.{Stores}
 use Rattle.vm_model.specs.PageLicences.{NobodyAwaited, OthersHold, Cause, ActsLicensed}
 use Rattle.vm_model.specs.Coherence.{Done, StepsDone, WaitersHaveAsked, SomebodyIsAwaited, Quiet}
 use Rattle.vm_model.specs.PagePart.{world_part}
@@ -567,7 +568,13 @@ pub crossing_done : StepsDone (world_part 16 crossing)
 crossing_done = steps_39
 
 pub crossing_quiet : Quiet (world_part 16 crossing)
-crossing_quiet = record { no_up = λ h. grind (arith, nat_tests); no_down = λ h. grind (arith, nat_tests); all_ready = λ h. grind (arith, nat_tests); done = λ h. grind (arith, nat_tests) }
+crossing_quiet =
+    record {
+      no_up = λ h. grind (arith, nat_tests);
+      no_down = λ h. grind (arith, nat_tests);
+      all_ready = λ h. grind (arith, nat_tests);
+      done = λ h. grind (arith, nat_tests);
+    }
 
 pub crossing_served : SomebodyIsAwaited (world_part 16 crossing)
 crossing_served some = absurd (some refl)

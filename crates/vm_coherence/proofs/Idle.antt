@@ -36,7 +36,9 @@ low : OthersHold 1 0 (world_part 16 heard)
 low g apart = grind (arith, nat_tests)
 
 abbrev read : List Event
-read = event.Loaded (task 0) object page 0 ∷ event.Taken (Down (host 0) object 1) (message.Supply page 2 false zeros) ∷ event.Sent (Down (host 0) object 1) (message.Supply page 2 false zeros) ∷ heard
+read =
+    event.Loaded (task 0) object page 0 ∷ event.Taken (Down (host 0) object 1) (message.Supply page 2 false zeros) ∷ event.Sent (Down (host 0) object 1)
+    (message.Supply page 2 false zeros) ∷ heard
 
 licensed_read : ActsLicensed 16 (world_part 16 read)
 licensed_read = ((refl, refl, refl), ((λ mine live. refl), ((refl, refl, free, refl, (refl, refl, refl, low)), licensed_heard)))
@@ -63,7 +65,8 @@ recalls : Cause 16 0 (SentDown 1 (Locking 1 1 true 8 true)) (world_part 16 queue
 recalls = grind (arith, nat_tests)
 
 abbrev recalled : List Event
-recalled = event.Taken (Down (host 0) object 1) (message.Lock page 1 1 true 8 true) ∷ event.Sent (Down (host 0) object 1) (message.Lock page 1 1 true 8 true) ∷ queued
+recalled =
+    event.Taken (Down (host 0) object 1) (message.Lock page 1 1 true 8 true) ∷ event.Sent (Down (host 0) object 1) (message.Lock page 1 1 true 8 true) ∷ queued
 
 licensed_recalled : ActsLicensed 16 (world_part 16 recalled)
 licensed_recalled = ((λ mine live. refl), (recalls, licensed_queued))

@@ -4,15 +4,20 @@ use Rattle.std.specs.Prelude.{◌⊎◌, ◌==◌}
 use Rattle.std.proofs.lemmas.Bool.Decides.{nat_tests}
 use native.Mathlib.Decide.{ℕ_discrete}
 use Rattle.std.proofs.Common.{subst, sym, ◌∙◌}
-use Rattle.vm_model.specs.Words.{UpWord, Asking, Unlocking, Returning, Doing, Ending, OtherUp, DownWord, Supplying, Locking, Lacking, Failing, Readying, OtherDown, ActEffect, Opens, SendsUp, TakenUp, SentDown, TakesDown, Puts, Drops, Begins, Loads, Stores, Fails, BeginsCopy, Copies, EndsCopy, StepBegins, Nothing, Act, to_others, effect_on}
+use Rattle.vm_model.specs.Words.{UpWord, Asking, Unlocking, Returning, Doing, Ending, OtherUp, DownWord, Supplying, Locking, Lacking, Failing, Readying}
+use Rattle.vm_model.specs.Words.{OtherDown, ActEffect, Opens, SendsUp, TakenUp, SentDown, TakesDown, Puts, Drops, Begins, Loads, Stores, Fails, BeginsCopy}
+use Rattle.vm_model.specs.Words.{Copies, EndsCopy, StepBegins, Nothing, Act, to_others, effect_on}
 use Rattle.vm_model.specs.Side.{Side, nobody, can_read, can_write, right_of, opened, side_sent_up, is_open_to, side_taken_down, side_after, side}
 use Rattle.vm_model.specs.Waiters.{Waiter, waiters, readers}
 use Rattle.vm_model.specs.Server.{first, Wanting, joined, line, kept}
 use Rattle.vm_model.specs.PageLicences.{HostMay, OthersHold, SupplyRow, UpgradeRow, RecallRow, ReplyCause, Cause, ActsLicensed}
 use Rattle.vm_model.specs.Coherence.{Throughout, OneWriter}
 use Rattle.vm_coherence.proofs.Queues.{odd, drain, drain_up}
-use Rattle.vm_coherence.proofs.Sound.{MayAnswer, Fair, Sound, keep_asking, keep_unlocking, keep_returning, keep_doing, keep_ending, keep_drops, keep_step, keep_opens, keep_ready, keep_stores, keep_heard_asking, keep_heard_unlocking, keep_heard_returning, keep_heard_doing, keep_heard_ending, keep_supply, keep_upgrade, keep_order, keep_supplied, keep_locked}
-use Rattle.vm_coherence.proofs.Line.{request, upgrade, total, total_end, total_front, trimmed_request, trimmed_upgrade, trimmed_none, without_upgrade, without_other, without_own}
+use Rattle.vm_coherence.proofs.Sound.{MayAnswer, Fair, Sound, keep_asking, keep_unlocking, keep_returning, keep_doing, keep_ending, keep_drops, keep_step}
+use Rattle.vm_coherence.proofs.Sound.{keep_opens, keep_ready, keep_stores, keep_heard_asking, keep_heard_unlocking, keep_heard_returning, keep_heard_doing}
+use Rattle.vm_coherence.proofs.Sound.{keep_heard_ending, keep_supply, keep_upgrade, keep_order, keep_supplied, keep_locked}
+use Rattle.vm_coherence.proofs.Line.{request, upgrade, total, total_end, total_front, trimmed_request, trimmed_upgrade, trimmed_none, without_upgrade}
+use Rattle.vm_coherence.proofs.Line.{without_other, without_own}
 use Rattle.vm_model.proofs.Others.{others_holds}
 
 -- the server of a shared page sends neither of these
@@ -20,7 +25,8 @@ pub never : (s : Side) (w : DownWord) → Sound s → odd w ≡ 1 → first s.do
 never s w ok is head = absurd (grind (arith, ok.plain))
 
 -- what a host takes, where its control is the live one
-keep_taking : (ws : List Waiter) (rs : List ℕ) (s : Side) (control : ℕ) (word : DownWord) (b : Bool) → is_open_to s control ≡ b → Sound s → HostMay ws rs s (TakesDown control word) → Sound (if b then side_taken_down s word else record s { step = 0 })
+keep_taking : (ws : List Waiter) (rs : List ℕ) (s : Side) (control : ℕ) (word : DownWord) (b : Bool) → is_open_to s control ≡ b → Sound s
+    → HostMay ws rs s (TakesDown control word) → Sound (if b then side_taken_down s word else record s { step = 0 })
 keep_taking ws rs s control word false is ok may = keep_step s ok
 keep_taking ws rs s control OtherDown true is ok may = keep_step s ok
 keep_taking ws rs s control Readying true is ok may = keep_ready s ok
@@ -42,7 +48,8 @@ keep_taking ws rs s control (Locking count returns flush lock reply) true is ok 
     keep_locked s count returns lock flush reply ok live (may mine live)
 
 pub keep : (e : ActEffect) (ws : List Waiter) (rs : List ℕ) (s : Side) → Sound s → Fair ws rs s e → Sound (side_after s e)
-keep (Opens control ready) ws rs s ok may = let next : s.control + 1 ≡ control = sym may.1 in subst (λ (k : ℕ). Sound (opened s k ready)) next (keep_opens s ready ok may.0)
+keep (Opens control ready) ws rs s ok may =
+    let next : s.control + 1 ≡ control = sym may.1 in subst (λ (k : ℕ). Sound (opened s k ready)) next (keep_opens s ready ok may.0)
 keep (SendsUp control (Asking asker access)) ws rs s ok may = keep_asking ws rs s asker access ok may.0 may.2
 keep (SendsUp control (Unlocking access)) ws rs s ok may = keep_unlocking ws rs s access ok may.0 may.2
 keep (SendsUp control (Returning dirty kept bytes)) ws rs s ok may = keep_returning ws rs s dirty kept bytes ok may.0 may.2
@@ -190,7 +197,8 @@ other_side h a past apart = ap (side_after (side h past)) (other_effect h a apar
 
 sound_after : (size : ℕ) (a : Act) (past : List Act) → World past → Cause size a.host a.effect past → (h : ℕ) → Sound (side h (a ∷ past))
 sound_after size a past w c h = elim (ℕ_discrete a.host h) [
-  | yes e ↦ subst (λ (k : ℕ). Sound (side k (a ∷ past))) e (subst (λ (s : Side). Sound s) (sym (own_side a past)) (keep a.effect (waiters a.host past) (readers a.host past) (side a.host past) (w.each a.host) (cause size a.host a.effect past w c)))
+  | yes e ↦ subst (λ (k : ℕ). Sound (side k (a ∷ past))) e (subst (λ (s : Side). Sound s) (sym (own_side a past))
+      (keep a.effect (waiters a.host past) (readers a.host past) (side a.host past) (w.each a.host) (cause size a.host a.effect past w c)))
   | no e ↦ subst (λ (s : Side). Sound s) (sym (other_side h a past e)) (others_rest a.effect (side h past) (w.each h))
 ]
 
@@ -205,7 +213,8 @@ gives_supply k lock old new past (Some v) is row = inr ((if v.access == 3 then 0
   room holds lock access is row = grind (arith, nat_tests)
 
 gives : (size k : ℕ) (e : ActEffect) (s : Side) (past : List Act) → Cause size k e past → Gives k s (side_after s e) past
-gives size k (SentDown control (Supplying lock precious bytes)) s past c = gives_supply k lock s (side_after s (SentDown control (Supplying lock precious bytes))) past (first (line past)) refl c.4
+gives size k (SentDown control (Supplying lock precious bytes)) s past c =
+    gives_supply k lock s (side_after s (SentDown control (Supplying lock precious bytes))) past (first (line past)) refl c.4
 gives size k (SentDown control (Locking count returns flush lock true)) s past c = inl (grind (arith, nat_tests, c.2))
 gives size k (SentDown control (Locking count returns flush lock false)) s past c = inr (0, grind (arith, nat_tests, c.2), c.6)
 gives size k (SentDown control word) s past c = inl (grind (arith, nat_tests))
@@ -231,9 +240,11 @@ other_pending : (h : ℕ) (a : Act) (past : List Act) → a.host ≢ h → (side
 other_pending h a past apart = ap (λ (s : Side). s.pending) (other_side h a past apart) ∙ others_pending a.effect (side h past)
 
 own_gives : (size : ℕ) (a : Act) (past : List Act) → Cause size a.host a.effect past → Gives a.host (side a.host past) (side a.host (a ∷ past)) past
-own_gives size a past c = subst (λ (s : Side). Gives a.host (side a.host past) s past) (sym (own_side a past)) (gives size a.host a.effect (side a.host past) past c)
+own_gives size a past c =
+    subst (λ (s : Side). Gives a.host (side a.host past) s past) (sym (own_side a past)) (gives size a.host a.effect (side a.host past) past c)
 
-alone_gain : (size : ℕ) (a : Act) (past : List Act) → World past → Cause size a.host a.effect past → (g : ℕ) → g ≢ a.host → (side a.host (a ∷ past)).holds ≡ 2 → (side g (a ∷ past)).holds ≡ 0
+alone_gain : (size : ℕ) (a : Act) (past : List Act) → World past → Cause size a.host a.effect past → (g : ℕ) → g ≢ a.host → (side a.host (a ∷ past)).holds ≡ 2
+    → (side g (a ∷ past)).holds ≡ 0
 alone_gain size a past w c g apart is =
     let bounded : (side a.host past).holds ≤ 2 = (w.each a.host).bounded in
     let same : (side g (a ∷ past)).holds ≡ (side g past).holds = other_holds g a past (λ e. apart (sym e)) in
@@ -242,7 +253,8 @@ alone_gain size a past w c g apart is =
       | inr more ↦ let m_none : more.0 ≡ 0 = omega (arith, more.1) in omega (arith, more.2 g apart)
     ]
 
-alone_lose : (size : ℕ) (a : Act) (past : List Act) → World past → Cause size a.host a.effect past → (h : ℕ) → a.host ≢ h → (side h (a ∷ past)).holds ≡ 2 → (side a.host (a ∷ past)).holds ≡ 0
+alone_lose : (size : ℕ) (a : Act) (past : List Act) → World past → Cause size a.host a.effect past → (h : ℕ) → a.host ≢ h → (side h (a ∷ past)).holds ≡ 2
+    → (side a.host (a ∷ past)).holds ≡ 0
 alone_lose size a past w c h apart is =
     let same : (side h (a ∷ past)).holds ≡ (side h past).holds = other_holds h a past apart in
     let before : (side a.host past).holds ≡ 0 = w.alone a.host h apart (sym same ∙ is) in
@@ -251,7 +263,8 @@ alone_lose size a past w c h apart is =
       | inr more ↦ omega (arith, more.1, more.2 h (λ e. apart (sym e)))
     ]
 
-alone_after : (size : ℕ) (a : Act) (past : List Act) → World past → Cause size a.host a.effect past → (g h : ℕ) → g ≢ h → (side h (a ∷ past)).holds ≡ 2 → (side g (a ∷ past)).holds ≡ 0
+alone_after : (size : ℕ) (a : Act) (past : List Act) → World past → Cause size a.host a.effect past → (g h : ℕ) → g ≢ h → (side h (a ∷ past)).holds ≡ 2
+    → (side g (a ∷ past)).holds ≡ 0
 alone_after size a past w c g h apart is = elim (ℕ_discrete a.host h) [
   | yes e ↦ alone_gain size a past w c g (λ f. apart (f ∙ e)) (ap (λ (k : ℕ). (side k (a ∷ past)).holds) e ∙ is)
   | no e ↦ elim (ℕ_discrete a.host g) [
@@ -263,7 +276,8 @@ alone_after size a past w c g h apart is = elim (ℕ_discrete a.host h) [
 joined_other : (h k : ℕ) (e : ActEffect) (s : Side) (ws : List Wanting) → h ≢ k → total (request h) (joined s k e ws) ≡ total (request h) ws
 joined_other h k e s ws apart = grind (arith, nat_tests, total_end, without_other)
 
-joined_own : (k : ℕ) (e : ActEffect) (s : Side) (ws : List Wanting) → total (request k) ws ≡ s.pending → total (request k) (joined s k e ws) ≡ (side_after s e).pending
+joined_own : (k : ℕ) (e : ActEffect) (s : Side) (ws : List Wanting) → total (request k) ws ≡ s.pending
+    → total (request k) (joined s k e ws) ≡ (side_after s e).pending
 joined_own k e s ws is = grind (arith, nat_tests, total_end, without_own)
 
 pub joined_upgrade : (h k : ℕ) (e : ActEffect) (s : Side) (ws : List Wanting) → h ≢ k → total (upgrade h) (joined s k e ws) ≡ total (upgrade h) ws
@@ -275,30 +289,36 @@ next_line a past = joined (side a.host past) a.host a.effect (line past)
 
 counted_after : (a : Act) (past : List Act) → World past → (h : ℕ) → total (request h) (line (a ∷ past)) ≡ (side h (a ∷ past)).pending
 counted_after a past w h =
-    let same : total (request h) (line (a ∷ past)) ≡ total (request h) (next_line a past) = trimmed_request h a.host (side a.host (a ∷ past)).holds (next_line a past) in
+    let same : total (request h) (line (a ∷ past)) ≡ total (request h) (next_line a past) = trimmed_request h a.host (side a.host (a ∷ past)).holds
+    (next_line a past) in
     same ∙ elim (ℕ_discrete h a.host) [
       | yes e ↦ counted_own a past w h e
       | no e ↦ joined_other h a.host a.effect (side a.host past) (line past) e ∙ (w.counted h ∙ sym (other_pending h a past (λ f. e (sym f))))
     ] where
       counted_own : (a : Act) (past : List Act) → World past → (h : ℕ) → h ≡ a.host → total (request h) (next_line a past) ≡ (side h (a ∷ past)).pending
-      counted_own a past w h e = subst (λ (k : ℕ). total (request k) (next_line a past) ≡ (side k (a ∷ past)).pending) (sym e) (joined_own a.host a.effect (side a.host past) (line past) (w.counted a.host) ∙ sym (ap (λ (s : Side). s.pending) (own_side a past)))
+      counted_own a past w h e =
+          subst (λ (k : ℕ). total (request k) (next_line a past) ≡ (side k (a ∷ past)).pending) (sym e)
+          (joined_own a.host a.effect (side a.host past) (line past) (w.counted a.host) ∙ sym (ap (λ (s : Side). s.pending) (own_side a past)))
 
 upgrading_after : (a : Act) (past : List Act) → World past → (h : ℕ) → 0 < total (upgrade h) (line (a ∷ past)) → (side h (a ∷ past)).holds ≡ 1
 upgrading_after a past w h some = elim (ℕ_discrete h a.host) [
   | yes e ↦ upgrading_own a past h e some
   | no e ↦
-      let fewer : total (upgrade h) (line (a ∷ past)) ≤ total (upgrade h) (next_line a past) = trimmed_upgrade h a.host (side a.host (a ∷ past)).holds (next_line a past) in
+      let fewer : total (upgrade h) (line (a ∷ past)) ≤ total (upgrade h) (next_line a past) = trimmed_upgrade h a.host (side a.host (a ∷ past)).holds
+      (next_line a past) in
       let same : total (upgrade h) (next_line a past) ≡ total (upgrade h) (line past) = joined_upgrade h a.host a.effect (side a.host past) (line past) e in
       other_holds h a past (λ f. e (sym f)) ∙ w.upgrading h (omega arith)
 ] where
   upgrading_at : (a : Act) (past : List Act) → 0 < total (upgrade a.host) (line (a ∷ past)) → (side a.host (a ∷ past)).holds ≡ 1
   upgrading_at a past some = elim (ℕ_discrete (side a.host (a ∷ past)).holds 1) [
     | yes e ↦ e
-    | no e ↦ let none : total (upgrade a.host) (line (a ∷ past)) ≡ 0 = trimmed_none a.host (side a.host (a ∷ past)).holds (next_line a past) e in absurd (omega arith)
+    | no e ↦ let none : total (upgrade a.host) (line (a ∷ past)) ≡ 0 =
+        trimmed_none a.host (side a.host (a ∷ past)).holds (next_line a past) e in absurd (omega arith)
   ]
 
   upgrading_own : (a : Act) (past : List Act) (h : ℕ) → h ≡ a.host → 0 < total (upgrade h) (line (a ∷ past)) → (side h (a ∷ past)).holds ≡ 1
-  upgrading_own a past h e some = subst (λ (k : ℕ). (side k (a ∷ past)).holds ≡ 1) (sym e) (upgrading_at a past (subst (λ (k : ℕ). 0 < total (upgrade k) (line (a ∷ past))) e some))
+  upgrading_own a past h e some =
+      subst (λ (k : ℕ). (side k (a ∷ past)).holds ≡ 1) (sym e) (upgrading_at a past (subst (λ (k : ℕ). 0 < total (upgrade k) (line (a ∷ past))) e some))
 
 sound_start : Sound nobody
 sound_start = grind (arith, nat_tests)
@@ -307,7 +327,12 @@ pub world : (size : ℕ) (past : List Act) → ActsLicensed size past → World 
 world size [] licensed = record { each = λ h. sound_start; alone = λ g h apart is. refl; counted = λ h. refl; upgrading = λ h some. absurd (omega arith) }
 world size (a ∷ past) licensed =
     let w : World past = world size past licensed.1 in
-    record { each = sound_after size a past w licensed.0; alone = alone_after size a past w licensed.0; counted = counted_after a past w; upgrading = upgrading_after a past w }
+    record {
+      each = sound_after size a past w licensed.0;
+      alone = alone_after size a past w licensed.0;
+      counted = counted_after a past w;
+      upgrading = upgrading_after a past w;
+    }
 
 pub writer : (size : ℕ) (past : List Act) → ActsLicensed size past → OneWriter past
 writer size past licensed = one_writer past (world size past licensed)

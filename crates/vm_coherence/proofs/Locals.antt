@@ -1,5 +1,6 @@
 -- A page's part at a host says what the host has of the page.
-use Rattle.std.proofs.Common.{◌≡◌, ℕ, zero, suc, ◌==◌, ◌&&◌, ◌/◌, ◌%◌, ◌∙◌, List, [], ◌∷◌, arith, Bool, true, false, Option, Some, None, if◌then◌else◌, refl, ap, sym, subst, replicate}
+use Rattle.std.proofs.Common.{◌≡◌, ℕ, zero, suc, ◌==◌, ◌&&◌, ◌/◌, ◌%◌, ◌∙◌, List, [], ◌∷◌, arith, Bool, true, false, Option, Some, None, if◌then◌else◌, refl}
+use Rattle.std.proofs.Common.{ap, sym, subst, replicate}
 use Rattle.std.specs.Prelude.{◌||◌, ◌≢◌, ◌<◌}
 use Rattle.std.proofs.lemmas.Bool.Decides.{nat_tests}
 use Rattle.vm_base.specs.Pages.{little_endian_bytes, with_bytes}
@@ -22,7 +23,9 @@ use Rattle.vm_model.specs.Side.{Side, side, side_after, is_open_to, side_taken_d
 use Rattle.vm_model.specs.TaskPlace.{task_host, means_page}
 use Rattle.vm_model.specs.Tasks.{host_of}
 use Rattle.vm_model.specs.PageLicences.{ActsLicensed, Cause}
-use Rattle.vm_model.specs.Words.{Asking, Unlocking, Returning, Doing, Ending, OtherUp, Supplying, Locking, Lacking, Failing, Readying, OtherDown, ActEffect, Opens, SendsUp, TakenUp, SentDown, TakesDown, Puts, Drops, Begins, Loads, Stores, Fails, BeginsCopy, Copies, EndsCopy, StepBegins, Nothing, Act, in_range, times_meant, up_word, down_word, sent_act_effect, act_if, to_others, effect_on}
+use Rattle.vm_model.specs.Words.{Asking, Unlocking, Returning, Doing, Ending, OtherUp, Supplying, Locking, Lacking, Failing, Readying, OtherDown, ActEffect}
+use Rattle.vm_model.specs.Words.{Opens, SendsUp, TakenUp, SentDown, TakesDown, Puts, Drops, Begins, Loads, Stores, Fails, BeginsCopy, Copies, EndsCopy}
+use Rattle.vm_model.specs.Words.{StepBegins, Nothing, Act, in_range, times_meant, up_word, down_word, sent_act_effect, act_if, to_others, effect_on}
 use Rattle.vm_coherence.specs.Locals.{SideIsLocal}
 use Rattle.vm_coherence.proofs.Law.{writer}
 use Rattle.vm_coherence.proofs.Whole.{same_bytes}
@@ -63,9 +66,20 @@ IsIdle Drops = ⊥
 IsIdle (Stores task at size value) = ⊥
 IsIdle e = Unit {0}
 
-same : (s t : Side) → t.right ≡ s.right → t.lock ≡ s.lock → t.bytes ≡ s.bytes → t.dirty ≡ s.dirty → t.precious ≡ s.precious → t.unlocking ≡ s.unlocking → t.asked ≡ s.asked → t.absent ≡ s.absent → t.live ≡ s.live → t.control ≡ s.control → Alike s t
+same : (s t : Side) → t.right ≡ s.right → t.lock ≡ s.lock → t.bytes ≡ s.bytes → t.dirty ≡ s.dirty → t.precious ≡ s.precious → t.unlocking ≡ s.unlocking
+    → t.asked ≡ s.asked → t.absent ≡ s.absent → t.live ≡ s.live → t.control ≡ s.control → Alike s t
 same s t right lock bytes dirty precious unlocking asked absent live control =
-    record { right = right; lock = lock; bytes = bytes; dirty = dirty; precious = precious; unlocking = unlocking; asked = asked; absent = absent; control = ap (λ (b : Bool). if b then Some t.control else None) live ∙ ap (λ (n : ℕ). if s.live then Some n else None) control }
+    record {
+      right = right;
+      lock = lock;
+      bytes = bytes;
+      dirty = dirty;
+      precious = precious;
+      unlocking = unlocking;
+      asked = asked;
+      absent = absent;
+      control = ap (λ (b : Bool). if b then Some t.control else None) live ∙ ap (λ (n : ℕ). if s.live then Some n else None) control;
+    }
 
 idle : (e : ActEffect) (s : Side) → IsIdle e → Alike s (side_after s e)
 idle (TakenUp (Asking asker access)) s is = same s _ refl refl refl refl refl refl refl refl refl refl
@@ -118,10 +132,22 @@ others live e s page i = alike live s (side_after s (to_others e)) page (idle (t
 
 -- each effect moves both alike
 
-puts : (size : ℕ) (live : Option ℕ) (s : Side) (page : Local) (bytes : List ℕ) (dirty : Bool) (e : L.LocalEffect) → local_after size e page ≡ L.local_with_page bytes 0 dirty false page → SideIsLocal live s page → SideIsLocal live (side_after s (Puts bytes dirty)) (local_after size e page)
+puts : (size : ℕ) (live : Option ℕ) (s : Side) (page : Local) (bytes : List ℕ) (dirty : Bool) (e : L.LocalEffect)
+    → local_after size e page ≡ L.local_with_page bytes 0 dirty false page → SideIsLocal live s page
+    → SideIsLocal live (side_after s (Puts bytes dirty)) (local_after size e page)
 puts size live s page bytes dirty e is i =
     subst (λ (p : Local). SideIsLocal live (side_after s (Puts bytes dirty)) p) (sym is)
-    (record { right = refl; lock = λ here. refl; bytes = λ here. refl; dirty = λ here. refl; precious = λ here. refl; unlocking = λ here. refl; asked = i.asked; absent = i.absent; control = i.control })
+    (record {
+      right = refl;
+      lock = λ here. refl;
+      bytes = λ here. refl;
+      dirty = λ here. refl;
+      precious = λ here. refl;
+      unlocking = λ here. refl;
+      asked = i.asked;
+      absent = i.absent;
+      control = i.control;
+    })
 
 -- nothing is said of a page that isn't here
 never : {A : Type 0} → false ≡ true → A
@@ -129,57 +155,211 @@ never e = absurd (let bad : false ≡ true = e in cc)
 
 drops : (size : ℕ) (live : Option ℕ) (s : Side) (page : Local) → SideIsLocal live s page → SideIsLocal live (side_after s Drops) (local_after size L.Drops page)
 drops size live s page i =
-    record { right = refl; lock = λ here. never here; bytes = λ here. never here; dirty = λ here. never here; precious = λ here. never here; unlocking = λ here. never here; asked = i.asked; absent = i.absent; control = i.control }
+    record {
+      right = refl;
+      lock = λ here. never here;
+      bytes = λ here. never here;
+      dirty = λ here. never here;
+      precious = λ here. never here;
+      unlocking = λ here. never here;
+      asked = i.asked;
+      absent = i.absent;
+      control = i.control;
+    }
 
-stores : (size : ℕ) (live : Option ℕ) (s : Side) (page : Local) (task at n value : ℕ) → SideIsLocal live s page → SideIsLocal live (side_after s (Stores task at n value)) (local_after size (L.Stores at (little_endian_bytes n value)) page)
+stores : (size : ℕ) (live : Option ℕ) (s : Side) (page : Local) (task at n value : ℕ) → SideIsLocal live s page
+    → SideIsLocal live (side_after s (Stores task at n value)) (local_after size (L.Stores at (little_endian_bytes n value)) page)
 stores size live s page task at n value i =
-    record { right = i.right; lock = i.lock; bytes = λ here. ap (with_bytes at (little_endian_bytes n value)) (i.bytes here); dirty = λ here. refl; precious = i.precious; unlocking = i.unlocking; asked = i.asked; absent = i.absent; control = i.control }
+    record {
+      right = i.right;
+      lock = i.lock;
+      bytes = λ here. ap (with_bytes at (little_endian_bytes n value)) (i.bytes here);
+      dirty = λ here. refl;
+      precious = i.precious;
+      unlocking = i.unlocking;
+      asked = i.asked;
+      absent = i.absent;
+      control = i.control;
+    }
 
 -- the host sends
 
-opens : (size : ℕ) (live : Option ℕ) (s : Side) (page : Local) (control : ℕ) (ready : Bool) → SideIsLocal live s page → SideIsLocal (Some control) (side_after s (Opens control ready)) (local_after size L.Begins page)
+opens : (size : ℕ) (live : Option ℕ) (s : Side) (page : Local) (control : ℕ) (ready : Bool) → SideIsLocal live s page
+    → SideIsLocal (Some control) (side_after s (Opens control ready)) (local_after size L.Begins page)
 opens size live s page control ready i =
-    record { right = i.right; lock = i.lock; bytes = i.bytes; dirty = i.dirty; precious = i.precious; unlocking = i.unlocking; asked = refl; absent = i.absent; control = refl }
+    record {
+      right = i.right;
+      lock = i.lock;
+      bytes = i.bytes;
+      dirty = i.dirty;
+      precious = i.precious;
+      unlocking = i.unlocking;
+      asked = refl;
+      absent = i.absent;
+      control = refl;
+    }
 
-ends : (size : ℕ) (live : Option ℕ) (s : Side) (page : Local) (control told : ℕ) → SideIsLocal live s page → SideIsLocal None (side_after s (SendsUp control (Ending told))) (local_after size L.Ends page)
+ends : (size : ℕ) (live : Option ℕ) (s : Side) (page : Local) (control told : ℕ) → SideIsLocal live s page
+    → SideIsLocal None (side_after s (SendsUp control (Ending told))) (local_after size L.Ends page)
 ends size live s page control told i =
-    record { right = i.right; lock = i.lock; bytes = i.bytes; dirty = i.dirty; precious = i.precious; unlocking = i.unlocking; asked = refl; absent = i.absent; control = refl }
+    record {
+      right = i.right;
+      lock = i.lock;
+      bytes = i.bytes;
+      dirty = i.dirty;
+      precious = i.precious;
+      unlocking = i.unlocking;
+      asked = refl;
+      absent = i.absent;
+      control = refl;
+    }
 
-asks : (size : ℕ) (live : Option ℕ) (s : Side) (page : Local) (control asker access : ℕ) → SideIsLocal live s page → SideIsLocal live (side_after s (SendsUp control (Asking asker access))) (local_after size L.Asks page)
+asks : (size : ℕ) (live : Option ℕ) (s : Side) (page : Local) (control asker access : ℕ) → SideIsLocal live s page
+    → SideIsLocal live (side_after s (SendsUp control (Asking asker access))) (local_after size L.Asks page)
 asks size live s page control asker access i =
-    record { right = i.right; lock = i.lock; bytes = i.bytes; dirty = i.dirty; precious = i.precious; unlocking = i.unlocking; asked = refl; absent = i.absent; control = i.control }
+    record {
+      right = i.right;
+      lock = i.lock;
+      bytes = i.bytes;
+      dirty = i.dirty;
+      precious = i.precious;
+      unlocking = i.unlocking;
+      asked = refl;
+      absent = i.absent;
+      control = i.control;
+    }
 
-unlocks : (size : ℕ) (live : Option ℕ) (s : Side) (page : Local) (control access : ℕ) → SideIsLocal live s page → SideIsLocal live (side_after s (SendsUp control (Unlocking access))) (local_after size L.Unlocks page)
+unlocks : (size : ℕ) (live : Option ℕ) (s : Side) (page : Local) (control access : ℕ) → SideIsLocal live s page
+    → SideIsLocal live (side_after s (SendsUp control (Unlocking access))) (local_after size L.Unlocks page)
 unlocks size live s page control access i =
-    record { right = i.right; lock = i.lock; bytes = i.bytes; dirty = i.dirty; precious = i.precious; unlocking = λ here. sym here; asked = i.asked; absent = i.absent; control = i.control }
+    record {
+      right = i.right;
+      lock = i.lock;
+      bytes = i.bytes;
+      dirty = i.dirty;
+      precious = i.precious;
+      unlocking = λ here. sym here;
+      asked = i.asked;
+      absent = i.absent;
+      control = i.control;
+    }
 
-returns : (size : ℕ) (live : Option ℕ) (s : Side) (page : Local) (control : ℕ) (dirty keep : Bool) (bytes : List ℕ) → SideIsLocal live s page → SideIsLocal live (side_after s (SendsUp control (Returning dirty keep bytes))) (local_after size (L.Returns keep) page)
+returns : (size : ℕ) (live : Option ℕ) (s : Side) (page : Local) (control : ℕ) (dirty keep : Bool) (bytes : List ℕ) → SideIsLocal live s page
+    → SideIsLocal live (side_after s (SendsUp control (Returning dirty keep bytes))) (local_after size (L.Returns keep) page)
 returns size live s page control dirty true bytes i =
-    record { right = i.right; lock = i.lock; bytes = i.bytes; dirty = λ here. refl; precious = λ here. refl; unlocking = i.unlocking; asked = i.asked; absent = refl; control = i.control }
+    record {
+      right = i.right;
+      lock = i.lock;
+      bytes = i.bytes;
+      dirty = λ here. refl;
+      precious = λ here. refl;
+      unlocking = i.unlocking;
+      asked = i.asked;
+      absent = refl;
+      control = i.control;
+    }
 returns size live s page control dirty false bytes i =
-    record { right = refl; lock = λ here. never here; bytes = λ here. never here; dirty = λ here. never here; precious = λ here. never here; unlocking = λ here. never here; asked = i.asked; absent = refl; control = i.control }
+    record {
+      right = refl;
+      lock = λ here. never here;
+      bytes = λ here. never here;
+      dirty = λ here. never here;
+      precious = λ here. never here;
+      unlocking = λ here. never here;
+      asked = i.asked;
+      absent = refl;
+      control = i.control;
+    }
 
-done : (size : ℕ) (live : Option ℕ) (s : Side) (page : Local) (control told count : ℕ) → SideIsLocal live s page → SideIsLocal live (side_after s (SendsUp control (Doing told count))) page
+done : (size : ℕ) (live : Option ℕ) (s : Side) (page : Local) (control told count : ℕ) → SideIsLocal live s page
+    → SideIsLocal live (side_after s (SendsUp control (Doing told count))) page
 done size live s page control told count i =
-    record { right = i.right; lock = i.lock; bytes = i.bytes; dirty = i.dirty; precious = i.precious; unlocking = i.unlocking; asked = i.asked; absent = i.absent; control = i.control }
+    record {
+      right = i.right;
+      lock = i.lock;
+      bytes = i.bytes;
+      dirty = i.dirty;
+      precious = i.precious;
+      unlocking = i.unlocking;
+      asked = i.asked;
+      absent = i.absent;
+      control = i.control;
+    }
 
 -- the live control takes
 
-supplied : (size : ℕ) (live : Option ℕ) (s : Side) (page : Local) (lock : ℕ) (precious : Bool) (bytes : List ℕ) (a b : Bool) → s.asked ≡ a → page.asked ≡ b → SideIsLocal live s page → SideIsLocal live (side_taken_down s (Supplying lock precious bytes)) (local_after size (L.TakesPage lock precious bytes) page)
-supplied size live s page lock precious bytes true true e f i = rw (e, f) (record { right = refl; lock = λ here. refl; bytes = λ here. refl; dirty = λ here. refl; precious = λ here. refl; unlocking = λ here. refl; asked = refl; absent = i.absent; control = i.control })
-supplied size live s page lock precious bytes false false e f i = rw (e, f) (record { right = i.right; lock = i.lock; bytes = i.bytes; dirty = i.dirty; precious = i.precious; unlocking = i.unlocking; asked = refl; absent = i.absent; control = i.control })
+supplied : (size : ℕ) (live : Option ℕ) (s : Side) (page : Local) (lock : ℕ) (precious : Bool) (bytes : List ℕ) (a b : Bool) → s.asked ≡ a → page.asked ≡ b
+    → SideIsLocal live s page → SideIsLocal live (side_taken_down s (Supplying lock precious bytes)) (local_after size (L.TakesPage lock precious bytes) page)
+supplied size live s page lock precious bytes true true e f i =
+    rw (e, f) (record {
+      right = refl;
+      lock = λ here. refl;
+      bytes = λ here. refl;
+      dirty = λ here. refl;
+      precious = λ here. refl;
+      unlocking = λ here. refl;
+      asked = refl;
+      absent = i.absent;
+      control = i.control;
+    })
+supplied size live s page lock precious bytes false false e f i =
+    rw (e, f) (record {
+      right = i.right;
+      lock = i.lock;
+      bytes = i.bytes;
+      dirty = i.dirty;
+      precious = i.precious;
+      unlocking = i.unlocking;
+      asked = refl;
+      absent = i.absent;
+      control = i.control;
+    })
 supplied size live s page lock precious bytes true false e f i = never (sym f ∙ sym i.asked ∙ e)
 supplied size live s page lock precious bytes false true e f i = never (sym e ∙ i.asked ∙ f)
 
-lacks : (size : ℕ) (live : Option ℕ) (s : Side) (page : Local) (a b : Bool) → s.asked ≡ a → page.asked ≡ b → SideIsLocal live s page → SideIsLocal live (side_taken_down s Lacking) (local_after size L.TakesNothing page)
-lacks size live s page true true e f i = rw (e, f) (record { right = i.right; lock = i.lock; bytes = i.bytes; dirty = i.dirty; precious = i.precious; unlocking = i.unlocking; asked = refl; absent = refl; control = i.control })
-lacks size live s page false false e f i = rw (e, f) (record { right = i.right; lock = i.lock; bytes = i.bytes; dirty = i.dirty; precious = i.precious; unlocking = i.unlocking; asked = refl; absent = i.absent; control = i.control })
+lacks : (size : ℕ) (live : Option ℕ) (s : Side) (page : Local) (a b : Bool) → s.asked ≡ a → page.asked ≡ b → SideIsLocal live s page
+    → SideIsLocal live (side_taken_down s Lacking) (local_after size L.TakesNothing page)
+lacks size live s page true true e f i =
+    rw (e, f) (record {
+      right = i.right;
+      lock = i.lock;
+      bytes = i.bytes;
+      dirty = i.dirty;
+      precious = i.precious;
+      unlocking = i.unlocking;
+      asked = refl;
+      absent = refl;
+      control = i.control;
+    })
+lacks size live s page false false e f i =
+    rw (e, f) (record {
+      right = i.right;
+      lock = i.lock;
+      bytes = i.bytes;
+      dirty = i.dirty;
+      precious = i.precious;
+      unlocking = i.unlocking;
+      asked = refl;
+      absent = i.absent;
+      control = i.control;
+    })
 lacks size live s page true false e f i = never (sym f ∙ sym i.asked ∙ e)
 lacks size live s page false true e f i = never (sym e ∙ i.asked ∙ f)
 
-fails : (size : ℕ) (live : Option ℕ) (s : Side) (page : Local) → SideIsLocal live s page → SideIsLocal live (side_taken_down s Failing) (local_after size L.TakesError page)
+fails : (size : ℕ) (live : Option ℕ) (s : Side) (page : Local) → SideIsLocal live s page
+    → SideIsLocal live (side_taken_down s Failing) (local_after size L.TakesError page)
 fails size live s page i =
-    record { right = i.right; lock = i.lock; bytes = i.bytes; dirty = i.dirty; precious = i.precious; unlocking = i.unlocking; asked = refl; absent = i.absent; control = i.control }
+    record {
+      right = i.right;
+      lock = i.lock;
+      bytes = i.bytes;
+      dirty = i.dirty;
+      precious = i.precious;
+      unlocking = i.unlocking;
+      asked = refl;
+      absent = i.absent;
+      control = i.control;
+    }
 
 locked_right : (flush : Bool) (old lock : ℕ) → locked (right_of old) flush lock ≡ right_of (if flush || lock == 8 then old else lock)
 locked_right true old lock = refl
@@ -198,12 +378,16 @@ locked_none : (flush : Bool) (lock : ℕ) → locked 0 flush lock ≡ 0
 locked_none true lock = refl
 locked_none false lock = refl
 
-locks : (size : ℕ) (live : Option ℕ) (s : Side) (page : Local) (count returns : ℕ) (flush : Bool) (lock : ℕ) (reply b : Bool) → page.here ≡ b → SideIsLocal live s page → SideIsLocal live (side_taken_down s (Locking count returns flush lock reply)) (local_after size (L.TakesLock lock flush) page)
+locks : (size : ℕ) (live : Option ℕ) (s : Side) (page : Local) (count returns : ℕ) (flush : Bool) (lock : ℕ) (reply b : Bool) → page.here ≡ b
+    → SideIsLocal live s page → SideIsLocal live (side_taken_down s (Locking count returns flush lock reply)) (local_after size (L.TakesLock lock flush) page)
 locks size live s page count returns flush lock reply true e i =
     let right : s.right ≡ right_of page.lock = i.right ∙ ap (λ (b : Bool). if b then right_of page.lock else 0) e in
-    subst (λ (p : Local). SideIsLocal live (side_taken_down s (Locking count returns flush lock reply)) p) (sym (ap (λ (b : Bool). if b then record page { lock = if flush || lock == 8 then page.lock else lock; unlocking = false } else page) e))
+    subst (λ (p : Local). SideIsLocal live (side_taken_down s (Locking count returns flush lock reply)) p)
+    (sym (ap (λ (b : Bool). if b then record page { lock = if flush || lock == 8 then page.lock else lock; unlocking = false } else page) e))
     (record {
-      right = ap (λ n. locked n flush lock) right ∙ locked_right flush page.lock lock ∙ sym (ap (λ (b : Bool). if b then right_of (if flush || lock == 8 then page.lock else lock) else 0) e);
+      right =
+          ap (λ n. locked n flush lock) right ∙ locked_right flush page.lock lock
+          ∙ sym (ap (λ (b : Bool). if b then right_of (if flush || lock == 8 then page.lock else lock) else 0) e);
       lock = λ here. ap (λ n. if flush || lock == 8 then n else lock) (i.lock here);
       bytes = i.bytes;
       dirty = i.dirty;
@@ -215,7 +399,8 @@ locks size live s page count returns flush lock reply true e i =
     })
 locks size live s page count returns flush lock reply false e i =
     let right : s.right ≡ 0 = i.right ∙ ap (λ (b : Bool). if b then right_of page.lock else 0) e in
-    subst (λ (p : Local). SideIsLocal live (side_taken_down s (Locking count returns flush lock reply)) p) (sym (ap (λ (b : Bool). if b then record page { lock = if flush || lock == 8 then page.lock else lock; unlocking = false } else page) e))
+    subst (λ (p : Local). SideIsLocal live (side_taken_down s (Locking count returns flush lock reply)) p)
+    (sym (ap (λ (b : Bool). if b then record page { lock = if flush || lock == 8 then page.lock else lock; unlocking = false } else page) e))
     (record {
       right = ap (λ n. locked n flush lock) right ∙ locked_none flush lock ∙ sym (ap (λ (b : Bool). if b then right_of page.lock else 0) e);
       lock = λ here. never (sym e ∙ here);
@@ -229,25 +414,30 @@ locks size live s page count returns flush lock reply false e i =
     })
 
 -- what the live control takes of a message
-takes : (size p : ℕ) (live : Option ℕ) (s : Side) (page : Local) (m : Message) → SideIsLocal live s page → SideIsLocal live (side_taken_down s (down_word p m)) (local_after size (taken_effect p m) page)
+takes : (size p : ℕ) (live : Option ℕ) (s : Side) (page : Local) (m : Message) → SideIsLocal live s page
+    → SideIsLocal live (side_taken_down s (down_word p m)) (local_after size (taken_effect p m) page)
 takes size p live s page (message.Supply at lock precious bytes) i = by_page (at.0 == p)
   where
-    by_page : (b : Bool) → SideIsLocal live (side_taken_down s (if b then Supplying lock precious bytes else OtherDown)) (local_after size (if b then L.TakesPage lock precious bytes else Elsewhere) page)
+    by_page : (b : Bool) → SideIsLocal live (side_taken_down s (if b then Supplying lock precious bytes else OtherDown))
+        (local_after size (if b then L.TakesPage lock precious bytes else Elsewhere) page)
     by_page true = supplied size live s page lock precious bytes s.asked page.asked refl refl i
     by_page false = alike live s _ page (same s _ refl refl refl refl refl refl refl refl refl refl) i
 takes size p live s page (message.Lock at count returns flush lock reply) i = by_page (in_range p at.0 count)
   where
-    by_page : (b : Bool) → SideIsLocal live (side_taken_down s (if b then Locking count returns flush lock reply else OtherDown)) (local_after size (if b then L.TakesLock lock flush else Elsewhere) page)
+    by_page : (b : Bool) → SideIsLocal live (side_taken_down s (if b then Locking count returns flush lock reply else OtherDown))
+        (local_after size (if b then L.TakesLock lock flush else Elsewhere) page)
     by_page true = locks size live s page count returns flush lock reply page.here refl i
     by_page false = alike live s _ page (same s _ refl refl refl refl refl refl refl refl refl refl) i
 takes size p live s page (message.Unavailable at) i = by_page (at.0 == p)
   where
-    by_page : (b : Bool) → SideIsLocal live (side_taken_down s (if b then Lacking else OtherDown)) (local_after size (if b then L.TakesNothing else Elsewhere) page)
+    by_page : (b : Bool) → SideIsLocal live (side_taken_down s (if b then Lacking else OtherDown))
+        (local_after size (if b then L.TakesNothing else Elsewhere) page)
     by_page true = lacks size live s page s.asked page.asked refl refl i
     by_page false = alike live s _ page (same s _ refl refl refl refl refl refl refl refl refl refl) i
 takes size p live s page (message.Error at reason) i = by_page (at.0 == p)
   where
-    by_page : (b : Bool) → SideIsLocal live (side_taken_down s (if b then Failing else OtherDown)) (local_after size (if b then L.TakesError else Elsewhere) page)
+    by_page : (b : Bool) → SideIsLocal live (side_taken_down s (if b then Failing else OtherDown))
+        (local_after size (if b then L.TakesError else Elsewhere) page)
     by_page true = fails size live s page i
     by_page false = alike live s _ page (same s _ refl refl refl refl refl refl refl refl refl refl) i
 takes size p live s page (message.Ready cache strategy) i = alike live s _ page (same s _ refl refl refl refl refl refl refl refl refl refl) i
@@ -255,24 +445,32 @@ takes size p live s page m i = alike live s _ page (same s _ refl refl refl refl
 
 -- an event of one host and the page
 
-acted_else : (size : ℕ) (live : Option ℕ) (s : Side) (page : Local) (c b : Bool) (e g : ActEffect) (f : L.LocalEffect) → IsIdle g → (c ≡ true → b ≡ true → SideIsLocal live (side_after s e) (local_after size f page)) → SideIsLocal live s page
-    → SideIsLocal live (side_after s (if c then (if b then e else g) else to_others (if b then e else g))) (local_after size (if c && b then f else Elsewhere) page)
+acted_else : (size : ℕ) (live : Option ℕ) (s : Side) (page : Local) (c b : Bool) (e g : ActEffect) (f : L.LocalEffect) → IsIdle g
+    → (c ≡ true → b ≡ true → SideIsLocal live (side_after s e) (local_after size f page)) → SideIsLocal live s page
+    → SideIsLocal live (side_after s (if c then (if b then e else g) else to_others (if b then e else g)))
+    (local_after size (if c && b then f else Elsewhere) page)
 acted_else size live s page true true e g f rests at i = at refl refl
 acted_else size live s page true false e g f rests at i = alike live s (side_after s g) page (idle g s rests) i
 acted_else size live s page false true e g f rests at i = others live e s page i
 acted_else size live s page false false e g f rests at i = others live g s page i
 
-acted : (size : ℕ) (live : Option ℕ) (s : Side) (page : Local) (c b : Bool) (e : ActEffect) (f : L.LocalEffect) → (c ≡ true → b ≡ true → SideIsLocal live (side_after s e) (local_after size f page)) → SideIsLocal live s page
-    → SideIsLocal live (side_after s (if c then (if b then e else Nothing) else to_others (if b then e else Nothing))) (local_after size (if c && b then f else Elsewhere) page)
+acted : (size : ℕ) (live : Option ℕ) (s : Side) (page : Local) (c b : Bool) (e : ActEffect) (f : L.LocalEffect)
+    → (c ≡ true → b ≡ true → SideIsLocal live (side_after s e) (local_after size f page)) → SideIsLocal live s page
+    → SideIsLocal live (side_after s (if c then (if b then e else Nothing) else to_others (if b then e else Nothing)))
+    (local_after size (if c && b then f else Elsewhere) page)
 acted size live s page c b e f at i = acted_else size live s page c b e Nothing f tt at i
 
 -- the host is that of a task, told in two ways
-acted_by : (size : ℕ) (live : Option ℕ) (s : Side) (page : Local) (c d b : Bool) (e g : ActEffect) (f : L.LocalEffect) → d ≡ c → IsIdle g → (c ≡ true → b ≡ true → SideIsLocal live (side_after s e) (local_after size f page)) → SideIsLocal live s page
-    → SideIsLocal live (side_after s (if c then (if b then e else g) else to_others (if b then e else g))) (local_after size (if d && b then f else Elsewhere) page)
+acted_by : (size : ℕ) (live : Option ℕ) (s : Side) (page : Local) (c d b : Bool) (e g : ActEffect) (f : L.LocalEffect) → d ≡ c → IsIdle g
+    → (c ≡ true → b ≡ true → SideIsLocal live (side_after s e) (local_after size f page)) → SideIsLocal live s page
+    → SideIsLocal live (side_after s (if c then (if b then e else g) else to_others (if b then e else g)))
+    (local_after size (if d && b then f else Elsewhere) page)
 acted_by size live s page c d b e g f is rests at i =
-    subst (λ (x : Bool). SideIsLocal live (side_after s (if c then (if b then e else g) else to_others (if b then e else g))) (local_after size (if x && b then f else Elsewhere) page)) (sym is) (acted_else size live s page c b e g f rests at i)
+    subst (λ (x : Bool). SideIsLocal live (side_after s (if c then (if b then e else g) else to_others (if b then e else g)))
+    (local_after size (if x && b then f else Elsewhere) page)) (sym is) (acted_else size live s page c b e g f rests at i)
 
-idle_act : (live : Option ℕ) (s : Side) (page : Local) (c : Bool) (e : ActEffect) → IsIdle e → SideIsLocal live s page → SideIsLocal live (side_after s (if c then e else to_others e)) page
+idle_act : (live : Option ℕ) (s : Side) (page : Local) (c : Bool) (e : ActEffect) → IsIdle e → SideIsLocal live s page
+    → SideIsLocal live (side_after s (if c then e else to_others e)) page
 idle_act live s page true e is i = alike live s (side_after s e) page (idle e s is) i
 idle_act live s page false e is i = others live e s page i
 
@@ -286,7 +484,8 @@ number_is a b is = grind (arith, nat_tests)
 itself : (n : ℕ) → (n == n) ≡ true
 itself n = grind (arith, nat_tests)
 
-made_lives : (host g : ℕ) (was : Option ℕ) (on : ℕ) (b : Bool) → (was ≡ Some g → on ≡ g) → (if b then Some host else was) ≡ Some g → (if b then host else on) ≡ g
+made_lives : (host g : ℕ) (was : Option ℕ) (on : ℕ) (b : Bool) → (was ≡ Some g → on ≡ g) → (if b then Some host else was) ≡ Some g
+    → (if b then host else on) ≡ g
 made_lives host g was on true rest lives = cc
 made_lives host g was on false rest lives = rest lives
 
@@ -297,28 +496,43 @@ ended_lives g was false rest lives = rest lives
 -- a task that lives is on the host where it began last
 host_lives : (task g : ℕ) (past : List Event) → host_of task past ≡ Some g → task_host task past ≡ g
 host_lives task g [] lives = absurd (cc)
-host_lives task g (event.TaskMade made host ∷ past) lives = made_lives host.0 g (host_of task past) (task_host task past) (made.0 == task) (host_lives task g past) lives
+host_lives task g (event.TaskMade made host ∷ past) lives =
+    made_lives host.0 g (host_of task past) (task_host task past) (made.0 == task) (host_lives task g past) lives
 host_lives task g (event.TaskEnded ended ∷ past) lives = ended_lives g (host_of task past) (ended.0 == task) (host_lives task g past) lives
 host_lives task g (e ∷ past) lives = host_lives task g past lives
 
 on_host : (h task g : ℕ) (past : List Event) → host_of task past ≡ Some g → is_on h (host_of task past) ≡ (task_host task past == h)
 on_host h task g past lives = ap (is_on h) lives ∙ sym (ap (λ (n : ℕ). n == h) (host_lives task g past lives))
 
-raises : (size : ℕ) (live : Option ℕ) (s : Side) (page : Local) (b c : List ℕ) → b ≡ c → SideIsLocal live s page → SideIsLocal live (side_after s (Puts b true)) (local_after size (L.Raises c) page)
+raises : (size : ℕ) (live : Option ℕ) (s : Side) (page : Local) (b c : List ℕ) → b ≡ c → SideIsLocal live s page
+    → SideIsLocal live (side_after s (Puts b true)) (local_after size (L.Raises c) page)
 raises size live s page b c is i =
-    record { right = refl; lock = λ here. refl; bytes = λ here. is; dirty = λ here. refl; precious = λ here. refl; unlocking = λ here. refl; asked = i.asked; absent = i.absent; control = i.control }
+    record {
+      right = refl;
+      lock = λ here. refl;
+      bytes = λ here. is;
+      dirty = λ here. refl;
+      precious = λ here. refl;
+      unlocking = λ here. refl;
+      asked = i.asked;
+      absent = i.absent;
+      control = i.control;
+    }
 
 -- what a host sends
 
 begins : (size : ℕ) (live : Option ℕ) (s : Side) (page : Local) (control : ℕ) (c b : Bool) → SideIsLocal live s page
-    → SideIsLocal (if c && b then Some control else live) (side_after s (if c then (if b then Opens control false else Nothing) else to_others (if b then Opens control false else Nothing))) (local_after size (if c && b then L.Begins else Elsewhere) page)
+    → SideIsLocal (if c && b then Some control else live) (side_after s (if c then (if b then Opens control false else Nothing) else to_others
+    (if b then Opens control false else Nothing))) (local_after size (if c && b then L.Begins else Elsewhere) page)
 begins size live s page control true true i = opens size live s page control false i
 begins size live s page control true false i = i
 begins size live s page control false true i = i
 begins size live s page control false false i = i
 
-terminates : (size : ℕ) (live : Option ℕ) (s : Side) (page : Local) (control : ℕ) (c b : Bool) → (c ≡ true → b ≡ true → live ≡ Some control) → SideIsLocal live s page
-    → SideIsLocal (if c && b then without_control control live else live) (side_after s (if c then (if b then SendsUp control (Ending control) else Nothing) else to_others (if b then SendsUp control (Ending control) else Nothing)))
+terminates : (size : ℕ) (live : Option ℕ) (s : Side) (page : Local) (control : ℕ) (c b : Bool) → (c ≡ true → b ≡ true → live ≡ Some control)
+    → SideIsLocal live s page
+    → SideIsLocal (if c && b then without_control control live else live) (side_after s
+    (if c then (if b then SendsUp control (Ending control) else Nothing) else to_others (if b then SendsUp control (Ending control) else Nothing)))
     (local_after size (if c && b then (if is_control control live then L.Ends else Elsewhere) else Elsewhere) page)
 terminates size live s page control true true founded i =
     let is : live ≡ Some control = founded refl refl in
@@ -329,20 +543,26 @@ terminates size live s page control true false founded i = i
 terminates size live s page control false true founded i = i
 terminates size live s page control false false founded i = i
 
-request : (size : ℕ) (live : Option ℕ) (s : Side) (page : Local) (control access : ℕ) (d k : Bool) → k ≡ true → SideIsLocal live s page → SideIsLocal live (side_after s (SendsUp control (if d then Asking control access else OtherUp))) (local_after size (if d && k then L.Asks else Elsewhere) page)
+request : (size : ℕ) (live : Option ℕ) (s : Side) (page : Local) (control access : ℕ) (d k : Bool) → k ≡ true → SideIsLocal live s page
+    → SideIsLocal live (side_after s (SendsUp control (if d then Asking control access else OtherUp)))
+    (local_after size (if d && k then L.Asks else Elsewhere) page)
 request size live s page control access true true mine i = asks size live s page control control access i
 request size live s page control access true false mine i = never mine
 request size live s page control access false k mine i = i
 
-unlock : (size : ℕ) (live : Option ℕ) (s : Side) (page : Local) (control access : ℕ) (d : Bool) → SideIsLocal live s page → SideIsLocal live (side_after s (SendsUp control (if d then Unlocking access else OtherUp))) (local_after size (if d then L.Unlocks else Elsewhere) page)
+unlock : (size : ℕ) (live : Option ℕ) (s : Side) (page : Local) (control access : ℕ) (d : Bool) → SideIsLocal live s page
+    → SideIsLocal live (side_after s (SendsUp control (if d then Unlocking access else OtherUp))) (local_after size (if d then L.Unlocks else Elsewhere) page)
 unlock size live s page control access true i = unlocks size live s page control access i
 unlock size live s page control access false i = i
 
-back : (size : ℕ) (live : Option ℕ) (s : Side) (page : Local) (control : ℕ) (dirty keep : Bool) (bytes : List ℕ) (d : Bool) → SideIsLocal live s page → SideIsLocal live (side_after s (SendsUp control (if d then Returning dirty keep bytes else OtherUp))) (local_after size (if d then L.Returns keep else Elsewhere) page)
+back : (size : ℕ) (live : Option ℕ) (s : Side) (page : Local) (control : ℕ) (dirty keep : Bool) (bytes : List ℕ) (d : Bool) → SideIsLocal live s page
+    → SideIsLocal live (side_after s (SendsUp control (if d then Returning dirty keep bytes else OtherUp)))
+    (local_after size (if d then L.Returns keep else Elsewhere) page)
 back size live s page control dirty keep bytes true i = returns size live s page control dirty keep bytes i
 back size live s page control dirty keep bytes false i = i
 
-completed : (size : ℕ) (live : Option ℕ) (s : Side) (page : Local) (control count : ℕ) (d : Bool) → SideIsLocal live s page → SideIsLocal live (side_after s (SendsUp control (if d then Doing control count else OtherUp))) page
+completed : (size : ℕ) (live : Option ℕ) (s : Side) (page : Local) (control count : ℕ) (d : Bool) → SideIsLocal live s page
+    → SideIsLocal live (side_after s (SendsUp control (if d then Doing control count else OtherUp))) page
 completed size live s page control count true i = done size live s page control control count i
 completed size live s page control count false i = i
 
@@ -352,19 +572,25 @@ Granted (message.Request control page access) live = live ≡ Some control
 Granted (message.Terminate control) live = live ≡ Some control
 Granted m live = Unit {0}
 
-sent : (size h o p : ℕ) (live : Option ℕ) (s : Side) (page : Local) (host : HostId) (object : ObjectId) (m : Message) → ((host.0 == h) ≡ true → (object.0 == o) ≡ true → Granted m live) → SideIsLocal live s page
-    → SideIsLocal (live_after h o (event.Sent (Up host object) m) live) (side_after s (effect_on h (act_if (object.0 == o) host.0 (sent_act_effect p m)))) (local_after size (if host.0 == h && object.0 == o then L.sent_effect p live m else Elsewhere) page)
+sent : (size h o p : ℕ) (live : Option ℕ) (s : Side) (page : Local) (host : HostId) (object : ObjectId) (m : Message)
+    → ((host.0 == h) ≡ true → (object.0 == o) ≡ true → Granted m live) → SideIsLocal live s page
+    → SideIsLocal (live_after h o (event.Sent (Up host object) m) live) (side_after s (effect_on h (act_if (object.0 == o) host.0 (sent_act_effect p m))))
+    (local_after size (if host.0 == h && object.0 == o then L.sent_effect p live m else Elsewhere) page)
 sent size h o p live s page host object (message.Init control bytes) founded i = begins size live s page control (host.0 == h) (object.0 == o) i
 sent size h o p live s page host object (message.Create control bytes) founded i = begins size live s page control (host.0 == h) (object.0 == o) i
 sent size h o p live s page host object (message.Terminate control) founded i = terminates size live s page control (host.0 == h) (object.0 == o) founded i
 sent size h o p live s page host object (message.Request control at access) founded i =
-    acted size live s page (host.0 == h) (object.0 == o) (SendsUp control (if at.0 == p then Asking control access else OtherUp)) (if at.0 == p && is_control control live then L.Asks else Elsewhere)
-    (λ mine its. request size live s page control access (at.0 == p) (is_control control live) (ap (is_control control) (founded mine its) ∙ itself control) i) i
+    acted size live s page (host.0 == h) (object.0 == o) (SendsUp control (if at.0 == p then Asking control access else OtherUp))
+    (if at.0 == p && is_control control live then L.Asks else Elsewhere)
+    (λ mine its. request size live s page control access (at.0 == p) (is_control control live) (ap (is_control control) (founded mine its) ∙ itself control) i)
+    i
 sent size h o p live s page host object (message.Unlock control at access) founded i =
-    acted size live s page (host.0 == h) (object.0 == o) (SendsUp control (if at.0 == p then Unlocking access else OtherUp)) (if at.0 == p then L.Unlocks else Elsewhere)
+    acted size live s page (host.0 == h) (object.0 == o) (SendsUp control (if at.0 == p then Unlocking access else OtherUp))
+    (if at.0 == p then L.Unlocks else Elsewhere)
     (λ mine its. unlock size live s page control access (at.0 == p) i) i
 sent size h o p live s page host object (message.Return control at dirty keep bytes) founded i =
-    acted size live s page (host.0 == h) (object.0 == o) (SendsUp control (if at.0 == p then Returning dirty keep bytes else OtherUp)) (if at.0 == p then L.Returns keep else Elsewhere)
+    acted size live s page (host.0 == h) (object.0 == o) (SendsUp control (if at.0 == p then Returning dirty keep bytes else OtherUp))
+    (if at.0 == p then L.Returns keep else Elsewhere)
     (λ mine its. back size live s page control dirty keep bytes (at.0 == p) i) i
 sent size h o p live s page host object (message.Completed control at count) founded i =
     acted size live s page (host.0 == h) (object.0 == o) (SendsUp control (if in_range p at.0 count then Doing control count else OtherUp)) Elsewhere
@@ -380,77 +606,123 @@ reaches_is live s control is = by_live s.live s.control ∙ ap (is_control contr
     by_live true n = refl
     by_live false n = refl
 
-took_if : (size p : ℕ) (live : Option ℕ) (s : Side) (page : Local) (m : Message) (a b : Bool) → a ≡ b → SideIsLocal live s page → SideIsLocal live (if a then side_taken_down s (down_word p m) else record s { step = 0 }) (local_after size (if b then taken_effect p m else Elsewhere) page)
+took_if : (size p : ℕ) (live : Option ℕ) (s : Side) (page : Local) (m : Message) (a b : Bool) → a ≡ b → SideIsLocal live s page
+    → SideIsLocal live (if a then side_taken_down s (down_word p m) else record s { step = 0 })
+    (local_after size (if b then taken_effect p m else Elsewhere) page)
 took_if size p live s page m true true is i = takes size p live s page m i
 took_if size p live s page m false false is i = alike live s _ page (same s _ refl refl refl refl refl refl refl refl refl refl) i
 took_if size p live s page m true false is i = never (sym is)
 took_if size p live s page m false true is i = never is
 
 took : (size p control : ℕ) (live : Option ℕ) (s : Side) (page : Local) (m : Message) (c b : Bool) → SideIsLocal live s page
-    → SideIsLocal live (side_after s (if c then (if b then TakesDown control (down_word p m) else StepBegins) else to_others (if b then TakesDown control (down_word p m) else StepBegins)))
+    → SideIsLocal live (side_after s (if c then (if b then TakesDown control (down_word p m) else StepBegins) else to_others
+    (if b then TakesDown control (down_word p m) else StepBegins)))
     (local_after size (if c && (b && is_control control live) then taken_effect p m else Elsewhere) page)
-took size p control live s page m true true i = took_if size p live s page m (is_open_to s control) (is_control control live) (reaches_is live s control i.control) i
+took size p control live s page m true true i =
+    took_if size p live s page m (is_open_to s control) (is_control control live) (reaches_is live s control i.control) i
 took size p control live s page m true false i = alike live s _ page (idle StepBegins s tt) i
 took size p control live s page m false true i = alike live s _ page (idle StepBegins s tt) i
 took size p control live s page m false false i = alike live s _ page (idle StepBegins s tt) i
 
-granted : (at : HostId) (object : ObjectId) (h o size : ℕ) (m : Message) (past : List Event) → IsFounded size (event.Sent (Up at object) m) past → (at.0 == h) ≡ true → (object.0 == o) ≡ true → Granted m (live_control h o past)
+granted : (at : HostId) (object : ObjectId) (h o size : ℕ) (m : Message) (past : List Event) → IsFounded size (event.Sent (Up at object) m) past
+    → (at.0 == h) ≡ true → (object.0 == o) ≡ true → Granted m (live_control h o past)
 granted at object h o size (message.Request control page access) past is mine its =
-    subst (λ (n : ℕ). live_control n o past ≡ Some control) (number_is at.0 h mine) (subst (λ (n : ℕ). live_control at.0 n past ≡ Some control) (number_is object.0 o its) is)
+    subst (λ (n : ℕ). live_control n o past ≡ Some control) (number_is at.0 h mine)
+    (subst (λ (n : ℕ). live_control at.0 n past ≡ Some control) (number_is object.0 o its) is)
 granted at object h o size (message.Terminate control) past is mine its =
-    subst (λ (n : ℕ). live_control n o past ≡ Some control) (number_is at.0 h mine) (subst (λ (n : ℕ). live_control at.0 n past ≡ Some control) (number_is object.0 o its) is)
+    subst (λ (n : ℕ). live_control n o past ≡ Some control) (number_is at.0 h mine)
+    (subst (λ (n : ℕ). live_control at.0 n past ≡ Some control) (number_is object.0 o its) is)
 granted at object h o size m past is mine its = tt
 
 -- a side's page is what its host has of it, at every moment
-pub side_is_local : (size : ℕ) (past : List Event) (h o p : ℕ) → EachEvent (IsFounded size) past → SideIsLocal (live_control h o past) (side h (page_part size o p past)) (local size h (record { object = o; page = p }) past)
+pub side_is_local : (size : ℕ) (past : List Event) (h o p : ℕ) → EachEvent (IsFounded size) past
+    → SideIsLocal (live_control h o past) (side h (page_part size o p past)) (local size h (record { object = o; page = p }) past)
 side_is_local size [] h o p founded =
-    record { right = refl; lock = λ here. refl; bytes = λ here. refl; dirty = λ here. refl; precious = λ here. refl; unlocking = λ here. refl; asked = refl; absent = refl; control = refl }
+    record {
+      right = refl;
+      lock = λ here. refl;
+      bytes = λ here. refl;
+      dirty = λ here. refl;
+      precious = λ here. refl;
+      unlocking = λ here. refl;
+      asked = refl;
+      absent = refl;
+      control = refl;
+    }
 side_is_local size (event.Sent (Up host object) m ∷ past) h o p founded =
-    sent size h o p (live_control h o past) (side h (page_part size o p past)) (local size h (record { object = o; page = p }) past) host object m (λ mine its. granted host object h o size m past founded.0 mine its) (side_is_local size past h o p founded.1)
+    sent size h o p (live_control h o past) (side h (page_part size o p past)) (local size h (record { object = o; page = p }) past) host object m
+    (λ mine its. granted host object h o size m past founded.0 mine its) (side_is_local size past h o p founded.1)
 side_is_local size (event.Sent (Down host object control) m ∷ past) h o p founded =
-    idle_act (live_control h o past) (side h (page_part size o p past)) (local size h (record { object = o; page = p }) past) (host.0 == h) (if object.0 == o then SentDown control (down_word p m) else Nothing)
+    idle_act (live_control h o past) (side h (page_part size o p past)) (local size h (record { object = o; page = p }) past) (host.0 == h)
+    (if object.0 == o then SentDown control (down_word p m) else Nothing)
     (idle_if (object.0 == o) (SentDown control (down_word p m)) Nothing tt tt) (side_is_local size past h o p founded.1)
 side_is_local size (event.Taken (Up host object) m ∷ past) h o p founded =
-    idle_act (live_control h o past) (side h (page_part size o p past)) (local size h (record { object = o; page = p }) past) (host.0 == h) (if object.0 == o then TakenUp (up_word p m) else StepBegins)
+    idle_act (live_control h o past) (side h (page_part size o p past)) (local size h (record { object = o; page = p }) past) (host.0 == h)
+    (if object.0 == o then TakenUp (up_word p m) else StepBegins)
     (idle_if (object.0 == o) (TakenUp (up_word p m)) StepBegins tt tt) (side_is_local size past h o p founded.1)
 side_is_local size (event.Taken (Down host object control) m ∷ past) h o p founded =
-    took size p control (live_control h o past) (side h (page_part size o p past)) (local size h (record { object = o; page = p }) past) m (host.0 == h) (object.0 == o) (side_is_local size past h o p founded.1)
+    took size p control (live_control h o past) (side h (page_part size o p past)) (local size h (record { object = o; page = p }) past) m (host.0 == h)
+    (object.0 == o) (side_is_local size past h o p founded.1)
 side_is_local size (event.Dropped host object page ∷ past) h o p founded =
-    let i : SideIsLocal (live_control h o past) (side h (page_part size o p past)) (local size h (record { object = o; page = p }) past) = side_is_local size past h o p founded.1 in
+    let i : SideIsLocal (live_control h o past) (side h (page_part size o p past)) (local size h (record { object = o; page = p }) past) = side_is_local size
+    past h o p founded.1 in
     acted size (live_control h o past) _ _ (host.0 == h) (object.0 == o && page.0 == p) Drops L.Drops (λ mine its. drops size (live_control h o past) _ _ i) i
 side_is_local size (event.Zeroed host object page ∷ past) h o p founded =
-    let i : SideIsLocal (live_control h o past) (side h (page_part size o p past)) (local size h (record { object = o; page = p }) past) = side_is_local size past h o p founded.1 in
-    acted size (live_control h o past) _ _ (host.0 == h) (object.0 == o && page.0 == p) (Puts (replicate size 0) false) L.Zeroes (λ mine its. puts size (live_control h o past) _ _ (replicate size 0) false L.Zeroes refl i) i
+    let i : SideIsLocal (live_control h o past) (side h (page_part size o p past)) (local size h (record { object = o; page = p }) past) = side_is_local size
+    past h o p founded.1 in
+    acted size (live_control h o past) _ _ (host.0 == h) (object.0 == o && page.0 == p) (Puts (replicate size 0) false) L.Zeroes
+    (λ mine its. puts size (live_control h o past) _ _ (replicate size 0) false L.Zeroes refl i) i
 side_is_local size (event.Raised host lower lower_page upper upper_page ∷ past) h o p founded =
-    let i : SideIsLocal (live_control h o past) (side h (page_part size o p past)) (local size h (record { object = o; page = p }) past) = side_is_local size past h o p founded.1 in
-    let source : (side host.0 (page_part size lower.0 lower_page.0 past)).bytes ≡ (local size host.0 (record { object = lower.0; page = lower_page.0 }) past).bytes = (side_is_local size past host.0 lower.0 lower_page.0 founded.1).bytes founded.0 in
-    acted size (live_control h o past) _ _ (host.0 == h) (upper.0 == o && upper_page.0 == p) (Puts (side host.0 (page_part size lower.0 lower_page.0 past)).bytes true) (L.Raises (local size h (record { object = lower.0; page = lower_page.0 }) past).bytes)
-    (λ mine its. raises size (live_control h o past) _ _ _ _ (source ∙ ap (λ (g : ℕ). (local size g (record { object = lower.0; page = lower_page.0 }) past).bytes) (number_is host.0 h mine)) i) i
+    let i : SideIsLocal (live_control h o past) (side h (page_part size o p past)) (local size h (record { object = o; page = p }) past) = side_is_local size
+    past h o p founded.1 in
+    let source : (side host.0 (page_part size lower.0 lower_page.0 past)).bytes ≡ (local size host.0 (record { object = lower.0; page = lower_page.0 })
+    past).bytes = (side_is_local size past host.0 lower.0 lower_page.0 founded.1).bytes founded.0 in
+    acted size (live_control h o past) _ _ (host.0 == h) (upper.0 == o && upper_page.0 == p)
+    (Puts (side host.0 (page_part size lower.0 lower_page.0 past)).bytes true)
+    (L.Raises (local size h (record { object = lower.0; page = lower_page.0 }) past).bytes)
+    (λ mine its. raises size (live_control h o past) _ _ _ _ (source
+    ∙ ap (λ (g : ℕ). (local size g (record { object = lower.0; page = lower_page.0 }) past).bytes) (number_is host.0 h mine)) i) i
 side_is_local size (event.CopiedPage task page object object_page target ∷ past) h o p founded =
-    let i : SideIsLocal (live_control h o past) (side h (page_part size o p past)) (local size h (record { object = o; page = p }) past) = side_is_local size past h o p founded.1 in
+    let i : SideIsLocal (live_control h o past) (side h (page_part size o p past)) (local size h (record { object = o; page = p }) past) = side_is_local size
+    past h o p founded.1 in
     let g : ℕ = founded.0.0 in
     let on : task_host task.0 past ≡ g = host_lives task.0 g past founded.0.1 in
-    let source : (side g (page_part size object.0 object_page.0 past)).bytes ≡ (local size g (record { object = object.0; page = object_page.0 }) past).bytes = (side_is_local size past g object.0 object_page.0 founded.1).bytes founded.0.2 in
-    acted_by size (live_control h o past) _ _ (task_host task.0 past == h) (is_on h (host_of task.0 past)) (target.0 == o && page.0 == p) (Puts (side (task_host task.0 past) (page_part size object.0 object_page.0 past)).bytes true) (if object.0 == o && object_page.0 == p then Copies task.0 else Nothing)
-    (L.Raises (local size h (record { object = object.0; page = object_page.0 }) past).bytes) (on_host h task.0 g past founded.0.1) (idle_if (object.0 == o && object_page.0 == p) _ _ tt tt)
+    let source : (side g (page_part size object.0 object_page.0 past)).bytes ≡ (local size g (record { object = object.0; page = object_page.0 })
+    past).bytes = (side_is_local size past g object.0 object_page.0 founded.1).bytes founded.0.2 in
+    acted_by size (live_control h o past) _ _ (task_host task.0 past == h) (is_on h (host_of task.0 past)) (target.0 == o && page.0 == p)
+    (Puts (side (task_host task.0 past) (page_part size object.0 object_page.0 past)).bytes true)
+    (if object.0 == o && object_page.0 == p then Copies task.0 else Nothing)
+    (L.Raises (local size h (record { object = object.0; page = object_page.0 }) past).bytes) (on_host h task.0 g past founded.0.1)
+    (idle_if (object.0 == o && object_page.0 == p) _ _ tt tt)
     (λ mine its. raises size (live_control h o past) _ _ _ _
-    (ap (λ (k : ℕ). (side k (page_part size object.0 object_page.0 past)).bytes) on ∙ source ∙ ap (λ (k : ℕ). (local size k (record { object = object.0; page = object_page.0 }) past).bytes) (sym on ∙ number_is (task_host task.0 past) h mine)) i) i
+    (ap (λ (k : ℕ). (side k (page_part size object.0 object_page.0 past)).bytes) on ∙ source
+    ∙ ap (λ (k : ℕ). (local size k (record { object = object.0; page = object_page.0 }) past).bytes) (sym on ∙ number_is (task_host task.0 past) h mine)) i)
+    i
 side_is_local size (event.Stored task object page at bytes value ∷ past) h o p founded =
-    let i : SideIsLocal (live_control h o past) (side h (page_part size o p past)) (local size h (record { object = o; page = p }) past) = side_is_local size past h o p founded.1 in
-    acted_by size (live_control h o past) _ _ (task_host task.0 past == h) (is_on h (host_of task.0 past)) (object.0 == o && page.0 == p) (Stores task.0 at bytes value) Nothing (L.Stores at (little_endian_bytes bytes value)) (on_host h task.0 founded.0.0 past founded.0.1) tt
+    let i : SideIsLocal (live_control h o past) (side h (page_part size o p past)) (local size h (record { object = o; page = p }) past) = side_is_local size
+    past h o p founded.1 in
+    acted_by size (live_control h o past) _ _ (task_host task.0 past == h) (is_on h (host_of task.0 past)) (object.0 == o && page.0 == p)
+    (Stores task.0 at bytes value) Nothing (L.Stores at (little_endian_bytes bytes value)) (on_host h task.0 founded.0.0 past founded.0.1) tt
     (λ mine its. stores size (live_control h o past) _ _ task.0 at bytes value i) i
 side_is_local size (event.BegunLoad task address bytes ∷ past) h o p founded =
-    idle_act (live_control h o past) _ _ (task_host task.0 past == h) (if means_page size o p task.0 address past then Begins task.0 false (address % size) bytes 0 else Nothing) (idle_if (means_page size o p task.0 address past) _ _ tt tt) (side_is_local size past h o p founded.1)
+    idle_act (live_control h o past) _ _ (task_host task.0 past == h) (if means_page size o p task.0 address past then Begins task.0 false (address % size)
+    bytes 0 else Nothing) (idle_if (means_page size o p task.0 address past) _ _ tt tt) (side_is_local size past h o p founded.1)
 side_is_local size (event.BegunStore task address bytes value ∷ past) h o p founded =
-    idle_act (live_control h o past) _ _ (task_host task.0 past == h) (if means_page size o p task.0 address past then Begins task.0 true (address % size) bytes value else Nothing) (idle_if (means_page size o p task.0 address past) _ _ tt tt) (side_is_local size past h o p founded.1)
+    idle_act (live_control h o past) _ _ (task_host task.0 past == h) (if means_page size o p task.0 address past then Begins task.0 true (address % size) bytes
+    value else Nothing) (idle_if (means_page size o p task.0 address past) _ _ tt tt) (side_is_local size past h o p founded.1)
 side_is_local size (event.Loaded task object page value ∷ past) h o p founded =
-    idle_act (live_control h o past) _ _ (task_host task.0 past == h) (if object.0 == o && page.0 == p then Loads task.0 value else Nothing) (idle_if (object.0 == o && page.0 == p) _ _ tt tt) (side_is_local size past h o p founded.1)
+    idle_act (live_control h o past) _ _ (task_host task.0 past == h) (if object.0 == o && page.0 == p then Loads task.0 value else Nothing)
+    (idle_if (object.0 == o && page.0 == p) _ _ tt tt) (side_is_local size past h o p founded.1)
 side_is_local size (event.Failed task object page ∷ past) h o p founded =
-    idle_act (live_control h o past) _ _ (task_host task.0 past == h) (if object.0 == o && page.0 == p then Fails task.0 else EndsCopy task.0) (idle_if (object.0 == o && page.0 == p) _ _ tt tt) (side_is_local size past h o p founded.1)
+    idle_act (live_control h o past) _ _ (task_host task.0 past == h) (if object.0 == o && page.0 == p then Fails task.0 else EndsCopy task.0)
+    (idle_if (object.0 == o && page.0 == p) _ _ tt tt) (side_is_local size past h o p founded.1)
 side_is_local size (event.BegunCopy task address bytes to ∷ past) h o p founded =
-    idle_act (live_control h o past) _ _ (task_host task.0 past == h) (BeginsCopy task.0 (times_meant size (λ (at : ℕ). means_page size o p task.0 at past) address (bytes / size))) tt (side_is_local size past h o p founded.1)
-side_is_local size (event.CopyEnded task ∷ past) h o p founded = idle_act (live_control h o past) _ _ (task_host task.0 past == h) (EndsCopy task.0) tt (side_is_local size past h o p founded.1)
-side_is_local size (event.Line line ∷ past) h o p founded = idle_act (live_control h o past) _ _ (0 == h) StepBegins tt (side_is_local size past h o p founded.1)
+    idle_act (live_control h o past) _ _ (task_host task.0 past == h) (BeginsCopy task.0
+    (times_meant size (λ (at : ℕ). means_page size o p task.0 at past) address (bytes / size))) tt (side_is_local size past h o p founded.1)
+side_is_local size (event.CopyEnded task ∷ past) h o p founded =
+    idle_act (live_control h o past) _ _ (task_host task.0 past == h) (EndsCopy task.0) tt (side_is_local size past h o p founded.1)
+side_is_local size (event.Line line ∷ past) h o p founded =
+    idle_act (live_control h o past) _ _ (0 == h) StepBegins tt (side_is_local size past h o p founded.1)
 side_is_local size (e ∷ past) h o p founded = idle_act (live_control h o past) _ _ (0 == h) Nothing tt (side_is_local size past h o p founded.1)
 
 -- who can read and write
@@ -480,7 +752,8 @@ above zero = omega arith
 above (suc lock) = omega arith
 
 -- a page that is here has what the stores left
-pub local_bytes : (size : ℕ) (past : List Event) (h o p : ℕ) → EachEvent (IsFounded size) past → ActsLicensed size (page_part size o p past) → (local size h (record { object = o; page = p }) past).here ≡ true
+pub local_bytes : (size : ℕ) (past : List Event) (h o p : ℕ) → EachEvent (IsFounded size) past → ActsLicensed size (page_part size o p past)
+    → (local size h (record { object = o; page = p }) past).here ≡ true
     → (local size h (record { object = o; page = p }) past).bytes ≡ current size (page_part size o p past)
 local_bytes size past h o p founded licensed here =
     let page : Local = local size h (record { object = o; page = p }) past in
@@ -494,24 +767,30 @@ local_bytes size past h o p founded licensed here =
 lives : (live : Option ℕ) (s : Side) (page : Local) (control : ℕ) → SideIsLocal live s page → s.live ≡ true → s.control ≡ control → live ≡ Some control
 lives live s page control i on is = sym i.control ∙ ap (λ (b : Bool). if b then Some s.control else None) on ∙ ap (λ (n : ℕ). Some n) is
 
-sends_live : (size h control access : ℕ) (past : List Act) (b d : Bool) → b ≡ true → d ≡ true → Cause size h (if b then SendsUp control (if d then Asking control access else OtherUp) else Nothing) past → ((side h past).live ≡ true) × ((side h past).control ≡ control)
+sends_live : (size h control access : ℕ) (past : List Act) (b d : Bool) → b ≡ true → d ≡ true
+    → Cause size h (if b then SendsUp control (if d then Asking control access else OtherUp) else Nothing) past → ((side h past).live ≡ true)
+    × ((side h past).control ≡ control)
 sends_live size h control access past true true one two may = (may.0, may.1)
 sends_live size h control access past false d one two may = never one
 sends_live size h control access past true false one two may = never two
 
-ends_live : (size h control : ℕ) (past : List Act) (b : Bool) → b ≡ true → Cause size h (if b then SendsUp control (Ending control) else Nothing) past → ((side h past).live ≡ true) × ((side h past).control ≡ control)
+ends_live : (size h control : ℕ) (past : List Act) (b : Bool) → b ≡ true → Cause size h (if b then SendsUp control (Ending control) else Nothing) past
+    → ((side h past).live ≡ true) × ((side h past).control ≡ control)
 ends_live size h control past true one may = (may.0, may.1)
 ends_live size h control past false one may = never one
 
 pub asked_live : (size : ℕ) (past : List Event) (host : HostId) (object : ObjectId) (control access : ℕ) (page : PageNo) → EachEvent (IsFounded size) past
-    → ActsLicensed size (page_part size object.0 page.0 (event.Sent (Up host object) (message.Request control page access) ∷ past)) → IsFounded size (event.Sent (Up host object) (message.Request control page access)) past
+    → ActsLicensed size (page_part size object.0 page.0 (event.Sent (Up host object) (message.Request control page access) ∷ past))
+    → IsFounded size (event.Sent (Up host object) (message.Request control page access)) past
 asked_live size past host object control access page founded licensed =
     let s : ((side host.0 (page_part size object.0 page.0 past)).live ≡ true) × ((side host.0 (page_part size object.0 page.0 past)).control ≡ control) =
-    sends_live size host.0 control access (page_part size object.0 page.0 past) (object.0 == object.0) (page.0 == page.0) (itself object.0) (itself page.0) licensed.0 in
+    sends_live size host.0 control access (page_part size object.0 page.0 past) (object.0 == object.0) (page.0 == page.0) (itself object.0) (itself page.0)
+    licensed.0 in
     lives _ _ _ control (side_is_local size past host.0 object.0 page.0 founded) s.0 s.1
 
 pub ended_live : (size : ℕ) (past : List Event) (host : HostId) (object : ObjectId) (control p : ℕ) → EachEvent (IsFounded size) past
-    → ActsLicensed size (page_part size object.0 p (event.Sent (Up host object) (message.Terminate control) ∷ past)) → IsFounded size (event.Sent (Up host object) (message.Terminate control)) past
+    → ActsLicensed size (page_part size object.0 p (event.Sent (Up host object) (message.Terminate control) ∷ past))
+    → IsFounded size (event.Sent (Up host object) (message.Terminate control)) past
 ended_live size past host object control p founded licensed =
     let s : ((side host.0 (page_part size object.0 p past)).live ≡ true) × ((side host.0 (page_part size object.0 p past)).control ≡ control) =
     ends_live size host.0 control (page_part size object.0 p past) (object.0 == object.0) (itself object.0) licensed.0 in

@@ -50,7 +50,8 @@ if_any_none m n e = grind arith
 
 pub behind_down_end : (f g : DownWord → ℕ) (q : List DownWord) (w : DownWord) → g w ≡ 0 → behind_down f g (q ++ w ∷ []) ≡ behind_down f g q
 behind_down_end f g [] w none = omega (arith, if_any_0 (f w))
-behind_down_end f g (v ∷ q) w none = rw (sum_down_end g q w, none) (let e : sum_down g q + 0 ≡ sum_down g q = omega arith in rw e (omega (arith, behind_down_end f g q w none)))
+behind_down_end f g (v ∷ q) w none =
+    rw (sum_down_end g q w, none) (let e : sum_down g q + 0 ≡ sum_down g q = omega arith in rw e (omega (arith, behind_down_end f g q w none)))
 
 pub behind_down_new : (f g : DownWord → ℕ) (q : List DownWord) (w : DownWord) → sum_down f q ≡ 0 → behind_down f g (q ++ w ∷ []) ≡ 0
 behind_down_new f g [] w none = omega (arith, if_any_0 (f w))

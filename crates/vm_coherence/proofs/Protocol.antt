@@ -2,7 +2,8 @@
 use Rattle.std.proofs.Common.{◌≡◌, ◌≢◌, ℕ, ◌<◌, ◌≤◌, ◌∙◌, subst, sym, List, [], ◌∷◌, arith, Bool, true, false, Option, Some, None, if◌then◌else◌, refl}
 use Rattle.std.proofs.lemmas.Bool.Decides.{nat_tests}
 use native.Mathlib.Decide.{ℕ_discrete}
-use Rattle.vm_model.specs.Words.{Asking, Unlocking, Returning, Doing, Ending, OtherUp, DownWord, Supplying, Locking, Lacking, Failing, Readying, OtherDown, ActEffect, Opens, SendsUp, TakenUp, SentDown, TakesDown, Puts, Drops, Stores, StepBegins, Act, to_others}
+use Rattle.vm_model.specs.Words.{Asking, Unlocking, Returning, Doing, Ending, OtherUp, DownWord, Supplying, Locking, Lacking, Failing, Readying, OtherDown}
+use Rattle.vm_model.specs.Words.{ActEffect, Opens, SendsUp, TakenUp, SentDown, TakesDown, Puts, Drops, Stores, StepBegins, Act, to_others}
 use Rattle.vm_model.specs.Side.{Side, done, is_open_to, side_sent_down, side_taken_down, side_after, side}
 use Rattle.vm_model.specs.Waiters.{Waiter, waiters, readers}
 use Rattle.vm_model.specs.Server.{first, Wanting, line, NoUpgrade, NoRequest, kept}
@@ -15,8 +16,12 @@ use Rattle.vm_coherence.proofs.Law.{never, World, cause, own_side, other_side, u
 use Rattle.vm_coherence.proofs.Whole.{at_each}
 use Rattle.vm_coherence.proofs.Carried.{gate, after, Carried}
 use Rattle.vm_coherence.proofs.Still.{upgrades, Waits, upgrades_own, upgrades_other, waits}
-use Rattle.vm_coherence.proofs.Single.{Single, single_asking, single_unlocking, single_returning, single_doing, single_ending, single_opens, single_rest, single_ready, single_same, single_drops, single_stores, single_heard_asking, single_heard_unlocking, single_heard_returning, single_heard_doing, single_heard_ending, single_supply, single_upgrade, single_order, single_supplied, single_flushed, single_cleaned, single_unlocked, single_start}
-use Rattle.vm_coherence.proofs.Aligned.{Aligned, aligned_sent, aligned_taken, aligned_order, aligned_opens, done_is_mine, end_is_mine, aligned_start, aligned_hears}
+use Rattle.vm_coherence.proofs.Single.{Single, single_asking, single_unlocking, single_returning, single_doing, single_ending, single_opens, single_rest}
+use Rattle.vm_coherence.proofs.Single.{single_ready, single_same, single_drops, single_stores, single_heard_asking, single_heard_unlocking}
+use Rattle.vm_coherence.proofs.Single.{single_heard_returning, single_heard_doing, single_heard_ending, single_supply, single_upgrade, single_order}
+use Rattle.vm_coherence.proofs.Single.{single_supplied, single_flushed, single_cleaned, single_unlocked, single_start}
+use Rattle.vm_coherence.proofs.Aligned.{Aligned, aligned_sent, aligned_taken, aligned_order, aligned_opens, done_is_mine, end_is_mine, aligned_start}
+use Rattle.vm_coherence.proofs.Aligned.{aligned_hears}
 
 -- what is known of a message to the host beside the host's own reasons
 abbrev pub Told : Side → ℕ → ActEffect → Type 0
@@ -41,7 +46,8 @@ told_if size h e past c = tt
 
 -- one unlock, over all acts
 
-single_hears : (w : DownWord) (s : Side) (n : ℕ) → Sound s → Carried s n → Single s n → s.live ≡ true → first s.down ≡ Some w → s.step ≡ 0 → Single (side_taken_down s w) (gate (side_taken_down s w).holds n)
+single_hears : (w : DownWord) (s : Side) (n : ℕ) → Sound s → Carried s n → Single s n → s.live ≡ true → first s.down ≡ Some w → s.step ≡ 0
+    → Single (side_taken_down s w) (gate (side_taken_down s w).holds n)
 single_hears (Supplying lock precious bytes) s n ok k x live is none = single_supplied s n lock precious bytes ok k x live is none
 single_hears (Locking count returns true lock true) s n ok k x live is none = single_flushed s n count returns lock ok k x live is none
 single_hears (Locking count returns false lock true) s n ok k x live is none = single_cleaned s n count returns lock ok k x live is none
@@ -52,7 +58,9 @@ single_hears Failing s n ok k x live is none = absurd (never s Failing ok refl i
 single_hears Readying s n ok k x live is none = single_ready s n ok k x none
 single_hears OtherDown s n ok k x live is none = single_rest s n ok k x none
 
-single_takes : (ws : List Waiter) (rs : List ℕ) (w : DownWord) (s : Side) (n control : ℕ) (b : Bool) → is_open_to s control ≡ b → Sound s → Carried s n → Single s n → HostMay ws rs s (TakesDown control w) → s.step ≡ 0 → Single (if b then side_taken_down s w else record s { step = 0 }) (gate (if b then side_taken_down s w else record s { step = 0 }).holds n)
+single_takes : (ws : List Waiter) (rs : List ℕ) (w : DownWord) (s : Side) (n control : ℕ) (b : Bool) → is_open_to s control ≡ b → Sound s → Carried s n
+    → Single s n → HostMay ws rs s (TakesDown control w) → s.step ≡ 0
+    → Single (if b then side_taken_down s w else record s { step = 0 }) (gate (if b then side_taken_down s w else record s { step = 0 }).holds n)
 single_takes ws rs w s n control false is ok k x may none = single_rest s n ok k x none
 single_takes ws rs OtherDown s n control true is ok k x may none = single_rest s n ok k x none
 single_takes ws rs Readying s n control true is ok k x may none = single_ready s n ok k x none
@@ -61,7 +69,8 @@ single_takes ws rs w s n control true is ok k x may none =
     let mine : s.control ≡ control = grind (arith, nat_tests) in
     single_hears w s n ok k x live (may mine live) none
 
-single_own : (e : ActEffect) (ws : List Waiter) (rs : List ℕ) (s : Side) (n : ℕ) → Sound s → Carried s n → Single s n → Fair ws rs s e → (begins_step e ≡ true → s.step ≡ 0) → Told s n e → Single (side_after s e) (after s n e)
+single_own : (e : ActEffect) (ws : List Waiter) (rs : List ℕ) (s : Side) (n : ℕ) → Sound s → Carried s n → Single s n → Fair ws rs s e
+    → (begins_step e ≡ true → s.step ≡ 0) → Told s n e → Single (side_after s e) (after s n e)
 single_own (Opens control ready) ws rs s n ok k x may none told = single_opens s n control ready ok k x may.0
 single_own (SendsUp control (Asking asker access)) ws rs s n ok k x may none told = single_asking ws rs s n control asker access ok k x may.2
 single_own (SendsUp control (Unlocking access)) ws rs s n ok k x may none told = single_unlocking ws rs s n control access ok k x may.2
@@ -76,8 +85,10 @@ single_own (TakenUp (Doing control count)) ws rs s n ok k x may none told = sing
 single_own (TakenUp (Ending control)) ws rs s n ok k x may none told = single_heard_ending s n control ok k x may (none refl)
 single_own (TakenUp OtherUp) ws rs s n ok k x may none told = single_rest s n ok k x (none refl)
 single_own (SentDown control (Supplying lock precious bytes)) ws rs s n ok k x may none told = single_supply s n control lock precious bytes ok k x may
-single_own (SentDown control (Locking count returns flush lock true)) ws rs s n ok k x may none told = single_order s n control count returns lock flush ok k x may told.1
-single_own (SentDown control (Locking count returns flush lock false)) ws rs s n ok k x may none told = single_upgrade s n control count returns lock flush ok k x may told
+single_own (SentDown control (Locking count returns flush lock true)) ws rs s n ok k x may none told =
+    single_order s n control count returns lock flush ok k x may told.1
+single_own (SentDown control (Locking count returns flush lock false)) ws rs s n ok k x may none told =
+    single_upgrade s n control count returns lock flush ok k x may told
 single_own (SentDown control Lacking) ws rs s n ok k x may none told = absurd may
 single_own (SentDown control Failing) ws rs s n ok k x may none told = absurd may
 single_own (SentDown control Readying) ws rs s n ok k x may none told = single_same s n k x
@@ -100,20 +111,25 @@ single_others e s n x none = x
 
 -- the controls, over all acts
 
-aligned_same : (s t : Side) → Aligned s → t.up ≡ s.up → t.awaited_control ≡ s.awaited_control → t.heard ≡ s.heard → t.awaits ≡ s.awaits → t.control ≡ s.control → Aligned t
+aligned_same : (s t : Side) → Aligned s → t.up ≡ s.up → t.awaited_control ≡ s.awaited_control → t.heard ≡ s.heard → t.awaits ≡ s.awaits → t.control ≡ s.control
+    → Aligned t
 aligned_same s t x up awaited heard awaits control = grind (arith, nat_tests)
 
 aligned_takes : (w : DownWord) (s : Side) (b : Bool) → Aligned s → Aligned (if b then side_taken_down s w else record s { step = 0 })
 aligned_takes w s true x = aligned_hears s w x
 aligned_takes w s false x = aligned_same s (record s { step = 0 }) x refl refl refl refl refl
 
-aligned_own : (e : ActEffect) (ws : List Waiter) (rs : List ℕ) (s : Side) (n : ℕ) → Sound s → Carried s n → Aligned s → Fair ws rs s e → Told s n e → Aligned (side_after s e)
+aligned_own : (e : ActEffect) (ws : List Waiter) (rs : List ℕ) (s : Side) (n : ℕ) → Sound s → Carried s n → Aligned s → Fair ws rs s e → Told s n e
+    → Aligned (side_after s e)
 aligned_own (Opens control ready) ws rs s n ok k x may told = aligned_opens s control ready x may.1
 aligned_own (SendsUp control w) ws rs s n ok k x may told = aligned_sent ws rs w control s ok x may
 aligned_own (TakenUp w) ws rs s n ok k x may told = aligned_taken w ws rs s n ok k x may
-aligned_own (SentDown control (Locking count returns flush lock true)) ws rs s n ok k x may told = aligned_order s control count returns lock flush ok x may told.0
-aligned_own (SentDown control (Locking count returns flush lock false)) ws rs s n ok k x may told = aligned_same s (side_sent_down s control (Locking count returns flush lock false)) x refl refl refl refl refl
-aligned_own (SentDown control (Supplying lock precious bytes)) ws rs s n ok k x may told = aligned_same s (side_sent_down s control (Supplying lock precious bytes)) x refl refl refl refl refl
+aligned_own (SentDown control (Locking count returns flush lock true)) ws rs s n ok k x may told =
+    aligned_order s control count returns lock flush ok x may told.0
+aligned_own (SentDown control (Locking count returns flush lock false)) ws rs s n ok k x may told =
+    aligned_same s (side_sent_down s control (Locking count returns flush lock false)) x refl refl refl refl refl
+aligned_own (SentDown control (Supplying lock precious bytes)) ws rs s n ok k x may told =
+    aligned_same s (side_sent_down s control (Supplying lock precious bytes)) x refl refl refl refl refl
 aligned_own (SentDown control Lacking) ws rs s n ok k x may told = absurd may
 aligned_own (SentDown control Failing) ws rs s n ok k x may told = absurd may
 aligned_own (SentDown control Readying) ws rs s n ok k x may told = x
@@ -137,20 +153,24 @@ pub record Protocol (past : List Act) : Type 0 where
   pub single : (h : ℕ) → Single (side h past) (upgrades h past)
   pub aligned : (h : ℕ) → Aligned (side h past)
 
-single_after : (size : ℕ) (a : Act) (past : List Act) → World past → Waits past → Protocol past → Cause size a.host a.effect past → (begins_step a.effect ≡ true → Done past) → (h : ℕ) → Single (side h (a ∷ past)) (upgrades h (a ∷ past))
+single_after : (size : ℕ) (a : Act) (past : List Act) → World past → Waits past → Protocol past → Cause size a.host a.effect past
+    → (begins_step a.effect ≡ true → Done past) → (h : ℕ) → Single (side h (a ∷ past)) (upgrades h (a ∷ past))
 single_after size a past w k p c none h = elim (ℕ_discrete a.host h) [
   | yes e ↦ subst (λ (g : ℕ). Single (side g (a ∷ past)) (upgrades g (a ∷ past))) e
       (subst (λ (n : ℕ). Single (side a.host (a ∷ past)) n) (sym (upgrades_own a past))
       (subst (λ (s : Side). Single s (after (side a.host past) (upgrades a.host past) a.effect)) (sym (own_side a past))
-      (single_own a.effect (waiters a.host past) (readers a.host past) (side a.host past) (upgrades a.host past) (w.each a.host) (k.each a.host) (p.single a.host) (cause size a.host a.effect past w c) (λ begins. none begins a.host) (told_if size a.host a.effect past c))))
+      (single_own a.effect (waiters a.host past) (readers a.host past) (side a.host past) (upgrades a.host past) (w.each a.host) (k.each a.host)
+      (p.single a.host) (cause size a.host a.effect past w c) (λ begins. none begins a.host) (told_if size a.host a.effect past c))))
   | no e ↦ subst (λ (n : ℕ). Single (side h (a ∷ past)) n) (sym (upgrades_other h a past e))
       (subst (λ (s : Side). Single s (upgrades h past)) (sym (other_side h a past e))
       (single_others a.effect (side h past) (upgrades h past) (p.single h) (λ begins. none begins h)))
 ]
 
-aligned_after : (size : ℕ) (a : Act) (past : List Act) → World past → Waits past → Protocol past → Cause size a.host a.effect past → (h : ℕ) → Aligned (side h (a ∷ past))
+aligned_after : (size : ℕ) (a : Act) (past : List Act) → World past → Waits past → Protocol past → Cause size a.host a.effect past → (h : ℕ)
+    → Aligned (side h (a ∷ past))
 aligned_after size a past w k p c = at_each (λ s. Aligned s) a past
-    (aligned_own a.effect (waiters a.host past) (readers a.host past) (side a.host past) (upgrades a.host past) (w.each a.host) (k.each a.host) (p.aligned a.host) (cause size a.host a.effect past w c) (told_if size a.host a.effect past c))
+    (aligned_own a.effect (waiters a.host past) (readers a.host past) (side a.host past) (upgrades a.host past) (w.each a.host) (k.each a.host)
+    (p.aligned a.host) (cause size a.host a.effect past w c) (told_if size a.host a.effect past c))
     (λ h e. aligned_others a.effect (side h past) (p.aligned h))
 
 pub protocol : (size : ℕ) (past : List Act) → ActsLicensed size past → StepsDone past → Protocol past
@@ -185,19 +205,26 @@ ended_0 s control ok is = grind (arith, nat_tests, late_all s.up)
 upgrades_0 : (s : Side) (n access : ℕ) → Single s n → first s.up ≡ Some (Unlocking access) → n ≡ 0
 upgrades_0 s n access x is = grind (arith, nat_tests)
 
-pub one_request : (size h control access : ℕ) (past : List Act) → ActsLicensed size past → first (side h past).up ≡ Some (Asking control access) → NoRequest h (line past)
+pub one_request : (size h control access : ℕ) (past : List Act) → ActsLicensed size past → first (side h past).up ≡ Some (Asking control access)
+    → NoRequest h (line past)
 one_request size h control access past licensed is =
     let w = world size past licensed in
     none_requests h (line past) (w.counted h ∙ pending_0 (side h past) control access (w.each h) is)
 
-pub one_unlock : (size h access : ℕ) (past : List Act) → ActsLicensed size past → StepsDone past → first (side h past).up ≡ Some (Unlocking access) → NoUpgrade h (line past)
-one_unlock size h access past licensed done is = none_upgrades h (line past) (upgrades_0 (side h past) (upgrades h past) access ((protocol size past licensed done).single h) is)
+pub one_unlock : (size h access : ℕ) (past : List Act) → ActsLicensed size past → StepsDone past → first (side h past).up ≡ Some (Unlocking access)
+    → NoUpgrade h (line past)
+one_unlock size h access past licensed done is =
+    none_upgrades h (line past) (upgrades_0 (side h past) (upgrades h past) access ((protocol size past licensed done).single h) is)
 
-pub completed_awaited : (size h control count : ℕ) (past : List Act) → ActsLicensed size past → StepsDone past → first (side h past).up ≡ Some (Doing control count) → (side h past).awaited_control ≡ control
+pub completed_awaited : (size h control count : ℕ) (past : List Act) → ActsLicensed size past → StepsDone past
+    → first (side h past).up ≡ Some (Doing control count) → (side h past).awaited_control ≡ control
 completed_awaited size h control count past licensed done is = done_is_mine (side h past) control count ((protocol size past licensed done).aligned h) is
 
-pub ended_awaited : (size h control : ℕ) (past : List Act) → ActsLicensed size past → StepsDone past → first (side h past).up ≡ Some (Ending control) → 0 < (side h past).awaits → (side h past).awaited_control ≡ control
-ended_awaited size h control past licensed done is some = end_is_mine (side h past) (upgrades h past) control ((world size past licensed).each h) ((waits size past licensed done).each h) ((protocol size past licensed done).aligned h) is some
+pub ended_awaited : (size h control : ℕ) (past : List Act) → ActsLicensed size past → StepsDone past → first (side h past).up ≡ Some (Ending control)
+    → 0 < (side h past).awaits → (side h past).awaited_control ≡ control
+ended_awaited size h control past licensed done is some =
+    end_is_mine (side h past) (upgrades h past) control ((world size past licensed).each h) ((waits size past licensed done).each h)
+    ((protocol size past licensed done).aligned h) is some
 
 pub ended_unasked : (size h control : ℕ) (past : List Act) → ActsLicensed size past → first (side h past).up ≡ Some (Ending control) → NoRequest h (line past)
 ended_unasked size h control past licensed is =

@@ -112,7 +112,9 @@ late_end (v ∷ q) w none = rw (sum_up_end asks q w, none) (grind (arith, late_e
 
 pub late_ask : (q : List UpWord) (asker access : ℕ) → late (q ++ Asking asker access ∷ []) ≡ 0
 late_ask [] asker access = refl
-late_ask (v ∷ q) asker access = rw (sum_up_end asks q (Asking asker access)) (rw (late_step_suc (sum_up asks q + 1) (leaves v) (late (q ++ Asking asker access ∷ [])) (omega arith)) (late_ask q asker access))
+late_ask (v ∷ q) asker access =
+    rw (sum_up_end asks q (Asking asker access)) (rw (late_step_suc (sum_up asks q + 1) (leaves v) (late (q ++ Asking asker access ∷ [])) (omega arith))
+    (late_ask q asker access))
 
 pub late_all : (q : List UpWord) → sum_up asks q ≡ 0 → sum_up ender q ≤ late q
 late_all [] none = omega arith
@@ -151,7 +153,8 @@ stray_none k (v ∷ q) none =
 
 pub stray_end : (k : ℕ) (q : List UpWord) (w : UpWord) → does w ≡ 0 → stray k (q ++ w ∷ []) ≡ stray k q
 stray_end k [] w none = omega (arith, if_any_0 (ends k w))
-stray_end k (v ∷ q) w none = rw (sum_up_end does q w, none) (let e : sum_up does q + 0 ≡ sum_up does q = omega arith in rw e (omega (arith, stray_end k q w none)))
+stray_end k (v ∷ q) w none =
+    rw (sum_up_end does q w, none) (let e : sum_up does q + 0 ≡ sum_up does q = omega arith in rw e (omega (arith, stray_end k q w none)))
 
 if_any_none : (m n : ℕ) → m ≡ 0 → if_any m n ≡ 0
 if_any_none m n e = grind arith

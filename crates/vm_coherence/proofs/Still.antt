@@ -2,7 +2,8 @@
 use Rattle.std.proofs.Common.{◌≡◌, ℕ, ◌+◌, ◌<◌, ◌≢◌, ◌∙◌, subst, sym, inl, inr, List, [], ◌∷◌, arith, Some, Bool, true, false, if◌then◌else◌, refl, ap}
 use Rattle.std.proofs.lemmas.Bool.Decides.{nat_tests}
 use native.Mathlib.Decide.{ℕ_discrete}
-use Rattle.vm_model.specs.Words.{UpWord, Asking, Unlocking, Returning, Doing, Ending, OtherUp, DownWord, Supplying, Locking, Lacking, Failing, Readying, OtherDown, ActEffect, Opens, SendsUp, TakenUp, SentDown, TakesDown, Puts, Drops, Stores, StepBegins, Act, to_others}
+use Rattle.vm_model.specs.Words.{UpWord, Asking, Unlocking, Returning, Doing, Ending, OtherUp, DownWord, Supplying, Locking, Lacking, Failing, Readying}
+use Rattle.vm_model.specs.Words.{OtherDown, ActEffect, Opens, SendsUp, TakenUp, SentDown, TakesDown, Puts, Drops, Stores, StepBegins, Act, to_others}
 use Rattle.vm_model.specs.Side.{Side, done, is_open_to, side_taken_down, side_after, side}
 use Rattle.vm_model.specs.Waiters.{Waiter, waiters, readers}
 use Rattle.vm_model.specs.Server.{first, Wanting, joined, stays, trimmed_line, line, kept}
@@ -11,18 +12,23 @@ use Rattle.vm_model.specs.Coherence.{Done, begins_step, StepsDone, WaitersHaveAs
 use Rattle.vm_coherence.proofs.Sound.{Fair, Sound}
 use Rattle.vm_coherence.proofs.Line.{request, upgrade, total, total_end, without_upgrade}
 use Rattle.vm_coherence.proofs.Law.{never, World, cause, own_side, other_side, joined_upgrade, world}
-use Rattle.vm_coherence.proofs.Carried.{gate, counted_in, after, Carried, carried_asking, carried_unlocking, carried_returning, carried_doing, carried_ending, carried_drops, carried_rest, carried_same, carried_stores, carried_opens, carried_ready, carried_heard_asking, carried_heard_unlocking, carried_heard_returning, carried_heard_doing, carried_heard_ending, carried_supply, carried_upgrade, carried_order, carried_supplied, carried_locked, carried_start}
+use Rattle.vm_coherence.proofs.Carried.{gate, counted_in, after, Carried, carried_asking, carried_unlocking, carried_returning, carried_doing, carried_ending}
+use Rattle.vm_coherence.proofs.Carried.{carried_drops, carried_rest, carried_same, carried_stores, carried_opens, carried_ready, carried_heard_asking}
+use Rattle.vm_coherence.proofs.Carried.{carried_heard_unlocking, carried_heard_returning, carried_heard_doing, carried_heard_ending, carried_supply}
+use Rattle.vm_coherence.proofs.Carried.{carried_upgrade, carried_order, carried_supplied, carried_locked, carried_start}
 
 -- the line's upgrades
 
-keeps_other : (h k holds : ℕ) (w : Wanting) (ws : List Wanting) → h ≢ k → total (upgrade h) (if stays k holds w then w ∷ ws else ws) ≡ upgrade h w + total (upgrade h) ws
+keeps_other : (h k holds : ℕ) (w : Wanting) (ws : List Wanting) → h ≢ k
+    → total (upgrade h) (if stays k holds w then w ∷ ws else ws) ≡ upgrade h w + total (upgrade h) ws
 keeps_other h k holds w ws apart = grind (arith, nat_tests)
 
 trimmed_other : (h k holds : ℕ) (ws : List Wanting) → h ≢ k → total (upgrade h) (trimmed_line k holds ws) ≡ total (upgrade h) ws
 trimmed_other h k holds [] apart = refl
 trimmed_other h k holds (w ∷ ws) apart = omega (arith, keeps_other h k holds w (trimmed_line k holds ws) apart, trimmed_other h k holds ws apart)
 
-keeps_own : (k holds : ℕ) (w : Wanting) (ws vs : List Wanting) → total (upgrade k) ws ≡ gate holds (total (upgrade k) vs) → total (upgrade k) (if stays k holds w then w ∷ ws else ws) ≡ gate holds (upgrade k w + total (upgrade k) vs)
+keeps_own : (k holds : ℕ) (w : Wanting) (ws vs : List Wanting) → total (upgrade k) ws ≡ gate holds (total (upgrade k) vs)
+    → total (upgrade k) (if stays k holds w then w ∷ ws else ws) ≡ gate holds (upgrade k w + total (upgrade k) vs)
 keeps_own k holds w ws vs is = grind (arith, nat_tests)
 
 trimmed_own : (k holds : ℕ) (ws : List Wanting) → total (upgrade k) (trimmed_line k holds ws) ≡ gate holds (total (upgrade k) ws)
@@ -34,7 +40,8 @@ joined_own k e s n ws is = grind (arith, nat_tests, total_end, without_upgrade)
 
 -- one host
 
-hears_one : (w : DownWord) (s : Side) (n control : ℕ) → Sound s → Carried s n → s.live ≡ true → s.control ≡ control → first s.down ≡ Some w → s.step ≡ 0 → Carried (side_taken_down s w) (gate (side_taken_down s w).holds n)
+hears_one : (w : DownWord) (s : Side) (n control : ℕ) → Sound s → Carried s n → s.live ≡ true → s.control ≡ control → first s.down ≡ Some w → s.step ≡ 0
+    → Carried (side_taken_down s w) (gate (side_taken_down s w).holds n)
 hears_one (Supplying lock precious bytes) s n control ok k live mine is none = carried_supplied s n control lock precious bytes ok k live mine is none
 hears_one (Locking count returns flush lock reply) s n control ok k live mine is none = carried_locked s n count returns lock flush reply ok k live is none
 hears_one Lacking s n control ok k live mine is none = absurd (never s Lacking ok refl is)
@@ -43,7 +50,9 @@ hears_one Readying s n control ok k live mine is none = carried_ready s n ok k n
 hears_one OtherDown s n control ok k live mine is none = carried_rest s n ok k none
 
 -- what a host takes, where its control is the live one or not
-hears_if : (ws : List Waiter) (rs : List ℕ) (w : DownWord) (s : Side) (n control : ℕ) (b : Bool) → is_open_to s control ≡ b → Sound s → Carried s n → HostMay ws rs s (TakesDown control w) → s.step ≡ 0 → Carried (if b then side_taken_down s w else record s { step = 0 }) (gate (if b then side_taken_down s w else record s { step = 0 }).holds n)
+hears_if : (ws : List Waiter) (rs : List ℕ) (w : DownWord) (s : Side) (n control : ℕ) (b : Bool) → is_open_to s control ≡ b → Sound s → Carried s n
+    → HostMay ws rs s (TakesDown control w) → s.step ≡ 0
+    → Carried (if b then side_taken_down s w else record s { step = 0 }) (gate (if b then side_taken_down s w else record s { step = 0 }).holds n)
 hears_if ws rs w s n control false is ok k may none = carried_rest s n ok k none
 hears_if ws rs OtherDown s n control true is ok k may none = carried_rest s n ok k none
 hears_if ws rs Readying s n control true is ok k may none = carried_ready s n ok k none
@@ -52,7 +61,8 @@ hears_if ws rs w s n control true is ok k may none =
     let mine : s.control ≡ control = grind (arith, nat_tests) in
     hears_one w s n control ok k live mine (may mine live) none
 
-carried_sent : (ws : List Waiter) (rs : List ℕ) (w : UpWord) (control : ℕ) (s : Side) (n : ℕ) → Sound s → Carried s n → HostMay ws rs s (SendsUp control w) → Carried (side_after s (SendsUp control w)) (after s n (SendsUp control w))
+carried_sent : (ws : List Waiter) (rs : List ℕ) (w : UpWord) (control : ℕ) (s : Side) (n : ℕ) → Sound s → Carried s n → HostMay ws rs s (SendsUp control w)
+    → Carried (side_after s (SendsUp control w)) (after s n (SendsUp control w))
 carried_sent ws rs (Asking asker access) control s n ok k may = carried_asking ws rs s n control asker access ok k may.0 may.2
 carried_sent ws rs (Unlocking access) control s n ok k may = carried_unlocking ws rs s n control access ok k may.2
 carried_sent ws rs (Returning dirty kept bytes) control s n ok k may = carried_returning ws rs s n control dirty kept bytes ok k may.2
@@ -67,7 +77,8 @@ Orders s (SentDown control (Locking count returns flush lock true)) = (control �
 Orders s (SentDown control (Locking count returns flush lock false)) = control ≡ s.heard
 Orders s e = Unit {0}
 
-carried_own : (e : ActEffect) (ws : List Waiter) (rs : List ℕ) (s : Side) (n : ℕ) → Sound s → Carried s n → Fair ws rs s e → (begins_step e ≡ true → s.step ≡ 0) → Orders s e → Carried (side_after s e) (after s n e)
+carried_own : (e : ActEffect) (ws : List Waiter) (rs : List ℕ) (s : Side) (n : ℕ) → Sound s → Carried s n → Fair ws rs s e → (begins_step e ≡ true → s.step ≡ 0)
+    → Orders s e → Carried (side_after s e) (after s n e)
 carried_own (Opens control ready) ws rs s n ok k may none orders = carried_opens s n control ready ok k may.0 may.1
 carried_own (SendsUp control w) ws rs s n ok k may none orders = carried_sent ws rs w control s n ok k may
 carried_own (TakenUp (Asking asker access)) ws rs s n ok k may none orders = carried_heard_asking s n asker access ok k may (none refl)
@@ -77,8 +88,10 @@ carried_own (TakenUp (Doing control count)) ws rs s n ok k may none orders = car
 carried_own (TakenUp (Ending control)) ws rs s n ok k may none orders = carried_heard_ending s n control ok k may (none refl)
 carried_own (TakenUp OtherUp) ws rs s n ok k may none orders = carried_rest s n ok k (none refl)
 carried_own (SentDown control (Supplying lock precious bytes)) ws rs s n ok k may none orders = carried_supply s n control lock precious bytes ok k may orders
-carried_own (SentDown control (Locking count returns flush lock true)) ws rs s n ok k may none orders = carried_order s n control count returns lock flush ok k may orders.1 orders.0
-carried_own (SentDown control (Locking count returns flush lock false)) ws rs s n ok k may none orders = carried_upgrade s n control count returns lock flush ok k may orders
+carried_own (SentDown control (Locking count returns flush lock true)) ws rs s n ok k may none orders =
+    carried_order s n control count returns lock flush ok k may orders.1 orders.0
+carried_own (SentDown control (Locking count returns flush lock false)) ws rs s n ok k may none orders =
+    carried_upgrade s n control count returns lock flush ok k may orders
 carried_own (SentDown control Lacking) ws rs s n ok k may none orders = absurd may
 carried_own (SentDown control Failing) ws rs s n ok k may none orders = absurd may
 carried_own (SentDown control Readying) ws rs s n ok k may none orders = carried_same s n k
@@ -124,12 +137,14 @@ upgrades_other h a past apart =
     trimmed_other h a.host (side a.host (a ∷ past)).holds (joined (side a.host past) a.host a.effect (line past)) (λ f. apart (sym f))
     ∙ joined_upgrade h a.host a.effect (side a.host past) (line past) (λ f. apart (sym f))
 
-each_after : (size : ℕ) (a : Act) (past : List Act) → World past → Waits past → Cause size a.host a.effect past → (begins_step a.effect ≡ true → Done past) → (h : ℕ) → Carried (side h (a ∷ past)) (upgrades h (a ∷ past))
+each_after : (size : ℕ) (a : Act) (past : List Act) → World past → Waits past → Cause size a.host a.effect past → (begins_step a.effect ≡ true → Done past)
+    → (h : ℕ) → Carried (side h (a ∷ past)) (upgrades h (a ∷ past))
 each_after size a past w k c none h = elim (ℕ_discrete a.host h) [
   | yes e ↦ subst (λ (g : ℕ). Carried (side g (a ∷ past)) (upgrades g (a ∷ past))) e
       (subst (λ (n : ℕ). Carried (side a.host (a ∷ past)) n) (sym (upgrades_own a past))
       (subst (λ (s : Side). Carried s (after (side a.host past) (upgrades a.host past) a.effect)) (sym (own_side a past))
-      (carried_own a.effect (waiters a.host past) (readers a.host past) (side a.host past) (upgrades a.host past) (w.each a.host) (k.each a.host) (cause size a.host a.effect past w c) (λ begins. none begins a.host) (orders_if size a.host a.effect past c))))
+      (carried_own a.effect (waiters a.host past) (readers a.host past) (side a.host past) (upgrades a.host past) (w.each a.host) (k.each a.host)
+      (cause size a.host a.effect past w c) (λ begins. none begins a.host) (orders_if size a.host a.effect past c))))
   | no e ↦ subst (λ (n : ℕ). Carried (side h (a ∷ past)) n) (sym (upgrades_other h a past e))
       (subst (λ (s : Side). Carried s (upgrades h past)) (sym (other_side h a past e))
       (carried_others a.effect (side h past) (upgrades h past) (w.each h) (k.each h) (λ begins. none begins h)))
@@ -159,7 +174,8 @@ unlocked_pending s n k up down here unlocking = grind (arith, nat_tests)
 no_line : (past : List Act) → Waits past → SomebodyIsAwaited past → Quiet past → line past ≢ [] → ⊥
 no_line past k served quiet some =
     let h : (g : ℕ) × (0 < (side g past).awaits) = served some in
-    let none : (side h.0 past).awaits ≡ 0 = nothing_awaited (side h.0 past) (upgrades h.0 past) (k.each h.0) (quiet.no_up h.0) (quiet.no_down h.0) (quiet.done h.0) in
+    let none : (side h.0 past).awaits ≡ 0 = nothing_awaited (side h.0 past) (upgrades h.0 past) (k.each h.0) (quiet.no_up h.0) (quiet.no_down h.0)
+    (quiet.done h.0) in
     omega (arith, h.1)
 
 not_true : (b : Bool) → (b ≡ true → ⊥) → b ≡ false
@@ -169,8 +185,13 @@ not_true false never = refl
 pub answered : (size : ℕ) (past : List Act) → ActsLicensed size past → StepsDone past → SomebodyIsAwaited past → Quiet past → NothingIsAsked past
 answered size past licensed done served quiet =
     record {
-      none_asked = λ h. not_true (side h past).asked (λ asked. no_line past k served quiet (some_line (request h) (line past) (subst (λ (n : ℕ). 0 < n) (sym (w.counted h)) (asked_pending (side h past) (upgrades h past) (k.each h) (quiet.no_up h) (quiet.no_down h) asked))));
-      none_unlocking = λ h here. not_true (side h past).unlocking (λ unlocking. no_line past k served quiet (some_line (upgrade h) (line past) (unlocked_pending (side h past) (upgrades h past) (k.each h) (quiet.no_up h) (quiet.no_down h) here unlocking)));
+      none_asked =
+          λ h. not_true (side h past).asked (λ asked. no_line past k served quiet
+          (some_line (request h) (line past) (subst (λ (n : ℕ). 0 < n) (sym (w.counted h))
+          (asked_pending (side h past) (upgrades h past) (k.each h) (quiet.no_up h) (quiet.no_down h) asked))));
+      none_unlocking =
+          λ h here. not_true (side h past).unlocking (λ unlocking. no_line past k served quiet
+          (some_line (upgrade h) (line past) (unlocked_pending (side h past) (upgrades h past) (k.each h) (quiet.no_up h) (quiet.no_down h) here unlocking)));
     } where
       w : World past
       w = world size past licensed
@@ -194,5 +215,6 @@ nobody_waits past prompt quiet answered h = no_waiter (waiters h past) (λ some.
   ]
 ])
 
-pub still : (size : ℕ) (past : List Act) → ActsLicensed size past → StepsDone past → SomebodyIsAwaited past → WaitersHaveAsked past → Quiet past → NobodyWaits past
+pub still : (size : ℕ) (past : List Act) → ActsLicensed size past → StepsDone past → SomebodyIsAwaited past → WaitersHaveAsked past → Quiet past
+    → NobodyWaits past
 still size past licensed done served prompt quiet = nobody_waits past prompt quiet (answered size past licensed done served quiet)

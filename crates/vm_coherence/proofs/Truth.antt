@@ -2,22 +2,28 @@
 use Rattle.std.proofs.Common.{◌≡◌, ℕ, ◌<◌, ◌≤◌, ◌∙◌, subst, List, [], ◌∷◌, ◌++◌, arith, Bool, true, false, Option, Some, None, if◌then◌else◌, refl, ap}
 use Rattle.std.proofs.lemmas.Bool.Decides.{nat_tests}
 use Rattle.vm_base.specs.Pages.{little_endian_bytes, with_bytes}
-use Rattle.vm_model.specs.Words.{UpWord, Asking, Unlocking, Returning, Doing, Ending, OtherUp, DownWord, Supplying, Locking, Lacking, Failing, Readying, OtherDown, ActEffect, Opens, SendsUp, TakenUp, SentDown, TakesDown, Puts, Drops, Begins, Loads, Stores, Fails, BeginsCopy, Copies, EndsCopy, StepBegins, Nothing, to_others}
-use Rattle.vm_model.specs.Side.{Side, has_alone, side_sent_up, side_taken_up, is_open_to, put_down, side_sent_down, locked, supplied, side_taken_down, side_after}
+use Rattle.vm_model.specs.Words.{UpWord, Asking, Unlocking, Returning, Doing, Ending, OtherUp, DownWord, Supplying, Locking, Lacking, Failing, Readying}
+use Rattle.vm_model.specs.Words.{OtherDown, ActEffect, Opens, SendsUp, TakenUp, SentDown, TakesDown, Puts, Drops, Begins, Loads, Stores, Fails, BeginsCopy}
+use Rattle.vm_model.specs.Words.{Copies, EndsCopy, StepBegins, Nothing, to_others}
+use Rattle.vm_model.specs.Side.{Side, has_alone, side_sent_up, side_taken_up, is_open_to, put_down, side_sent_down, locked, supplied, side_taken_down}
+use Rattle.vm_model.specs.Side.{side_after}
 use Rattle.vm_model.specs.Waiters.{Waiter, waiter_of}
 use Rattle.vm_model.specs.Server.{first, current_after}
 use Rattle.vm_model.specs.PageLicences.{MaySend, MayStore, HostMay}
 use Rattle.vm_model.specs.Coherence.{SaysDown, CarryDown, Carries}
-use Rattle.vm_coherence.proofs.Queues.{sum_up, saves, supplies, sum_down, drain, drain_up, carry_up_end, carry_down_end, carry_up_rest, carry_down_rest, carry_up_none, carry_down_none, drain_supplies}
+use Rattle.vm_coherence.proofs.Queues.{sum_up, saves, supplies, sum_down, drain, drain_up, carry_up_end, carry_down_end, carry_up_rest, carry_down_rest}
+use Rattle.vm_coherence.proofs.Queues.{carry_up_none, carry_down_none, drain_supplies}
 use Rattle.vm_coherence.proofs.Sound.{Fair, Sound}
 use Rattle.vm_coherence.proofs.Law.{keep, writes}
 use Rattle.vm_coherence.proofs.Orderly.{Orderly}
 
 carry_put : (page : List ℕ) (s : Side) (control : ℕ) (w : DownWord) → CarryDown page s.down → SaysDown page w → CarryDown page (put_down s control w)
-carry_put page s control w c says = elim (is_open_to s control) as (λ b. CarryDown page (if b then s.down ++ w ∷ [] else s.down)) [ true ↦ carry_down_end page s.down w c says | false ↦ c ]
+carry_put page s control w c says =
+    elim (is_open_to s control) as (λ b. CarryDown page (if b then s.down ++ w ∷ [] else s.down)) [ true ↦ carry_down_end page s.down w c says | false ↦ c ]
 
 carry_sent : (ws : List Waiter) (rs : List ℕ) (w : UpWord) (page : List ℕ) (s : Side) → MaySend ws rs s w → Carries page s → Carries page (side_sent_up s w)
-carry_sent ws rs (Asking asker access) page s may c = record { here = c.here; coming = c.coming; going = carry_up_end page s.up (Asking asker access) c.going tt }
+carry_sent ws rs (Asking asker access) page s may c =
+    record { here = c.here; coming = c.coming; going = carry_up_end page s.up (Asking asker access) c.going tt }
 carry_sent ws rs (Unlocking access) page s may c = record { here = c.here; coming = c.coming; going = carry_up_end page s.up (Unlocking access) c.going tt }
 carry_sent ws rs (Returning dirty keep bytes) page s may c =
     record {
@@ -25,7 +31,8 @@ carry_sent ws rs (Returning dirty keep bytes) page s may c =
       coming = c.coming;
       going = carry_up_end page s.up (Returning dirty keep bytes) c.going (may.3 ∙ c.here may.0);
     }
-carry_sent ws rs (Doing control count) page s may c = record { here = c.here; coming = c.coming; going = carry_up_end page s.up (Doing control count) c.going tt }
+carry_sent ws rs (Doing control count) page s may c =
+    record { here = c.here; coming = c.coming; going = carry_up_end page s.up (Doing control count) c.going tt }
 carry_sent ws rs (Ending control) page s may c = record { here = c.here; coming = tt; going = carry_up_end page s.up (Ending control) c.going tt }
 carry_sent ws rs OtherUp page s may c = c
 
@@ -38,14 +45,17 @@ carry_taken (Ending control) page s c = record { here = c.here; coming = c.comin
 carry_taken OtherUp page s c = record { here = c.here; coming = c.coming; going = c.going }
 
 carry_answer : (w : DownWord) (control : ℕ) (page : List ℕ) (s : Side) → SaysDown page w → Carries page s → Carries page (side_sent_down s control w)
-carry_answer (Supplying lock precious bytes) control page s says c = record { here = c.here; coming = carry_put page s control (Supplying lock precious bytes) c.coming says; going = c.going }
-carry_answer (Locking count returns flush lock reply) control page s says c = record { here = c.here; coming = carry_put page s control (Locking count returns flush lock reply) c.coming tt; going = c.going }
+carry_answer (Supplying lock precious bytes) control page s says c =
+    record { here = c.here; coming = carry_put page s control (Supplying lock precious bytes) c.coming says; going = c.going }
+carry_answer (Locking count returns flush lock reply) control page s says c =
+    record { here = c.here; coming = carry_put page s control (Locking count returns flush lock reply) c.coming tt; going = c.going }
 carry_answer Lacking control page s says c = record { here = c.here; coming = carry_put page s control Lacking c.coming tt; going = c.going }
 carry_answer Failing control page s says c = record { here = c.here; coming = carry_put page s control Failing c.coming tt; going = c.going }
 carry_answer Readying control page s says c = c
 carry_answer OtherDown control page s says c = c
 
-supply_here : (page : List ℕ) (s : Side) (lock : ℕ) (bytes : List ℕ) → Sound s → bytes ≡ page → (0 < s.right → s.bytes ≡ page) → 0 < supplied s.right s.asked lock → (if s.asked then bytes else s.bytes) ≡ page
+supply_here : (page : List ℕ) (s : Side) (lock : ℕ) (bytes : List ℕ) → Sound s → bytes ≡ page → (0 < s.right → s.bytes ≡ page)
+    → 0 < supplied s.right s.asked lock → (if s.asked then bytes else s.bytes) ≡ page
 supply_here page s lock bytes ok is here some = grind arith
 
 first_says : (page : List ℕ) (q : List DownWord) (w : DownWord) → first q ≡ Some w → CarryDown page q → SaysDown page w
@@ -57,7 +67,11 @@ locked_here right lock flush some = grind (arith, nat_tests)
 
 carry_hears : (w : DownWord) (page : List ℕ) (s : Side) → Sound s → first s.down ≡ Some w → Carries page s → Carries page (side_taken_down s w)
 carry_hears (Supplying lock precious bytes) page s ok is c =
-    record { here = supply_here page s lock bytes ok (first_says page s.down (Supplying lock precious bytes) is c.coming) c.here; coming = carry_down_rest page s.down c.coming; going = c.going }
+    record {
+      here = supply_here page s lock bytes ok (first_says page s.down (Supplying lock precious bytes) is c.coming) c.here;
+      coming = carry_down_rest page s.down c.coming;
+      going = c.going;
+    }
 carry_hears (Locking count returns flush lock reply) page s ok is c =
     record { here = λ some. c.here (locked_here s.right lock flush some); coming = carry_down_rest page s.down c.coming; going = c.going }
 carry_hears Lacking page s ok is c = record { here = c.here; coming = carry_down_rest page s.down c.coming; going = c.going }
@@ -68,7 +82,8 @@ carry_hears OtherDown page s ok is c = record { here = c.here; coming = c.coming
 carry_step : (page : List ℕ) (s : Side) → Carries page s → Carries page (record s { step = 0 })
 carry_step page s c = record { here = c.here; coming = c.coming; going = c.going }
 
-carry_taking : (ws : List Waiter) (rs : List ℕ) (w : DownWord) (control : ℕ) (page : List ℕ) (s : Side) (b : Bool) → is_open_to s control ≡ b → Sound s → HostMay ws rs s (TakesDown control w) → Carries page s → Carries page (if b then side_taken_down s w else record s { step = 0 })
+carry_taking : (ws : List Waiter) (rs : List ℕ) (w : DownWord) (control : ℕ) (page : List ℕ) (s : Side) (b : Bool) → is_open_to s control ≡ b → Sound s
+    → HostMay ws rs s (TakesDown control w) → Carries page s → Carries page (if b then side_taken_down s w else record s { step = 0 })
 carry_taking ws rs w control page s false is ok may c = carry_step page s c
 carry_taking ws rs OtherDown control page s true is ok may c = carry_step page s c
 carry_taking ws rs Readying control page s true is ok may c = record { here = c.here; coming = c.coming; going = c.going }
@@ -84,7 +99,8 @@ writer_returns s ok o writes = o.returns_write (let up : s.right ≤ drain s.dow
 writer_supplies : (s : Side) → Sound s → s.right ≡ 2 → sum_down supplies s.down ≡ 0
 writer_supplies s ok writes = grind (arith, nat_tests)
 
-carry_stores : (page : List ℕ) (s : Side) (task at size value : ℕ) → Sound s → Orderly s → s.right ≡ 2 → Carries page s → Carries (with_bytes at (little_endian_bytes size value) page) (side_after s (Stores task at size value))
+carry_stores : (page : List ℕ) (s : Side) (task at size value : ℕ) → Sound s → Orderly s → s.right ≡ 2 → Carries page s
+    → Carries (with_bytes at (little_endian_bytes size value) page) (side_after s (Stores task at size value))
 carry_stores page s task at size value ok o can c =
     record {
       here = λ some. ap (with_bytes at (little_endian_bytes size value)) (c.here some);
@@ -97,7 +113,8 @@ abbrev pub SaysTruth : List ℕ → ActEffect → Type 0
 SaysTruth page (SentDown control w) = SaysDown page w
 SaysTruth page e = Unit {0}
 
-carry_send : (ws : List Waiter) (rs : List ℕ) (w : UpWord) (control : ℕ) (page : List ℕ) (s : Side) → HostMay ws rs s (SendsUp control w) → Carries page s → Carries page (side_sent_up s w)
+carry_send : (ws : List Waiter) (rs : List ℕ) (w : UpWord) (control : ℕ) (page : List ℕ) (s : Side) → HostMay ws rs s (SendsUp control w) → Carries page s
+    → Carries page (side_sent_up s w)
 carry_send ws rs OtherUp control page s may c = c
 carry_send ws rs w control page s may c = carry_sent ws rs w page s may.2 c
 
@@ -106,7 +123,8 @@ pub can_store : (o : Option Waiter) (s : Side) (at size value : ℕ) → MayStor
 can_store None s at size value may = absurd may
 can_store (Some w) s at size value may = writes s may.1
 
-pub carry : (e : ActEffect) (ws : List Waiter) (rs : List ℕ) (page : List ℕ) (s : Side) → Sound s → Orderly s → Fair ws rs s e → SaysTruth page e → Carries page s → Carries (current_after e page) (side_after s e)
+pub carry : (e : ActEffect) (ws : List Waiter) (rs : List ℕ) (page : List ℕ) (s : Side) → Sound s → Orderly s → Fair ws rs s e → SaysTruth page e
+    → Carries page s → Carries (current_after e page) (side_after s e)
 carry (Opens control ready) ws rs page s ok o may says c = record { here = c.here; coming = tt; going = c.going }
 carry (SendsUp control w) ws rs page s ok o may says c = carry_send ws rs w control page s may c
 carry (TakenUp w) ws rs page s ok o may says c = carry_taken w page s c
@@ -116,7 +134,8 @@ carry (Puts bytes dirty) ws rs page s ok o may says c = absurd may
 carry Drops ws rs page s ok o may says c = record { here = λ some. absurd (omega arith); coming = c.coming; going = c.going }
 carry (Begins task store at size value) ws rs page s ok o may says c = c
 carry (Loads task value) ws rs page s ok o may says c = c
-carry (Stores task at size value) ws rs page s ok o may says c = carry_stores page s task at size value ok o (can_store (waiter_of task ws) s at size value may) c
+carry (Stores task at size value) ws rs page s ok o may says c =
+    carry_stores page s task at size value ok o (can_store (waiter_of task ws) s at size value may) c
 carry (Fails task) ws rs page s ok o may says c = c
 carry (BeginsCopy task times) ws rs page s ok o may says c = c
 carry (Copies task) ws rs page s ok o may says c = c
@@ -140,7 +159,8 @@ abbrev pub IsStore : ActEffect → Type 0
 IsStore (Stores task at size value) = Unit {0}
 IsStore e = ⊥
 
-pub carry_others : (e : ActEffect) (page : List ℕ) (s : Side) → Sound s → Orderly s → (IsStore e → s.holds ≡ 0) → Carries page s → Carries (current_after e page) (side_after s (to_others e))
+pub carry_others : (e : ActEffect) (page : List ℕ) (s : Side) → Sound s → Orderly s → (IsStore e → s.holds ≡ 0) → Carries page s
+    → Carries (current_after e page) (side_after s (to_others e))
 carry_others (TakenUp w) page s ok o bare c = carry_step page s c
 carry_others (TakesDown control w) page s ok o bare c = carry_step page s c
 carry_others (Stores task at size value) page s ok o bare c = carry_bare (with_bytes at (little_endian_bytes size value) page) s ok o (bare tt)

@@ -48,14 +48,16 @@ upgrades h w = w.host == h && w.upgrade
 pub record IsCarriedAt (h : ℕ) (past : List Act) : Type 0 where
   -- where the page is asked, the live control's request is on its way or in the server's line, or a supply is on its way
   pub asked : (side h past).asked ≡ true
-      → (list_any (asks_as (side h past).control) (side h past).up ≡ true) ⊎ ((list_any (requests h) (line past) ≡ true) ⊎ (list_any supplies (side h past).down ≡ true))
+      → (list_any (asks_as (side h past).control) (side h past).up ≡ true)
+      ⊎ ((list_any (requests h) (line past) ≡ true) ⊎ (list_any supplies (side h past).down ≡ true))
   -- where the page is here and an unlock is outstanding, it is on its way or in the line as an upgrade, or a lock is on its way
   pub unlocking : (side h past).unlocking ≡ true → 0 < (side h past).right
       → (list_any unlocks (side h past).up ≡ true) ⊎ ((list_any (upgrades h) (line past) ≡ true) ⊎ (list_any locks (side h past).down ≡ true))
   -- where the host is awaited, the lock is on its way to it or being done, or that it is done, or the end of the control, on its way back
   pub awaited : 0 < (side h past).awaits
       → (list_any recalls (side h past).down ≡ true) ⊎ ((0 < (side h past).step)
-      ⊎ ((list_any (does_as (side h past).awaited_control) (side h past).up ≡ true) ⊎ (list_any (ends_as (side h past).awaited_control) (side h past).up ≡ true)))
+      ⊎ ((list_any (does_as (side h past).awaited_control) (side h past).up ≡ true)
+      ⊎ (list_any (ends_as (side h past).awaited_control) (side h past).up ≡ true)))
   -- only a live control asks and has pages, and it is the live one for which the host is awaited while the lock is on its way
   pub living : (side h past).asked ≡ true → (side h past).live ≡ true
   pub having : 0 < (side h past).right → (side h past).live ≡ true

@@ -29,7 +29,8 @@ ghost use Rattle.vm_coherence.specs.Idle.{flushed, idle_request};
 ghost use Rattle.vm_coherence.specs.Locals.{SideIsLocal};
 ghost use Rattle.vm_coherence.specs.Remapping.{remapping};
 ghost use Rattle.vm_coherence.specs.SlowCopy.{copying, reclaimed, read_again};
-ghost use Rattle.vm_model.specs.Coherence.{Throughout, OneWriter, SameBytes, EachLoadReads, PageLegal, StepsDone, SomebodyIsAwaited, WaitersHaveAsked, Quiet, NothingIsAsked, NobodyWaits};
+ghost use Rattle.vm_model.specs.Coherence.{Throughout, OneWriter, SameBytes, EachLoadReads, PageLegal, StepsDone, SomebodyIsAwaited, WaitersHaveAsked, Quiet};
+ghost use Rattle.vm_model.specs.Coherence.{NothingIsAsked, NobodyWaits};
 
 /// The law of one shared page, for any page size. It holds of the page's part of a history and of
 /// the page world alike, and for whatever host, also one that never appears.
@@ -45,7 +46,8 @@ pub fn coherence_law()
     ensures loads { (size : ℕ) (acts : List Act) → ActsLicensed size acts → EachLoadReads size acts }
     ensures legal { (size : ℕ) (acts : List Act) → ActsLicensed size acts → PageLegal size acts }
     ensures answered { (size : ℕ) (acts : List Act) → ActsLicensed size acts → StepsDone acts → SomebodyIsAwaited acts → Quiet acts → NothingIsAsked acts }
-    ensures nobody_waits { (size : ℕ) (acts : List Act) → ActsLicensed size acts → StepsDone acts → SomebodyIsAwaited acts → WaitersHaveAsked acts → Quiet acts → NobodyWaits acts }
+    ensures nobody_waits { (size : ℕ) (acts : List Act) → ActsLicensed size acts → StepsDone acts → SomebodyIsAwaited acts → WaitersHaveAsked acts → Quiet acts
+        → NobodyWaits acts }
 {}
 
 /// A worked run of the page world, of 16-byte pages: two hosts read a page and then both store. The
@@ -70,11 +72,16 @@ pub fn crossing_run()
 /// control that they name.
 #[tactic(auto, using(crate::proofs::Protocol::one_request, crate::proofs::Protocol::one_unlock, crate::proofs::Protocol::completed_awaited, crate::proofs::Protocol::ended_awaited, crate::proofs::Protocol::ended_unasked))]
 pub fn protocol_law()
-    ensures one_request { (size h control access : ℕ) (acts : List Act) → ActsLicensed size acts → first (side h acts).up ≡ Some (Asking control access) → NoRequest h (line acts) }
-    ensures one_unlock { (size h access : ℕ) (acts : List Act) → ActsLicensed size acts → StepsDone acts → first (side h acts).up ≡ Some (Unlocking access) → NoUpgrade h (line acts) }
-    ensures completed { (size h control count : ℕ) (acts : List Act) → ActsLicensed size acts → StepsDone acts → first (side h acts).up ≡ Some (Doing control count) → (side h acts).awaited_control ≡ control }
-    ensures ended_unasked { (size h control : ℕ) (acts : List Act) → ActsLicensed size acts → first (side h acts).up ≡ Some (Ending control) → NoRequest h (line acts) }
-    ensures ended { (size h control : ℕ) (acts : List Act) → ActsLicensed size acts → StepsDone acts → first (side h acts).up ≡ Some (Ending control) → 0 < (side h acts).awaits → (side h acts).awaited_control ≡ control }
+    ensures one_request { (size h control access : ℕ) (acts : List Act) → ActsLicensed size acts → first (side h acts).up ≡ Some (Asking control access)
+        → NoRequest h (line acts) }
+    ensures one_unlock { (size h access : ℕ) (acts : List Act) → ActsLicensed size acts → StepsDone acts → first (side h acts).up ≡ Some (Unlocking access)
+        → NoUpgrade h (line acts) }
+    ensures completed { (size h control count : ℕ) (acts : List Act) → ActsLicensed size acts → StepsDone acts
+        → first (side h acts).up ≡ Some (Doing control count) → (side h acts).awaited_control ≡ control }
+    ensures ended_unasked { (size h control : ℕ) (acts : List Act) → ActsLicensed size acts → first (side h acts).up ≡ Some (Ending control)
+        → NoRequest h (line acts) }
+    ensures ended { (size h control : ℕ) (acts : List Act) → ActsLicensed size acts → StepsDone acts → first (side h acts).up ≡ Some (Ending control)
+        → 0 < (side h acts).awaits → (side h acts).awaited_control ≡ control }
 {}
 
 /// Whatever a host waits for of a page is on its way, or with the server, and so is whatever the server
@@ -122,9 +129,12 @@ pub fn slow_copy_run()
 /// control has a greater number than those before it.
 #[tactic(auto, using(crate::proofs::Channels::page_queue, crate::proofs::Descent::page_descent, crate::proofs::Descent::page_control))]
 pub fn channel_law()
-    ensures up { (size : ℕ) (history : List Event) (h o p : ℕ) → UpInOrder history → (side h (page_part size o p history)).up ≡ up_words p (up_queue h o history) }
-    ensures down { (size : ℕ) (history : List Event) (h o p : ℕ) → DownInOrder history → (side h (page_part size o p history)).live ≡ true → (side h (page_part size o p history)).down ≡ down_words p (down_queue h o (side h (page_part size o p history)).control history) }
-    ensures control { (size : ℕ) (history : List Event) (h o p : ℕ) → DownInOrder history → (side h (page_part size o p history)).control ≡ last_control h o history }
+    ensures up { (size : ℕ) (history : List Event) (h o p : ℕ) → UpInOrder history
+        → (side h (page_part size o p history)).up ≡ up_words p (up_queue h o history) }
+    ensures down { (size : ℕ) (history : List Event) (h o p : ℕ) → DownInOrder history → (side h (page_part size o p history)).live ≡ true
+        → (side h (page_part size o p history)).down ≡ down_words p (down_queue h o (side h (page_part size o p history)).control history) }
+    ensures control { (size : ℕ) (history : List Event) (h o p : ℕ) → DownInOrder history
+        → (side h (page_part size o p history)).control ≡ last_control h o history }
 {}
 
 /// What a page's part says of a host is what the host has of the page, at every moment of a history
@@ -135,9 +145,17 @@ pub fn channel_law()
 /// That a request and the end of a control are the live control's follows from their causes.
 #[tactic(auto, using(crate::proofs::Locals::side_is_local, crate::proofs::Locals::one_writer, crate::proofs::Locals::local_bytes, crate::proofs::Locals::asked_live, crate::proofs::Locals::ended_live))]
 pub fn local_law()
-    ensures page { (size : ℕ) (history : List Event) (h o p : ℕ) → EachEvent (IsFounded size) history → SideIsLocal (live_control h o history) (side h (page_part size o p history)) (local size h (record { object = o; page = p }) history) }
-    ensures one_writer { (size : ℕ) (history : List Event) (g h o p : ℕ) → EachEvent (IsFounded size) history → ActsLicensed size (page_part size o p history) → g ≢ h → CanWrite (local size h (record { object = o; page = p }) history) → CanRead (local size g (record { object = o; page = p }) history) → ⊥ }
-    ensures same_bytes { (size : ℕ) (history : List Event) (h o p : ℕ) → EachEvent (IsFounded size) history → ActsLicensed size (page_part size o p history) → (local size h (record { object = o; page = p }) history).here ≡ true → (local size h (record { object = o; page = p }) history).bytes ≡ current size (page_part size o p history) }
-    ensures asked { (size : ℕ) (past : List Event) (host : HostId) (object : ObjectId) (control access : ℕ) (page : PageNo) → EachEvent (IsFounded size) past → ActsLicensed size (page_part size object.0 page.0 (Sent (Up host object) (Request control page access) ∷ past)) → IsFounded size (Sent (Up host object) (Request control page access)) past }
-    ensures ended { (size : ℕ) (past : List Event) (host : HostId) (object : ObjectId) (control p : ℕ) → EachEvent (IsFounded size) past → ActsLicensed size (page_part size object.0 p (Sent (Up host object) (Terminate control) ∷ past)) → IsFounded size (Sent (Up host object) (Terminate control)) past }
+    ensures page { (size : ℕ) (history : List Event) (h o p : ℕ) → EachEvent (IsFounded size) history
+        → SideIsLocal (live_control h o history) (side h (page_part size o p history)) (local size h (record { object = o; page = p }) history) }
+    ensures one_writer { (size : ℕ) (history : List Event) (g h o p : ℕ) → EachEvent (IsFounded size) history → ActsLicensed size (page_part size o p history)
+        → g ≢ h → CanWrite (local size h (record { object = o; page = p }) history) → CanRead (local size g (record { object = o; page = p }) history) → ⊥ }
+    ensures same_bytes { (size : ℕ) (history : List Event) (h o p : ℕ) → EachEvent (IsFounded size) history → ActsLicensed size (page_part size o p history)
+        → (local size h (record { object = o; page = p }) history).here ≡ true
+        → (local size h (record { object = o; page = p }) history).bytes ≡ current size (page_part size o p history) }
+    ensures asked { (size : ℕ) (past : List Event) (host : HostId) (object : ObjectId) (control access : ℕ) (page : PageNo) → EachEvent (IsFounded size) past
+        → ActsLicensed size (page_part size object.0 page.0 (Sent (Up host object) (Request control page access) ∷ past))
+        → IsFounded size (Sent (Up host object) (Request control page access)) past }
+    ensures ended { (size : ℕ) (past : List Event) (host : HostId) (object : ObjectId) (control p : ℕ) → EachEvent (IsFounded size) past
+        → ActsLicensed size (page_part size object.0 p (Sent (Up host object) (Terminate control) ∷ past))
+        → IsFounded size (Sent (Up host object) (Terminate control)) past }
 {}

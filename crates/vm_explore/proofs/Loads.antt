@@ -1,5 +1,6 @@
 -- The values of a task's loads, and those of loads that are taken out in the script's order.
-use Rattle.std.proofs.Common.{ℕ, ◌≡◌, ◌≢◌, ◌+◌, ◌<◌, ◌==◌, ◌∙◌, Bool, true, false, List, [], ◌∷◌, ◌++◌, length, if◌then◌else◌, take, drop, get_or, ap, sym, refl, subst, append_assoc, add-one, suc, arith, ⊎_elim, length-append}
+use Rattle.std.proofs.Common.{ℕ, ◌≡◌, ◌≢◌, ◌+◌, ◌<◌, ◌==◌, ◌∙◌, Bool, true, false, List, [], ◌∷◌, ◌++◌, length, if◌then◌else◌, take, drop, get_or, ap, sym}
+use Rattle.std.proofs.Common.{refl, subst, append_assoc, add-one, suc, arith, ⊎_elim, length-append}
 use Rattle.std.proofs.Math.Seq.{split_at}
 use Rattle.std.proofs.lemmas.Bool.{cases_eq}
 use Rattle.std.proofs.lemmas.Bool.Decides.{nat_tests}

@@ -1,5 +1,6 @@
 -- The orders of a level are those of so many numbers of the given ones, each once.
-use Rattle.std.proofs.Common.{ℕ, zero, suc, ◌≡◌, ◌≢◌, ◌*◌, ◌^◌, ◌≤◌, ◌<◌, true, List, [], ◌∷◌, ◌++◌, length, take, get_or, min, ⊎_elim, inl, inr, refl, sym, ap, subst, ◌∙◌, arith, length-append, lit<}
+use Rattle.std.proofs.Common.{ℕ, zero, suc, ◌≡◌, ◌≢◌, ◌*◌, ◌^◌, ◌≤◌, ◌<◌, true, List, [], ◌∷◌, ◌++◌, length, take, get_or, min, ⊎_elim, inl, inr, refl, sym, ap}
+use Rattle.std.proofs.Common.{subst, ◌∙◌, arith, length-append, lit<}
 use Rattle.std.specs.Global.{Vec}
 use Rattle.std.specs.List.{All, AllPairs, Any, filter}
 use Rattle.std.specs.Vec.{vec_items}
@@ -10,8 +11,10 @@ use Rattle.std.proofs.lemmas.Bool.{cases_eq}
 use Rattle.std.proofs.lemmas.Bool.Decides.{nat_tests}
 use Rattle.vm_explore.specs.Levels.{IsOrderOf, IsWithin, is_left, level, lists, longer_by, orders_of}
 use Rattle.vm_free.specs.Orders.{occurrences}
-use Rattle.vm_explore.proofs.Members.{All-from_IsIn, AllPairs-from_apart, Any-from_IsIn, Apart, Apart-filter, Apart-flat_map, Apart-map, IsIn, IsIn-filter, IsIn-flat_map, IsIn-from_filter, IsIn-from_flat_map, IsIn-from_map, IsIn-map}
-use Rattle.vm_explore.proofs.Occurrences.{full_is_order, occurrences-push, occurrences-push_same, occurrences-push_other, occurrences_here, occurrences_there, order_long}
+use Rattle.vm_explore.proofs.Members.{All-from_IsIn, AllPairs-from_apart, Any-from_IsIn, Apart, Apart-filter, Apart-flat_map, Apart-map, IsIn, IsIn-filter}
+use Rattle.vm_explore.proofs.Members.{IsIn-flat_map, IsIn-from_filter, IsIn-from_flat_map, IsIn-from_map, IsIn-map}
+use Rattle.vm_explore.proofs.Occurrences.{full_is_order, occurrences-push, occurrences-push_same, occurrences-push_other, occurrences_here, occurrences_there}
+use Rattle.vm_explore.proofs.Occurrences.{order_long}
 
 -- each number that is to stand in an order is one of the kinds, once
 abbrev pub AreKinds : List ℕ → List ℕ → Type 0

@@ -8,19 +8,24 @@ use Rattle.vm_resident.specs.declared.page_row.PageRow.{PageRow}
 use Rattle.vm_shadow.specs.Chains.{ChainTable}
 
 -- one place more, at the end
-pub walks_more : (parts : HostParts) (chains : ChainTable) (n : ℕ) (from to next : PageKey) → WalksTo parts chains n from to → PassesOver parts to → IsUnder chains to next → WalksTo parts chains (suc n) from next
+pub walks_more : (parts : HostParts) (chains : ChainTable) (n : ℕ) (from to next : PageKey) → WalksTo parts chains n from to → PassesOver parts to
+    → IsUnder chains to next → WalksTo parts chains (suc n) from next
 walks_more parts chains zero from to next walks passes under = rw walks (passes, (next, under, refl))
-walks_more parts chains (suc n) from to next walks passes under = (walks.0, (walks.1.0, walks.1.1, walks_more parts chains n walks.1.0 to next walks.1.2 passes under))
+walks_more parts chains (suc n) from to next walks passes under =
+    (walks.0, (walks.1.0, walks.1.1, walks_more parts chains n walks.1.0 to next walks.1.2 passes under))
 
 -- what is found further down isn't at the top
-pub found_below : (parts : HostParts) (chains : ChainTable) (n : ℕ) (top key : PageKey) (row : PageRow) → Finds parts chains n top key row → 0 < n → row_at parts.resident top.object.0 top.page.0 ≡ None
+pub found_below : (parts : HostParts) (chains : ChainTable) (n : ℕ) (top key : PageKey) (row : PageRow) → Finds parts chains n top key row → 0 < n
+    → row_at parts.resident top.object.0 top.page.0 ≡ None
 found_below parts chains zero top key row finds more = absurd (omega arith)
 found_below parts chains (suc n) top key row finds more = finds.walks.0.absent
 
 -- what is nowhere isn't at the top
-pub passes_top : (parts : HostParts) (chains : ChainTable) (n : ℕ) (top last : PageKey) → WalksTo parts chains n top last → PassesOver parts last → PassesOver parts top
+pub passes_top : (parts : HostParts) (chains : ChainTable) (n : ℕ) (top last : PageKey) → WalksTo parts chains n top last → PassesOver parts last
+    → PassesOver parts top
 passes_top parts chains zero top last walks passes = subst (PassesOver parts) (sym walks) passes
 passes_top parts chains (suc n) top last walks passes = walks.0
 
-pub sunk : (parts : HostParts) (chains : ChainTable) (n : ℕ) (top last : PageKey) → WalksTo parts chains n top last → PassesOver parts last → row_at parts.resident top.object.0 top.page.0 ≡ None
+pub sunk : (parts : HostParts) (chains : ChainTable) (n : ℕ) (top last : PageKey) → WalksTo parts chains n top last → PassesOver parts last
+    → row_at parts.resident top.object.0 top.page.0 ≡ None
 sunk parts chains n top last walks passes = (passes_top parts chains n top last walks passes).absent

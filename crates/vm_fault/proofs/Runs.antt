@@ -42,21 +42,24 @@ access_inside size (want.Store address n value) page sized = access_fits size n 
 access_inside size (want.CopyTo address pages target next) page sized = let first = page_later size address next sized.0 in omega (arith, first)
 
 -- from the top place of its region it can copy its next page
-pub copies_from : (what : Want) (row : RegionRow) (page : ℕ) (parts : HostParts) (chains : ChainTable) (size : ℕ) → IsSizedWant size what → CanCopy what row parts chains → CopiesFrom what (top_place row page) parts
+pub copies_from : (what : Want) (row : RegionRow) (page : ℕ) (parts : HostParts) (chains : ChainTable) (size : ℕ) → IsSizedWant size what
+    → CanCopy what row parts chains → CopiesFrom what (top_place row page) parts
 copies_from (want.Load address n) row page parts chains size sized can = tt
 copies_from (want.Store address n value) row page parts chains size sized can = tt
 copies_from (want.CopyTo address pages target next) row page parts chains size sized can =
     record { told = can.told; present = can.present (row.shift + page); inside = omega (arith, can.inside, sized.1); unmade = can.unmade next (omega arith) }
 
 -- a store makes the region's object and other accesses leave all as it was, so a slow copy can still
-pub copies_prepared : (what : Want) (region : RegionId) (row : RegionRow) (page : ℕ) (s mid : FaultState) (size : ℕ) → IsSizedWant size what → CanCopy what row s.parts s.chains → Prepares (is_storing what && row.marked) region row s mid
+pub copies_prepared : (what : Want) (region : RegionId) (row : RegionRow) (page : ℕ) (s mid : FaultState) (size : ℕ) → IsSizedWant size what
+    → CanCopy what row s.parts s.chains → Prepares (is_storing what && row.marked) region row s mid
     → (now : RegionRow) → region_at s.chains region.0 ≡ Some row → region_at mid.chains region.0 ≡ Some now → CopiesFrom what (top_place now page) mid.parts
 copies_prepared (want.Load address n) region row page s mid size sized can made now was is = tt
 copies_prepared (want.Store address n value) region row page s mid size sized can made now was is = tt
 copies_prepared (want.CopyTo address pages target next) region row page s mid size sized can same now was is =
     let first = copies_from (want.CopyTo address pages target next) row page s.parts s.chains size sized can in
     let rows : Some row ≡ Some now = sym was ∙ (sym (ap (λ (z : FaultState). region_at z.chains region.0) same) ∙ is) in
-    subst (λ (z : RegionRow). CopiesNext (top_place z page) target next mid.parts) (same_Some row now rows) (subst (λ (z : FaultState). CopiesNext (top_place row page) target next z.parts) (sym same) first)
+    subst (λ (z : RegionRow). CopiesNext (top_place z page) target next mid.parts) (same_Some row now rows)
+    (subst (λ (z : FaultState). CopiesNext (top_place row page) target next z.parts) (sym same) first)
 
 -- what is known behind the shadow, if one was made
 pub record IsPrepared (region : RegionId) (s mid : FaultState) : Type 0 where
@@ -66,7 +69,8 @@ pub record IsPrepared (region : RegionId) (s mid : FaultState) : Type 0 where
   pub row : RegionRow
   pub found : region_at mid.chains region.0 ≡ Some row
 
-pub prepared : (is : Bool) (region : RegionId) (row : RegionRow) (s mid : FaultState) → Fit s.parts → ChainsFit s.chains s.parts.objects → region_at s.chains region.0 ≡ Some row → Prepares is region row s mid → IsPrepared region s mid
+pub prepared : (is : Bool) (region : RegionId) (row : RegionRow) (s mid : FaultState) → Fit s.parts → ChainsFit s.chains s.parts.objects
+    → region_at s.chains region.0 ≡ Some row → Prepares is region row s mid → IsPrepared region s mid
 prepared true region row s mid fit fits found made =
     record {
       fit = made.fit;
@@ -84,47 +88,64 @@ prepared false region row s mid fit fits found same =
       found = ap (λ (z : FaultState). region_at z.chains region.0) same ∙ found;
     }
 
-pub can_go : (run : Running) (region : RegionId) (room : ℕ) (s mid : FaultState) (top : Spot) → IsPrepared region s mid → Stands mid.parts.objects top → top.key ≡ run.top → IsPageSize mid.parts.buffers.size
-    → run.at ≡ address_in mid.parts.buffers.size run.want % mid.parts.buffers.size → IsSizedWant mid.parts.buffers.size run.want → CopiesFrom run.want run.top mid.parts → 2 ≤ room → CanGo run mid.parts room
+pub can_go : (run : Running) (region : RegionId) (room : ℕ) (s mid : FaultState) (top : Spot) → IsPrepared region s mid → Stands mid.parts.objects top
+    → top.key ≡ run.top → IsPageSize mid.parts.buffers.size
+    → run.at ≡ address_in mid.parts.buffers.size run.want % mid.parts.buffers.size → IsSizedWant mid.parts.buffers.size run.want
+    → CopiesFrom run.want run.top mid.parts → 2 ≤ room → CanGo run mid.parts room
 can_go run region room s mid top is stands same size at sized copies some =
     record {
       fit = is.fit;
-      top = subst (λ (z : PageKey). z.page.0 < object_pages mid.parts.objects z.object.0) same (subst (λ (n : ℕ). top.key.page.0 < n) (sym (ap pages_of_row stands.known)) stands.inside);
-      inside = subst (λ (n : ℕ). n + want_size mid.parts.buffers.size run.want ≤ mid.parts.buffers.size) (sym at) (access_inside mid.parts.buffers.size run.want size sized);
+      top =
+          subst (λ (z : PageKey). z.page.0 < object_pages mid.parts.objects z.object.0) same
+          (subst (λ (n : ℕ). top.key.page.0 < n) (sym (ap pages_of_row stands.known)) stands.inside);
+      inside =
+          subst (λ (n : ℕ). n + want_size mid.parts.buffers.size run.want ≤ mid.parts.buffers.size) (sym at)
+          (access_inside mid.parts.buffers.size run.want size sized);
       sized = sized;
       copies = copies;
       log = some;
     }
 
 -- an access leads where its entry says
-pub leads : (maps : Mapped) (s : FaultState) (task address : ℕ) (what : Want) (place : Place) → (can : CanFault maps s task what) → address ≡ address_in maps.size what
-    → ((entry : Entry) → entry_at address (rows_in task maps) ≡ Some entry → place ≡ place_at maps.size address entry) → place ≡ place_at maps.size (address_in maps.size what) can.entry
-leads maps s task address what place can is led = led can.entry (ap (λ a. entry_at a (rows_in task maps)) is ∙ can.found) ∙ ap (λ a. place_at maps.size a can.entry) is
+pub leads : (maps : Mapped) (s : FaultState) (task address : ℕ) (what : Want) (place : Place) → (can : CanFault maps s task what)
+    → address ≡ address_in maps.size what
+    → ((entry : Entry) → entry_at address (rows_in task maps) ≡ Some entry → place ≡ place_at maps.size address entry)
+    → place ≡ place_at maps.size (address_in maps.size what) can.entry
+leads maps s task address what place can is led =
+    led can.entry (ap (λ a. entry_at a (rows_in task maps)) is ∙ can.found) ∙ ap (λ a. place_at maps.size a can.entry) is
 
 -- and lies so far behind its page's begin
-pub offset_is : (offset address size now bytes : ℕ) (what : Want) → offset ≡ address % now → address ≡ address_in size what → size ≡ bytes → now ≡ bytes → offset ≡ address_in bytes what % bytes
-offset_is offset address size now bytes what is its first then = is ∙ (ap (λ a. a % now) its ∙ (ap (λ n. address_in n what % now) first ∙ ap (λ n. address_in bytes what % n) then))
+pub offset_is : (offset address size now bytes : ℕ) (what : Want) → offset ≡ address % now → address ≡ address_in size what → size ≡ bytes → now ≡ bytes
+    → offset ≡ address_in bytes what % bytes
+offset_is offset address size now bytes what is its first then =
+    is ∙ (ap (λ a. a % now) its ∙ (ap (λ n. address_in n what % now) first ∙ ap (λ n. address_in bytes what % n) then))
 
 -- the row of a region is that of the access's entry
 abbrev pub WasPrepared : Want → Place → FaultState → FaultState → Type 0
 WasPrepared what place s mid = IfSome (region_at s.chains place.region.0) (λ row. Prepares (is_storing what && row.marked) place.region row s mid)
 
-pub place_prepared : (maps : Mapped) (task : ℕ) (what : Want) (place : Place) (s mid : FaultState) → (can : CanFault maps s task what) → place ≡ place_at maps.size (address_in maps.size what) can.entry → WasPrepared what place s mid
+pub place_prepared : (maps : Mapped) (task : ℕ) (what : Want) (place : Place) (s mid : FaultState) → (can : CanFault maps s task what)
+    → place ≡ place_at maps.size (address_in maps.size what) can.entry → WasPrepared what place s mid
     → Prepares (is_storing what && can.row.marked) can.entry.region can.row s mid
 place_prepared maps task what place s mid can is was =
-    MatchOption-at_some _ (λ row. Prepares (is_storing what && row.marked) can.entry.region row s mid) can.row can.region (subst (λ (z : Place). WasPrepared what z s mid) is was)
+    MatchOption-at_some _ (λ row. Prepares (is_storing what && row.marked) can.entry.region row s mid) can.row can.region
+    (subst (λ (z : Place). WasPrepared what z s mid) is was)
 
 -- the top place, in the region as it is then
 abbrev pub IsTop : Place → FaultState → PageKey → Type 0
 IsTop place mid top = IfSome (region_at mid.chains place.region.0) (λ row. top ≡ record { object = row.top; page = record { 0 = row.shift + place.page.0 } })
 
-pub faulted : (maps : Mapped) (run : Running) (place : Place) (answer : FaultStep) (s mid : FaultState) (new : HostParts) (after : List Event) → (can : CanFault maps s run.task.0 run.want)
-    → place ≡ place_at maps.size (address_in maps.size run.want) can.entry → WasPrepared run.want place s mid → IsTop place mid run.top → run.at ≡ address_in mid.parts.buffers.size run.want % mid.parts.buffers.size
-    → Goes run answer mid.chains mid.parts new mid.events after → KeepsPlan mid.parts new → Faulted maps run.host run.task run.want run.may_claim answer s (record { parts = new; chains = mid.chains; ids = mid.ids; events = after })
+pub faulted : (maps : Mapped) (run : Running) (place : Place) (answer : FaultStep) (s mid : FaultState) (new : HostParts) (after : List Event)
+    → (can : CanFault maps s run.task.0 run.want)
+    → place ≡ place_at maps.size (address_in maps.size run.want) can.entry → WasPrepared run.want place s mid → IsTop place mid run.top
+    → run.at ≡ address_in mid.parts.buffers.size run.want % mid.parts.buffers.size
+    → Goes run answer mid.chains mid.parts new mid.events after → KeepsPlan mid.parts new
+    → Faulted maps run.host run.task run.want run.may_claim answer s (record { parts = new; chains = mid.chains; ids = mid.ids; events = after })
 faulted maps run place answer s mid new after can is was top at goes plan =
     let prepares = place_prepared maps run.task.0 run.want place s mid can is was in
     let ready = prepared (is_storing run.want && can.row.marked) can.entry.region can.row s mid can.fit can.chains can.region prepares in
-    let offset : run.at ≡ address_in maps.size run.want % s.parts.buffers.size = at ∙ (ap (λ z. address_in z.size run.want % z.size) ready.buffers ∙ ap (λ n. address_in n run.want % s.parts.buffers.size) (sym can.size)) in
+    let offset : run.at ≡ address_in maps.size run.want % s.parts.buffers.size = at
+    ∙ (ap (λ z. address_in z.size run.want % z.size) ready.buffers ∙ ap (λ n. address_in n run.want % s.parts.buffers.size) (sym can.size)) in
     record {
       entry = can.entry;
       found = can.found;
@@ -147,9 +168,12 @@ faulted maps run place answer s mid new after can is was top at goes plan =
       fits = subst (λ (z : ObjectTable). ChainsFit mid.chains z) (sym plan.objects) ready.fits;
     }
 
-pub all_faulted : (maps : Mapped) (run : Running) (place : Place) (result : Result FaultStep NoMemory) (s mid : FaultState) (new : HostParts) (after : List Event) → (can : CanFault maps s run.task.0 run.want)
-    → place ≡ place_at maps.size (address_in maps.size run.want) can.entry → WasPrepared run.want place s mid → IsTop place mid run.top → run.at ≡ address_in mid.parts.buffers.size run.want % mid.parts.buffers.size
+pub all_faulted : (maps : Mapped) (run : Running) (place : Place) (result : Result FaultStep NoMemory) (s mid : FaultState) (new : HostParts)
+    (after : List Event) → (can : CanFault maps s run.task.0 run.want)
+    → place ≡ place_at maps.size (address_in maps.size run.want) can.entry → WasPrepared run.want place s mid → IsTop place mid run.top
+    → run.at ≡ address_in mid.parts.buffers.size run.want % mid.parts.buffers.size
     → IfOk result (λ answer. Goes run answer mid.chains mid.parts new mid.events after) → OnOk result (KeepsPlan mid.parts new)
-    → IfOk result (λ answer. Faulted maps run.host run.task run.want run.may_claim answer s (record { parts = new; chains = mid.chains; ids = mid.ids; events = after }))
+    → IfOk result (λ answer. Faulted maps run.host run.task run.want run.may_claim answer s
+    (record { parts = new; chains = mid.chains; ids = mid.ids; events = after }))
 all_faulted maps run place (Ok answer) s mid new after can is was top at goes plan = faulted maps run place answer s mid new after can is was top at goes plan
 all_faulted maps run place (Err e) s mid new after can is was top at goes plan = tt

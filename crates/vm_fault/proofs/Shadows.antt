@@ -17,7 +17,8 @@ use Rattle.vm_shadow.specs.declared.region_row.RegionRow.{RegionRow}
 use Rattle.vm_shadow.specs.declared.shadow_row.ShadowRow.{ShadowRow}
 
 -- what was told makes a shadow
-pub told_makes : {E : Type 0} (result : Result (Unit {0}) E) (region : RegionId) (row : RegionRow) (old new : FaultState) (told : Type 0) → (told → MakesShadow region row old new) → OnOk result told → OnOk result (MakesShadow region row old new)
+pub told_makes : {E : Type 0} (result : Result (Unit {0}) E) (region : RegionId) (row : RegionRow) (old new : FaultState) (told : Type 0)
+    → (told → MakesShadow region row old new) → OnOk result told → OnOk result (MakesShadow region row old new)
 told_makes (Ok x) region row old new told makes is = makes is
 told_makes (Err e) region row old new told makes is = tt
 
@@ -25,33 +26,41 @@ some_same : {A : Type 0} (x y : A) → Some x ≡ Some y → x ≡ y
 some_same x y e = cc
 
 -- an object is made where room was made first, and referred to
-pub put_twice : (os roomier mid new : ObjectTable) (id : ℕ) (made row : ObjectRow) → roomier.entries ≡ os.entries → PutsObject id (Some made) roomier mid → PutsObject id (Some row) mid new → PutsObject id (Some row) os new
+pub put_twice : (os roomier mid new : ObjectTable) (id : ℕ) (made row : ObjectRow) → roomier.entries ≡ os.entries → PutsObject id (Some made) roomier mid
+    → PutsObject id (Some row) mid new → PutsObject id (Some row) os new
 put_twice os roomier mid new id made row same first second =
-    record { at = λ o. let as_it_was : object_at roomier o ≡ object_at os o = ap (object_among o) same in grind (arith, nat_tests, second.at o, first.at o, as_it_was) }
+    record {
+      at = λ o. let as_it_was : object_at roomier o ≡ object_at os o = ap (object_among o) same in grind
+          (arith, nat_tests, second.at o, first.at o, as_it_was);
+    }
 
 pub marks_twice : (os roomier mid new : ObjectTable) → roomier.absent ≡ os.absent → SameMarks roomier mid → SameMarks mid new → SameMarks os new
 marks_twice os roomier mid new same first second = record { at = λ o p. second.at o p ∙ (first.at o p ∙ ap (absent_among o p) same) }
 
 -- another object has its pages still
-pub same_pages_else : (os new : ObjectTable) (id : ℕ) (row : ObjectRow) → PutsObject id (Some row) os new → (o : ℕ) → (id ≡ o → ⊥) → object_pages new o ≡ object_pages os o
+pub same_pages_else : (os new : ObjectTable) (id : ℕ) (row : ObjectRow) → PutsObject id (Some row) os new → (o : ℕ) → (id ≡ o → ⊥)
+    → object_pages new o ≡ object_pages os o
 same_pages_else os new id row put o apart = elim (one_case id o (Some row) (object_at os o) (object_at new o) (put.at o)) [
   | inl now ↦ absurd (apart now.0)
   | inr that ↦ ap pages_of_row that.1
 ]
 
 -- no object has fewer pages, where one is made that wasn't there
-pub no_fewer : (os new : ObjectTable) (id : ℕ) (row : ObjectRow) → object_at os id ≡ None → PutsObject id (Some row) os new → (o : ℕ) → object_pages os o ≤ object_pages new o
+pub no_fewer : (os new : ObjectTable) (id : ℕ) (row : ObjectRow) → object_at os id ≡ None → PutsObject id (Some row) os new → (o : ℕ)
+    → object_pages os o ≤ object_pages new o
 no_fewer os new id row none put o = elim (one_case id o (Some row) (object_at os o) (object_at new o) (put.at o)) [
   | inl now ↦ let before = ap pages_of_row (sym (ap (object_at os) now.0) ∙ none) in omega arith
   | inr that ↦ let same = ap pages_of_row that.1 in omega arith
 ]
 
 -- the pages that are here are within their objects
-pub fit_made : (parts : HostParts) (new : ObjectTable) (id : ℕ) (row : ObjectRow) → Fit parts → object_at parts.objects id ≡ None → PutsObject id (Some row) parts.objects new → Fit (record parts { objects = new })
+pub fit_made : (parts : HostParts) (new : ObjectTable) (id : ℕ) (row : ObjectRow) → Fit parts → object_at parts.objects id ≡ None
+    → PutsObject id (Some row) parts.objects new → Fit (record parts { objects = new })
 fit_made parts new id row fit none put = fit_within parts new fit (λ o p r is. omega (arith, fit.inside o p r is, no_fewer parts.objects new id row none put o))
 
 -- the chains fit the objects
-pub chains_shadowed : (chains new : ChainTable) (os made : ObjectTable) (region : ℕ) (object : ObjectId) (row : RegionRow) (its : ObjectRow) → ChainsFit chains os → ObjectsBelow object.0 chains → object_at os object.0 ≡ None → its.pages ≡ row.pages
+pub chains_shadowed : (chains new : ChainTable) (os made : ObjectTable) (region : ℕ) (object : ObjectId) (row : RegionRow) (its : ObjectRow)
+    → ChainsFit chains os → ObjectsBelow object.0 chains → object_at os object.0 ≡ None → its.pages ≡ row.pages
     → region_at chains region ≡ Some row → ShadowsRegion region object row chains new → PutsObject object.0 (Some its) os made → ChainsFit new made
 chains_shadowed chains new os made region object row its fits below none pages found shadows put =
     record {
@@ -65,7 +74,8 @@ chains_shadowed chains new os made region object row its fits below none pages f
         | inl now ↦
             let same = some_same under other (sym now.1 ∙ is) in
             let here = ap (object_pages made) now.0 in
-            subst (λ (z : ShadowRow). z.shift + object_pages made o ≤ object_pages made z.under.0) same (omega (arith, here, mine, fits.tops region row found, more row.top.0))
+            subst (λ (z : ShadowRow). z.shift + object_pages made o ≤ object_pages made z.under.0) same
+            (omega (arith, here, mine, fits.tops region row found, more row.top.0))
         | inr that ↦
             let was = sym that.1 ∙ is in
             let kept = same_pages_else os made object.0 its put o that.0 in

@@ -16,16 +16,20 @@ pub object_there : (objects : ObjectTable) (o page : ℕ) → page < object_page
 object_there objects o page inside none = let pages = ap pages_of_row none in omega arith
 
 -- a page of a region is one of the region's top object
-pub top_inside : (chains : ChainTable) (objects : ObjectTable) (r page : ℕ) (row : RegionRow) → ChainsFit chains objects → region_at chains r ≡ Some row → page < row.pages → row.shift + page < object_pages objects row.top.0
+pub top_inside : (chains : ChainTable) (objects : ObjectTable) (r page : ℕ) (row : RegionRow) → ChainsFit chains objects → region_at chains r ≡ Some row
+    → page < row.pages → row.shift + page < object_pages objects row.top.0
 top_inside chains objects r page row fits found inside = omega (arith, fits.tops r row found)
 
 -- the place under one of an object's pages is one of the backing object's
-pub under_inside : (chains : ChainTable) (objects : ObjectTable) (spot : Spot) (row : ShadowRow) → ChainsFit chains objects → Stands objects spot → shadow_at chains spot.key.object.0 ≡ Some row
+pub under_inside : (chains : ChainTable) (objects : ObjectTable) (spot : Spot) (row : ShadowRow) → ChainsFit chains objects → Stands objects spot
+    → shadow_at chains spot.key.object.0 ≡ Some row
     → spot.key.page.0 + row.shift < object_pages objects row.under.0
 under_inside chains objects spot row fits stands found = omega (arith, fits.unders spot.key.object.0 row found, ap pages_of_row stands.known, stands.inside)
 
-pub under_key : (x : Option ShadowRow) (row : ShadowRow) (key : PageKey) (page : ℕ) → x ≡ Some row → Some key ≡ place_under x page → key ≡ record { object = row.under; page = record { 0 = page + row.shift } }
+pub under_key : (x : Option ShadowRow) (row : ShadowRow) (key : PageKey) (page : ℕ) → x ≡ Some row → Some key ≡ place_under x page
+    → key ≡ record { object = row.under; page = record { 0 = page + row.shift } }
 under_key x row key page found is = let same : Some key ≡ place_under (Some row) page = is ∙ ap (λ z. place_under z page) found in cc
 
-pub stands_at : (objects : ObjectTable) (key : PageKey) (object : ObjectRow) → object_at objects key.object.0 ≡ Some object → key.page.0 < object_pages objects key.object.0 → Stands objects (record { key = key; object = object })
+pub stands_at : (objects : ObjectTable) (key : PageKey) (object : ObjectRow) → object_at objects key.object.0 ≡ Some object
+    → key.page.0 < object_pages objects key.object.0 → Stands objects (record { key = key; object = object })
 stands_at objects key object known inside = record { known = known; inside = subst (λ (n : ℕ). key.page.0 < n) (ap pages_of_row known) inside }

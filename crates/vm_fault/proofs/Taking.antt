@@ -8,7 +8,8 @@ use Rattle.vm_objects.specs.Objects.{ObjectTable}
 use Rattle.vm_parts.specs.declared.parts.HostParts.{HostParts}
 
 -- one run and then another
-pub takes_then : (old mid new : FaultState) (before between after : ℕ) → TakesRoom old mid before between → TakesRoom mid new between after → TakesRoom old new before after
+pub takes_then : (old mid new : FaultState) (before between after : ℕ) → TakesRoom old mid before between → TakesRoom mid new between after
+    → TakesRoom old new before after
 takes_then old mid new before between after first second = record {
   log = omega (arith, first.log, second.log);
   rows = omega (arith, first.rows, second.rows);
@@ -17,7 +18,8 @@ takes_then old mid new before between after first second = record {
 }
 
 -- a run behind which chains and numbers are as they were, and so are the objects
-places_take : (mid : FaultState) (new : HostParts) (after : List Event) (room rest : ℕ) → KeepsPlan mid.parts new → TakesPlaces mid.parts new mid.events after room rest → TakesRoom mid (record mid { parts = new; events = after }) room rest
+places_take : (mid : FaultState) (new : HostParts) (after : List Event) (room rest : ℕ) → KeepsPlan mid.parts new
+    → TakesPlaces mid.parts new mid.events after room rest → TakesRoom mid (record mid { parts = new; events = after }) room rest
 places_take mid new after room rest plan takes = record {
   log = takes.log;
   rows = takes.rows;
@@ -26,11 +28,18 @@ places_take mid new after room rest plan takes = record {
 }
 
 -- what a run takes that first made room in the log, then prepared its region, and then went on
-pub all_taken : {A E : Type 0} (result : Result A E) (old mid : FaultState) (told : List Event) (new : HostParts) (after : List Event) (room roomier between rest : ℕ) → told ≡ old.events → room ≤ roomier
-    → TakesRoom (record old { events = told }) mid roomier between → OnOk result (KeepsPlan mid.parts new) → OnOk result (TakesPlaces mid.parts new mid.events after between rest)
+pub all_taken : {A E : Type 0} (result : Result A E) (old mid : FaultState) (told : List Event) (new : HostParts) (after : List Event)
+    (room roomier between rest : ℕ) → told ≡ old.events → room ≤ roomier
+    → TakesRoom (record old { events = told }) mid roomier between → OnOk result (KeepsPlan mid.parts new)
+    → OnOk result (TakesPlaces mid.parts new mid.events after between rest)
     → OnOk result (TakesRoom old (record mid { parts = new; events = after }) room rest)
 all_taken (Ok x) old mid told new after room roomier between rest same more first plan takes =
     let start : TakesRoom old mid roomier between = subst (λ (z : List Event). TakesRoom (record old { events = z }) mid roomier between) same first in
-    let begun : TakesRoom old mid room between = record { log = omega (arith, start.log, more); rows = start.rows; shadows = start.shadows; objects = start.objects } in
+    let begun : TakesRoom old mid room between = record {
+      log = omega (arith, start.log, more);
+      rows = start.rows;
+      shadows = start.shadows;
+      objects = start.objects;
+    } in
     takes_then old mid (record mid { parts = new; events = after }) room between rest begun (places_take mid new after between rest plan takes)
 all_taken (Err e) old mid told new after room roomier between rest same more first plan takes = tt

@@ -1,5 +1,6 @@
 -- What running an access once comes to, and what it changes.
-use Rattle.std.specs.Prelude.{ℕ, suc, ◌≡◌, ◌≢◌, ◌+◌, ◌-◌, ◌*◌, ◌%◌, ◌^◌, ◌<◌, ◌≤◌, ◌⊎◌, nat_lt, ◌&&◌, Bool, true, false, List, ◌∷◌, Option, Some, None, slice_range}
+use Rattle.std.specs.Prelude.{ℕ, suc, ◌≡◌, ◌≢◌, ◌+◌, ◌-◌, ◌*◌, ◌%◌, ◌^◌, ◌<◌, ◌≤◌, ◌⊎◌, nat_lt, ◌&&◌, Bool, true, false, List, ◌∷◌, Option, Some, None}
+use Rattle.std.specs.Prelude.{slice_range}
 use Rattle.vm_base.specs.declared.entry.Entry.{Entry}
 use Rattle.vm_base.specs.declared.ids.FrameNo.{FrameNo}
 use Rattle.vm_base.specs.declared.ids.HostId.{HostId}
@@ -50,8 +51,8 @@ LiesWithin size (want.Store address bytes value) entries entry row = page_at siz
 LiesWithin size (want.CopyTo address pages target next) entries entry row =
     (p : ℕ) → p < pages → (entry_at (address + p * size) entries ≡ Some entry) × (page_at size (address + p * size) entry < row.pages)
 
--- an object's pages can be copied to another: it is no shadow, its pager was told of it and isn't known to lack a page, and of the other's pages none from one on is
--- here or asked
+-- an object's pages can be copied to another: it is no shadow, its pager was told of it and isn't known to lack a page, and of the other's pages none from one
+-- on is here or asked
 pub record CopiesTo (source target : ObjectId) (pages next : ℕ) (parts : HostParts) (chains : ChainTable) : Type 0 where
   pub bottom : shadow_at chains source.0 ≡ None
   pub told : (row : ObjectRow) → object_at parts.objects source.0 ≡ Some row → row.state ≢ state.Without
@@ -96,7 +97,8 @@ pub record MakesShadow (region : RegionId) (row : RegionRow) (old new : FaultSta
   pub next : object.0 ≡ old.ids.next_object
   pub chains : ShadowsRegion region.0 object row old.chains new.chains
   pub fewer : new.chains.marked + 1 ≡ old.chains.marked
-  pub objects : PutsObject object.0 (Some (record { kind = Temp; pages = row.pages; state = state.Without; control = 0; live = false; references = 1 })) old.parts.objects new.parts.objects
+  pub objects : PutsObject object.0 (Some (record { kind = Temp; pages = row.pages; state = state.Without; control = 0; live = false; references = 1 }))
+      old.parts.objects new.parts.objects
   pub marks : SameMarks old.parts.objects new.parts.objects
   pub parts : new.parts ≡ record old.parts { objects = new.parts.objects }
   pub fit : Fit new.parts
@@ -127,48 +129,60 @@ pub record WritesPage (key : PageKey) (frame : FrameNo) (at size value : ℕ) (o
 -- the access ends with a page that is here, by which the page is referenced: the number that it loads or stores, and the event
 abbrev pub Hits : TaskId → Want → PageKey → FrameNo → ℕ → ℕ → Event → HostParts → HostParts → Type 0
 Hits task (want.Load address size) key frame at value e old new =
-    (value ≡ little_endian (slice_range (page_in old.frames frame.0) at (at + size))) × References frame old new × (e ≡ event.Loaded task key.object key.page value)
+    (value ≡ little_endian (slice_range (page_in old.frames frame.0) at (at + size))) × References frame old new
+    × (e ≡ event.Loaded task key.object key.page value)
 Hits task (want.Store address size number) key frame at value e old new =
-    (value ≡ number) × ((mid : HostParts) × WritesPage key frame at size number old mid × References frame mid new) × (e ≡ event.Stored task key.object key.page at size number)
+    (value ≡ number) × ((mid : HostParts) × WritesPage key frame at size number old mid × References frame mid new)
+    × (e ≡ event.Stored task key.object key.page at size number)
 Hits task (want.CopyTo address pages target next) key frame at value e old new = ⊥
 
 abbrev pub copied_key : ObjectId → ℕ → PageKey
 copied_key target next = record { object = target; page = record { 0 = next } }
 
 -- a slow copy makes its next page, in a frame that was free, of a page that is here, and both are referenced
-pub record CopiesPage (task : TaskId) (key : PageKey) (row : PageRow) (target : ObjectId) (next : ℕ) (old new : HostParts) (before after : List Event) : Type 0 where
-  pub frame : FrameNo
-  pub copied : HostParts
-  pub page : RaisesPage (copied_key target next) frame (page_in old.frames row.frame.0) old copied
-  pub plan : KeepsPlan old copied
-  pub hit : HostParts
-  pub marks : References frame copied hit
-  pub source : References row.frame hit new
-  pub told : after ≡ event.CopiedPage task (record { 0 = next }) key.object key.page target ∷ before
+pub record CopiesPage (task : TaskId) (key : PageKey) (row : PageRow) (target : ObjectId) (next : ℕ) (old new : HostParts) (before after : List Event) : Type 0
+  where
+    pub frame : FrameNo
+    pub copied : HostParts
+    pub page : RaisesPage (copied_key target next) frame (page_in old.frames row.frame.0) old copied
+    pub plan : KeepsPlan old copied
+    pub hit : HostParts
+    pub marks : References frame copied hit
+    pub source : References row.frame hit new
+    pub told : after ≡ event.CopiedPage task (record { 0 = next }) key.object key.page target ∷ before
 
 -- an access ends, or a slow copy has copied its next page
-pub data Ended (host : HostId) (task : TaskId) (what : Want) (top : PageKey) (at value : ℕ) (old new : HostParts) (chains : ChainTable) (before after : List Event) : Type 0 where
+pub data Ended (host : HostId) (task : TaskId) (what : Want) (top : PageKey) (at value : ℕ) (old new : HostParts) (chains : ChainTable)
+    (before after : List Event) : Type 0 where
   -- where its walk found the page, and a store in the top place alone; no lock keeps it out
-  AtOnce : (steps : ℕ) → (key : PageKey) → (row : PageRow) → Finds old chains steps top key row → (is_storing what ≡ true → steps ≡ 0) → keeps_out row.lock (writes_at what steps) ≡ false
+  AtOnce : (steps : ℕ) → (key : PageKey) → (row : PageRow) → Finds old chains steps top key row → (is_storing what ≡ true → steps ≡ 0)
+      → keeps_out row.lock (writes_at what steps) ≡ false
       → (e : Event) → Hits task what key row.frame at value e old new → after ≡ e ∷ before → Ended host task what top at value old new chains before after
   -- a store whose walk found the page below: a copy of it comes to the top place, and both are referenced
-  Raised : (steps : ℕ) → (key : PageKey) → (row : PageRow) → Finds old chains (suc steps) top key row → is_storing what ≡ true → keeps_out row.lock false ≡ false
+  Raised : (steps : ℕ) → (key : PageKey) → (row : PageRow) → Finds old chains (suc steps) top key row → is_storing what ≡ true
+      → keeps_out row.lock false ≡ false
       → (frame : FrameNo) → (copied hit : HostParts) → RaisesPage top frame (page_in old.frames row.frame.0) old copied → KeepsPlan old copied
       → (e : Event) → Hits task what top frame at value e copied hit → References row.frame hit new
       → after ≡ e ∷ event.Raised host key.object key.page top.object top.page ∷ before → Ended host task what top at value old new chains before after
   -- its walk found the page nowhere: a page of zeros comes to the top place
   AfterZeros : Sinks old chains top → (frame : FrameNo) → (brought : HostParts) → Brings top frame old brought → KeepsPlan old brought
-      → (e : Event) → Hits task what top frame at value e brought new → after ≡ e ∷ event.Zeroed host top.object top.page ∷ before → Ended host task what top at value old new chains before after
+      → (e : Event) → Hits task what top frame at value e brought new → after ≡ e ∷ event.Zeroed host top.object top.page ∷ before
+      → Ended host task what top at value old new chains before after
   -- a slow copy whose walk found its page, which no lock keeps it from reading
-  Copied : (address pages next : ℕ) → (target : ObjectId) → what ≡ want.CopyTo address pages target next → (steps : ℕ) → (key : PageKey) → (row : PageRow) → Finds old chains steps top key row
-      → keeps_out row.lock false ≡ false → value ≡ 0 → CopiesPage task key row target next old new before after → Ended host task what top at value old new chains before after
+  Copied : (address pages next : ℕ) → (target : ObjectId) → what ≡ want.CopyTo address pages target next → (steps : ℕ) → (key : PageKey) → (row : PageRow)
+      → Finds old chains steps top key row
+      → keeps_out row.lock false ≡ false → value ≡ 0 → CopiesPage task key row target next old new before after
+      → Ended host task what top at value old new chains before after
 
 -- why an access needs a frame, and the page that it reads meanwhile, if that is here
 pub data Needs (what : Want) (top : PageKey) (parts : HostParts) (chains : ChainTable) : Option PageKey → Type 0 where
   Nowhere : Sinks parts chains top → Needs what top parts chains None
-  ToAsk : (steps : ℕ) → (key : PageKey) → (object : ObjectRow) → MayCome parts chains steps top key object → object.state ≡ state.Ready → Needs what top parts chains None
-  ToCopy : (steps : ℕ) → (key : PageKey) → (row : PageRow) → Finds parts chains steps top key row → is_copying what ≡ true → keeps_out row.lock false ≡ false → Needs what top parts chains (Some key)
-  ToRaise : (steps : ℕ) → (key : PageKey) → (row : PageRow) → Finds parts chains (suc steps) top key row → is_storing what ≡ true → keeps_out row.lock false ≡ false → Needs what top parts chains (Some key)
+  ToAsk : (steps : ℕ) → (key : PageKey) → (object : ObjectRow) → MayCome parts chains steps top key object → object.state ≡ state.Ready
+      → Needs what top parts chains None
+  ToCopy : (steps : ℕ) → (key : PageKey) → (row : PageRow) → Finds parts chains steps top key row → is_copying what ≡ true → keeps_out row.lock false ≡ false
+      → Needs what top parts chains (Some key)
+  ToRaise : (steps : ℕ) → (key : PageKey) → (row : PageRow) → Finds parts chains (suc steps) top key row → is_storing what ≡ true
+      → keeps_out row.lock false ≡ false → Needs what top parts chains (Some key)
 
 -- its pager is asked for a page, for which a frame is held
 pub record RequestsPage (host : HostId) (what : Want) (top key : PageKey) (old new : HostParts) (chains : ChainTable) (before after : List Event) : Type 0 where
@@ -198,7 +212,8 @@ pub record AsksUnlock (host : HostId) (what : Want) (top key : PageKey) (old new
 pub record AwaitsPage (what : Want) (top key : PageKey) (parts : HostParts) (chains : ChainTable) : Type 0 where
   pub steps : ℕ
   pub row : PageRow
-  pub why : (Finds parts chains steps top key row × (keeps_out row.lock (writes_at what steps) ≡ true) × (row.unlock_sent ≡ true)) ⊎ StopsAsked parts chains steps top key row
+  pub why : (Finds parts chains steps top key row × (keeps_out row.lock (writes_at what steps) ≡ true) × (row.unlock_sent ≡ true))
+      ⊎ StopsAsked parts chains steps top key row
 
 -- nothing changes
 pub record NothingChanges (old new : FaultState) : Type 0 where
@@ -211,9 +226,11 @@ Comes host task what may_claim top at (step.Done value) old new = Ended host tas
 Comes host task what may_claim top at (step.Ask key) old new = RequestsPage host what top key old.parts new.parts old.chains old.events new.events
 Comes host task what may_claim top at (step.Unlock key) old new = AsksUnlock host what top key old.parts new.parts old.chains old.events new.events
 Comes host task what may_claim top at (step.WaitReady object) old new =
-    ((steps : ℕ) × (key : PageKey) × (row : ObjectRow) × MayCome old.parts old.chains steps top key row × (row.state ≡ state.Sent) × (key.object ≡ object)) × NothingChanges old new
+    ((steps : ℕ) × (key : PageKey) × (row : ObjectRow) × MayCome old.parts old.chains steps top key row × (row.state ≡ state.Sent) × (key.object ≡ object))
+    × NothingChanges old new
 Comes host task what may_claim top at (step.WaitAnswer key) old new = AwaitsPage what top key old.parts old.chains × NothingChanges old new
-Comes host task what may_claim top at (step.NeedFrame source) old new = Needs what top old.parts old.chains source × (may_claim ≡ true → free old.parts.frames ≡ 0) × NothingChanges old new
+Comes host task what may_claim top at (step.NeedFrame source) old new =
+    Needs what top old.parts old.chains source × (may_claim ≡ true → free old.parts.frames ≡ 0) × NothingChanges old new
 
 -- an access of a task was run once, a slow copy for its next page: a store gave its region an object of its own first, where that was marked
 pub record Faulted (maps : Mapped) (host : HostId) (task : TaskId) (what : Want) (may_claim : Bool) (answer : FaultStep) (old new : FaultState) : Type 0 where
@@ -255,6 +272,8 @@ want_after other what = what
 
 -- an access of a task was run: once, and a slow copy once more behind each page that it copied, up to its last or as far as it came
 pub data Runs (maps : Mapped) (host : HostId) (task : TaskId) (may_claim : Bool) (answer : FaultStep) : Want → Want → FaultState → FaultState → Type 0 where
-  Stops : (what : Want) → (old new : FaultState) → Faulted maps host task what may_claim answer old new → goes_on answer what ≡ false → Runs maps host task may_claim answer what (want_after answer what) old new
-  GoesOn : (what last : Want) → (value : ℕ) → (old mid new : FaultState) → Faulted maps host task what may_claim (step.Done value) old mid → has_more what ≡ true
+  Stops : (what : Want) → (old new : FaultState) → Faulted maps host task what may_claim answer old new → goes_on answer what ≡ false
+      → Runs maps host task may_claim answer what (want_after answer what) old new
+  GoesOn : (what last : Want) → (value : ℕ) → (old mid new : FaultState) → Faulted maps host task what may_claim (step.Done value) old mid
+      → has_more what ≡ true
       → Runs maps host task may_claim answer (with_page_done what) last mid new → Runs maps host task may_claim answer what last old new

@@ -14,8 +14,8 @@ pages_left (want.Load address size) = 0
 pages_left (want.Store address size value) = 0
 pages_left (want.CopyTo address pages target next) = pages - next
 
--- what running an access has taken of the room: for each event at most one place in the log and one row of a page, and for each region that is marked no longer at
--- most one shadow and one object
+-- what running an access has taken of the room: for each event at most one place in the log and one row of a page, and for each region that is marked no longer
+-- at most one shadow and one object
 pub record TakesRoom (old new : FaultState) (before after : ℕ) : Type 0 where
   pub log : before + length old.events ≤ after + length new.events
   pub rows : old.parts.resident.spare + length old.events ≤ new.parts.resident.spare + length new.events
@@ -27,8 +27,8 @@ pub record TakesPlaces (old new : HostParts) (before after : List Event) (room r
   pub log : room + length before ≤ rest + length after
   pub rows : old.resident.spare + length before ≤ new.resident.spare + length after
 
--- there is room for three events and one row of a page; for an event and a row more for each page that a slow copy has left, as far as frames are free; and for a shadow
--- and an object for each region that is marked
+-- there is room for three events and one row of a page; for an event and a row more for each page that a slow copy has left, as far as frames are free; and for
+-- a shadow and an object for each region that is marked
 pub record HasRoom (what : Want) (parts : HostParts) (chains : ChainTable) (events : ℕ) : Type 0 where
   pub log : 3 + min (pages_left what) (free parts.frames) ≤ events
   pub rows : 1 + min (pages_left what) (free parts.frames) ≤ parts.resident.spare

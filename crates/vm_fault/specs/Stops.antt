@@ -33,7 +33,8 @@ pub record Stands (objects : ObjectTable) (spot : Spot) : Type 0 where
 abbrev pub Stops : HostParts → ChainTable → PageKey → Stop → Type 0
 Stops parts chains top (stop.Found key row steps) = Finds parts chains steps top key row
 Stops parts chains top (stop.Asked key) = (steps : ℕ) × (row : PageRow) × StopsAsked parts chains steps top key row
-Stops parts chains top (stop.MayCome key object steps) = MayCome parts chains steps top key object × (key.page.0 < object.pages) × (object.state ≢ state.Without)
+Stops parts chains top (stop.MayCome key object steps) =
+    MayCome parts chains steps top key object × (key.page.0 < object.pages) × (object.state ≢ state.Without)
 Stops parts chains top stop.Nowhere = Sinks parts chains top
 
 -- a slow copy from this place can make its next page: no walk from the place comes to nothing, and the page is one of its object, and neither here nor asked

@@ -76,7 +76,8 @@ fn found(
 ) -> Result<FaultStep, NoMemory>
     requires can { CanGo run parts.old log.old.room }
     requires finds { (chains : ChainTable) × Finds parts.old chains steps run.top key row }
-    ensures goes { (chains : ChainTable) → Finds parts.old chains steps run.top key row → IfOk result (λ step. Goes run step chains parts.old parts.new log.old.items log.new.items) }
+    ensures goes { (chains : ChainTable) → Finds parts.old chains steps run.top key row
+        → IfOk result (λ step. Goes run step chains parts.old parts.new log.old.items log.new.items) }
     ensures plan { OnOk result (KeepsPlan parts.old parts.new) }
     ensures still { OnOk result (run.may_claim ≡ false → free parts.new.frames ≡ free parts.old.frames) }
     ensures takes { OnOk result (TakesPlaces parts.old parts.new log.old.items log.new.items log.old.room log.new.room) }
@@ -107,7 +108,8 @@ fn unlock(
     requires can { CanGo run parts.old log.old.room }
     requires finds { (chains : ChainTable) × Finds parts.old chains steps run.top key row }
     requires locked { keeps_out row.lock (writes_at run.want steps) ≡ true }
-    ensures goes { (chains : ChainTable) → Finds parts.old chains steps run.top key row → Goes run result chains parts.old parts.new log.old.items log.new.items }
+    ensures goes { (chains : ChainTable) → Finds parts.old chains steps run.top key row
+        → Goes run result chains parts.old parts.new log.old.items log.new.items }
     ensures plan { KeepsPlan parts.old parts.new }
     ensures takes { TakesPlaces parts.old parts.new log.old.items log.new.items log.old.room log.new.room }
     ensures free { free parts.new.frames ≡ free parts.old.frames }
@@ -147,7 +149,8 @@ fn raise(
     requires stores { is_storing run.want ≡ true }
     requires below { 0 < steps }
     requires unlocked { keeps_out row.lock false ≡ false }
-    ensures goes { (chains : ChainTable) → Finds parts.old chains steps run.top key row → IfOk result (λ step. Goes run step chains parts.old parts.new log.old.items log.new.items) }
+    ensures goes { (chains : ChainTable) → Finds parts.old chains steps run.top key row
+        → IfOk result (λ step. Goes run step chains parts.old parts.new log.old.items log.new.items) }
     ensures plan { OnOk result (KeepsPlan parts.old parts.new) }
     ensures still { OnOk result (run.may_claim ≡ false → free parts.new.frames ≡ free parts.old.frames) }
     ensures takes { OnOk result (TakesPlaces parts.old parts.new log.old.items log.new.items log.old.room log.new.room) }
@@ -182,7 +185,8 @@ fn copy(
     requires copies { is_copying run.want ≡ true }
     requires finds { (chains : ChainTable) × (steps : ℕ) × Finds parts.old chains steps run.top key row }
     requires unlocked { keeps_out row.lock false ≡ false }
-    ensures goes { (chains : ChainTable) → (steps : ℕ) → Finds parts.old chains steps run.top key row → IfOk result (λ step. Goes run step chains parts.old parts.new log.old.items log.new.items) }
+    ensures goes { (chains : ChainTable) → (steps : ℕ) → Finds parts.old chains steps run.top key row
+        → IfOk result (λ step. Goes run step chains parts.old parts.new log.old.items log.new.items) }
     ensures plan { OnOk result (KeepsPlan parts.old parts.new) }
     ensures still { OnOk result (run.may_claim ≡ false → free parts.new.frames ≡ free parts.old.frames) }
     ensures takes { OnOk result (TakesPlaces parts.old parts.new log.old.items log.new.items log.old.room log.new.room) }
@@ -225,7 +229,8 @@ fn may_come(
     requires comes { (chains : ChainTable) × MayCome parts.old chains steps run.top key object }
     requires inside { key.page.0 < object.pages }
     requires told { object.state ≢ state.Without }
-    ensures goes { (chains : ChainTable) → MayCome parts.old chains steps run.top key object → IfOk result (λ step. Goes run step chains parts.old parts.new log.old.items log.new.items) }
+    ensures goes { (chains : ChainTable) → MayCome parts.old chains steps run.top key object
+        → IfOk result (λ step. Goes run step chains parts.old parts.new log.old.items log.new.items) }
     ensures plan { OnOk result (KeepsPlan parts.old parts.new) }
     ensures still { OnOk result (run.may_claim ≡ false → free parts.new.frames ≡ free parts.old.frames) }
     ensures takes { OnOk result (TakesPlaces parts.old parts.new log.old.items log.new.items log.old.room log.new.room) }
@@ -258,7 +263,8 @@ fn nowhere(run: Running, parts: &mut HostParts, log: &mut Events) -> Result<Faul
     requires can { CanGo run parts.old log.old.room }
     requires number { IsOfNumber run.want }
     requires sinks { (chains : ChainTable) × Sinks parts.old chains run.top }
-    ensures goes { (chains : ChainTable) → Sinks parts.old chains run.top → IfOk result (λ step. Goes run step chains parts.old parts.new log.old.items log.new.items) }
+    ensures goes { (chains : ChainTable) → Sinks parts.old chains run.top
+        → IfOk result (λ step. Goes run step chains parts.old parts.new log.old.items log.new.items) }
     ensures plan { OnOk result (KeepsPlan parts.old parts.new) }
     ensures still { OnOk result (run.may_claim ≡ false → free parts.new.frames ≡ free parts.old.frames) }
     ensures takes { OnOk result (TakesPlaces parts.old parts.new log.old.items log.new.items log.old.room log.new.room) }

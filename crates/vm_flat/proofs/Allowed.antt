@@ -1,6 +1,7 @@
 -- What a place itself must say for an effect, and what it has to show.
 use Rattle.std.specs.Prelude.{ℕ, ◌&&◌, ◌≡◌, List, true, false, if◌then◌else◌, Option, Some, None}
-use Rattle.vm_flat.specs.Words.{Requesting, Returning, SpotDownWord, Supplying, Unavailing, Erring, SpotEffect, Creates, Requests, Returns, TakesRequest, TakesReturn, Answers, Takes, Zeroes, Raises, Stores, Drops, Ends, StepEnds, Nothing}
+use Rattle.vm_flat.specs.Words.{Requesting, Returning, SpotDownWord, Supplying, Unavailing, Erring, SpotEffect, Creates, Requests, Returns, TakesRequest}
+use Rattle.vm_flat.specs.Words.{TakesReturn, Answers, Takes, Zeroes, Raises, Stores, Drops, Ends, StepEnds, Nothing}
 use Rattle.vm_model.specs.Server.{first}
 use Rattle.vm_flat.specs.Spot.{Spot}
 

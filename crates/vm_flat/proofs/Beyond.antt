@@ -1,5 +1,6 @@
 -- Nothing of a file is asked, or here, or returned that lies past the object's pages.
-use Rattle.std.proofs.Common.{ℕ, zero, suc, ◌≡◌, ◌+◌, ◌<◌, ◌≤◌, inl, inr, List, [], ◌∷◌, Bool, true, false, Some, None, refl, sym, ap, subst, ◌∙◌, arith, if◌then◌else◌, ⊎_elim}
+use Rattle.std.proofs.Common.{ℕ, zero, suc, ◌≡◌, ◌+◌, ◌<◌, ◌≤◌, inl, inr, List, [], ◌∷◌, Bool, true, false, Some, None, refl, sym, ap, subst, ◌∙◌, arith}
+use Rattle.std.proofs.Common.{if◌then◌else◌, ⊎_elim}
 use Rattle.std.proofs.lemmas.Bool.{cases_lt}
 use Rattle.std.proofs.lemmas.Bool.Decides.{nat_tests}
 use Rattle.std.specs.Prelude.{◌==◌, ◌&&◌}
@@ -24,10 +25,12 @@ use Rattle.vm_legal.specs.Pagers.{last_return, newer}
 use Rattle.vm_legal.specs.Walks.{Sight, sight}
 use Rattle.vm_legal.specs.Walks as W
 use Rattle.vm_flat.specs.Spot.{Spot, spot_after}
-use Rattle.vm_flat.specs.Words.{Requesting, Returning, SpotUpWord, SpotDownWord, Supplying, Unavailing, Erring, SpotEffect, Creates, Requests, Returns, TakesRequest, TakesReturn, Answers, Takes, Zeroes, Raises, Stores, Drops, Ends, StepEnds, Nothing}
+use Rattle.vm_flat.specs.Words.{Requesting, Returning, SpotUpWord, SpotDownWord, Supplying, Unavailing, Erring, SpotEffect, Creates, Requests, Returns}
+use Rattle.vm_flat.specs.Words.{TakesRequest, TakesReturn, Answers, Takes, Zeroes, Raises, Stores, Drops, Ends, StepEnds, Nothing}
 use Rattle.vm_flat.proofs.Causes.{Cause, Ours}
 use Rattle.vm_flat.proofs.Classes.{deed, deeds, ground}
-use Rattle.vm_flat.proofs.Deeds.{Ground, Deed, Line, Zeroed, Raised, Stored, Dropped, Created, Asked, Copied, Returned, TookRequest, TookReturn, Answered, Took, Terminated, covered, is_file, spot}
+use Rattle.vm_flat.proofs.Deeds.{Ground, Deed, Line, Zeroed, Raised, Stored, Dropped, Created, Asked, Copied, Returned, TookRequest, TookReturn, Answered, Took}
+use Rattle.vm_flat.proofs.Deeds.{Terminated, covered, is_file, spot}
 use Rattle.vm_flat.proofs.Caused.{cause}
 use Rattle.vm_flat.proofs.File.{file_is}
 use Rattle.vm_flat.proofs.Holds.{Holds, led}
@@ -126,7 +129,8 @@ ours z own o is file = record { on_host = is; covered = file_covered z o file }
 plain_never : {A : Type 0} (z : Ground) (o p : ℕ) (past : List Deed) → is_file z o ≡ true → (spot z o p past).file ≡ false → A
 plain_never z o p past file plain = clash (spot z o p past).file plain (file_is z o p past ∙ file)
 
-bare_next : (z : Ground) (o p : ℕ) (d : Deed) (past : List Deed) → Cause z d past → AsksInside z d → is_file z o ≡ true → z.length o ≤ p → Bare (spot z o p past) → Bare (spot z o p (d ∷ past))
+bare_next : (z : Ground) (o p : ℕ) (d : Deed) (past : List Deed) → Cause z d past → AsksInside z d → is_file z o ≡ true → z.length o ≤ p
+    → Bare (spot z o p past) → Bare (spot z o p (d ∷ past))
 bare_next z o p Line past c i file past_end b = rest_step z past o p file past_end b
 bare_next z o p (Zeroed own object page) past c i file past_end b =
     each_place (After z past) object page own Zeroes Nothing
@@ -154,23 +158,32 @@ bare_next z o p (Copied own source index object page region j upper upper_page) 
     ])
     (rest_same z past) o p file past_end b
 bare_next z o p (Dropped own object page) past c i file past_end b =
-    each_place (After z past) object page own Drops Nothing (λ is f e was. bare_after z.zeros (spot z object page past) Drops tt was) (rest_same z past) o p file past_end b
+    each_place (After z past) object page own Drops Nothing (λ is f e was. bare_after z.zeros (spot z object page past) Drops tt was) (rest_same z past) o p
+    file past_end b
 bare_next z o p (Created own object) past c i file past_end b =
-    each_object (After z past) object own Creates Nothing (λ is q f e was. bare_after z.zeros (spot z object q past) Creates tt was) (rest_same z past) o p file past_end b
+    each_object (After z past) object own Creates Nothing (λ is q f e was. bare_after z.zeros (spot z object q past) Creates tt was) (rest_same z past) o p file
+    past_end b
 bare_next z o p (Asked own lives object page) past c i file past_end b =
-    each_place (After z past) object page own (Requests lives) Nothing (λ is f e was. absurd (let inside = i is f in omega (arith, inside, e))) (rest_same z past) o p file past_end b
+    each_place (After z past) object page own (Requests lives) Nothing (λ is f e was. absurd (let inside = i is f in omega (arith, inside, e)))
+    (rest_same z past) o p file past_end b
 bare_next z o p (Returned own object page keep bytes) past c i file past_end b =
-    each_place (After z past) object page own (Returns keep bytes) Nothing (λ is f e was. let may = c (ours z own object is f) in bare_after z.zeros (spot z object page past) (Returns keep bytes) may.1 was) (rest_same z past) o p file past_end b
+    each_place (After z past) object page own (Returns keep bytes) Nothing (λ is f e was. let may = c (ours z own object is f) in bare_after z.zeros
+    (spot z object page past) (Returns keep bytes) may.1 was) (rest_same z past) o p file past_end b
 bare_next z o p (TookRequest own object page) past c i file past_end b =
-    each_place (After z past) object page own TakesRequest StepEnds (λ is f e was. bare_after z.zeros (spot z object page past) TakesRequest tt was) (rest_step z past) o p file past_end b
+    each_place (After z past) object page own TakesRequest StepEnds (λ is f e was. bare_after z.zeros (spot z object page past) TakesRequest tt was)
+    (rest_step z past) o p file past_end b
 bare_next z o p (TookReturn own object page bytes) past c i file past_end b =
-    each_place (After z past) object page own (TakesReturn bytes) StepEnds (λ is f e was. bare_after z.zeros (spot z object page past) (TakesReturn bytes) (c (ours z own object is f)) was) (rest_step z past) o p file past_end b
+    each_place (After z past) object page own (TakesReturn bytes) StepEnds (λ is f e was. bare_after z.zeros (spot z object page past) (TakesReturn bytes)
+    (c (ours z own object is f)) was) (rest_step z past) o p file past_end b
 bare_next z o p (Answered own tells object page word) past c i file past_end b =
-    each_place (After z past) object page own (Answers tells word) Nothing (λ is f e was. bare_after z.zeros (spot z object page past) (Answers tells word) tt was) (rest_same z past) o p file past_end b
+    each_place (After z past) object page own (Answers tells word) Nothing (λ is f e was. bare_after z.zeros (spot z object page past) (Answers tells word) tt
+    was) (rest_same z past) o p file past_end b
 bare_next z o p (Took own object page word) past c i file past_end b =
-    each_place (After z past) object page own (Takes word) StepEnds (λ is f e was. bare_after z.zeros (spot z object page past) (Takes word) tt was) (rest_step z past) o p file past_end b
+    each_place (After z past) object page own (Takes word) StepEnds (λ is f e was. bare_after z.zeros (spot z object page past) (Takes word) tt was)
+    (rest_step z past) o p file past_end b
 bare_next z o p (Terminated own object) past c i file past_end b =
-    each_object (After z past) object own Ends Nothing (λ is q f e was. bare_after z.zeros (spot z object q past) Ends tt was) (rest_same z past) o p file past_end b
+    each_object (After z past) object own Ends Nothing (λ is q f e was. bare_after z.zeros (spot z object q past) Ends tt was) (rest_same z past) o p file
+    past_end b
 bare_next z o p d past c i file past_end b = b
 
 bare_start : (z : Ground) (o p : ℕ) → Bare (spot z o p [])
@@ -179,24 +192,30 @@ bare_start z o p = record { away = refl; unasked = refl; known = refl; none = re
 -- what is asked of a file is a page of the object
 
 -- a walk ends at a declared object only where it begins
-walk_later : (header : Header) (sights : ℕ → ℕ → Sight) (past : List Event) → NumberedAt header past → (n o p l lp : ℕ) → named header ≤ o → W.Walks sights (λ k. backing_of header k past) n o p l lp → named header ≤ l
+walk_later : (header : Header) (sights : ℕ → ℕ → Sight) (past : List Event) → NumberedAt header past → (n o p l lp : ℕ) → named header ≤ o
+    → W.Walks sights (λ k. backing_of header k past) n o p l lp → named header ≤ l
 walk_later header sights past num zero o p l lp above walk = omega (arith, above, walk.0)
-walk_later header sights past num (suc n) o p l lp above walk = walk_later header sights past num n (backing_of header o past).under ((backing_of header o past).shift + p) l lp (num.lower o walk.1) walk.2
+walk_later header sights past num (suc n) o p l lp above walk =
+    walk_later header sights past num n (backing_of header o past).under ((backing_of header o past).shift + p) l lp (num.lower o walk.1) walk.2
 
 record AtOnce (o p l lp : ℕ) : Type 0 where
   object : o ≡ l
   page : p ≡ lp
 
-at_once : (header : Header) (sights : ℕ → ℕ → Sight) (past : List Event) → NumberedAt header past → (n o p l lp : ℕ) → l < named header → W.Walks sights (λ k. backing_of header k past) n o p l lp → AtOnce o p l lp
+at_once : (header : Header) (sights : ℕ → ℕ → Sight) (past : List Event) → NumberedAt header past → (n o p l lp : ℕ) → l < named header
+    → W.Walks sights (λ k. backing_of header k past) n o p l lp → AtOnce o p l lp
 at_once header sights past num zero o p l lp below walk = record { object = walk.0; page = walk.1 }
 at_once header sights past num (suc n) o p l lp below walk =
     let above = walk_later header sights past num n (backing_of header o past).under ((backing_of header o past).shift + p) l lp (num.lower o walk.1) walk.2 in
     absurd (omega (arith, above, below))
 
-declared_region : (header : Header) (r next : ℕ) (past : List Event) → NumberedAt header past → (named header ≤ r → named header ≤ (region_of header r past).top) → (region_of header r past).top < named header → r < named header
-declared_region header r next past num temporary below = ⊎_elim (λ less. less) (λ above. absurd (let more = temporary above in omega (arith, more, below))) (cases_lt r (named header))
+declared_region : (header : Header) (r next : ℕ) (past : List Event) → NumberedAt header past
+    → (named header ≤ r → named header ≤ (region_of header r past).top) → (region_of header r past).top < named header → r < named header
+declared_region header r next past num temporary below =
+    ⊎_elim (λ less. less) (λ above. absurd (let more = temporary above in omega (arith, more, below))) (cases_lt r (named header))
 
-asks_inside : (header : Header) (outside : Outside) (host control object page wanted : ℕ) (past : List Event) → EachEvent (HasCause header outside) past → Holds header outside past → declared_file header object ≡ true → Asks header host control object page wanted past
+asks_inside : (header : Header) (outside : Outside) (host control object page wanted : ℕ) (past : List Event) → EachEvent (HasCause header outside) past
+    → Holds header outside past → declared_file header object ≡ true → Asks header host control object page wanted past
     → page < declared_pages header object
 asks_inside header outside host control object page wanted past caused h file c =
     let num : NumberedAt header past = h.numbered in
@@ -204,19 +223,23 @@ asks_inside header outside host control object page wanted past caused h file c 
     let r : ℕ = c.waits.at.entry.region.0 in
     let i : ℕ = page_of header c.task c.access past c.waits.at.entry in
     let row = led header outside c.task _ past h.entries c.waits.at in
-    let end : AtOnce c.comes.top c.comes.top_page object page = at_once header (λ k q. sight header host k q past) past num c.comes.steps c.comes.top c.comes.top_page object page below c.comes.walks in
+    let end : AtOnce c.comes.top c.comes.top_page object page = at_once header (λ k q. sight header host k q past) past num c.comes.steps c.comes.top
+    c.comes.top_page object page below c.comes.walks in
     let top : (region_of header r past).top ≡ object = c.comes.is_top.object ∙ end.object in
     let declared : r < named header = declared_region header r 0 past num (λ above. num.temporary r above row.is.made) (omega (arith, top, below)) in
     let own : r ≡ object = sym (num.declared_top r declared) ∙ top in
     let shift : (region_of header r past).shift ≡ 0 = num.declared_shift r declared in
     let index : i ≡ page = let turned = c.comes.is_top.page in let same = end.page in omega (arith, shift, turned, same) in
     let inside : i < (region_of header r past).pages = row.is.inside.each _ row.from row.below in
-    let pages : (region_of header r past).pages ≡ declared_pages header object = pages_declared header outside r past caused declared ∙ ap (λ (k : ℕ). declared_pages header k) own in
+    let pages : (region_of header r past).pages ≡ declared_pages header object = pages_declared header outside r past caused declared
+    ∙ ap (λ (k : ℕ). declared_pages header k) own in
     omega (arith, inside, pages, index)
 
-asks_deed : (header : Header) (outside : Outside) (host : ℕ) (e : Event) (past : List Event) → EachEvent (HasCause header outside) past → Holds header outside past → HasCause header outside e past → AsksInside (ground header outside) (deed header outside host e past)
+asks_deed : (header : Header) (outside : Outside) (host : ℕ) (e : Event) (past : List Event) → EachEvent (HasCause header outside) past
+    → Holds header outside past → HasCause header outside e past → AsksInside (ground header outside) (deed header outside host e past)
 asks_deed header outside host (event.Sent (Up at object) (message.Request control page access)) past caused h c = λ is file.
-    by_cause header outside (event.Sent (Up at object) (message.Request control page access)) past c (λ doing asks. asks_inside header outside at.0 control object.0 page.0 access past caused h file asks)
+    by_cause header outside (event.Sent (Up at object) (message.Request control page access)) past c
+    (λ doing asks. asks_inside header outside at.0 control object.0 page.0 access past caused h file asks)
 asks_deed header outside host (event.Sent (Up at object) (message.Init control size)) past caused h c = tt
 asks_deed header outside host (event.Sent (Up at object) (message.Create control size)) past caused h c = tt
 asks_deed header outside host (event.Sent (Up at object) (message.Return control page dirty keep bytes)) past caused h c = tt
@@ -238,22 +261,28 @@ asks_deed header outside host e past caused h c = tt
 -- along a history
 
 -- a return that is taken is of a page of the object
-takes_none : (header : Header) (outside : Outside) (host o p : ℕ) (at : HostId) (object : ObjectId) (m : Message) (past : List Event) → declared_file header o ≡ true → Cause (ground header outside) (deed header outside host (event.Taken (Up at object) m) past) (deeds header outside host past)
-    → Bare (spot (ground header outside) o p (deeds header outside host past)) → last_return host o p past ≡ None → last_return host o p (event.Taken (Up at object) m ∷ past) ≡ None
-takes_none header outside host o p at object (message.Return control page dirty keep bytes) past file c b none = by (at.0 == host && object.0 == o) (page.0 == p) refl refl
+takes_none : (header : Header) (outside : Outside) (host o p : ℕ) (at : HostId) (object : ObjectId) (m : Message) (past : List Event)
+    → declared_file header o ≡ true → Cause (ground header outside) (deed header outside host (event.Taken (Up at object) m) past)
+    (deeds header outside host past)
+    → Bare (spot (ground header outside) o p (deeds header outside host past)) → last_return host o p past ≡ None
+    → last_return host o p (event.Taken (Up at object) m ∷ past) ≡ None
+takes_none header outside host o p at object (message.Return control page dirty keep bytes) past file c b none =
+    by (at.0 == host && object.0 == o) (page.0 == p) refl refl
   where
     never : (at.0 == host && object.0 == o) ≡ true → (page.0 == p) ≡ true → ⊥
     never here same =
         let own : (at.0 == host) ≡ true = grind arith in
         let object_is : object.0 ≡ o = grind (arith, nat_tests) in
         let page_is : page.0 ≡ p = grind (arith, nat_tests) in
-        let may : first (spot (ground header outside) object.0 page.0 (deeds header outside host past)).up ≡ Some (Returning bytes) = c (ours (ground header outside) (at.0 == host) object.0 own (subst (λ (k : ℕ). declared_file header k ≡ true) (sym object_is) file)) in
+        let may : first (spot (ground header outside) object.0 page.0 (deeds header outside host past)).up ≡ Some (Returning bytes) = c
+        (ours (ground header outside) (at.0 == host) object.0 own (subst (λ (k : ℕ). declared_file header k ≡ true) (sym object_is) file)) in
         let there : first (spot (ground header outside) o p (deeds header outside host past)).up ≡ Some (Returning bytes) =
         subst (λ (k : ℕ). first (spot (ground header outside) k p (deeds header outside host past)).up ≡ Some (Returning bytes)) object_is
         (subst (λ (q : ℕ). first (spot (ground header outside) object.0 q (deeds header outside host past)).up ≡ Some (Returning bytes)) page_is may) in
         no_return (spot (ground header outside) o p (deeds header outside host past)).up bytes there b.none
 
-    by : (a d : Bool) → (at.0 == host && object.0 == o) ≡ a → (page.0 == p) ≡ d → (if a then newer (if d then Some bytes else None) (last_return host o p past) else last_return host o p past) ≡ None
+    by : (a d : Bool) → (at.0 == host && object.0 == o) ≡ a → (page.0 == p) ≡ d
+        → (if a then newer (if d then Some bytes else None) (last_return host o p past) else last_return host o p past) ≡ None
     by true true here same = absurd (never here same)
     by true false here same = none
     by false d here same = none
@@ -267,25 +296,31 @@ pub record Beyond (header : Header) (outside : Outside) (host o p : ℕ) (past :
   pub bare : Bare (spot (ground header outside) o p (deeds header outside host past))
   pub none : last_return host o p past ≡ None
 
-none_next : (header : Header) (outside : Outside) (host o p : ℕ) (e : Event) (past : List Event) → declared_file header o ≡ true → Cause (ground header outside) (deed header outside host e past) (deeds header outside host past)
+none_next : (header : Header) (outside : Outside) (host o p : ℕ) (e : Event) (past : List Event) → declared_file header o ≡ true
+    → Cause (ground header outside) (deed header outside host e past) (deeds header outside host past)
     → Bare (spot (ground header outside) o p (deeds header outside host past)) → last_return host o p past ≡ None → last_return host o p (e ∷ past) ≡ None
 none_next header outside host o p (event.Taken (Up at object) m) past file c b none = takes_none header outside host o p at object m past file c b none
 none_next header outside host o p (event.Taken (Down at object control) m) past file c b none = none
 none_next header outside host o p e past file c b none = none
 
-pub beyond : (header : Header) (outside : Outside) (history : List Event) → EachEvent (HasCause header outside) history → EachEvent (CopiesCurrent header outside) history → (host o p : ℕ) → declared_file header o ≡ true → declared_pages header o ≤ p
+pub beyond : (header : Header) (outside : Outside) (history : List Event) → EachEvent (HasCause header outside) history
+    → EachEvent (CopiesCurrent header outside) history → (host o p : ℕ) → declared_file header o ≡ true → declared_pages header o ≤ p
     → Beyond header outside host o p history
 beyond header outside [] caused current host o p file past_end = record { bare = bare_start (ground header outside) o p; none = refl }
 beyond header outside (e ∷ past) caused current host o p file past_end =
     let was : Beyond header outside host o p past = beyond header outside past caused.1 current.1 host o p file past_end in
     let h : Holds header outside past = holds header outside past (sustained header outside past caused.1) current.1 in
-    let c : Cause (ground header outside) (deed header outside host e past) (deeds header outside host past) = cause header outside host e past h (sustained header outside (e ∷ past) caused).0 current.0 in
+    let c : Cause (ground header outside) (deed header outside host e past) (deeds header outside host past) = cause header outside host e past h
+    (sustained header outside (e ∷ past) caused).0 current.0 in
     record {
-      bare = bare_next (ground header outside) o p (deed header outside host e past) (deeds header outside host past) c (asks_deed header outside host e past caused.1 h caused.0) file past_end was.bare;
+      bare =
+          bare_next (ground header outside) o p (deed header outside host e past) (deeds header outside host past) c
+          (asks_deed header outside host e past caused.1 h caused.0) file past_end was.bare;
       none = none_next header outside host o p e past file c was.bare was.none;
     }
 
 -- no page past the object's is ever returned
-pub none_beyond : (header : Header) (outside : Outside) (history : List Event) → EachEvent (HasCause header outside) history → EachEvent (CopiesCurrent header outside) history → (host o p : ℕ) → declared_file header o ≡ true → declared_pages header o ≤ p
+pub none_beyond : (header : Header) (outside : Outside) (history : List Event) → EachEvent (HasCause header outside) history
+    → EachEvent (CopiesCurrent header outside) history → (host o p : ℕ) → declared_file header o ≡ true → declared_pages header o ≤ p
     → last_return host o p history ≡ None
 none_beyond header outside history caused current host o p file past_end = (beyond header outside history caused current host o p file past_end).none

@@ -3,7 +3,9 @@ use Rattle.std.specs.Prelude.{ℕ, zero, suc, ◌+◌, ◌<◌, ◌≤◌, ◌�
 use Rattle.vm_flat.specs.Words.{Requests, Returns, TakesRequest, TakesReturn, Answers, Takes}
 use Rattle.vm_flat.specs.Spot.{Spot}
 use Rattle.vm_flat.proofs.Allowed.{Passed, May, content}
-use Rattle.vm_flat.proofs.Deeds.{Ground, is_file, covered, Deed, Line, Region, Cow, Kept, Shadowed, Zeroed, Raised, Stored, Dropped, Created, Asked, Copied, Returned, TookRequest, TookReturn, Answered, Took, Terminated, Elsewhere, Row, row, regions, objects, Link, link, spot, control, flat}
+use Rattle.vm_flat.proofs.Deeds.{Ground, is_file, covered, Deed, Line, Region, Cow, Kept, Shadowed, Zeroed, Raised, Stored, Dropped, Created, Asked, Copied}
+use Rattle.vm_flat.proofs.Deeds.{Returned, TookRequest, TookReturn, Answered, Took, Terminated, Elsewhere, Row, row, regions, objects, Link, link, spot}
+use Rattle.vm_flat.proofs.Deeds.{control, flat}
 
 -- u is the n-th object below o
 abbrev pub Below : (ℕ → Link) → ℕ → ℕ → ℕ → Type 0
@@ -25,7 +27,8 @@ Reach z o past = Reaches (λ r. row z r past) (λ k. link z k past) o
 -- (l, lp) is the n-th place of the chain from (o, p), and the walk passes over all before it
 abbrev pub Walks : Ground → ℕ → ℕ → ℕ → ℕ → ℕ → List Deed → Type 0
 Walks z zero o p l lp past = (o ≡ l) × (p ≡ lp)
-Walks z (suc n) o p l lp past = Passed (spot z o p past) × ((link z o past).backed ≡ true) × Walks z n (link z o past).under ((link z o past).shift + p) l lp past
+Walks z (suc n) o p l lp past =
+    Passed (spot z o p past) × ((link z o past).backed ≡ true) × Walks z n (link z o past).under ((link z o past).shift + p) l lp past
 
 -- the walk from (o, p) passes over n places more and then over the last
 abbrev pub Sinks : Ground → ℕ → ℕ → ℕ → List Deed → Type 0
@@ -72,7 +75,8 @@ pub record StoresThere (z : Ground) (region index object page : ℕ) (past : Lis
   pub unmarked : (row z region past).mark ≡ false
   pub here : (spot z object page past).here ≡ true
   -- what stands on a file has the page of its own
-  pub pushed : is_file z object ≡ true → (v q : ℕ) → Reach z v past → (link z v past).backed ≡ true → (link z v past).under ≡ object → (link z v past).shift + q ≡ page → content (spot z v q past) ≢ None
+  pub pushed : is_file z object ≡ true → (v q : ℕ) → Reach z v past → (link z v past).backed ≡ true → (link z v past).under ≡ object
+      → (link z v past).shift + q ≡ page → content (spot z v q past) ≢ None
 
 pub record CopiesThere (z : Ground) (source index object page region i upper upper_page : ℕ) (past : List Deed) : Type 0 where
   pub tops : Tops z region i upper upper_page past
@@ -101,24 +105,29 @@ Cause z Line past = Unit {0}
 Cause z (Region own region object count) past = (region ≡ regions z past) × (object ≡ objects z past) × (own ≡ true → covered z object ≡ true)
 Cause z (Cow region source off count) past = (region ≡ regions z past) × (source < regions z past) × (off + count ≤ (row z source past).pages)
 Cause z (Kept held) past = Unit {0}
-Cause z (Shadowed region new) past = (new ≡ objects z past) × (region < regions z past) × ((row z region past).mark ≡ true) × (covered z (row z region past).top ≡ covered z new)
+Cause z (Shadowed region new) past =
+    (new ≡ objects z past) × (region < regions z past) × ((row z region past).mark ≡ true) × (covered z (row z region past).top ≡ covered z new)
 Cause z (Zeroed own object page) past = Ours z own object → ((is_file z object ≡ true) × Void (spot z object page past)) ⊎ Bottoms z object page past
 Cause z (Raised own lower lower_page upper upper_page) past = Ours z own upper → Finds z lower lower_page upper upper_page past
-Cause z (Stored own region index object page at bytes) past = (Ours z own object × StoresThere z region index object page past) ⊎ Foreign z own region object past
+Cause z (Stored own region index object page at bytes) past =
+    (Ours z own object × StoresThere z region index object page past) ⊎ Foreign z own region object past
 Cause z (Copied own source index object page region i upper upper_page) past =
     (Ours z own upper × CopiesThere z source index object page region i upper upper_page past) ⊎ Foreign z own region upper past
-Cause z (Dropped own object page) past = Ours z own object → ((spot z object page past).here ≡ true) × (((spot z object page past).dirty ≡ false) ⊎ (Reach z object past → ⊥))
+Cause z (Dropped own object page) past =
+    Ours z own object → ((spot z object page past).here ≡ true) × (((spot z object page past).dirty ≡ false) ⊎ (Reach z object past → ⊥))
 Cause z (Created own object) past = Ours z own object → (object < objects z past) × (control z object past ≡ 0)
 Cause z (Asked own lives object page) past = Ours z own object → May z.zeros (spot z object page past) (Requests lives)
 Cause z (Returned own object page keep bytes) past = Ours z own object → May z.zeros (spot z object page past) (Returns keep bytes)
 Cause z (TookRequest own object page) past = Ours z own object → May z.zeros (spot z object page past) TakesRequest
 Cause z (TookReturn own object page bytes) past = Ours z own object → May z.zeros (spot z object page past) (TakesReturn bytes)
 Cause z (Answered own tells object page word) past =
-    (Ours z own object → May z.zeros (spot z object page past) (Answers tells word)) × (tells ≡ true → (Ours z own object × OwnRegion z object past) ⊎ Foreign z own object object past)
+    (Ours z own object → May z.zeros (spot z object page past) (Answers tells word))
+    × (tells ≡ true → (Ours z own object × OwnRegion z object past) ⊎ Foreign z own object object past)
 Cause z (Took own object page word) past = Ours z own object → May z.zeros (spot z object page past) (Takes word)
 Cause z (Terminated own object) past =
     Ours z own object
-    → ((Reach z object past → ⊥) ⊎ (is_file z object ≡ true)) × (control z object past ≡ 1) × ((p : ℕ) → ((spot z object p past).here ≡ false) × ((spot z object p past).asked ≡ false))
+    → ((Reach z object past → ⊥) ⊎ (is_file z object ≡ true)) × (control z object past ≡ 1)
+    × ((p : ℕ) → ((spot z object p past).here ≡ false) × ((spot z object p past).asked ≡ false))
 Cause z Elsewhere past = Unit {0}
 
 abbrev pub AllCaused : Ground → List Deed → Type 0

@@ -171,7 +171,23 @@ caused_3 : EachEvent (HasCause header outside) past_3
 caused_3 = ((settling, (refl, refl)), caused_2)
 
 caused_4 : EachEvent (HasCause header outside) past_4
-caused_4 = ((settling, record { idle = refl; host = 0; lives = refl; whole = refl; inside = omega arith; made = omega arith; used = λ above. refl; file = λ is. refl; unfilled = refl }), caused_3)
+caused_4 = (
+  (
+    settling,
+    record {
+      idle = refl;
+      host = 0;
+      lives = refl;
+      whole = refl;
+      inside = omega arith;
+      made = omega arith;
+      used = λ above. refl;
+      file = λ is. refl;
+      unfilled = refl;
+    },
+  ),
+  caused_3,
+)
 
 caused_5 : EachEvent (HasCause header outside) past_5
 caused_5 = ((settling, tt), caused_4)
@@ -180,10 +196,39 @@ caused_6 : EachEvent (HasCause header outside) past_6
 caused_6 = ((settling, refl), caused_5)
 
 caused_7 : EachEvent (HasCause header outside) past_7
-caused_7 = ((settling, inr (record { task = 0; access = Storing 0 1 1; waits = record { waits = refl; at = record { host = 0; entry = parent; lives = refl; found = refl }; left = tt }; on_host = refl; temporary = omega arith; unmarked = λ store. refl; is_top = record { object = refl; page = refl }; steps = 0; sinks = (record { away = refl; unasked = refl; without = refl }, refl) })), caused_6)
+caused_7 = (
+  (
+    settling,
+    inr (record {
+      task = 0;
+      access = Storing 0 1 1;
+      waits = record { waits = refl; at = record { host = 0; entry = parent; lives = refl; found = refl }; left = tt };
+      on_host = refl;
+      temporary = omega arith;
+      unmarked = λ store. refl;
+      is_top = record { object = refl; page = refl };
+      steps = 0;
+      sinks = (record { away = refl; unasked = refl; without = refl }, refl);
+    }),
+  ),
+  caused_6,
+)
 
 caused_8 : EachEvent (HasCause header outside) past_8
-caused_8 = ((settling, record { address = 0; waits = record { waits = refl; at = record { host = 0; entry = parent; lives = refl; found = refl }; left = tt }; is_top = record { object = refl; page = refl }; unmarked = refl; here = refl; place = refl }), caused_7)
+caused_8 = (
+  (
+    settling,
+    record {
+      address = 0;
+      waits = record { waits = refl; at = record { host = 0; entry = parent; lives = refl; found = refl }; left = tt };
+      is_top = record { object = refl; page = refl };
+      unmarked = refl;
+      here = refl;
+      place = refl;
+    },
+  ),
+  caused_7,
+)
 
 caused_9 : EachEvent (HasCause header outside) past_9
 caused_9 = ((settling, tt), caused_8)
@@ -192,10 +237,39 @@ caused_10 : EachEvent (HasCause header outside) past_10
 caused_10 = ((settling, refl), caused_9)
 
 caused_11 : EachEvent (HasCause header outside) past_11
-caused_11 = ((settling, inr (record { task = 0; access = Storing 18 2 777; waits = record { waits = refl; at = record { host = 0; entry = parent; lives = refl; found = refl }; left = tt }; on_host = refl; temporary = omega arith; unmarked = λ store. refl; is_top = record { object = refl; page = refl }; steps = 0; sinks = (record { away = refl; unasked = refl; without = refl }, refl) })), caused_10)
+caused_11 = (
+  (
+    settling,
+    inr (record {
+      task = 0;
+      access = Storing 18 2 777;
+      waits = record { waits = refl; at = record { host = 0; entry = parent; lives = refl; found = refl }; left = tt };
+      on_host = refl;
+      temporary = omega arith;
+      unmarked = λ store. refl;
+      is_top = record { object = refl; page = refl };
+      steps = 0;
+      sinks = (record { away = refl; unasked = refl; without = refl }, refl);
+    }),
+  ),
+  caused_10,
+)
 
 caused_12 : EachEvent (HasCause header outside) past_12
-caused_12 = ((settling, record { address = 18; waits = record { waits = refl; at = record { host = 0; entry = parent; lives = refl; found = refl }; left = tt }; is_top = record { object = refl; page = refl }; unmarked = refl; here = refl; place = refl }), caused_11)
+caused_12 = (
+  (
+    settling,
+    record {
+      address = 18;
+      waits = record { waits = refl; at = record { host = 0; entry = parent; lives = refl; found = refl }; left = tt };
+      is_top = record { object = refl; page = refl };
+      unmarked = refl;
+      here = refl;
+      place = refl;
+    },
+  ),
+  caused_11,
+)
 
 caused_13 : EachEvent (HasCause header outside) past_13
 caused_13 = ((settling, tt), caused_12)
@@ -204,10 +278,40 @@ caused_14 : EachEvent (HasCause header outside) past_14
 caused_14 = ((settling, tt), caused_13)
 
 caused_15 : EachEvent (HasCause header outside) past_15
-caused_15 = ((settling, record { next = refl; temporary = omega arith; task = 0; address = 0; at = record { host = 0; entry = parent; lives = refl; found = refl }; source_is = refl; inside = omega arith }), caused_14)
+caused_15 = (
+  (
+    settling,
+    record {
+      next = refl;
+      temporary = omega arith;
+      task = 0;
+      address = 0;
+      at = record { host = 0; entry = parent; lives = refl; found = refl };
+      source_is = refl;
+      inside = omega arith;
+    },
+  ),
+  caused_14,
+)
 
 caused_16 : EachEvent (HasCause header outside) past_16
-caused_16 = ((settling, record { idle = refl; host = 0; lives = refl; whole = refl; inside = omega arith; made = omega arith; used = λ above. refl; file = λ is. refl; unfilled = refl }), caused_15)
+caused_16 = (
+  (
+    settling,
+    record {
+      idle = refl;
+      host = 0;
+      lives = refl;
+      whole = refl;
+      inside = omega arith;
+      made = omega arith;
+      used = λ above. refl;
+      file = λ is. refl;
+      unfilled = refl;
+    },
+  ),
+  caused_15,
+)
 
 caused_17 : EachEvent (HasCause header outside) past_17
 caused_17 = ((settling, tt), caused_16)
@@ -216,13 +320,60 @@ caused_18 : EachEvent (HasCause header outside) past_18
 caused_18 = ((settling, refl), caused_17)
 
 caused_19 : EachEvent (HasCause header outside) past_19
-caused_19 = ((settling, record { next = refl; is_top = refl; marked = refl; task = 1; address = 0; bytes = 1; value = 2; waits = record { waits = refl; at = record { host = 0; entry = child; lives = refl; found = refl }; left = tt }; region_is = refl }), caused_18)
+caused_19 = (
+  (
+    settling,
+    record {
+      next = refl;
+      is_top = refl;
+      marked = refl;
+      task = 1;
+      address = 0;
+      bytes = 1;
+      value = 2;
+      waits = record { waits = refl; at = record { host = 0; entry = child; lives = refl; found = refl }; left = tt };
+      region_is = refl;
+    },
+  ),
+  caused_18,
+)
 
 caused_20 : EachEvent (HasCause header outside) past_20
-caused_20 = ((settling, record { task = 1; address = 0; bytes = 1; value = 2; waits = record { waits = refl; at = record { host = 0; entry = child; lives = refl; found = refl }; left = tt }; on_host = refl; unmarked = refl; is_top = record { object = refl; page = refl }; steps = 0; walks = (record { away = refl; unasked = refl; without = refl }, refl, (refl, refl)); here = refl }), caused_19)
+caused_20 = (
+  (
+    settling,
+    record {
+      task = 1;
+      address = 0;
+      bytes = 1;
+      value = 2;
+      waits = record { waits = refl; at = record { host = 0; entry = child; lives = refl; found = refl }; left = tt };
+      on_host = refl;
+      unmarked = refl;
+      is_top = record { object = refl; page = refl };
+      steps = 0;
+      walks = (record { away = refl; unasked = refl; without = refl }, refl, (refl, refl));
+      here = refl;
+    },
+  ),
+  caused_19,
+)
 
 caused_21 : EachEvent (HasCause header outside) past_21
-caused_21 = ((settling, record { address = 0; waits = record { waits = refl; at = record { host = 0; entry = child; lives = refl; found = refl }; left = tt }; is_top = record { object = refl; page = refl }; unmarked = refl; here = refl; place = refl }), caused_20)
+caused_21 = (
+  (
+    settling,
+    record {
+      address = 0;
+      waits = record { waits = refl; at = record { host = 0; entry = child; lives = refl; found = refl }; left = tt };
+      is_top = record { object = refl; page = refl };
+      unmarked = refl;
+      here = refl;
+      place = refl;
+    },
+  ),
+  caused_20,
+)
 
 caused_22 : EachEvent (HasCause header outside) past_22
 caused_22 = ((settling, tt), caused_21)
@@ -231,10 +382,40 @@ caused_23 : EachEvent (HasCause header outside) past_23
 caused_23 = ((settling, tt), caused_22)
 
 caused_24 : EachEvent (HasCause header outside) past_24
-caused_24 = ((settling, record { next = refl; temporary = omega arith; task = 1; address = 0; at = record { host = 0; entry = child; lives = refl; found = refl }; source_is = refl; inside = omega arith }), caused_23)
+caused_24 = (
+  (
+    settling,
+    record {
+      next = refl;
+      temporary = omega arith;
+      task = 1;
+      address = 0;
+      at = record { host = 0; entry = child; lives = refl; found = refl };
+      source_is = refl;
+      inside = omega arith;
+    },
+  ),
+  caused_23,
+)
 
 caused_25 : EachEvent (HasCause header outside) past_25
-caused_25 = ((settling, record { idle = refl; host = 0; lives = refl; whole = refl; inside = omega arith; made = omega arith; used = λ above. refl; file = λ is. refl; unfilled = refl }), caused_24)
+caused_25 = (
+  (
+    settling,
+    record {
+      idle = refl;
+      host = 0;
+      lives = refl;
+      whole = refl;
+      inside = omega arith;
+      made = omega arith;
+      used = λ above. refl;
+      file = λ is. refl;
+      unfilled = refl;
+    },
+  ),
+  caused_24,
+)
 
 caused_26 : EachEvent (HasCause header outside) past_26
 caused_26 = ((settling, tt), caused_25)
@@ -243,13 +424,60 @@ caused_27 : EachEvent (HasCause header outside) past_27
 caused_27 = ((settling, refl), caused_26)
 
 caused_28 : EachEvent (HasCause header outside) past_28
-caused_28 = ((settling, record { next = refl; is_top = refl; marked = refl; task = 2; address = 1; bytes = 1; value = 3; waits = record { waits = refl; at = record { host = 0; entry = grandchild; lives = refl; found = refl }; left = tt }; region_is = refl }), caused_27)
+caused_28 = (
+  (
+    settling,
+    record {
+      next = refl;
+      is_top = refl;
+      marked = refl;
+      task = 2;
+      address = 1;
+      bytes = 1;
+      value = 3;
+      waits = record { waits = refl; at = record { host = 0; entry = grandchild; lives = refl; found = refl }; left = tt };
+      region_is = refl;
+    },
+  ),
+  caused_27,
+)
 
 caused_29 : EachEvent (HasCause header outside) past_29
-caused_29 = ((settling, record { task = 2; address = 1; bytes = 1; value = 3; waits = record { waits = refl; at = record { host = 0; entry = grandchild; lives = refl; found = refl }; left = tt }; on_host = refl; unmarked = refl; is_top = record { object = refl; page = refl }; steps = 0; walks = (record { away = refl; unasked = refl; without = refl }, refl, (refl, refl)); here = refl }), caused_28)
+caused_29 = (
+  (
+    settling,
+    record {
+      task = 2;
+      address = 1;
+      bytes = 1;
+      value = 3;
+      waits = record { waits = refl; at = record { host = 0; entry = grandchild; lives = refl; found = refl }; left = tt };
+      on_host = refl;
+      unmarked = refl;
+      is_top = record { object = refl; page = refl };
+      steps = 0;
+      walks = (record { away = refl; unasked = refl; without = refl }, refl, (refl, refl));
+      here = refl;
+    },
+  ),
+  caused_28,
+)
 
 caused_30 : EachEvent (HasCause header outside) past_30
-caused_30 = ((settling, record { address = 1; waits = record { waits = refl; at = record { host = 0; entry = grandchild; lives = refl; found = refl }; left = tt }; is_top = record { object = refl; page = refl }; unmarked = refl; here = refl; place = refl }), caused_29)
+caused_30 = (
+  (
+    settling,
+    record {
+      address = 1;
+      waits = record { waits = refl; at = record { host = 0; entry = grandchild; lives = refl; found = refl }; left = tt };
+      is_top = record { object = refl; page = refl };
+      unmarked = refl;
+      here = refl;
+      place = refl;
+    },
+  ),
+  caused_29,
+)
 
 caused_31 : EachEvent (HasCause header outside) past_31
 caused_31 = ((settling, tt), caused_30)
@@ -258,7 +486,29 @@ caused_32 : EachEvent (HasCause header outside) past_32
 caused_32 = ((settling, refl), caused_31)
 
 caused_33 : EachEvent (HasCause header outside) past_33
-caused_33 = ((settling, record { address = 18; bytes = 2; waits = record { waits = refl; at = record { host = 0; entry = grandchild; lives = refl; found = refl }; left = tt }; comes = record { top = 2; top_page = 1; steps = 2; is_top = record { object = refl; page = refl }; walks = (record { away = refl; unasked = refl; without = refl }, refl, (record { away = refl; unasked = refl; without = refl }, refl, (refl, refl))) }; here = refl }), caused_32)
+caused_33 = (
+  (
+    settling,
+    record {
+      address = 18;
+      bytes = 2;
+      waits = record {
+        waits = refl;
+        at = record { host = 0; entry = grandchild; lives = refl; found = refl };
+        left = tt;
+      };
+      comes = record {
+        top = 2;
+        top_page = 1;
+        steps = 2;
+        is_top = record { object = refl; page = refl };
+        walks = (record { away = refl; unasked = refl; without = refl }, refl, (record { away = refl; unasked = refl; without = refl }, refl, (refl, refl)));
+      };
+      here = refl;
+    },
+  ),
+  caused_32,
+)
 
 caused_34 : EachEvent (HasCause header outside) past_34
 caused_34 = ((settling, tt), caused_33)
@@ -267,7 +517,23 @@ caused_35 : EachEvent (HasCause header outside) past_35
 caused_35 = ((settling, refl), caused_34)
 
 caused_36 : EachEvent (HasCause header outside) past_36
-caused_36 = ((settling, record { address = 0; bytes = 2; waits = record { waits = refl; at = record { host = 0; entry = grandchild; lives = refl; found = refl }; left = tt }; comes = record { top = 2; top_page = 0; steps = 0; is_top = record { object = refl; page = refl }; walks = (refl, refl) }; here = refl }), caused_35)
+caused_36 = (
+  (
+    settling,
+    record {
+      address = 0;
+      bytes = 2;
+      waits = record {
+        waits = refl;
+        at = record { host = 0; entry = grandchild; lives = refl; found = refl };
+        left = tt;
+      };
+      comes = record { top = 2; top_page = 0; steps = 0; is_top = record { object = refl; page = refl }; walks = (refl, refl) };
+      here = refl;
+    },
+  ),
+  caused_35,
+)
 
 caused_37 : EachEvent (HasCause header outside) past_37
 caused_37 = ((settling, tt), caused_36)
@@ -276,40 +542,245 @@ caused_38 : EachEvent (HasCause header outside) past_38
 caused_38 = ((settling, refl), caused_37)
 
 caused_39 : EachEvent (HasCause header outside) past_39
-caused_39 = ((settling, record { address = 0; bytes = 2; waits = record { waits = refl; at = record { host = 0; entry = child; lives = refl; found = refl }; left = tt }; comes = record { top = 1; top_page = 0; steps = 0; is_top = record { object = refl; page = refl }; walks = (refl, refl) }; here = refl }), caused_38)
+caused_39 = (
+  (
+    settling,
+    record {
+      address = 0;
+      bytes = 2;
+      waits = record {
+        waits = refl;
+        at = record { host = 0; entry = child; lives = refl; found = refl };
+        left = tt;
+      };
+      comes = record { top = 1; top_page = 0; steps = 0; is_top = record { object = refl; page = refl }; walks = (refl, refl) };
+      here = refl;
+    },
+  ),
+  caused_38,
+)
 
 own_8 : OwnBytes header (event.Stored (record { 0 = 0 }) (record { 0 = 0 }) (record { 0 = 0 }) 0 1 1) past_7
-own_8 = record { address = 0; waits = record { waits = refl; at = record { host = 0; entry = parent; lives = refl; found = refl }; left = tt }; writable = record { here = refl; unlocked = refl }; place = refl }
+own_8 =
+    record {
+      address = 0;
+      waits = record { waits = refl; at = record { host = 0; entry = parent; lives = refl; found = refl }; left = tt };
+      writable = record { here = refl; unlocked = refl };
+      place = refl;
+    }
 
 own_12 : OwnBytes header (event.Stored (record { 0 = 0 }) (record { 0 = 0 }) (record { 0 = 1 }) 2 2 777) past_11
-own_12 = record { address = 18; waits = record { waits = refl; at = record { host = 0; entry = parent; lives = refl; found = refl }; left = tt }; writable = record { here = refl; unlocked = refl }; place = refl }
+own_12 =
+    record {
+      address = 18;
+      waits = record { waits = refl; at = record { host = 0; entry = parent; lives = refl; found = refl }; left = tt };
+      writable = record { here = refl; unlocked = refl };
+      place = refl;
+    }
 
 own_20 : OwnBytes header (event.Raised (record { 0 = 0 }) (record { 0 = 0 }) (record { 0 = 0 }) (record { 0 = 1 }) (record { 0 = 0 })) past_19
 own_20 = record { here = refl; unlocked = inl refl }
 
 own_21 : OwnBytes header (event.Stored (record { 0 = 1 }) (record { 0 = 1 }) (record { 0 = 0 }) 0 1 2) past_20
-own_21 = record { address = 0; waits = record { waits = refl; at = record { host = 0; entry = child; lives = refl; found = refl }; left = tt }; writable = record { here = refl; unlocked = refl }; place = refl }
+own_21 =
+    record {
+      address = 0;
+      waits = record { waits = refl; at = record { host = 0; entry = child; lives = refl; found = refl }; left = tt };
+      writable = record { here = refl; unlocked = refl };
+      place = refl;
+    }
 
 own_29 : OwnBytes header (event.Raised (record { 0 = 0 }) (record { 0 = 1 }) (record { 0 = 0 }) (record { 0 = 2 }) (record { 0 = 0 })) past_28
 own_29 = record { here = refl; unlocked = inl refl }
 
 own_30 : OwnBytes header (event.Stored (record { 0 = 2 }) (record { 0 = 2 }) (record { 0 = 0 }) 1 1 3) past_29
-own_30 = record { address = 1; waits = record { waits = refl; at = record { host = 0; entry = grandchild; lives = refl; found = refl }; left = tt }; writable = record { here = refl; unlocked = refl }; place = refl }
+own_30 =
+    record {
+      address = 1;
+      waits = record { waits = refl; at = record { host = 0; entry = grandchild; lives = refl; found = refl }; left = tt };
+      writable = record { here = refl; unlocked = refl };
+      place = refl;
+    }
 
 own_33 : OwnBytes header (event.Loaded (record { 0 = 2 }) (record { 0 = 0 }) (record { 0 = 1 }) 777) past_32
-own_33 = record { address = 18; bytes = 2; waits = record { waits = refl; at = record { host = 0; entry = grandchild; lives = refl; found = refl }; left = tt }; readable = record { here = refl; unlocked = inl refl }; number = refl }
+own_33 =
+    record {
+      address = 18;
+      bytes = 2;
+      waits = record { waits = refl; at = record { host = 0; entry = grandchild; lives = refl; found = refl }; left = tt };
+      readable = record { here = refl; unlocked = inl refl };
+      number = refl;
+    }
 
 own_36 : OwnBytes header (event.Loaded (record { 0 = 2 }) (record { 0 = 2 }) (record { 0 = 0 }) 770) past_35
-own_36 = record { address = 0; bytes = 2; waits = record { waits = refl; at = record { host = 0; entry = grandchild; lives = refl; found = refl }; left = tt }; readable = record { here = refl; unlocked = inl refl }; number = refl }
+own_36 =
+    record {
+      address = 0;
+      bytes = 2;
+      waits = record { waits = refl; at = record { host = 0; entry = grandchild; lives = refl; found = refl }; left = tt };
+      readable = record { here = refl; unlocked = inl refl };
+      number = refl;
+    }
 
 own_39 : OwnBytes header (event.Loaded (record { 0 = 1 }) (record { 0 = 1 }) (record { 0 = 0 }) 2) past_38
-own_39 = record { address = 0; bytes = 2; waits = record { waits = refl; at = record { host = 0; entry = child; lives = refl; found = refl }; left = tt }; readable = record { here = refl; unlocked = inl refl }; number = refl }
+own_39 =
+    record {
+      address = 0;
+      bytes = 2;
+      waits = record { waits = refl; at = record { host = 0; entry = child; lives = refl; found = refl }; left = tt };
+      readable = record { here = refl; unlocked = inl refl };
+      number = refl;
+    }
 
 own_bytes : EachEvent (OwnBytes header) past_39
-own_bytes = (own_39, (tt, (tt, (own_36, (tt, (tt, (own_33, (tt, (tt, (own_30, (own_29, (tt, (tt, (tt, (tt, (tt, (tt, (tt, (own_21, (own_20, (tt, (tt, (tt, (tt, (tt, (tt, (tt, (own_12, (tt, (tt, (tt, (own_8, (tt, (tt, (tt, (tt, (tt, (tt, (tt, (tt, tt))))))))))))))))))))))))))))))))))))))))
+own_bytes = (
+  own_39,
+  (
+    tt,
+    (
+      tt,
+      (
+        own_36,
+        (
+          tt,
+          (
+            tt,
+            (
+              own_33,
+              (
+                tt,
+                (
+                  tt,
+                  (
+                    own_30,
+                    (
+                      own_29,
+                      (
+                        tt,
+                        (
+                          tt,
+                          (
+                            tt,
+                            (
+                              tt,
+                              (
+                                tt,
+                                (
+                                  tt,
+                                  (
+                                    tt,
+                                    (
+                                      own_21,
+                                      (
+                                        own_20,
+                                        (
+                                          tt,
+                                          (
+                                            tt,
+                                            (
+                                              tt,
+                                              (
+                                                tt,
+                                                (
+                                                  tt,
+                                                  (
+                                                    tt,
+                                                    (tt, (own_12, (tt, (tt, (tt, (own_8, (tt, (tt, (tt, (tt, (tt, (tt, (tt, (tt, tt)))))))))))))),
+                                                  ),
+                                                ),
+                                              ),
+                                            ),
+                                          ),
+                                        ),
+                                      ),
+                                    ),
+                                  ),
+                                ),
+                              ),
+                            ),
+                          ),
+                        ),
+                      ),
+                    ),
+                  ),
+                ),
+              ),
+            ),
+          ),
+        ),
+      ),
+    ),
+  ),
+)
 
 current : EachEvent (CopiesCurrent header outside) past_39
-current = (tt, (tt, (tt, (tt, (tt, (tt, (tt, (tt, (tt, (tt, (tt, (tt, (tt, (tt, (tt, (tt, (tt, (tt, (tt, (tt, (tt, (tt, (tt, (tt, (tt, (tt, (tt, (tt, (tt, (tt, (tt, (tt, (tt, (tt, (tt, (tt, (tt, (tt, (tt, (tt, tt))))))))))))))))))))))))))))))))))))))))
+current = (
+  tt,
+  (
+    tt,
+    (
+      tt,
+      (
+        tt,
+        (
+          tt,
+          (
+            tt,
+            (
+              tt,
+              (
+                tt,
+                (
+                  tt,
+                  (
+                    tt,
+                    (
+                      tt,
+                      (
+                        tt,
+                        (
+                          tt,
+                          (
+                            tt,
+                            (
+                              tt,
+                              (
+                                tt,
+                                (
+                                  tt,
+                                  (
+                                    tt,
+                                    (
+                                      tt,
+                                      (
+                                        tt,
+                                        (
+                                          tt,
+                                          (
+                                            tt,
+                                            (tt, (tt, (tt, (tt, (tt, (tt, (tt, (tt, (tt, (tt, (tt, (tt, (tt, (tt, (tt, (tt, (tt, (tt, tt)))))))))))))))))),
+                                          ),
+                                        ),
+                                      ),
+                                    ),
+                                  ),
+                                ),
+                              ),
+                            ),
+                          ),
+                        ),
+                      ),
+                    ),
+                  ),
+                ),
+              ),
+            ),
+          ),
+        ),
+      ),
+    ),
+  ),
+)
 
 unshared : NoneIsShared header
 unshared = none_shared header (λ o below. absurd (omega (arith, below)))

@@ -16,10 +16,19 @@ use Rattle.vm_model.specs.Controls.{is_control, last_control, live_control}
 use Rattle.vm_legal.specs.Flat.{StoreChange, change_of, made_over}
 use Rattle.vm_flat.specs.Words.{SpotDownWord, Supplying, Unavailing, Erring}
 use Rattle.vm_legal.specs.Outside.{Outside}
-use Rattle.vm_flat.proofs.Deeds.{Ground, Deed, Line, Region, Cow, Kept, Shadowed, Zeroed, Raised, Stored, Dropped, Created, Asked, Copied, Returned, TookRequest, TookReturn, Answered, Took, Terminated, Elsewhere}
+use Rattle.vm_flat.proofs.Deeds.{Ground, Deed, Line, Region, Cow, Kept, Shadowed, Zeroed, Raised, Stored, Dropped, Created, Asked, Copied, Returned}
+use Rattle.vm_flat.proofs.Deeds.{TookRequest, TookReturn, Answered, Took, Terminated, Elsewhere}
 
 abbrev pub ground : Header → Outside → Ground
-ground header outside = record { zeros = zeros header; named = named header; file = λ o. is_file_kept (declared header o); paging = outside.paging; start = λ o p. start_page header outside o p; length = λ o. declared_pages header o }
+ground header outside =
+    record {
+      zeros = zeros header;
+      named = named header;
+      file = λ o. is_file_kept (declared header o);
+      paging = outside.paging;
+      start = λ o p. start_page header outside o p;
+      length = λ o. declared_pages header o;
+    }
 
 abbrev pub up_deed : Bool → Option ℕ → ℕ → Message → Deed
 up_deed own live object (message.Init control size) = Created own object
@@ -70,12 +79,14 @@ deed header outside host (event.Shadowed region new old) past = Shadowed region.
 deed header outside host (event.Zeroed at object page) past = Zeroed (at.0 == host) object.0 page.0
 deed header outside host (event.Raised at lower lower_page upper upper_page) past = Raised (at.0 == host) lower.0 lower_page.0 upper.0 upper_page.0
 deed header outside host (event.Stored task object page at size value) past =
-    Stored (lives_on host task.0 past) (region_in (change_of header.size task.0 past)) (page_in (change_of header.size task.0 past)) object.0 page.0 at (little_endian_bytes size value)
+    Stored (lives_on host task.0 past) (region_in (change_of header.size task.0 past)) (page_in (change_of header.size task.0 past)) object.0 page.0
+    at (little_endian_bytes size value)
 deed header outside host (event.CopiedPage task page object object_page target) past =
     Copied (lives_on host task.0 past) object.0 object_page.0 object.0 object_page.0 (number_or_zero (made_over target.0 past)) page.0 target.0 page.0
 deed header outside host (event.Dropped at object page) past = Dropped (at.0 == host) object.0 page.0
 deed header outside host (event.Sent (Up at object) m) past = up_deed (at.0 == host) (live_control host object.0 past) object.0 m
-deed header outside host (event.Sent (Down at object control) m) past = down_deed (at.0 == host && control == last_control host object.0 past) (is_said header outside object.0) object.0 m
+deed header outside host (event.Sent (Down at object control) m) past =
+    down_deed (at.0 == host && control == last_control host object.0 past) (is_said header outside object.0) object.0 m
 deed header outside host (event.Taken (Up at object) m) past = taken_up_deed (at.0 == host) object.0 m
 deed header outside host (event.Taken (Down at object control) m) past = taken_down_deed (at.0 == host && control == last_control host object.0 past) object.0 m
 deed header outside host other past = Elsewhere
@@ -86,7 +97,8 @@ deeds header outside host (e ∷ past) = deed header outside host e past ∷ dee
 
 -- by cases on the message
 
-pub up_case : (P : Deed → Type 0) → ((own : Bool) (o : ℕ) → P (Created own o)) → ((own lives : Bool) (o p : ℕ) → P (Asked own lives o p)) → ((own : Bool) (o p : ℕ) (keep : Bool) (bytes : List ℕ) → P (Returned own o p keep bytes)) → ((own : Bool) (o : ℕ) → P (Terminated own o)) → P Elsewhere
+pub up_case : (P : Deed → Type 0) → ((own : Bool) (o : ℕ) → P (Created own o)) → ((own lives : Bool) (o p : ℕ) → P (Asked own lives o p))
+    → ((own : Bool) (o p : ℕ) (keep : Bool) (bytes : List ℕ) → P (Returned own o p keep bytes)) → ((own : Bool) (o : ℕ) → P (Terminated own o)) → P Elsewhere
     → (own : Bool) (live : Option ℕ) (object : ℕ) (m : Message) → P (up_deed own live object m)
 up_case P a b c d e own live object (message.Init control size) = a own object
 up_case P a b c d e own live object (message.Create control size) = a own object
@@ -95,19 +107,22 @@ up_case P a b c d e own live object (message.Return control page dirty keep byte
 up_case P a b c d e own live object (message.Terminate control) = d (own && is_control control live) object
 up_case P a b c d e own live object other = e
 
-pub taken_up_case : (P : Deed → Type 0) → ((own : Bool) (o p : ℕ) → P (TookRequest own o p)) → ((own : Bool) (o p : ℕ) (bytes : List ℕ) → P (TookReturn own o p bytes)) → P Line
+pub taken_up_case : (P : Deed → Type 0) → ((own : Bool) (o p : ℕ) → P (TookRequest own o p))
+    → ((own : Bool) (o p : ℕ) (bytes : List ℕ) → P (TookReturn own o p bytes)) → P Line
     → (own : Bool) (object : ℕ) (m : Message) → P (taken_up_deed own object m)
 taken_up_case P a b c own object (message.Request control page access) = a own object page.0
 taken_up_case P a b c own object (message.Return control page dirty keep bytes) = b own object page.0 bytes
 taken_up_case P a b c own object other = c
 
-pub down_case : (P : Deed → Type 0) (own tells : Bool) → ((o p : ℕ) (word : SpotDownWord) → P (Answered own tells o p word)) → P Elsewhere → (object : ℕ) (m : Message) → P (down_deed own tells object m)
+pub down_case : (P : Deed → Type 0) (own tells : Bool) → ((o p : ℕ) (word : SpotDownWord) → P (Answered own tells o p word)) → P Elsewhere
+    → (object : ℕ) (m : Message) → P (down_deed own tells object m)
 down_case P own tells a b object (message.Supply page lock precious bytes) = a object page.0 (Supplying bytes)
 down_case P own tells a b object (message.Unavailable page) = a object page.0 Unavailing
 down_case P own tells a b object (message.Error page reason) = a object page.0 Erring
 down_case P own tells a b object other = b
 
-pub taken_down_case : (P : Deed → Type 0) → ((own : Bool) (o p : ℕ) (word : SpotDownWord) → P (Took own o p word)) → P Line → (own : Bool) (object : ℕ) (m : Message) → P (taken_down_deed own object m)
+pub taken_down_case : (P : Deed → Type 0) → ((own : Bool) (o p : ℕ) (word : SpotDownWord) → P (Took own o p word)) → P Line
+    → (own : Bool) (object : ℕ) (m : Message) → P (taken_down_deed own object m)
 taken_down_case P a b own object (message.Supply page lock precious bytes) = a own object page.0 (Supplying bytes)
 taken_down_case P a b own object (message.Unavailable page) = a own object page.0 Unavailing
 taken_down_case P a b own object (message.Error page reason) = a own object page.0 Erring

@@ -14,20 +14,33 @@ use Rattle.vm_flat.proofs.Regions.{eq_no, if_no, if_yes, cow_other, shadow_other
 cow_top : (z : Ground) (r region source off count : ℕ) (past : List Deed) → r ≢ region → (row z r (Cow region source off count ∷ past)).top ≡ (row z r past).top
 cow_top z r region source off count past apart = if_no r region (row z source past).top (row z r past).top apart
 
-cow_shift : (z : Ground) (r region source off count : ℕ) (past : List Deed) → r ≢ region → (row z r (Cow region source off count ∷ past)).shift ≡ (row z r past).shift
+cow_shift : (z : Ground) (r region source off count : ℕ) (past : List Deed) → r ≢ region
+    → (row z r (Cow region source off count ∷ past)).shift ≡ (row z r past).shift
 cow_shift z r region source off count past apart = if_no r region ((row z source past).shift + off) (row z r past).shift apart
 
-cow_used : (z : Ground) (r region source off count : ℕ) (past : List Deed) → r ≢ region → (row z r (Cow region source off count ∷ past)).used ≡ true → (row z r past).used ≡ true
+cow_used : (z : Ground) (r region source off count : ℕ) (past : List Deed) → r ≢ region → (row z r (Cow region source off count ∷ past)).used ≡ true
+    → (row z r past).used ≡ true
 cow_used z r region source off count past apart used = sym (if_no r region (row z source past).used (row z r past).used apart) ∙ used
 
 -- the copy is in use where its source is
-cow_from : (z : Ground) (r region source off count : ℕ) (past : List Deed) → r ≡ region → (row z r (Cow region source off count ∷ past)).used ≡ true → (row z source past).used ≡ true
+cow_from : (z : Ground) (r region source off count : ℕ) (past : List Deed) → r ≡ region → (row z r (Cow region source off count ∷ past)).used ≡ true
+    → (row z source past).used ≡ true
 cow_from z r region source off count past e used = sym (if_yes r region (row z source past).used (row z r past).used e) ∙ used
 
 reach_cow : (z : Ground) (region source off count o : ℕ) (past : List Deed) → Reach z o (Cow region source off count ∷ past) → Reach z o past
 reach_cow z region source off count o past reach = elim (ℕ_discrete reach.0 region) [
-  | yes e ↦ (source, reach.1, cow_from z reach.0 region source off count past e reach.2, subst (λ (t : ℕ). Below (λ k. link z k past) reach.1 t o) (if_yes reach.0 region (row z source past).top (row z reach.0 past).top e) reach.3)
-  | no apart ↦ (reach.0, reach.1, cow_used z reach.0 region source off count past apart reach.2, subst (λ (t : ℕ). Below (λ k. link z k past) reach.1 t o) (cow_top z reach.0 region source off count past apart) reach.3)
+  | yes e ↦ (
+    source,
+    reach.1,
+    cow_from z reach.0 region source off count past e reach.2,
+    subst (λ (t : ℕ). Below (λ k. link z k past) reach.1 t o) (if_yes reach.0 region (row z source past).top (row z reach.0 past).top e) reach.3,
+  )
+  | no apart ↦ (
+    reach.0,
+    reach.1,
+    cow_used z reach.0 region source off count past apart reach.2,
+    subst (λ (t : ℕ). Below (λ k. link z k past) reach.1 t o) (cow_top z reach.0 region source off count past apart) reach.3,
+  )
 ]
 
 -- without the mark it is neither the copy nor its source
@@ -37,17 +50,25 @@ cow_mark b c off count source old is = grind arith
 not_same : (o k : ℕ) → (o == k) ≡ false → o ≢ k
 not_same o k is = grind (arith, nat_tests)
 
-shape_cow : (z : Ground) (region source off count : ℕ) (past : List Deed) → ShapeOf z past → region ≡ regions z past → source < regions z past → off + count ≤ (row z source past).pages → ShapeOf z (Cow region source off count ∷ past)
+shape_cow : (z : Ground) (region source off count : ℕ) (past : List Deed) → ShapeOf z past → region ≡ regions z past → source < regions z past
+    → off + count ≤ (row z source past).pages → ShapeOf z (Cow region source off count ∷ past)
 shape_cow z region source off count past sh is from within =
     record {
-      rows_below = λ r used. elim (ℕ_discrete r region) [ yes e ↦ omega (arith, e, is) | no apart ↦ omega (arith, sh.rows_below r (cow_used z r region source off count past apart used)) ];
+      rows_below =
+          λ r used. elim (ℕ_discrete r region) [
+            | yes e ↦ omega (arith, e, is)
+            | no apart ↦ omega
+                (arith, sh.rows_below r (cow_used z r region source off count past apart used))
+          ];
       tops_made = λ r less. grind (arith, nat_tests, sh.tops_made r, sh.tops_made source from);
       born = sh.born;
       older = sh.older;
       made = sh.made;
       covers_tops = λ r used. elim (ℕ_discrete r region) [
-        | yes e ↦ subst (λ (k : ℕ). covered z k ≡ true) (sym (if_yes r region (row z source past).top (row z r past).top e)) (sh.covers_tops source (cow_from z r region source off count past e used))
-        | no apart ↦ subst (λ (k : ℕ). covered z k ≡ true) (sym (cow_top z r region source off count past apart)) (sh.covers_tops r (cow_used z r region source off count past apart used))
+        | yes e ↦ subst (λ (k : ℕ). covered z k ≡ true) (sym (if_yes r region (row z source past).top (row z r past).top e))
+            (sh.covers_tops source (cow_from z r region source off count past e used))
+        | no apart ↦ subst (λ (k : ℕ). covered z k ≡ true) (sym (cow_top z r region source off count past apart))
+            (sh.covers_tops r (cow_used z r region source off count past apart used))
       ];
       covers_under = sh.covers_under;
       tops_inside = tops_inside;
@@ -56,57 +77,80 @@ shape_cow z region source off count past sh is from within =
       alone = alone;
     }
   where
-    tops_inside : (r i : ℕ) → (row z r (Cow region source off count ∷ past)).used ≡ true → i < (row z r (Cow region source off count ∷ past)).pages → (row z r (Cow region source off count ∷ past)).shift + i < pages z (row z r (Cow region source off count ∷ past)).top past
+    tops_inside : (r i : ℕ) → (row z r (Cow region source off count ∷ past)).used ≡ true → i < (row z r (Cow region source off count ∷ past)).pages
+        → (row z r (Cow region source off count ∷ past)).shift + i < pages z (row z r (Cow region source off count ∷ past)).top past
     tops_inside r i used less = elim (ℕ_discrete r region) [
       | yes e ↦
           let few : i < count = subst (λ (m : ℕ). i < m) (if_yes r region count (row z r past).pages e) less in
-          let there : (row z source past).shift + (off + i) < pages z (row z source past).top past = sh.tops_inside source (off + i) (cow_from z r region source off count past e used) (omega (arith, few, within)) in
-          subst (λ (k : ℕ). (row z r (Cow region source off count ∷ past)).shift + i < pages z k past) (sym (if_yes r region (row z source past).top (row z r past).top e))
-          (subst (λ (s : ℕ). s + i < pages z (row z source past).top past) (sym (if_yes r region ((row z source past).shift + off) (row z r past).shift e)) (omega (arith, there)))
+          let there : (row z source past).shift + (off + i) < pages z (row z source past).top past = sh.tops_inside source (off + i)
+          (cow_from z r region source off count past e used) (omega (arith, few, within)) in
+          subst (λ (k : ℕ). (row z r (Cow region source off count ∷ past)).shift + i < pages z k past)
+          (sym (if_yes r region (row z source past).top (row z r past).top e))
+          (subst (λ (s : ℕ). s + i < pages z (row z source past).top past) (sym (if_yes r region ((row z source past).shift + off) (row z r past).shift e))
+          (omega (arith, there)))
       | no apart ↦
           subst (λ (k : ℕ). (row z r (Cow region source off count ∷ past)).shift + i < pages z k past) (sym (cow_top z r region source off count past apart))
           (subst (λ (s : ℕ). s + i < pages z (row z r past).top past) (sym (cow_shift z r region source off count past apart))
-          (sh.tops_inside r i (cow_used z r region source off count past apart used) (subst (λ (m : ℕ). i < m) (if_no r region count (row z r past).pages apart) less)))
+          (sh.tops_inside r i (cow_used z r region source off count past apart used)
+          (subst (λ (m : ℕ). i < m) (if_no r region count (row z r past).pages apart) less)))
     ]
 
-    own : (r v : ℕ) → (row z r (Cow region source off count ∷ past)).used ≡ true → (row z r (Cow region source off count ∷ past)).mark ≡ false → z.named ≤ (row z r (Cow region source off count ∷ past)).top → Reach z v (Cow region source off count ∷ past) → (link z v past).backed ≡ true
+    own : (r v : ℕ) → (row z r (Cow region source off count ∷ past)).used ≡ true → (row z r (Cow region source off count ∷ past)).mark ≡ false
+        → z.named ≤ (row z r (Cow region source off count ∷ past)).top → Reach z v (Cow region source off count ∷ past) → (link z v past).backed ≡ true
         → (link z v past).under ≢ (row z r (Cow region source off count ∷ past)).top
     own r v used mark kind reach backed =
-        let plain : ((r == region) ≡ false) × ((r == source) ≡ false) × ((row z r past).mark ≡ false) = cow_mark (r == region) (r == source) off count (row z source past) (row z r past) mark in
-        let same : row z r (Cow region source off count ∷ past) ≡ row z r past = cow_other z r region source off count past (not_same r region plain.0) (not_same r source plain.1) in
-        subst (λ (x : Row). (link z v past).under ≢ x.top) (sym same) (sh.own r v (subst (λ (x : Row). x.used ≡ true) same used) plain.2 (subst (λ (x : Row). z.named ≤ x.top) same kind) (reach_cow z region source off count v past reach) backed)
+        let plain : ((r == region) ≡ false) × ((r == source) ≡ false)
+        × ((row z r past).mark ≡ false) = cow_mark (r == region) (r == source) off count (row z source past) (row z r past) mark in
+        let same : row z r (Cow region source off count ∷ past) ≡ row z r past = cow_other z r region source off count past (not_same r region plain.0)
+        (not_same r source plain.1) in
+        subst (λ (x : Row). (link z v past).under ≢ x.top) (sym same) (sh.own r v (subst (λ (x : Row). x.used ≡ true) same used) plain.2
+        (subst (λ (x : Row). z.named ≤ x.top) same kind) (reach_cow z region source off count v past reach) backed)
 
-    alone : (r q : ℕ) → (row z r (Cow region source off count ∷ past)).used ≡ true → (row z r (Cow region source off count ∷ past)).mark ≡ false → (row z q (Cow region source off count ∷ past)).used ≡ true → q ≢ r
+    alone : (r q : ℕ) → (row z r (Cow region source off count ∷ past)).used ≡ true → (row z r (Cow region source off count ∷ past)).mark ≡ false
+        → (row z q (Cow region source off count ∷ past)).used ≡ true → q ≢ r
         → (row z q (Cow region source off count ∷ past)).top ≢ (row z r (Cow region source off count ∷ past)).top
     alone r q used mark used' apart =
-        let plain : ((r == region) ≡ false) × ((r == source) ≡ false) × ((row z r past).mark ≡ false) = cow_mark (r == region) (r == source) off count (row z source past) (row z r past) mark in
-        let same : row z r (Cow region source off count ∷ past) ≡ row z r past = cow_other z r region source off count past (not_same r region plain.0) (not_same r source plain.1) in
+        let plain : ((r == region) ≡ false) × ((r == source) ≡ false)
+        × ((row z r past).mark ≡ false) = cow_mark (r == region) (r == source) off count (row z source past) (row z r past) mark in
+        let same : row z r (Cow region source off count ∷ past) ≡ row z r past = cow_other z r region source off count past (not_same r region plain.0)
+        (not_same r source plain.1) in
         let was : (row z r past).used ≡ true = subst (λ (x : Row). x.used ≡ true) same used in
         subst (λ (x : Row). (row z q (Cow region source off count ∷ past)).top ≢ x.top) (sym same) (elim (ℕ_discrete q region) [
-          | yes e ↦ λ f. sh.alone r source was plain.2 (cow_from z q region source off count past e used') (λ g. not_same r source plain.1 (sym g)) (sym (if_yes q region (row z source past).top (row z q past).top e) ∙ f)
-          | no other ↦ λ f. sh.alone r q was plain.2 (cow_used z q region source off count past other used') apart (sym (cow_top z q region source off count past other) ∙ f)
+          | yes e ↦ λ f. sh.alone r source was plain.2 (cow_from z q region source off count past e used') (λ g. not_same r source plain.1 (sym g))
+              (sym (if_yes q region (row z source past).top (row z q past).top e) ∙ f)
+          | no other ↦ λ f. sh.alone r q was plain.2 (cow_used z q region source off count past other used') apart
+              (sym (cow_top z q region source off count past other) ∙ f)
         ])
 
-pub after_cow : (z : Ground) (region source off count : ℕ) (past : List Deed) → World z past → Cause z (Cow region source off count) past → World z (Cow region source off count ∷ past)
+pub after_cow : (z : Ground) (region source off count : ℕ) (past : List Deed) → World z past → Cause z (Cow region source off count) past
+    → World z (Cow region source off count ∷ past)
 after_cow z region source off count past w c =
     record {
       shape = shape_cow z region source off count past w.shape c.0 c.1 c.2;
       regional = regional;
       places = λ o p ours.
-          good_again z.zeros (ReachAt z o p past) (ReachAt z o p (Cow region source off count ∷ past)) (objects z past ≤ o) (objects z past ≤ o) (Barren z o p past) (Barren z o p past) (view z o p past) (view z o p past) (link z o past).backed (under_view z o p past) (under_view z o p past) (spot z o p past)
-          (w.places o p ours) (λ reach. (reach_cow z region source off count o past reach.0, reach.1)) (λ u. u) (λ reach. refl) (λ reach none backed. refl) (λ reach barren. barren);
+          good_again z.zeros (ReachAt z o p past) (ReachAt z o p (Cow region source off count ∷ past)) (objects z past ≤ o) (objects z past ≤ o)
+          (Barren z o p past) (Barren z o p past) (view z o p past) (view z o p past) (link z o past).backed (under_view z o p past) (under_view z o p past)
+          (spot z o p past)
+          (w.places o p ours) (λ reach. (reach_cow z region source off count o past reach.0, reach.1)) (λ u. u) (λ reach. refl) (λ reach none backed. refl)
+          (λ reach barren. barren);
     }
   where
     regional : (r i : ℕ) → (row z r (Cow region source off count ∷ past)).used ≡ true → i < (row z r (Cow region source off count ∷ past)).pages
-        → flat z r i (Cow region source off count ∷ past) ≡ view z (row z r (Cow region source off count ∷ past)).top ((row z r (Cow region source off count ∷ past)).shift + i) past
+        → flat z r i (Cow region source off count ∷ past) ≡ view z (row z r (Cow region source off count ∷ past)).top
+        ((row z r (Cow region source off count ∷ past)).shift + i) past
     regional r i used inside = elim (ℕ_discrete r region) [
       | yes e ↦
-          if_yes r region (flat z source (off + i) past) (flat z r i past) e ∙ w.regional source (off + i) (cow_from z r region source off count past e used) (few e)
+          if_yes r region (flat z source (off + i) past) (flat z r i past) e
+          ∙ w.regional source (off + i) (cow_from z r region source off count past e used) (few e)
           ∙ ap (λ q. view z (row z source past).top q past) (omega arith)
           ∙ ap (λ q. view z (row z source past).top (q + i) past) (sym (if_yes r region ((row z source past).shift + off) (row z r past).shift e))
-          ∙ ap (λ k. view z k ((row z r (Cow region source off count ∷ past)).shift + i) past) (sym (if_yes r region (row z source past).top (row z r past).top e))
+          ∙ ap (λ k. view z k ((row z r (Cow region source off count ∷ past)).shift + i) past)
+          (sym (if_yes r region (row z source past).top (row z r past).top e))
       | no apart ↦
-          if_no r region (flat z source (off + i) past) (flat z r i past) apart ∙ w.regional r i (cow_used z r region source off count past apart used) (subst (λ (m : ℕ). i < m) (if_no r region count (row z r past).pages apart) inside)
+          if_no r region (flat z source (off + i) past) (flat z r i past) apart
+          ∙ w.regional r i (cow_used z r region source off count past apart used)
+          (subst (λ (m : ℕ). i < m) (if_no r region count (row z r past).pages apart) inside)
           ∙ ap (λ q. view z (row z r past).top (q + i) past) (sym (cow_shift z r region source off count past apart))
           ∙ ap (λ k. view z k ((row z r (Cow region source off count ∷ past)).shift + i) past) (sym (cow_top z r region source off count past apart))
     ]
@@ -121,39 +165,64 @@ true_false e = cc
 
 link_old : (z : Ground) (o region new : ℕ) (past : List Deed) → o ≢ new → link z o (Shadowed region new ∷ past) ≡ link z o past
 link_old z o region new past apart =
-    subst (λ (b : Bool). record { backed = if b then true else (link z o past).backed; under = if b then (row z region past).top else (link z o past).under; shift = if b then (row z region past).shift else (link z o past).shift } ≡ link z o past) (sym (eq_no o new apart)) refl
+    subst (λ (b : Bool). record {
+      backed = if b then true else (link z o past).backed;
+      under = if b then (row z region past).top else (link z o past).under;
+      shift = if b then (row z region past).shift else (link z o past).shift;
+    } ≡ link z o past) (sym (eq_no o new apart)) refl
 
 -- what a reached object was
-reach_shadowed : (z : Ground) (region new o : ℕ) (past : List Deed) → ShapeOf z past → new ≡ objects z past → region < regions z past → Reach z o (Shadowed region new ∷ past) → Reach z o past ⊎ (new ≡ o)
+reach_shadowed : (z : Ground) (region new o : ℕ) (past : List Deed) → ShapeOf z past → new ≡ objects z past → region < regions z past
+    → Reach z o (Shadowed region new ∷ past) → Reach z o past ⊎ (new ≡ o)
 reach_shadowed z region new o past sh is made reach = elim (ℕ_discrete reach.0 region) [
-  | yes e ↦ from_new (subst (λ (k : ℕ). (row z k past).used ≡ true) e reach.2) reach.1 (subst (λ (t : ℕ). Below (λ k. link z k (Shadowed region new ∷ past)) reach.1 t o) (if_yes reach.0 region new (row z reach.0 past).top e) reach.3)
+  | yes e ↦ from_new (subst (λ (k : ℕ). (row z k past).used ≡ true) e reach.2) reach.1
+      (subst (λ (t : ℕ). Below (λ k. link z k (Shadowed region new ∷ past)) reach.1 t o) (if_yes reach.0 region new (row z reach.0 past).top e) reach.3)
   | no apart ↦
       let same : row z reach.0 (Shadowed region new ∷ past) ≡ row z reach.0 past = shadow_other z reach.0 region new past apart in
-      inl (reach.0, reach.1, reach.2, old reach.1 (row z reach.0 past).top (tops_below sh reach.0 reach.2) (subst (λ (x : Row). Below (λ k. link z k (Shadowed region new ∷ past)) reach.1 x.top o) same reach.3))
+      inl (
+        reach.0,
+        reach.1,
+        reach.2,
+        old reach.1 (row z reach.0 past).top (tops_below sh reach.0 reach.2)
+            (subst (λ (x : Row). Below (λ k. link z k (Shadowed region new ∷ past)) reach.1 x.top o) same reach.3),
+      )
 ]
   where
     old : (n v : ℕ) → v < objects z past → Below (λ k. link z k (Shadowed region new ∷ past)) n v o → Below (λ k. link z k past) n v o
-    old n v small below = below_old (λ k. link z k past) (λ k. link z k (Shadowed region new ∷ past)) (objects z past) n v o small (λ k le. link_old z k region new past (λ e. omega (arith, e, le, is))) sh.born below
+    old n v small below =
+        below_old (λ k. link z k past) (λ k. link z k (Shadowed region new ∷ past)) (objects z past) n v o small
+        (λ k le. link_old z k region new past (λ e. omega (arith, e, le, is))) sh.born below
 
     from_new : (row z region past).used ≡ true → (n : ℕ) → Below (λ k. link z k (Shadowed region new ∷ past)) n new o → Reach z o past ⊎ (new ≡ o)
     from_new used zero below = inr below
     from_new used (suc n) below =
-        inl (region, n, used, old n (row z region past).top (tops_below sh region used) (subst (λ (k : ℕ). Below (λ k. link z k (Shadowed region new ∷ past)) n k o) (if_yes new new (row z region past).top (link z new past).under refl) below.1))
+        inl (
+          region,
+          n,
+          used,
+          old n (row z region past).top (tops_below sh region used)
+              (subst (λ (k : ℕ). Below (λ k. link z k (Shadowed region new ∷ past)) n k o) (if_yes new new (row z region past).top (link z new past).under refl)
+              below.1),
+        )
 
 -- the new object is reached from its region alone
-reach_new : (z : Ground) (region new : ℕ) (past : List Deed) → ShapeOf z past → new ≡ objects z past → Reach z new (Shadowed region new ∷ past) → (row z region past).used ≡ true
+reach_new : (z : Ground) (region new : ℕ) (past : List Deed) → ShapeOf z past → new ≡ objects z past → Reach z new (Shadowed region new ∷ past)
+    → (row z region past).used ≡ true
 reach_new z region new past sh is reach = elim (ℕ_discrete reach.0 region) [
   | yes e ↦ subst (λ (k : ℕ). (row z k past).used ≡ true) e reach.2
   | no apart ↦
       let same : row z reach.0 (Shadowed region new ∷ past) ≡ row z reach.0 past = shadow_other z reach.0 region new past apart in
-      let below : Below (λ k. link z k (Shadowed region new ∷ past)) reach.1 (row z reach.0 past).top new = subst (λ (x : Row). Below (λ k. link z k (Shadowed region new ∷ past)) reach.1 x.top new) same reach.3 in
+      let below : Below (λ k. link z k (Shadowed region new ∷ past)) reach.1 (row z reach.0 past).top new = subst
+      (λ (x : Row). Below (λ k. link z k (Shadowed region new ∷ past)) reach.1 x.top new) same reach.3 in
       let was : Below (λ k. link z k past) reach.1 (row z reach.0 past).top new =
-      below_old (λ k. link z k past) (λ k. link z k (Shadowed region new ∷ past)) (objects z past) reach.1 (row z reach.0 past).top new (tops_below sh reach.0 reach.2) (λ k le. link_old z k region new past (λ e. omega (arith, e, le, is))) sh.born below in
+      below_old (λ k. link z k past) (λ k. link z k (Shadowed region new ∷ past)) (objects z past) reach.1 (row z reach.0 past).top new
+      (tops_below sh reach.0 reach.2) (λ k le. link_old z k region new past (λ e. omega (arith, e, le, is))) sh.born below in
       let small : new < objects z past = reach_small z new past sh (reach.0, reach.1, reach.2, was) in
       absurd (omega (arith, small, is))
 ]
 
-shape_shadowed : (z : Ground) (region new : ℕ) (past : List Deed) → ShapeOf z past → new ≡ objects z past → region < regions z past → covered z (row z region past).top ≡ covered z new → ShapeOf z (Shadowed region new ∷ past)
+shape_shadowed : (z : Ground) (region new : ℕ) (past : List Deed) → ShapeOf z past → new ≡ objects z past → region < regions z past
+    → covered z (row z region past).top ≡ covered z new → ShapeOf z (Shadowed region new ∷ past)
 shape_shadowed z region new past sh is from ours =
     record {
       rows_below = sh.rows_below;
@@ -162,11 +231,13 @@ shape_shadowed z region new past sh is from ours =
       older = λ o backed. grind (arith, nat_tests, sh.older o, sh.tops_made region from);
       made = λ o backed. grind (arith, nat_tests, sh.made o);
       covers_tops = λ r used. elim (ℕ_discrete r region) [
-        | yes e ↦ subst (λ (k : ℕ). covered z k ≡ true) (sym (if_yes r region new (row z r past).top e)) (sym ours ∙ sh.covers_tops region (subst (λ (k : ℕ). (row z k past).used ≡ true) e used))
+        | yes e ↦ subst (λ (k : ℕ). covered z k ≡ true) (sym (if_yes r region new (row z r past).top e))
+            (sym ours ∙ sh.covers_tops region (subst (λ (k : ℕ). (row z k past).used ≡ true) e used))
         | no apart ↦ subst (λ (x : Row). covered z x.top ≡ true) (sym (shadow_other z r region new past apart)) (sh.covers_tops r used)
       ];
       covers_under = λ o mine backed. elim (ℕ_discrete o new) [
-        | yes e ↦ subst (λ (k : ℕ). covered z k ≡ true) (sym (if_yes o new (row z region past).top (link z o past).under e)) (ours ∙ subst (λ (k : ℕ). covered z k ≡ true) e mine)
+        | yes e ↦ subst (λ (k : ℕ). covered z k ≡ true) (sym (if_yes o new (row z region past).top (link z o past).under e))
+            (ours ∙ subst (λ (k : ℕ). covered z k ≡ true) e mine)
         | no apart ↦ subst (λ (l : Link). l.backed ≡ true → covered z l.under ≡ true) (sym (link_old z o region new past apart)) (sh.covers_under o mine) backed
       ];
       tops_inside = tops_inside;
@@ -182,10 +253,12 @@ shape_shadowed z region new past sh is from ours =
     pages_new : (k : ℕ) → k ≡ new → pages z k (Shadowed region new ∷ past) ≡ (row z region past).pages
     pages_new k e = if_yes k new (row z region past).pages (pages z k past) e
 
-    tops_inside : (r i : ℕ) → (row z r past).used ≡ true → i < (row z r past).pages → (row z r (Shadowed region new ∷ past)).shift + i < pages z (row z r (Shadowed region new ∷ past)).top (Shadowed region new ∷ past)
+    tops_inside : (r i : ℕ) → (row z r past).used ≡ true → i < (row z r past).pages
+        → (row z r (Shadowed region new ∷ past)).shift + i < pages z (row z r (Shadowed region new ∷ past)).top (Shadowed region new ∷ past)
     tops_inside r i used less = elim (ℕ_discrete r region) [
       | yes e ↦
-          subst (λ (k : ℕ). (row z r (Shadowed region new ∷ past)).shift + i < pages z k (Shadowed region new ∷ past)) (sym (if_yes r region new (row z r past).top e))
+          subst (λ (k : ℕ). (row z r (Shadowed region new ∷ past)).shift + i < pages z k (Shadowed region new ∷ past))
+          (sym (if_yes r region new (row z r past).top e))
           (subst (λ (s : ℕ). s + i < pages z new (Shadowed region new ∷ past)) (sym (if_yes r region 0 (row z r past).shift e))
           (subst (λ (m : ℕ). 0 + i < m) (sym (pages_new new refl)) (omega (arith, subst (λ (k : ℕ). i < (row z k past).pages) e less))))
       | no apart ↦
@@ -194,24 +267,31 @@ shape_shadowed z region new past sh is from ours =
           (subst (λ (m : ℕ). (row z r past).shift + i < m) (sym (pages_old (row z r past).top (tops_below sh r used))) (sh.tops_inside r i used less))
     ]
 
-    inside : (o p : ℕ) → Reach z o (Shadowed region new ∷ past) → (link z o (Shadowed region new ∷ past)).backed ≡ true → p < pages z o (Shadowed region new ∷ past)
+    inside : (o p : ℕ) → Reach z o (Shadowed region new ∷ past) → (link z o (Shadowed region new ∷ past)).backed ≡ true
+        → p < pages z o (Shadowed region new ∷ past)
         → (link z o (Shadowed region new ∷ past)).shift + p < pages z (link z o (Shadowed region new ∷ past)).under (Shadowed region new ∷ past)
     inside o p reach backed less = elim (ℕ_discrete o new) [
       | yes e ↦
-          subst (λ (k : ℕ). (link z o (Shadowed region new ∷ past)).shift + p < pages z k (Shadowed region new ∷ past)) (sym (if_yes o new (row z region past).top (link z o past).under e))
-          (subst (λ (s : ℕ). s + p < pages z (row z region past).top (Shadowed region new ∷ past)) (sym (if_yes o new (row z region past).shift (link z o past).shift e))
-          (subst (λ (m : ℕ). (row z region past).shift + p < m) (sym (pages_old (row z region past).top (sh.tops_made region from))) (sh.tops_inside region p (reach_new z region new past sh is (subst (λ (k : ℕ). Reach z k (Shadowed region new ∷ past)) e reach)) (subst (λ (m : ℕ). p < m) (pages_new o e) less))))
+          subst (λ (k : ℕ). (link z o (Shadowed region new ∷ past)).shift + p < pages z k (Shadowed region new ∷ past))
+          (sym (if_yes o new (row z region past).top (link z o past).under e))
+          (subst (λ (s : ℕ). s + p < pages z (row z region past).top (Shadowed region new ∷ past))
+          (sym (if_yes o new (row z region past).shift (link z o past).shift e))
+          (subst (λ (m : ℕ). (row z region past).shift + p < m) (sym (pages_old (row z region past).top (sh.tops_made region from)))
+          (sh.tops_inside region p (reach_new z region new past sh is (subst (λ (k : ℕ). Reach z k (Shadowed region new ∷ past)) e reach))
+          (subst (λ (m : ℕ). p < m) (pages_new o e) less))))
       | no apart ↦
           let same : link z o (Shadowed region new ∷ past) ≡ link z o past = link_old z o region new past apart in
           let was_backed : (link z o past).backed ≡ true = subst (λ (x : Link). x.backed ≡ true) same backed in
           elim (reach_shadowed z region new o past sh is from reach) [
             | inl was ↦ subst (λ (x : Link). x.shift + p < pages z x.under (Shadowed region new ∷ past)) (sym same)
-                (subst (λ (m : ℕ). (link z o past).shift + p < m) (sym (pages_old (link z o past).under (sh.born o was_backed))) (sh.inside o p was was_backed (subst (λ (m : ℕ). p < m) (pages_old o (sh.made o was_backed)) less)))
+                (subst (λ (m : ℕ). (link z o past).shift + p < m) (sym (pages_old (link z o past).under (sh.born o was_backed)))
+                (sh.inside o p was was_backed (subst (λ (m : ℕ). p < m) (pages_old o (sh.made o was_backed)) less)))
             | inr e ↦ absurd (apart (sym e))
           ]
     ]
 
-    own : (r v : ℕ) → (row z r past).used ≡ true → (row z r (Shadowed region new ∷ past)).mark ≡ false → z.named ≤ (row z r (Shadowed region new ∷ past)).top → Reach z v (Shadowed region new ∷ past) → (link z v (Shadowed region new ∷ past)).backed ≡ true
+    own : (r v : ℕ) → (row z r past).used ≡ true → (row z r (Shadowed region new ∷ past)).mark ≡ false → z.named ≤ (row z r (Shadowed region new ∷ past)).top
+        → Reach z v (Shadowed region new ∷ past) → (link z v (Shadowed region new ∷ past)).backed ≡ true
         → (link z v (Shadowed region new ∷ past)).under ≢ (row z r (Shadowed region new ∷ past)).top
     own r v used mark kind reach backed = elim (ℕ_discrete v new) [
       | yes e ↦
@@ -220,7 +300,9 @@ shape_shadowed z region new past sh is from ours =
             | yes f ↦ λ same. omega (arith, stands, same, if_yes r region new (row z r past).top f, sh.tops_made region from, is)
             | no f ↦
                 let row_is : row z r (Shadowed region new ∷ past) ≡ row z r past = shadow_other z r region new past f in
-                λ same. sh.alone r region used (subst (λ (x : Row). x.mark ≡ false) row_is mark) (reach_new z region new past sh is (subst (λ (k : ℕ). Reach z k (Shadowed region new ∷ past)) e reach)) (λ g. f (sym g)) (sym stands ∙ same ∙ ap (λ (x : Row). x.top) row_is)
+                λ same. sh.alone r region used (subst (λ (x : Row). x.mark ≡ false) row_is mark)
+                (reach_new z region new past sh is (subst (λ (k : ℕ). Reach z k (Shadowed region new ∷ past)) e reach)) (λ g. f (sym g))
+                (sym stands ∙ same ∙ ap (λ (x : Row). x.top) row_is)
           ]
       | no e ↦
           let link_is : link z v (Shadowed region new ∷ past) ≡ link z v past = link_old z v region new past e in
@@ -230,7 +312,8 @@ shape_shadowed z region new past sh is from ours =
             | no f ↦
                 let row_is : row z r (Shadowed region new ∷ past) ≡ row z r past = shadow_other z r region new past f in
                 elim (reach_shadowed z region new v past sh is from reach) [
-                  | inl was ↦ λ same. sh.own r v used (subst (λ (x : Row). x.mark ≡ false) row_is mark) (subst (λ (x : Row). z.named ≤ x.top) row_is kind) was was_backed (sym (ap (λ (l : Link). l.under) link_is) ∙ same ∙ ap (λ (x : Row). x.top) row_is)
+                  | inl was ↦ λ same. sh.own r v used (subst (λ (x : Row). x.mark ≡ false) row_is mark) (subst (λ (x : Row). z.named ≤ x.top) row_is kind) was
+                      was_backed (sym (ap (λ (l : Link). l.under) link_is) ∙ same ∙ ap (λ (x : Row). x.top) row_is)
                   | inr g ↦ absurd (e (sym g))
                 ]
           ]
@@ -266,7 +349,8 @@ after_shadowed z region new past w c =
       | no apart ↦
           let row_is : row z r (Shadowed region new ∷ past) ≡ row z r past = shadow_other z r region new past apart in
           w.regional r i used inside
-          ∙ subst (λ (x : Row). view z (row z r past).top ((row z r past).shift + i) past ≡ view z x.top (x.shift + i) (Shadowed region new ∷ past)) (sym row_is)
+          ∙ subst (λ (x : Row). view z (row z r past).top ((row z r past).shift + i) past ≡ view z x.top (x.shift + i) (Shadowed region new ∷ past))
+          (sym row_is)
           (sym (view_old (row z r past).top ((row z r past).shift + i) (tops_below w.shape r used)))
     ]
 
@@ -275,15 +359,18 @@ after_shadowed z region new past w c =
         view_new o p e
         ∙ sym (view_old (row z region past).top ((row z region past).shift + p) (w.shape.tops_made region c.1))
         ∙ ap (λ q. view z (row z region past).top (q + p) (Shadowed region new ∷ past)) (sym (if_yes o new (row z region past).shift (link z o past).shift e))
-        ∙ ap (λ k. view z k ((link z o (Shadowed region new ∷ past)).shift + p) (Shadowed region new ∷ past)) (sym (if_yes o new (row z region past).top (link z o past).under e))
+        ∙ ap (λ k. view z k ((link z o (Shadowed region new ∷ past)).shift + p) (Shadowed region new ∷ past))
+        (sym (if_yes o new (row z region past).top (link z o past).under e))
 
     old_small : (o : ℕ) → o ≢ new → Reach z o (Shadowed region new ∷ past) → o < objects z past
-    old_small o apart reach = elim (reach_shadowed z region new o past w.shape c.0 c.1 reach) [ inl was ↦ reach_small z o past w.shape was | inr e ↦ absurd (apart (sym e)) ]
+    old_small o apart reach =
+        elim (reach_shadowed z region new o past w.shape c.0 c.1 reach) [ inl was ↦ reach_small z o past w.shape was | inr e ↦ absurd (apart (sym e)) ]
 
     barren_old : (o p : ℕ) → o ≢ new → Reach z o (Shadowed region new ∷ past) → Barren z o p past → Barren z o p (Shadowed region new ∷ past)
     barren_old o p apart reach barren n l lp path =
         let small : o < objects z past = old_small o apart reach in
-        let was : Path (λ k. link z k past) n o p l lp = path_old (λ k. link z k past) (λ k. link z k (Shadowed region new ∷ past)) (objects z past) n o p l lp small (λ k le. link_old z k region new past (λ e. omega (arith, e, le, c.0))) w.shape.born path in
+        let was : Path (λ k. link z k past) n o p l lp = path_old (λ k. link z k past) (λ k. link z k (Shadowed region new ∷ past)) (objects z past) n o p l lp
+        small (λ k le. link_old z k region new past (λ e. omega (arith, e, le, c.0))) w.shape.born path in
         (view_old l lp (path_small (λ k. link z k past) (objects z past) n o p l lp w.shape.born small was) ∙ (barren n l lp was).0, (barren n l lp was).1)
 
     places : (o p : ℕ) → covered z o ≡ true → GoodAt z (Shadowed region new ∷ past) o p (spot z o p past)
@@ -291,16 +378,25 @@ after_shadowed z region new past w c =
       | yes e ↦
           record {
             sound = (w.places o p ours).sound;
-            fits = λ r. fits_blank z.zeros (Barren z o p (Shadowed region new ∷ past)) (view z o p (Shadowed region new ∷ past)) (link z o (Shadowed region new ∷ past)).backed (under_view z o p (Shadowed region new ∷ past)) (spot z o p past) (w.places o p ours).sound
-                ((w.places o p ours).blank (omega (arith, e, c.0))) (λ backed. stands o p e) (λ bare. absurd (true_false (sym (if_yes o new true (link z o past).backed e) ∙ bare)));
+            fits =
+                λ r. fits_blank z.zeros (Barren z o p (Shadowed region new ∷ past)) (view z o p (Shadowed region new ∷ past))
+                (link z o (Shadowed region new ∷ past)).backed (under_view z o p (Shadowed region new ∷ past)) (spot z o p past) (w.places o p ours).sound
+                ((w.places o p ours).blank (omega (arith, e, c.0))) (λ backed. stands o p e)
+                (λ bare. absurd (true_false (sym (if_yes o new true (link z o past).backed e) ∙ bare)));
             blank = λ u. (w.places o p ours).blank (omega (arith, u));
           }
       | no apart ↦
           let link_is : link z o (Shadowed region new ∷ past) ≡ link z o past = link_old z o region new past apart in
-          subst (λ (l : Link). Good z.zeros (ReachAt z o p (Shadowed region new ∷ past)) (suc (objects z past) ≤ o) (Barren z o p (Shadowed region new ∷ past)) (view z o p (Shadowed region new ∷ past)) l.backed (view z l.under (l.shift + p) (Shadowed region new ∷ past)) (spot z o p past)) (sym link_is)
-          (good_again z.zeros (ReachAt z o p past) (ReachAt z o p (Shadowed region new ∷ past)) (objects z past ≤ o) (suc (objects z past) ≤ o) (Barren z o p past) (Barren z o p (Shadowed region new ∷ past)) (view z o p past) (view z o p (Shadowed region new ∷ past)) (link z o past).backed (under_view z o p past) (view z (link z o past).under ((link z o past).shift + p) (Shadowed region new ∷ past)) (spot z o p past)
+          subst (λ (l : Link). Good z.zeros (ReachAt z o p (Shadowed region new ∷ past)) (suc (objects z past) ≤ o) (Barren z o p (Shadowed region new ∷ past))
+          (view z o p (Shadowed region new ∷ past)) l.backed (view z l.under (l.shift + p) (Shadowed region new ∷ past)) (spot z o p past)) (sym link_is)
+          (good_again z.zeros (ReachAt z o p past) (ReachAt z o p (Shadowed region new ∷ past)) (objects z past ≤ o) (suc (objects z past) ≤ o)
+          (Barren z o p past) (Barren z o p (Shadowed region new ∷ past)) (view z o p past) (view z o p (Shadowed region new ∷ past)) (link z o past).backed
+          (under_view z o p past) (view z (link z o past).under ((link z o past).shift + p) (Shadowed region new ∷ past)) (spot z o p past)
           (w.places o p ours)
-          (λ reach. (elim (reach_shadowed z region new o past w.shape c.0 c.1 reach.0) [ inl was ↦ was | inr e ↦ absurd (apart (sym e)) ], subst (λ (m : ℕ). p < m) (if_no o new (row z region past).pages (pages z o past) apart) reach.1))
+          (λ reach. (
+            elim (reach_shadowed z region new o past w.shape c.0 c.1 reach.0) [ inl was ↦ was | inr e ↦ absurd (apart (sym e)) ],
+            subst (λ (m : ℕ). p < m) (if_no o new (row z region past).pages (pages z o past) apart) reach.1,
+          ))
           (λ u. omega (arith, u))
           (λ reach. if_no o new (view z (row z region past).top ((row z region past).shift + p) past) (view z o p past) apart)
           (λ reach none backed. view_old (link z o past).under ((link z o past).shift + p) (w.shape.born o backed))

@@ -2,7 +2,8 @@
 -- objects, places, and the flat map. Lists have the newest first.
 use Rattle.std.specs.Prelude.{not, nat_lt, ℕ, suc, ◌+◌, ◌==◌, List, [], ◌∷◌, Bool, true, false, if◌then◌else◌, ◌&&◌, ◌||◌}
 use Rattle.vm_base.specs.Pages.{with_bytes}
-use Rattle.vm_flat.specs.Words.{SpotDownWord, Supplying, Unavailing, Erring, SpotEffect, Creates, Requests, Returns, TakesRequest, TakesReturn, Answers, Takes, Zeroes, Raises, Stores, Drops, Ends, StepEnds, Nothing}
+use Rattle.vm_flat.specs.Words.{SpotDownWord, Supplying, Unavailing, Erring, SpotEffect, Creates, Requests, Returns, TakesRequest, TakesReturn, Answers, Takes}
+use Rattle.vm_flat.specs.Words.{Zeroes, Raises, Stores, Drops, Ends, StepEnds, Nothing}
 use Rattle.vm_flat.specs.Spot.{Spot, first_spot, spot_after}
 
 -- What does not change: the page of zeros; how many objects are declared, and which of them are

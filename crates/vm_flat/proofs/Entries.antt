@@ -1,5 +1,6 @@
 -- The entries of each task are on regions that are in use on its host and on no other, and on pages that these have.
-use Rattle.std.proofs.Common.{ℕ, ◌≡◌, ◌≢◌, ◌+◌, ◌-◌, ◌/◌, ◌<◌, ◌≤◌, List, [], ◌∷◌, Bool, true, false, refl, sym, ap, subst, ◌∙◌, arith, Option, Some, None, if◌then◌else◌}
+use Rattle.std.proofs.Common.{ℕ, ◌≡◌, ◌≢◌, ◌+◌, ◌-◌, ◌/◌, ◌<◌, ◌≤◌, List, [], ◌∷◌, Bool, true, false, refl, sym, ap, subst, ◌∙◌, arith, Option, Some, None}
+use Rattle.std.proofs.Common.{if◌then◌else◌}
 use Rattle.std.proofs.lemmas.Bool.Decides.{nat_tests}
 use Rattle.std.specs.Prelude.{◌==◌, ◌&&◌, ◌||◌, not}
 use native.Mathlib.Decide.{ℕ_discrete}
@@ -34,7 +35,9 @@ pub record Owned (size : ℕ) (private : ℕ → Bool) (used : ℕ → ℕ → B
   pub alone : (other : ℕ) → (other ≡ host → ⊥) → used other row.region.0 ≡ false
 
 abbrev pub OwnedAt : Header → Outside → List Event → ℕ → Entry → Type 0
-OwnedAt header outside past host row = Owned header.size (λ r. is_private header outside r) (λ h r. in_use header outside h r past) (λ r. (region_of header r past).pages) (next_region header past) host row
+OwnedAt header outside past host row =
+    Owned header.size (λ r. is_private header outside r) (λ h r. in_use header outside h r past) (λ r. (region_of header r past).pages)
+    (next_region header past) host row
 
 abbrev pub Entries : Header → Outside → List Event → Type 0
 Entries header outside past = (task host : ℕ) → host_of task past ≡ Some host → AllRows (OwnedAt header outside past host) (entries_of header.size task past)
@@ -69,72 +72,109 @@ lives_else task h g past lives apart = let e : is_on h (host_of task past) ≡ (
 
 pub owned_parts : (header : Header) (outside : Outside) (past : List Event) (host : ℕ) → HoldsOfParts header.size (OwnedAt header outside past host)
 owned_parts header outside past host row start end is low less high =
-    record { made = is.made; inside = inside_part header.size (region_of header row.region.0 past).pages row start end is.inside low less high; used_here = is.used_here; alone = is.alone }
+    record {
+      made = is.made;
+      inside = inside_part header.size (region_of header row.region.0 past).pages row start end is.inside low less high;
+      used_here = is.used_here;
+      alone = is.alone;
+    }
 
-owned_prot : (header : Header) (outside : Outside) (past : List Event) (host : ℕ) (prot : Prot) (row : Entry) → OwnedAt header outside past host row → AllRows (OwnedAt header outside past host) (record row { prot = prot } ∷ [])
-owned_prot header outside past host prot row is = (record { made = is.made; inside = record { whole = is.inside.whole; each = is.inside.each }; used_here = is.used_here; alone = is.alone }, tt)
+owned_prot : (header : Header) (outside : Outside) (past : List Event) (host : ℕ) (prot : Prot) (row : Entry) → OwnedAt header outside past host row
+    → AllRows (OwnedAt header outside past host) (record row { prot = prot } ∷ [])
+owned_prot header outside past host prot row is =
+    (record { made = is.made; inside = record { whole = is.inside.whole; each = is.inside.each }; used_here = is.used_here; alone = is.alone }, tt)
 
-owned_inherit : (header : Header) (outside : Outside) (past : List Event) (host : ℕ) (inherit : Inherit) (row : Entry) → OwnedAt header outside past host row → AllRows (OwnedAt header outside past host) (record row { inherit = inherit } ∷ [])
-owned_inherit header outside past host inherit row is = (record { made = is.made; inside = record { whole = is.inside.whole; each = is.inside.each }; used_here = is.used_here; alone = is.alone }, tt)
+owned_inherit : (header : Header) (outside : Outside) (past : List Event) (host : ℕ) (inherit : Inherit) (row : Entry) → OwnedAt header outside past host row
+    → AllRows (OwnedAt header outside past host) (record row { inherit = inherit } ∷ [])
+owned_inherit header outside past host inherit row is =
+    (record { made = is.made; inside = record { whole = is.inside.whole; each = is.inside.each }; used_here = is.used_here; alone = is.alone }, tt)
 
 -- where only held regions stay in use
 
 abbrev pub OwnedKept : Header → Outside → Event → List Event → ℕ → Entry → Type 0
-OwnedKept header outside e past host row = Owned header.size (λ r. is_private header outside r) (λ h r. is_kept header r (e ∷ past) && in_use header outside h r past) (λ r. (region_of header r past).pages) (next_region header past) host row
+OwnedKept header outside e past host row =
+    Owned header.size (λ r. is_private header outside r) (λ h r. is_kept header r (e ∷ past) && in_use header outside h r past)
+    (λ r. (region_of header r past).pages) (next_region header past) host row
 
-keep_rows : (header : Header) (outside : Outside) (e : Event) (past : List Event) (task host : ℕ) → host_of task (e ∷ past) ≡ Some host → AllRows (OwnedAt header outside past host) (entries_of header.size task (e ∷ past)) → AllRows (OwnedKept header outside e past host) (entries_of header.size task (e ∷ past))
+keep_rows : (header : Header) (outside : Outside) (e : Event) (past : List Event) (task host : ℕ) → host_of task (e ∷ past) ≡ Some host
+    → AllRows (OwnedAt header outside past host) (entries_of header.size task (e ∷ past))
+    → AllRows (OwnedKept header outside e past host) (entries_of header.size task (e ∷ past))
 keep_rows header outside e past task host lives all =
-    rows_map (λ row. OwnedAt header outside past host row × (has_entry row.region.0 (entries_of header.size task (e ∷ past)) ≡ true)) (OwnedKept header outside e past host)
+    rows_map (λ row. OwnedAt header outside past host row × (has_entry row.region.0 (entries_of header.size task (e ∷ past)) ≡ true))
+    (OwnedKept header outside e past host)
     (λ row is.
     record {
       made = is.0.made;
       inside = is.0.inside;
-      used_here = λ ours. both (is_kept header row.region.0 (e ∷ past)) (in_use header outside host row.region.0 past) (kept header row.region.0 task host (e ∷ past) lives is.1) (is.0.used_here ours);
+      used_here =
+          λ ours. both (is_kept header row.region.0 (e ∷ past)) (in_use header outside host row.region.0 past)
+          (kept header row.region.0 task host (e ∷ past) lives is.1) (is.0.used_here ours);
       alone = λ other apart. never (is_kept header row.region.0 (e ∷ past)) (in_use header outside other row.region.0 past) (is.0.alone other apart);
     })
     (entries_of header.size task (e ∷ past)) (rows_known (OwnedAt header outside past host) (entries_of header.size task (e ∷ past)) all)
 
 -- each event that the entries feel
 
-pub entries_task_made : (header : Header) (outside : Outside) (made : TaskId) (at : HostId) (past : List Event) → Entries header outside past → Entries header outside (event.TaskMade made at ∷ past)
+pub entries_task_made : (header : Header) (outside : Outside) (made : TaskId) (at : HostId) (past : List Event) → Entries header outside past
+    → Entries header outside (event.TaskMade made at ∷ past)
 entries_task_made header outside made at past all task host lives = by_test (made.0 == task) lives
   where
-    by_test : (b : Bool) → (if b then Some at.0 else host_of task past) ≡ Some host → AllRows (OwnedAt header outside past host) (if b then [] else entries_of header.size task past)
+    by_test : (b : Bool) → (if b then Some at.0 else host_of task past) ≡ Some host
+        → AllRows (OwnedAt header outside past host) (if b then [] else entries_of header.size task past)
     by_test true e = tt
     by_test false e = all task host e
 
-pub entries_task_ended : (header : Header) (outside : Outside) (gone : TaskId) (past : List Event) → Entries header outside past → Entries header outside (event.TaskEnded gone ∷ past)
-entries_task_ended header outside gone past all task host lives = keep_rows header outside (event.TaskEnded gone) past task host lives (by_test (gone.0 == task) lives)
+pub entries_task_ended : (header : Header) (outside : Outside) (gone : TaskId) (past : List Event) → Entries header outside past
+    → Entries header outside (event.TaskEnded gone ∷ past)
+entries_task_ended header outside gone past all task host lives =
+    keep_rows header outside (event.TaskEnded gone) past task host lives (by_test (gone.0 == task) lives)
   where
-    by_test : (b : Bool) → (if b then None else host_of task past) ≡ Some host → AllRows (OwnedAt header outside past host) (if b then [] else entries_of header.size task past)
+    by_test : (b : Bool) → (if b then None else host_of task past) ≡ Some host
+        → AllRows (OwnedAt header outside past host) (if b then [] else entries_of header.size task past)
     by_test true e = tt
     by_test false e = all task host e
 
-pub entries_failed : (header : Header) (outside : Outside) (owner : TaskId) (object : ObjectId) (page : PageNo) (past : List Event) → Entries header outside past → Entries header outside (event.Failed owner object page ∷ past)
-entries_failed header outside owner object page past all task host lives = keep_rows header outside (event.Failed owner object page) past task host lives (all task host lives)
+pub entries_failed : (header : Header) (outside : Outside) (owner : TaskId) (object : ObjectId) (page : PageNo) (past : List Event)
+    → Entries header outside past → Entries header outside (event.Failed owner object page ∷ past)
+entries_failed header outside owner object page past all task host lives =
+    keep_rows header outside (event.Failed owner object page) past task host lives (all task host lives)
 
-pub entries_removed : (header : Header) (outside : Outside) (owner : TaskId) (address bytes : ℕ) (past : List Event) → Entries header outside past → Entries header outside (event.Removed owner address bytes ∷ past)
-entries_removed header outside owner address bytes past all task host lives = keep_rows header outside (event.Removed owner address bytes) past task host lives (by_test (owner.0 == task))
+pub entries_removed : (header : Header) (outside : Outside) (owner : TaskId) (address bytes : ℕ) (past : List Event) → Entries header outside past
+    → Entries header outside (event.Removed owner address bytes ∷ past)
+entries_removed header outside owner address bytes past all task host lives =
+    keep_rows header outside (event.Removed owner address bytes) past task host lives (by_test (owner.0 == task))
   where
-    by_test : (b : Bool) → AllRows (OwnedAt header outside past host) (if b then removed header.size address bytes (entries_of header.size task past) else entries_of header.size task past)
-    by_test true = rows_rewritten header.size (OwnedAt header outside past host) (λ row. []) (owned_parts header outside past host) (λ row is. tt) address bytes (entries_of header.size task past) (all task host lives)
+    by_test : (b : Bool) → AllRows (OwnedAt header outside past host) (if b then removed header.size address bytes (entries_of header.size task past) else
+        entries_of header.size task past)
+    by_test true =
+        rows_rewritten header.size (OwnedAt header outside past host) (λ row. []) (owned_parts header outside past host) (λ row is. tt) address bytes
+        (entries_of header.size task past) (all task host lives)
     by_test false = all task host lives
 
-pub entries_protected : (header : Header) (outside : Outside) (owner : TaskId) (address bytes : ℕ) (prot : Prot) (past : List Event) → Entries header outside past → Entries header outside (event.Protected owner address bytes prot ∷ past)
+pub entries_protected : (header : Header) (outside : Outside) (owner : TaskId) (address bytes : ℕ) (prot : Prot) (past : List Event)
+    → Entries header outside past → Entries header outside (event.Protected owner address bytes prot ∷ past)
 entries_protected header outside owner address bytes prot past all task host lives = by_test (owner.0 == task)
   where
-    by_test : (b : Bool) → AllRows (OwnedAt header outside past host) (if b then protected header.size address bytes prot (entries_of header.size task past) else entries_of header.size task past)
-    by_test true = rows_rewritten header.size (OwnedAt header outside past host) (λ row. record row { prot = prot } ∷ []) (owned_parts header outside past host) (owned_prot header outside past host prot) address bytes (entries_of header.size task past) (all task host lives)
+    by_test : (b : Bool) → AllRows (OwnedAt header outside past host) (if b then protected header.size address bytes prot
+        (entries_of header.size task past) else entries_of header.size task past)
+    by_test true =
+        rows_rewritten header.size (OwnedAt header outside past host) (λ row. record row { prot = prot } ∷ []) (owned_parts header outside past host)
+        (owned_prot header outside past host prot) address bytes (entries_of header.size task past) (all task host lives)
     by_test false = all task host lives
 
-pub entries_inherited : (header : Header) (outside : Outside) (owner : TaskId) (address bytes : ℕ) (inherit : Inherit) (past : List Event) → Entries header outside past → Entries header outside (event.Inherited owner address bytes inherit ∷ past)
+pub entries_inherited : (header : Header) (outside : Outside) (owner : TaskId) (address bytes : ℕ) (inherit : Inherit) (past : List Event)
+    → Entries header outside past → Entries header outside (event.Inherited owner address bytes inherit ∷ past)
 entries_inherited header outside owner address bytes inherit past all task host lives = by_test (owner.0 == task)
   where
-    by_test : (b : Bool) → AllRows (OwnedAt header outside past host) (if b then inherited header.size address bytes inherit (entries_of header.size task past) else entries_of header.size task past)
-    by_test true = rows_rewritten header.size (OwnedAt header outside past host) (λ row. record row { inherit = inherit } ∷ []) (owned_parts header outside past host) (owned_inherit header outside past host inherit) address bytes (entries_of header.size task past) (all task host lives)
+    by_test : (b : Bool) → AllRows (OwnedAt header outside past host) (if b then inherited header.size address bytes inherit
+        (entries_of header.size task past) else entries_of header.size task past)
+    by_test true =
+        rows_rewritten header.size (OwnedAt header outside past host) (λ row. record row { inherit = inherit } ∷ []) (owned_parts header outside past host)
+        (owned_inherit header outside past host inherit) address bytes (entries_of header.size task past) (all task host lives)
     by_test false = all task host lives
 
-pub entries_region_made : (header : Header) (outside : Outside) (region : RegionId) (object : ObjectId) (pages : ℕ) (past : List Event) → region.0 ≡ next_region header past → Entries header outside past → Entries header outside (event.RegionMade region object pages ∷ past)
+pub entries_region_made : (header : Header) (outside : Outside) (region : RegionId) (object : ObjectId) (pages : ℕ) (past : List Event)
+    → region.0 ≡ next_region header past → Entries header outside past → Entries header outside (event.RegionMade region object pages ∷ past)
 entries_region_made header outside region object pages past is all task host lives =
     rows_map (OwnedAt header outside past host) (OwnedAt header outside (event.RegionMade region object pages ∷ past) host)
     (λ row ok.
@@ -142,12 +182,16 @@ entries_region_made header outside region object pages past is all task host liv
     record {
       made = omega (arith, ok.made);
       inside = subst (λ (n : ℕ). Inside header.size n row) (sym (if_no row.region.0 region.0 pages (region_of header row.region.0 past).pages apart)) ok.inside;
-      used_here = λ ours. if_no row.region.0 region.0 (made_here host past && outside.paging) (in_use header outside host row.region.0 past) apart ∙ ok.used_here ours;
-      alone = λ other else_. if_no row.region.0 region.0 (made_here other past && outside.paging) (in_use header outside other row.region.0 past) apart ∙ ok.alone other else_;
+      used_here =
+          λ ours. if_no row.region.0 region.0 (made_here host past && outside.paging) (in_use header outside host row.region.0 past) apart ∙ ok.used_here ours;
+      alone =
+          λ other else_. if_no row.region.0 region.0 (made_here other past && outside.paging) (in_use header outside other row.region.0 past) apart
+          ∙ ok.alone other else_;
     })
     (entries_of header.size task past) (all task host lives)
 
-pub entries_region_copied : (header : Header) (outside : Outside) (region source : RegionId) (offset pages : ℕ) (past : List Event) → region.0 ≡ next_region header past → Entries header outside past → Entries header outside (event.RegionCopied region source offset pages ∷ past)
+pub entries_region_copied : (header : Header) (outside : Outside) (region source : RegionId) (offset pages : ℕ) (past : List Event)
+    → region.0 ≡ next_region header past → Entries header outside past → Entries header outside (event.RegionCopied region source offset pages ∷ past)
 entries_region_copied header outside region source offset pages past is all task host lives =
     rows_map (OwnedAt header outside past host) (OwnedAt header outside (event.RegionCopied region source offset pages ∷ past) host)
     (λ row ok.
@@ -155,14 +199,19 @@ entries_region_copied header outside region source offset pages past is all task
     record {
       made = omega (arith, ok.made);
       inside = subst (λ (n : ℕ). Inside header.size n row) (sym (if_no row.region.0 region.0 pages (region_of header row.region.0 past).pages apart)) ok.inside;
-      used_here = λ ours. if_no row.region.0 region.0 (in_use header outside host source.0 past) (in_use header outside host row.region.0 past) apart ∙ ok.used_here ours;
-      alone = λ other else_. if_no row.region.0 region.0 (in_use header outside other source.0 past) (in_use header outside other row.region.0 past) apart ∙ ok.alone other else_;
+      used_here =
+          λ ours. if_no row.region.0 region.0 (in_use header outside host source.0 past) (in_use header outside host row.region.0 past) apart
+          ∙ ok.used_here ours;
+      alone =
+          λ other else_. if_no row.region.0 region.0 (in_use header outside other source.0 past) (in_use header outside other row.region.0 past) apart
+          ∙ ok.alone other else_;
     })
     (entries_of header.size task past) (all task host lives)
 
 -- an entry comes
 
-pub entries_entered : (header : Header) (outside : Outside) (owner : TaskId) (address bytes : ℕ) (region : RegionId) (offset : ℕ) (prot : Prot) (inherit : Inherit) (past : List Event) → Enters header outside owner.0 bytes region.0 offset past → Entries header outside past
+pub entries_entered : (header : Header) (outside : Outside) (owner : TaskId) (address bytes : ℕ) (region : RegionId) (offset : ℕ) (prot : Prot)
+    (inherit : Inherit) (past : List Event) → Enters header outside owner.0 bytes region.0 offset past → Entries header outside past
     → Entries header outside (event.Entered owner address bytes region offset prot inherit ∷ past)
 entries_entered header outside owner address bytes region offset prot inherit past c all task host lives = by_test (owner.0 == task) refl
   where
@@ -172,33 +221,46 @@ entries_entered header outside owner address bytes region offset prot inherit pa
       | no apart ↦ grind (arith, nat_tests)
     ]
 
-    step : (row : Entry) → OwnedAt header outside past host row → OwnedAt header outside (event.Entered owner address bytes region offset prot inherit ∷ past) host row
+    step : (row : Entry) → OwnedAt header outside past host row
+        → OwnedAt header outside (event.Entered owner address bytes region offset prot inherit ∷ past) host row
     step row ok =
         record {
           made = ok.made;
           inside = ok.inside;
-          used_here = λ ours. both (not (row.region.0 == region.0) || lives_on host owner.0 past) (in_use header outside host row.region.0 past) (stays row.region.0 (same ours)) (ok.used_here ours);
-          alone = λ other apart. never (not (row.region.0 == region.0) || lives_on other owner.0 past) (in_use header outside other row.region.0 past) (ok.alone other apart);
+          used_here =
+              λ ours. both (not (row.region.0 == region.0) || lives_on host owner.0 past) (in_use header outside host row.region.0 past)
+              (stays row.region.0 (same ours)) (ok.used_here ours);
+          alone =
+              λ other apart. never (not (row.region.0 == region.0) || lives_on other owner.0 past) (in_use header outside other row.region.0 past)
+              (ok.alone other apart);
         }
       where
         same : is_private header outside row.region.0 ≡ true → region.0 ≡ row.region.0 → lives_on host owner.0 past ≡ true
         same ours e = elim (ℕ_discrete c.host host) [
           | yes h ↦ lives_here owner.0 host past (subst (λ (k : ℕ). host_of owner.0 past ≡ Some k) h c.lives)
-          | no apart ↦ absurd (clash (in_use header outside c.host row.region.0 past) (ok.alone c.host apart) (subst (λ (k : ℕ). is_private header outside k ≡ true → in_use header outside c.host k past ≡ true) e c.used ours))
+          | no apart ↦ absurd (clash (in_use header outside c.host row.region.0 past) (ok.alone c.host apart)
+              (subst (λ (k : ℕ). is_private header outside k ≡ true → in_use header outside c.host k past ≡ true) e c.used ours))
         ]
 
     by_test : (b : Bool) → (owner.0 == task) ≡ b → AllRows (OwnedAt header outside (event.Entered owner address bytes region offset prot inherit ∷ past) host)
-        (if b then entered (record { address = address; bytes = bytes; region = region; offset = offset; prot = prot; inherit = inherit }) (entries_of header.size task past) else entries_of header.size task past)
-    by_test false is = rows_map (OwnedAt header outside past host) (OwnedAt header outside (event.Entered owner address bytes region offset prot inherit ∷ past) host) step (entries_of header.size task past) (all task host lives)
+        (if b then entered (record { address = address; bytes = bytes; region = region; offset = offset; prot = prot; inherit = inherit })
+        (entries_of header.size task past) else entries_of header.size task past)
+    by_test false is =
+        rows_map (OwnedAt header outside past host) (OwnedAt header outside (event.Entered owner address bytes region offset prot inherit ∷ past) host) step
+        (entries_of header.size task past) (all task host lives)
     by_test true is =
-        rows_entered (OwnedAt header outside (event.Entered owner address bytes region offset prot inherit ∷ past) host) (record { address = address; bytes = bytes; region = region; offset = offset; prot = prot; inherit = inherit }) (entries_of header.size task past)
+        rows_entered (OwnedAt header outside (event.Entered owner address bytes region offset prot inherit ∷ past) host)
+        (record { address = address; bytes = bytes; region = region; offset = offset; prot = prot; inherit = inherit }) (entries_of header.size task past)
         (record {
           made = c.made;
           inside = record { whole = c.inside; each = each };
-          used_here = λ ours. both (not (region.0 == region.0) || lives_on host owner.0 past) (in_use header outside host region.0 past) (stays region.0 (λ e. lives_here owner.0 host past here)) (subst (λ (k : ℕ). in_use header outside k region.0 past ≡ true) host_is (c.used ours));
+          used_here =
+              λ ours. both (not (region.0 == region.0) || lives_on host owner.0 past) (in_use header outside host region.0 past)
+              (stays region.0 (λ e. lives_here owner.0 host past here)) (subst (λ (k : ℕ). in_use header outside k region.0 past ≡ true) host_is (c.used ours));
           alone = λ other apart. elsewhere other apart;
         })
-        (rows_map (OwnedAt header outside past host) (OwnedAt header outside (event.Entered owner address bytes region offset prot inherit ∷ past) host) step (entries_of header.size task past) (all task host lives))
+        (rows_map (OwnedAt header outside past host) (OwnedAt header outside (event.Entered owner address bytes region offset prot inherit ∷ past) host) step
+        (entries_of header.size task past) (all task host lives))
       where
         task_is : owner.0 ≡ task
         task_is = grind (arith, nat_tests)
@@ -212,7 +274,8 @@ entries_entered header outside owner address bytes region offset prot inherit pa
         each : (a : ℕ) → address ≤ a → a < address + bytes → offset + (a - address) / header.size < (region_of header region.0 past).pages
         each a low high = let under = page_below header.size (a - address) bytes (omega arith) c.whole in omega (arith, under, c.inside)
 
-        elsewhere : (other : ℕ) → (other ≡ host → ⊥) → ((not (region.0 == region.0) || lives_on other owner.0 past) && in_use header outside other region.0 past) ≡ false
+        elsewhere : (other : ℕ) → (other ≡ host → ⊥) → ((not (region.0 == region.0) || lives_on other owner.0 past) && in_use header outside other region.0
+            past) ≡ false
         elsewhere other apart =
             let gone : lives_on other owner.0 past ≡ false = lives_else owner.0 other host past here apart in
             let same : (region.0 == region.0) ≡ true = grind (arith, nat_tests) in

@@ -15,12 +15,19 @@ use Rattle.vm_model.specs.Waiting.{Loading, Storing}
 use Rattle.vm_legal.specs.Outside.{Outside, Told, is_shared}
 use Rattle.vm_legal.specs.Bytes.{OwnBytes, CopiesCurrent, FlatBytes}
 use Rattle.vm_legal.specs.Licences.{HasCause, Reclaimed, Created}
-use Rattle.vm_flat.proofs.FileStart.{all, mapped, settling, past_0, past_1, past_2, past_3, past_4, past_5, past_6, past_7, past_8, past_9, past_10, past_11, past_12, past_13, past_14, past_15, past_16}
+use Rattle.vm_flat.proofs.FileStart.{all, mapped, settling, past_0, past_1, past_2, past_3, past_4, past_5, past_6, past_7, past_8, past_9, past_10, past_11}
+use Rattle.vm_flat.proofs.FileStart.{past_12, past_13, past_14, past_15, past_16}
 use Rattle.vm_legal.proofs.Unshared.{NoneIsShared, loads_unshared, none_shared}
 use Rattle.vm_flat.proofs.Loads.{answers}
 
 abbrev header : Header
-header = record { size = 16; slots = 0; frames = record { items = 8 ∷ []; room = 0 }; objects = record { items = record { name = 102 ∷ []; kind = File; pages = 1 } ∷ []; room = 0 } }
+header =
+    record {
+      size = 16;
+      slots = 0;
+      frames = record { items = 8 ∷ []; room = 0 };
+      objects = record { items = record { name = 102 ∷ []; kind = File; pages = 1 } ∷ []; room = 0 };
+    }
 
 abbrev outside : Outside
 outside = record { files = Told (λ object at. (4 ∷ 5 ∷ 0 ∷ 0 ∷ 0 ∷ 0 ∷ 0 ∷ 0 ∷ 0 ∷ 0 ∷ 0 ∷ 0 ∷ 0 ∷ 0 ∷ 0 ∷ 0 ∷ [])); paging = true }
@@ -62,19 +69,25 @@ abbrev past_26 : List Event
 past_26 = event.Line 8 ∷ past_25
 
 abbrev past_27 : List Event
-past_27 = event.Sent (Up (record { 0 = 0 }) (record { 0 = 0 })) (message.Return 1 (record { 0 = 0 }) true false (9 ∷ 5 ∷ 0 ∷ 0 ∷ 0 ∷ 0 ∷ 0 ∷ 0 ∷ 0 ∷ 0 ∷ 0 ∷ 0 ∷ 0 ∷ 0 ∷ 0 ∷ 0 ∷ [])) ∷ past_26
+past_27 =
+    event.Sent (Up (record { 0 = 0 }) (record { 0 = 0 })) (message.Return 1 (record { 0 = 0 }) true false
+    (9 ∷ 5 ∷ 0 ∷ 0 ∷ 0 ∷ 0 ∷ 0 ∷ 0 ∷ 0 ∷ 0 ∷ 0 ∷ 0 ∷ 0 ∷ 0 ∷ 0 ∷ 0 ∷ [])) ∷ past_26
 
 abbrev past_28 : List Event
 past_28 = event.Sent (Up (record { 0 = 0 }) (record { 0 = 1 })) (message.Create 1 16) ∷ past_27
 
 abbrev past_29 : List Event
-past_29 = event.Sent (Up (record { 0 = 0 }) (record { 0 = 1 })) (message.Return 1 (record { 0 = 0 }) true false (7 ∷ 0 ∷ 0 ∷ 0 ∷ 0 ∷ 0 ∷ 0 ∷ 0 ∷ 0 ∷ 0 ∷ 0 ∷ 0 ∷ 0 ∷ 0 ∷ 0 ∷ 0 ∷ [])) ∷ past_28
+past_29 =
+    event.Sent (Up (record { 0 = 0 }) (record { 0 = 1 })) (message.Return 1 (record { 0 = 0 }) true false
+    (7 ∷ 0 ∷ 0 ∷ 0 ∷ 0 ∷ 0 ∷ 0 ∷ 0 ∷ 0 ∷ 0 ∷ 0 ∷ 0 ∷ 0 ∷ 0 ∷ 0 ∷ 0 ∷ [])) ∷ past_28
 
 abbrev past_30 : List Event
 past_30 = event.Line 9 ∷ past_29
 
 abbrev past_31 : List Event
-past_31 = event.Taken (Up (record { 0 = 0 }) (record { 0 = 0 })) (message.Return 1 (record { 0 = 0 }) true false (9 ∷ 5 ∷ 0 ∷ 0 ∷ 0 ∷ 0 ∷ 0 ∷ 0 ∷ 0 ∷ 0 ∷ 0 ∷ 0 ∷ 0 ∷ 0 ∷ 0 ∷ 0 ∷ [])) ∷ past_30
+past_31 =
+    event.Taken (Up (record { 0 = 0 }) (record { 0 = 0 })) (message.Return 1 (record { 0 = 0 }) true false
+    (9 ∷ 5 ∷ 0 ∷ 0 ∷ 0 ∷ 0 ∷ 0 ∷ 0 ∷ 0 ∷ 0 ∷ 0 ∷ 0 ∷ 0 ∷ 0 ∷ 0 ∷ 0 ∷ [])) ∷ past_30
 
 abbrev past_32 : List Event
 past_32 = event.Taken (Up (record { 0 = 0 }) (record { 0 = 1 })) (message.Create 1 16) ∷ past_31
@@ -83,7 +96,9 @@ abbrev past_33 : List Event
 past_33 = event.Sent (Down (record { 0 = 0 }) (record { 0 = 1 }) 1) (message.Ready false 3) ∷ past_32
 
 abbrev past_34 : List Event
-past_34 = event.Taken (Up (record { 0 = 0 }) (record { 0 = 1 })) (message.Return 1 (record { 0 = 0 }) true false (7 ∷ 0 ∷ 0 ∷ 0 ∷ 0 ∷ 0 ∷ 0 ∷ 0 ∷ 0 ∷ 0 ∷ 0 ∷ 0 ∷ 0 ∷ 0 ∷ 0 ∷ 0 ∷ [])) ∷ past_33
+past_34 =
+    event.Taken (Up (record { 0 = 0 }) (record { 0 = 1 })) (message.Return 1 (record { 0 = 0 }) true false
+    (7 ∷ 0 ∷ 0 ∷ 0 ∷ 0 ∷ 0 ∷ 0 ∷ 0 ∷ 0 ∷ 0 ∷ 0 ∷ 0 ∷ 0 ∷ 0 ∷ 0 ∷ 0 ∷ [])) ∷ past_33
 
 abbrev past_35 : List Event
 past_35 = event.NoSlot (record { 0 = 1 }) (record { 0 = 0 }) ∷ past_34
@@ -131,10 +146,14 @@ abbrev past_49 : List Event
 past_49 = event.Taken (Up (record { 0 = 0 }) (record { 0 = 0 })) (message.Request 1 (record { 0 = 0 }) 1) ∷ past_48
 
 abbrev past_50 : List Event
-past_50 = event.Sent (Down (record { 0 = 0 }) (record { 0 = 0 }) 1) (message.Supply (record { 0 = 0 }) 0 false (9 ∷ 5 ∷ 0 ∷ 0 ∷ 0 ∷ 0 ∷ 0 ∷ 0 ∷ 0 ∷ 0 ∷ 0 ∷ 0 ∷ 0 ∷ 0 ∷ 0 ∷ 0 ∷ [])) ∷ past_49
+past_50 =
+    event.Sent (Down (record { 0 = 0 }) (record { 0 = 0 }) 1) (message.Supply (record { 0 = 0 }) 0 false
+    (9 ∷ 5 ∷ 0 ∷ 0 ∷ 0 ∷ 0 ∷ 0 ∷ 0 ∷ 0 ∷ 0 ∷ 0 ∷ 0 ∷ 0 ∷ 0 ∷ 0 ∷ 0 ∷ [])) ∷ past_49
 
 abbrev past_51 : List Event
-past_51 = event.Taken (Down (record { 0 = 0 }) (record { 0 = 0 }) 1) (message.Supply (record { 0 = 0 }) 0 false (9 ∷ 5 ∷ 0 ∷ 0 ∷ 0 ∷ 0 ∷ 0 ∷ 0 ∷ 0 ∷ 0 ∷ 0 ∷ 0 ∷ 0 ∷ 0 ∷ 0 ∷ 0 ∷ [])) ∷ past_50
+past_51 =
+    event.Taken (Down (record { 0 = 0 }) (record { 0 = 0 }) 1) (message.Supply (record { 0 = 0 }) 0 false
+    (9 ∷ 5 ∷ 0 ∷ 0 ∷ 0 ∷ 0 ∷ 0 ∷ 0 ∷ 0 ∷ 0 ∷ 0 ∷ 0 ∷ 0 ∷ 0 ∷ 0 ∷ 0 ∷ [])) ∷ past_50
 
 abbrev past_52 : List Event
 past_52 = event.Loaded (record { 0 = 0 }) (record { 0 = 0 }) (record { 0 = 0 }) 1289 ∷ past_51
@@ -149,10 +168,42 @@ caused_2 : EachEvent (HasCause header outside) past_2
 caused_2 = ((settling, tt), caused_1)
 
 caused_3 : EachEvent (HasCause header outside) past_3
-caused_3 = ((settling, record { idle = refl; host = 0; lives = refl; whole = refl; inside = omega arith; made = omega arith; used = λ above. refl; file = λ is. refl; unfilled = refl }), caused_2)
+caused_3 = (
+  (
+    settling,
+    record {
+      idle = refl;
+      host = 0;
+      lives = refl;
+      whole = refl;
+      inside = omega arith;
+      made = omega arith;
+      used = λ above. refl;
+      file = λ is. refl;
+      unfilled = refl;
+    },
+  ),
+  caused_2,
+)
 
 caused_4 : EachEvent (HasCause header outside) past_4
-caused_4 = ((settling, record { number = refl; sized = refl; declared = omega arith; none = refl; task = 0; address = 64; at = record { host = 0; entry = mapped; lives = refl; found = refl }; on_host = refl; region = refl }), caused_3)
+caused_4 = (
+  (
+    settling,
+    record {
+      number = refl;
+      sized = refl;
+      declared = omega arith;
+      none = refl;
+      task = 0;
+      address = 64;
+      at = record { host = 0; entry = mapped; lives = refl; found = refl };
+      on_host = refl;
+      region = refl;
+    },
+  ),
+  caused_3,
+)
 
 caused_5 : EachEvent (HasCause header outside) past_5
 caused_5 = ((settling, tt), caused_4)
@@ -173,19 +224,67 @@ caused_10 : EachEvent (HasCause header outside) past_10
 caused_10 = ((settling, (refl, (refl, omega arith))), caused_9)
 
 caused_11 : EachEvent (HasCause header outside) past_11
-caused_11 = ((settling, record { task = 0; access = Loading 64 2; waits = record { waits = refl; at = record { host = 0; entry = mapped; lives = refl; found = refl }; left = tt }; on_host = refl; unmarked = λ store. refl; comes = record { top = 0; top_page = 0; steps = 0; is_top = record { object = refl; page = refl }; walks = (refl, refl) }; number = refl; live = refl; ready = refl; away = refl; unasked = refl; known = refl }), caused_10)
+caused_11 = (
+  (
+    settling,
+    record {
+      task = 0;
+      access = Loading 64 2;
+      waits = record { waits = refl; at = record { host = 0; entry = mapped; lives = refl; found = refl }; left = tt };
+      on_host = refl;
+      unmarked = λ store. refl;
+      comes = record { top = 0; top_page = 0; steps = 0; is_top = record { object = refl; page = refl }; walks = (refl, refl) };
+      number = refl;
+      live = refl;
+      ready = refl;
+      away = refl;
+      unasked = refl;
+      known = refl;
+    },
+  ),
+  caused_10,
+)
 
 caused_12 : EachEvent (HasCause header outside) past_12
 caused_12 = ((settling, (refl, (refl, omega arith))), caused_11)
 
 caused_13 : EachEvent (HasCause header outside) past_13
-caused_13 = ((settling, (record { access = 1; taken = refl; unanswered = refl }, record { kept = refl; read = refl }, refl, refl, λ temporary. absurd (cc), λ told. refl)), caused_12)
+caused_13 = (
+  (
+    settling,
+    (
+      record { access = 1; taken = refl; unanswered = refl },
+      record { kept = refl; read = refl },
+      refl,
+      refl,
+      λ temporary. absurd (cc),
+      λ told. refl,
+    ),
+  ),
+  caused_12,
+)
 
 caused_14 : EachEvent (HasCause header outside) past_14
 caused_14 = ((settling, (refl, (refl, omega arith))), caused_13)
 
 caused_15 : EachEvent (HasCause header outside) past_15
-caused_15 = ((settling, record { address = 64; bytes = 2; waits = record { waits = refl; at = record { host = 0; entry = mapped; lives = refl; found = refl }; left = tt }; comes = record { top = 0; top_page = 0; steps = 0; is_top = record { object = refl; page = refl }; walks = (refl, refl) }; here = refl }), caused_14)
+caused_15 = (
+  (
+    settling,
+    record {
+      address = 64;
+      bytes = 2;
+      waits = record {
+        waits = refl;
+        at = record { host = 0; entry = mapped; lives = refl; found = refl };
+        left = tt;
+      };
+      comes = record { top = 0; top_page = 0; steps = 0; is_top = record { object = refl; page = refl }; walks = (refl, refl) };
+      here = refl;
+    },
+  ),
+  caused_14,
+)
 
 caused_16 : EachEvent (HasCause header outside) past_16
 caused_16 = ((settling, tt), caused_15)
@@ -194,7 +293,20 @@ caused_17 : EachEvent (HasCause header outside) past_17
 caused_17 = ((settling, refl), caused_16)
 
 caused_18 : EachEvent (HasCause header outside) past_18
-caused_18 = ((settling, record { address = 64; waits = record { waits = refl; at = record { host = 0; entry = mapped; lives = refl; found = refl }; left = tt }; is_top = record { object = refl; page = refl }; unmarked = refl; here = refl; place = refl }), caused_17)
+caused_18 = (
+  (
+    settling,
+    record {
+      address = 64;
+      waits = record { waits = refl; at = record { host = 0; entry = mapped; lives = refl; found = refl }; left = tt };
+      is_top = record { object = refl; page = refl };
+      unmarked = refl;
+      here = refl;
+      place = refl;
+    },
+  ),
+  caused_17,
+)
 
 caused_19 : EachEvent (HasCause header outside) past_19
 caused_19 = ((settling, tt), caused_18)
@@ -203,7 +315,23 @@ caused_20 : EachEvent (HasCause header outside) past_20
 caused_20 = ((settling, (refl, refl)), caused_19)
 
 caused_21 : EachEvent (HasCause header outside) past_21
-caused_21 = ((settling, record { idle = refl; host = 0; lives = refl; whole = refl; inside = omega arith; made = omega arith; used = λ above. refl; file = λ is. refl; unfilled = refl }), caused_20)
+caused_21 = (
+  (
+    settling,
+    record {
+      idle = refl;
+      host = 0;
+      lives = refl;
+      whole = refl;
+      inside = omega arith;
+      made = omega arith;
+      used = λ above. refl;
+      file = λ is. refl;
+      unfilled = refl;
+    },
+  ),
+  caused_20,
+)
 
 caused_22 : EachEvent (HasCause header outside) past_22
 caused_22 = ((settling, tt), caused_21)
@@ -212,22 +340,77 @@ caused_23 : EachEvent (HasCause header outside) past_23
 caused_23 = ((settling, refl), caused_22)
 
 caused_24 : EachEvent (HasCause header outside) past_24
-caused_24 = ((settling, inr (record { task = 0; access = Storing 0 1 7; waits = record { waits = refl; at = record { host = 0; entry = own; lives = refl; found = refl }; left = tt }; on_host = refl; temporary = omega arith; unmarked = λ store. refl; is_top = record { object = refl; page = refl }; steps = 0; sinks = (record { away = refl; unasked = refl; without = refl }, refl) })), caused_23)
+caused_24 = (
+  (
+    settling,
+    inr (record {
+      task = 0;
+      access = Storing 0 1 7;
+      waits = record { waits = refl; at = record { host = 0; entry = own; lives = refl; found = refl }; left = tt };
+      on_host = refl;
+      temporary = omega arith;
+      unmarked = λ store. refl;
+      is_top = record { object = refl; page = refl };
+      steps = 0;
+      sinks = (record { away = refl; unasked = refl; without = refl }, refl);
+    }),
+  ),
+  caused_23,
+)
 
 caused_25 : EachEvent (HasCause header outside) past_25
-caused_25 = ((settling, record { address = 0; waits = record { waits = refl; at = record { host = 0; entry = own; lives = refl; found = refl }; left = tt }; is_top = record { object = refl; page = refl }; unmarked = refl; here = refl; place = refl }), caused_24)
+caused_25 = (
+  (
+    settling,
+    record {
+      address = 0;
+      waits = record { waits = refl; at = record { host = 0; entry = own; lives = refl; found = refl }; left = tt };
+      is_top = record { object = refl; page = refl };
+      unmarked = refl;
+      here = refl;
+      place = refl;
+    },
+  ),
+  caused_24,
+)
 
 caused_26 : EachEvent (HasCause header outside) past_26
 caused_26 = ((settling, tt), caused_25)
 
 caused_27 : EachEvent (HasCause header outside) past_27
-caused_27 = ((paging, record { live = refl; here = refl; due = refl; same = refl; flag = refl; why = Reclaimed refl (record { spared = λ w. absurd (let bad : false ≡ true = w.unlocking in cc); may = inl (refl, omega arith, tt) }) }), caused_26)
+caused_27 = (
+  (
+    paging,
+    record {
+      live = refl;
+      here = refl;
+      due = refl;
+      same = refl;
+      flag = refl;
+      why = Reclaimed refl (record { spared = λ w. absurd (let bad : false ≡ true = w.unlocking in cc); may = inl (refl, omega arith, tt) });
+    },
+  ),
+  caused_26,
+)
 
 caused_28 : EachEvent (HasCause header outside) past_28
 caused_28 = ((settling, record { number = refl; sized = refl; temporary = omega arith; never = refl; page = 0; here = refl }), caused_27)
 
 caused_29 : EachEvent (HasCause header outside) past_29
-caused_29 = ((paging, record { live = refl; here = refl; due = refl; same = refl; flag = refl; why = Created 1 16 _ refl refl (record { spared = λ w. absurd (let bad : false ≡ true = w.unlocking in cc); may = inl (refl, omega arith, (refl, tt)) }) }), caused_28)
+caused_29 = (
+  (
+    paging,
+    record {
+      live = refl;
+      here = refl;
+      due = refl;
+      same = refl;
+      flag = refl;
+      why = Created 1 16 _ refl refl (record { spared = λ w. absurd (let bad : false ≡ true = w.unlocking in cc); may = inl (refl, omega arith, (refl, tt)) });
+    },
+  ),
+  caused_28,
+)
 
 caused_30 : EachEvent (HasCause header outside) past_30
 caused_30 = ((settling, tt), caused_29)
@@ -245,7 +428,18 @@ caused_34 : EachEvent (HasCause header outside) past_34
 caused_34 = ((settling, (refl, (refl, omega arith))), caused_33)
 
 caused_35 : EachEvent (HasCause header outside) past_35
-caused_35 = ((settling, record { temporary = omega arith; host = 0; takes = record { control = 1; dirty = true; keep = false; bytes = 7 ∷ 0 ∷ 0 ∷ 0 ∷ 0 ∷ 0 ∷ 0 ∷ 0 ∷ 0 ∷ 0 ∷ 0 ∷ 0 ∷ 0 ∷ 0 ∷ 0 ∷ 0 ∷ []; is = refl }; lacks = record { none = refl; full = refl } }), caused_34)
+caused_35 = (
+  (
+    settling,
+    record {
+      temporary = omega arith;
+      host = 0;
+      takes = record { control = 1; dirty = true; keep = false; bytes = 7 ∷ 0 ∷ 0 ∷ 0 ∷ 0 ∷ 0 ∷ 0 ∷ 0 ∷ 0 ∷ 0 ∷ 0 ∷ 0 ∷ 0 ∷ 0 ∷ 0 ∷ 0 ∷ []; is = refl };
+      lacks = record { none = refl; full = refl };
+    },
+  ),
+  caused_34,
+)
 
 caused_36 : EachEvent (HasCause header outside) past_36
 caused_36 = ((settling, (refl, (refl, omega arith))), caused_35)
@@ -257,7 +451,26 @@ caused_38 : EachEvent (HasCause header outside) past_38
 caused_38 = ((settling, refl), caused_37)
 
 caused_39 : EachEvent (HasCause header outside) past_39
-caused_39 = ((settling, record { task = 0; access = Loading 0 1; waits = record { waits = refl; at = record { host = 0; entry = own; lives = refl; found = refl }; left = tt }; on_host = refl; unmarked = λ store. refl; comes = record { top = 1; top_page = 0; steps = 0; is_top = record { object = refl; page = refl }; walks = (refl, refl) }; number = refl; live = refl; ready = refl; away = refl; unasked = refl; known = refl }), caused_38)
+caused_39 = (
+  (
+    settling,
+    record {
+      task = 0;
+      access = Loading 0 1;
+      waits = record { waits = refl; at = record { host = 0; entry = own; lives = refl; found = refl }; left = tt };
+      on_host = refl;
+      unmarked = λ store. refl;
+      comes = record { top = 1; top_page = 0; steps = 0; is_top = record { object = refl; page = refl }; walks = (refl, refl) };
+      number = refl;
+      live = refl;
+      ready = refl;
+      away = refl;
+      unasked = refl;
+      known = refl;
+    },
+  ),
+  caused_38,
+)
 
 caused_40 : EachEvent (HasCause header outside) past_40
 caused_40 = ((settling, tt), caused_39)
@@ -272,7 +485,18 @@ caused_43 : EachEvent (HasCause header outside) past_43
 caused_43 = ((settling, (refl, (refl, omega arith))), caused_42)
 
 caused_44 : EachEvent (HasCause header outside) past_44
-caused_44 = ((settling, record { access = Loading 0 1; waits = record { waits = refl; at = record { host = 0; entry = own; lives = refl; found = refl }; left = tt }; error = refl; place = record { top = 1; top_page = 0; steps = 0; is_top = record { object = refl; page = refl }; leads = (refl, refl) } }), caused_43)
+caused_44 = (
+  (
+    settling,
+    record {
+      access = Loading 0 1;
+      waits = record { waits = refl; at = record { host = 0; entry = own; lives = refl; found = refl }; left = tt };
+      error = refl;
+      place = record { top = 1; top_page = 0; steps = 0; is_top = record { object = refl; page = refl }; leads = (refl, refl) };
+    },
+  ),
+  caused_43,
+)
 
 caused_45 : EachEvent (HasCause header outside) past_45
 caused_45 = ((settling, tt), caused_44)
@@ -281,7 +505,26 @@ caused_46 : EachEvent (HasCause header outside) past_46
 caused_46 = ((settling, refl), caused_45)
 
 caused_47 : EachEvent (HasCause header outside) past_47
-caused_47 = ((settling, record { task = 0; access = Loading 64 2; waits = record { waits = refl; at = record { host = 0; entry = mapped; lives = refl; found = refl }; left = tt }; on_host = refl; unmarked = λ store. refl; comes = record { top = 0; top_page = 0; steps = 0; is_top = record { object = refl; page = refl }; walks = (refl, refl) }; number = refl; live = refl; ready = refl; away = refl; unasked = refl; known = refl }), caused_46)
+caused_47 = (
+  (
+    settling,
+    record {
+      task = 0;
+      access = Loading 64 2;
+      waits = record { waits = refl; at = record { host = 0; entry = mapped; lives = refl; found = refl }; left = tt };
+      on_host = refl;
+      unmarked = λ store. refl;
+      comes = record { top = 0; top_page = 0; steps = 0; is_top = record { object = refl; page = refl }; walks = (refl, refl) };
+      number = refl;
+      live = refl;
+      ready = refl;
+      away = refl;
+      unasked = refl;
+      known = refl;
+    },
+  ),
+  caused_46,
+)
 
 caused_48 : EachEvent (HasCause header outside) past_48
 caused_48 = ((settling, tt), caused_47)
@@ -290,31 +533,335 @@ caused_49 : EachEvent (HasCause header outside) past_49
 caused_49 = ((settling, (refl, (refl, omega arith))), caused_48)
 
 caused_50 : EachEvent (HasCause header outside) past_50
-caused_50 = ((settling, (record { access = 1; taken = refl; unanswered = refl }, record { kept = refl; read = refl }, refl, refl, λ temporary. absurd (cc), λ told. refl)), caused_49)
+caused_50 = (
+  (
+    settling,
+    (
+      record { access = 1; taken = refl; unanswered = refl },
+      record { kept = refl; read = refl },
+      refl,
+      refl,
+      λ temporary. absurd (cc),
+      λ told. refl,
+    ),
+  ),
+  caused_49,
+)
 
 caused_51 : EachEvent (HasCause header outside) past_51
 caused_51 = ((settling, (refl, (refl, omega arith))), caused_50)
 
 caused_52 : EachEvent (HasCause header outside) past_52
-caused_52 = ((settling, record { address = 64; bytes = 2; waits = record { waits = refl; at = record { host = 0; entry = mapped; lives = refl; found = refl }; left = tt }; comes = record { top = 0; top_page = 0; steps = 0; is_top = record { object = refl; page = refl }; walks = (refl, refl) }; here = refl }), caused_51)
+caused_52 = (
+  (
+    settling,
+    record {
+      address = 64;
+      bytes = 2;
+      waits = record {
+        waits = refl;
+        at = record { host = 0; entry = mapped; lives = refl; found = refl };
+        left = tt;
+      };
+      comes = record { top = 0; top_page = 0; steps = 0; is_top = record { object = refl; page = refl }; walks = (refl, refl) };
+      here = refl;
+    },
+  ),
+  caused_51,
+)
 
 own_15 : OwnBytes header (event.Loaded (record { 0 = 0 }) (record { 0 = 0 }) (record { 0 = 0 }) 1284) past_14
-own_15 = record { address = 64; bytes = 2; waits = record { waits = refl; at = record { host = 0; entry = mapped; lives = refl; found = refl }; left = tt }; readable = record { here = refl; unlocked = inl refl }; number = refl }
+own_15 =
+    record {
+      address = 64;
+      bytes = 2;
+      waits = record { waits = refl; at = record { host = 0; entry = mapped; lives = refl; found = refl }; left = tt };
+      readable = record { here = refl; unlocked = inl refl };
+      number = refl;
+    }
 
 own_18 : OwnBytes header (event.Stored (record { 0 = 0 }) (record { 0 = 0 }) (record { 0 = 0 }) 0 1 9) past_17
-own_18 = record { address = 64; waits = record { waits = refl; at = record { host = 0; entry = mapped; lives = refl; found = refl }; left = tt }; writable = record { here = refl; unlocked = refl }; place = refl }
+own_18 =
+    record {
+      address = 64;
+      waits = record { waits = refl; at = record { host = 0; entry = mapped; lives = refl; found = refl }; left = tt };
+      writable = record { here = refl; unlocked = refl };
+      place = refl;
+    }
 
 own_25 : OwnBytes header (event.Stored (record { 0 = 0 }) (record { 0 = 1 }) (record { 0 = 0 }) 0 1 7) past_24
-own_25 = record { address = 0; waits = record { waits = refl; at = record { host = 0; entry = own; lives = refl; found = refl }; left = tt }; writable = record { here = refl; unlocked = refl }; place = refl }
+own_25 =
+    record {
+      address = 0;
+      waits = record { waits = refl; at = record { host = 0; entry = own; lives = refl; found = refl }; left = tt };
+      writable = record { here = refl; unlocked = refl };
+      place = refl;
+    }
 
 own_52 : OwnBytes header (event.Loaded (record { 0 = 0 }) (record { 0 = 0 }) (record { 0 = 0 }) 1289) past_51
-own_52 = record { address = 64; bytes = 2; waits = record { waits = refl; at = record { host = 0; entry = mapped; lives = refl; found = refl }; left = tt }; readable = record { here = refl; unlocked = inl refl }; number = refl }
+own_52 =
+    record {
+      address = 64;
+      bytes = 2;
+      waits = record { waits = refl; at = record { host = 0; entry = mapped; lives = refl; found = refl }; left = tt };
+      readable = record { here = refl; unlocked = inl refl };
+      number = refl;
+    }
 
 own_bytes : EachEvent (OwnBytes header) past_52
-own_bytes = (own_52, (tt, (tt, (tt, (tt, (tt, (tt, (tt, (tt, (tt, (tt, (tt, (tt, (tt, (tt, (tt, (tt, (tt, (tt, (tt, (tt, (tt, (tt, (tt, (tt, (tt, (tt, (own_25, (tt, (tt, (tt, (tt, (tt, (tt, (own_18, (tt, (tt, (own_15, (tt, (tt, (tt, (tt, (tt, (tt, (tt, (tt, (tt, (tt, (tt, (tt, (tt, (tt, (tt, tt)))))))))))))))))))))))))))))))))))))))))))))))))))))
+own_bytes = (
+  own_52,
+  (
+    tt,
+    (
+      tt,
+      (
+        tt,
+        (
+          tt,
+          (
+            tt,
+            (
+              tt,
+              (
+                tt,
+                (
+                  tt,
+                  (
+                    tt,
+                    (
+                      tt,
+                      (
+                        tt,
+                        (
+                          tt,
+                          (
+                            tt,
+                            (
+                              tt,
+                              (
+                                tt,
+                                (
+                                  tt,
+                                  (
+                                    tt,
+                                    (
+                                      tt,
+                                      (
+                                        tt,
+                                        (
+                                          tt,
+                                          (
+                                            tt,
+                                            (
+                                              tt,
+                                              (
+                                                tt,
+                                                (
+                                                  tt,
+                                                  (
+                                                    tt,
+                                                    (
+                                                      tt,
+                                                      (
+                                                        own_25,
+                                                        (
+                                                          tt,
+                                                          (
+                                                            tt,
+                                                            (
+                                                              tt,
+                                                              (
+                                                                tt,
+                                                                (
+                                                                  tt,
+                                                                  (
+                                                                    tt,
+                                                                    (
+                                                                      own_18,
+                                                                      (
+                                                                        tt,
+                                                                        (
+                                                                          tt,
+                                                                          (
+                                                                            own_15,
+                                                                            (
+                                                                              tt,
+                                                                              (
+                                                                                tt,
+                                                                                (
+                                                                                  tt,
+                                                                                  (
+                                                                                    tt,
+                                                                                    (tt, (tt, (tt, (tt, (tt, (tt, (tt, (tt, (tt, (tt, (tt, tt))))))))))),
+                                                                                  ),
+                                                                                ),
+                                                                              ),
+                                                                            ),
+                                                                          ),
+                                                                        ),
+                                                                      ),
+                                                                    ),
+                                                                  ),
+                                                                ),
+                                                              ),
+                                                            ),
+                                                          ),
+                                                        ),
+                                                      ),
+                                                    ),
+                                                  ),
+                                                ),
+                                              ),
+                                            ),
+                                          ),
+                                        ),
+                                      ),
+                                    ),
+                                  ),
+                                ),
+                              ),
+                            ),
+                          ),
+                        ),
+                      ),
+                    ),
+                  ),
+                ),
+              ),
+            ),
+          ),
+        ),
+      ),
+    ),
+  ),
+)
 
 current : EachEvent (CopiesCurrent header outside) past_52
-current = (tt, (tt, (tt, (tt, (tt, (tt, (tt, (tt, (tt, (tt, (tt, (tt, (tt, (tt, (tt, (tt, (tt, (tt, (tt, (tt, (tt, (tt, (tt, (tt, (tt, (tt, (tt, (tt, (tt, (tt, (tt, (tt, (tt, (tt, (tt, (tt, (tt, (tt, (tt, (tt, (tt, (tt, (tt, (tt, (tt, (tt, (tt, (tt, (tt, (tt, (tt, (tt, (tt, tt)))))))))))))))))))))))))))))))))))))))))))))))))))))
+current = (
+  tt,
+  (
+    tt,
+    (
+      tt,
+      (
+        tt,
+        (
+          tt,
+          (
+            tt,
+            (
+              tt,
+              (
+                tt,
+                (
+                  tt,
+                  (
+                    tt,
+                    (
+                      tt,
+                      (
+                        tt,
+                        (
+                          tt,
+                          (
+                            tt,
+                            (
+                              tt,
+                              (
+                                tt,
+                                (
+                                  tt,
+                                  (
+                                    tt,
+                                    (
+                                      tt,
+                                      (
+                                        tt,
+                                        (
+                                          tt,
+                                          (
+                                            tt,
+                                            (
+                                              tt,
+                                              (
+                                                tt,
+                                                (
+                                                  tt,
+                                                  (
+                                                    tt,
+                                                    (
+                                                      tt,
+                                                      (
+                                                        tt,
+                                                        (
+                                                          tt,
+                                                          (
+                                                            tt,
+                                                            (
+                                                              tt,
+                                                              (
+                                                                tt,
+                                                                (
+                                                                  tt,
+                                                                  (
+                                                                    tt,
+                                                                    (
+                                                                      tt,
+                                                                      (
+                                                                        tt,
+                                                                        (
+                                                                          tt,
+                                                                          (
+                                                                            tt,
+                                                                            (
+                                                                              tt,
+                                                                              (
+                                                                                tt,
+                                                                                (
+                                                                                  tt,
+                                                                                  (tt, (tt, (tt, (tt, (tt, (tt, (tt, (tt, (tt, (tt, (tt, (tt, tt)))))))))))),
+                                                                                ),
+                                                                              ),
+                                                                            ),
+                                                                          ),
+                                                                        ),
+                                                                      ),
+                                                                    ),
+                                                                  ),
+                                                                ),
+                                                              ),
+                                                            ),
+                                                          ),
+                                                        ),
+                                                      ),
+                                                    ),
+                                                  ),
+                                                ),
+                                              ),
+                                            ),
+                                          ),
+                                        ),
+                                      ),
+                                    ),
+                                  ),
+                                ),
+                              ),
+                            ),
+                          ),
+                        ),
+                      ),
+                    ),
+                  ),
+                ),
+              ),
+            ),
+          ),
+        ),
+      ),
+    ),
+  ),
+)
 
 unshared : NoneIsShared header
 unshared = none_shared header (λ o below. let first : 0 ≡ o = omega (arith, below) in subst (λ (z : ℕ). is_shared header z ≡ false) first refl)

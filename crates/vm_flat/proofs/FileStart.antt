@@ -60,10 +60,14 @@ abbrev pub past_12 : List Event
 past_12 = event.Taken (Up (record { 0 = 0 }) (record { 0 = 0 })) (message.Request 1 (record { 0 = 0 }) 1) ∷ past_11
 
 abbrev pub past_13 : List Event
-past_13 = event.Sent (Down (record { 0 = 0 }) (record { 0 = 0 }) 1) (message.Supply (record { 0 = 0 }) 0 false (4 ∷ 5 ∷ 0 ∷ 0 ∷ 0 ∷ 0 ∷ 0 ∷ 0 ∷ 0 ∷ 0 ∷ 0 ∷ 0 ∷ 0 ∷ 0 ∷ 0 ∷ 0 ∷ [])) ∷ past_12
+past_13 =
+    event.Sent (Down (record { 0 = 0 }) (record { 0 = 0 }) 1) (message.Supply (record { 0 = 0 }) 0 false
+    (4 ∷ 5 ∷ 0 ∷ 0 ∷ 0 ∷ 0 ∷ 0 ∷ 0 ∷ 0 ∷ 0 ∷ 0 ∷ 0 ∷ 0 ∷ 0 ∷ 0 ∷ 0 ∷ [])) ∷ past_12
 
 abbrev pub past_14 : List Event
-past_14 = event.Taken (Down (record { 0 = 0 }) (record { 0 = 0 }) 1) (message.Supply (record { 0 = 0 }) 0 false (4 ∷ 5 ∷ 0 ∷ 0 ∷ 0 ∷ 0 ∷ 0 ∷ 0 ∷ 0 ∷ 0 ∷ 0 ∷ 0 ∷ 0 ∷ 0 ∷ 0 ∷ 0 ∷ [])) ∷ past_13
+past_14 =
+    event.Taken (Down (record { 0 = 0 }) (record { 0 = 0 }) 1) (message.Supply (record { 0 = 0 }) 0 false
+    (4 ∷ 5 ∷ 0 ∷ 0 ∷ 0 ∷ 0 ∷ 0 ∷ 0 ∷ 0 ∷ 0 ∷ 0 ∷ 0 ∷ 0 ∷ 0 ∷ 0 ∷ 0 ∷ [])) ∷ past_13
 
 abbrev pub past_15 : List Event
 past_15 = event.Loaded (record { 0 = 0 }) (record { 0 = 0 }) (record { 0 = 0 }) 1284 ∷ past_14

@@ -25,10 +25,246 @@ abbrev paging : Command
 paging = command.Pageout (record { 0 = 0 }) 1
 
 pub forgets_causes : EachEvent (HasCause header outside) history
-forgets_causes = ((settling, record { address = 0; bytes = 1; waits = record { waits = refl; at = record { host = 0; entry = entry; lives = refl; found = refl }; left = tt }; comes = record { top = 0; top_page = 0; steps = 0; is_top = record { object = refl; page = refl }; walks = (refl, refl) }; here = refl }), ((settling, (refl, (refl, omega arith))), ((settling, (record { access = 1; taken = refl; unanswered = refl }, record { kept = refl; read = refl }, refl, refl, λ temporary. never (sym temporary), λ told. never told)), ((settling, (refl, (refl, omega arith))), ((settling, tt), ((settling, record { task = 0; access = Loading 0 1; waits = record { waits = refl; at = record { host = 0; entry = entry; lives = refl; found = refl }; left = tt }; on_host = refl; unmarked = λ store. refl; comes = record { top = 0; top_page = 0; steps = 0; is_top = record { object = refl; page = refl }; walks = (refl, refl) }; number = refl; live = refl; ready = refl; away = refl; unasked = refl; known = refl }), ((settling, refl), ((settling, tt), ((settling, (refl, (refl, omega arith))), ((settling, tt), ((paging, record { live = refl; here = refl; due = refl; same = refl; flag = refl; why = Reclaimed refl (record { spared = λ w. never w.unlocking; may = inl (refl, omega arith, tt) }) }), ((settling, tt), ((settling, record { address = 0; waits = record { waits = refl; at = record { host = 0; entry = entry; lives = refl; found = refl }; left = tt }; is_top = record { object = refl; page = refl }; unmarked = refl; here = refl; place = refl }), ((settling, (refl, (refl, omega arith))), ((settling, (record { access = 3; taken = refl; unanswered = refl }, record { kept = refl; read = refl }, refl, refl, λ temporary. never (sym temporary), λ told. never told)), ((settling, (refl, (refl, omega arith))), ((settling, record { task = 0; access = Storing 0 1 7; waits = record { waits = refl; at = record { host = 0; entry = entry; lives = refl; found = refl }; left = tt }; on_host = refl; unmarked = λ store. refl; comes = record { top = 0; top_page = 0; steps = 0; is_top = record { object = refl; page = refl }; walks = (refl, refl) }; number = refl; live = refl; ready = refl; away = refl; unasked = refl; known = refl }), ((settling, (refl, (refl, omega arith))), ((settling, (16, refl, refl, inr (refl, refl))), ((settling, (refl, (refl, omega arith))), ((settling, tt), ((settling, refl), ((settling, tt), ((settling, record { number = refl; sized = refl; declared = omega arith; none = refl; task = 0; address = 0; at = record { host = 0; entry = entry; lives = refl; found = refl }; on_host = refl; region = refl }), ((settling, record { idle = refl; host = 0; lives = refl; whole = refl; inside = omega arith; made = omega arith; used = λ above. refl; file = λ is. refl; unfilled = refl }), ((settling, tt), ((settling, tt), ((settling, tt), tt))))))))))))))))))))))))))))
+forgets_causes = (
+  (
+    settling,
+    record {
+      address = 0;
+      bytes = 1;
+      waits = record {
+        waits = refl;
+        at = record { host = 0; entry = entry; lives = refl; found = refl };
+        left = tt;
+      };
+      comes = record { top = 0; top_page = 0; steps = 0; is_top = record { object = refl; page = refl }; walks = (refl, refl) };
+      here = refl;
+    },
+  ),
+  (
+    (settling, (refl, (refl, omega arith))),
+    (
+      (
+        settling,
+        (
+          record { access = 1; taken = refl; unanswered = refl },
+          record { kept = refl; read = refl },
+          refl,
+          refl,
+          λ temporary. never (sym temporary),
+          λ told. never told,
+        ),
+      ),
+      (
+        (settling, (refl, (refl, omega arith))),
+        (
+          (settling, tt),
+          (
+            (
+              settling,
+              record {
+                task = 0;
+                access = Loading 0 1;
+                waits = record { waits = refl; at = record { host = 0; entry = entry; lives = refl; found = refl }; left = tt };
+                on_host = refl;
+                unmarked = λ store. refl;
+                comes = record { top = 0; top_page = 0; steps = 0; is_top = record { object = refl; page = refl }; walks = (refl, refl) };
+                number = refl;
+                live = refl;
+                ready = refl;
+                away = refl;
+                unasked = refl;
+                known = refl;
+              },
+            ),
+            (
+              (settling, refl),
+              (
+                (settling, tt),
+                (
+                  (settling, (refl, (refl, omega arith))),
+                  (
+                    (settling, tt),
+                    (
+                      (
+                        paging,
+                        record {
+                          live = refl;
+                          here = refl;
+                          due = refl;
+                          same = refl;
+                          flag = refl;
+                          why = Reclaimed refl (record { spared = λ w. never w.unlocking; may = inl (refl, omega arith, tt) });
+                        },
+                      ),
+                      (
+                        (settling, tt),
+                        (
+                          (
+                            settling,
+                            record {
+                              address = 0;
+                              waits = record { waits = refl; at = record { host = 0; entry = entry; lives = refl; found = refl }; left = tt };
+                              is_top = record { object = refl; page = refl };
+                              unmarked = refl;
+                              here = refl;
+                              place = refl;
+                            },
+                          ),
+                          (
+                            (settling, (refl, (refl, omega arith))),
+                            (
+                              (
+                                settling,
+                                (
+                                  record { access = 3; taken = refl; unanswered = refl },
+                                  record { kept = refl; read = refl },
+                                  refl,
+                                  refl,
+                                  λ temporary. never (sym temporary),
+                                  λ told. never told,
+                                ),
+                              ),
+                              (
+                                (settling, (refl, (refl, omega arith))),
+                                (
+                                  (
+                                    settling,
+                                    record {
+                                      task = 0;
+                                      access = Storing 0 1 7;
+                                      waits = record { waits = refl; at = record { host = 0; entry = entry; lives = refl; found = refl }; left = tt };
+                                      on_host = refl;
+                                      unmarked = λ store. refl;
+                                      comes = record { top = 0; top_page = 0; steps = 0; is_top = record { object = refl; page = refl }; walks = (refl, refl) };
+                                      number = refl;
+                                      live = refl;
+                                      ready = refl;
+                                      away = refl;
+                                      unasked = refl;
+                                      known = refl;
+                                    },
+                                  ),
+                                  (
+                                    (settling, (refl, (refl, omega arith))),
+                                    (
+                                      (settling, (16, refl, refl, inr (refl, refl))),
+                                      (
+                                        (settling, (refl, (refl, omega arith))),
+                                        (
+                                          (settling, tt),
+                                          (
+                                            (settling, refl),
+                                            (
+                                              (settling, tt),
+                                              (
+                                                (
+                                                  settling,
+                                                  record {
+                                                    number = refl;
+                                                    sized = refl;
+                                                    declared = omega arith;
+                                                    none = refl;
+                                                    task = 0;
+                                                    address = 0;
+                                                    at = record { host = 0; entry = entry; lives = refl; found = refl };
+                                                    on_host = refl;
+                                                    region = refl;
+                                                  },
+                                                ),
+                                                (
+                                                  (
+                                                    settling,
+                                                    record {
+                                                      idle = refl;
+                                                      host = 0;
+                                                      lives = refl;
+                                                      whole = refl;
+                                                      inside = omega arith;
+                                                      made = omega arith;
+                                                      used = λ above. refl;
+                                                      file = λ is. refl;
+                                                      unfilled = refl;
+                                                    },
+                                                  ),
+                                                  ((settling, tt), ((settling, tt), ((settling, tt), tt))),
+                                                ),
+                                              ),
+                                            ),
+                                          ),
+                                        ),
+                                      ),
+                                    ),
+                                  ),
+                                ),
+                              ),
+                            ),
+                          ),
+                        ),
+                      ),
+                    ),
+                  ),
+                ),
+              ),
+            ),
+          ),
+        ),
+      ),
+    ),
+  ),
+)
 
 pub forgets_own : EachEvent (OwnBytes header) history
-forgets_own = (record { address = 0; bytes = 1; waits = record { waits = refl; at = record { host = 0; entry = entry; lives = refl; found = refl }; left = tt }; readable = record { here = refl; unlocked = inl refl }; number = refl }, (tt, (tt, (tt, (tt, (tt, (tt, (tt, (tt, (tt, (tt, (tt, (record { address = 0; waits = record { waits = refl; at = record { host = 0; entry = entry; lives = refl; found = refl }; left = tt }; writable = record { here = refl; unlocked = refl }; place = refl }, (tt, (tt, (tt, (tt, (tt, (tt, (tt, (tt, (tt, (tt, (tt, (tt, (tt, (tt, (tt, tt))))))))))))))))))))))))))))
+forgets_own = (
+  record {
+    address = 0;
+    bytes = 1;
+    waits = record { waits = refl; at = record { host = 0; entry = entry; lives = refl; found = refl }; left = tt };
+    readable = record { here = refl; unlocked = inl refl };
+    number = refl;
+  },
+  (
+    tt,
+    (
+      tt,
+      (
+        tt,
+        (
+          tt,
+          (
+            tt,
+            (
+              tt,
+              (
+                tt,
+                (
+                  tt,
+                  (
+                    tt,
+                    (
+                      tt,
+                      (
+                        tt,
+                        (
+                          record {
+                            address = 0;
+                            waits = record { waits = refl; at = record { host = 0; entry = entry; lives = refl; found = refl }; left = tt };
+                            writable = record { here = refl; unlocked = refl };
+                            place = refl;
+                          },
+                          (tt, (tt, (tt, (tt, (tt, (tt, (tt, (tt, (tt, (tt, (tt, (tt, (tt, (tt, (tt, tt))))))))))))))),
+                        ),
+                      ),
+                    ),
+                  ),
+                ),
+              ),
+            ),
+          ),
+        ),
+      ),
+    ),
+  ),
+)
 
 pub forgets_returned : last_return 0 0 0 asked ≡ Some seven
 forgets_returned = refl

@@ -1,5 +1,6 @@
 -- What holds at every moment of a sustained history, and how its facts are those of one host's memory.
-use Rattle.std.proofs.Common.{ℕ, suc, zero, ◌≡◌, ◌+◌, ◌<◌, ◌≤◌, List, Bool, true, false, refl, sym, ap, subst, ◌∙◌, arith, ⊎_elim, Option, Some, None, if◌then◌else◌}
+use Rattle.std.proofs.Common.{ℕ, suc, zero, ◌≡◌, ◌+◌, ◌<◌, ◌≤◌, List, Bool, true, false, refl, sym, ap, subst, ◌∙◌, arith, ⊎_elim, Option, Some, None}
+use Rattle.std.proofs.Common.{if◌then◌else◌}
 use Rattle.std.specs.Prelude.{not, nat_lt, is_some, ◌&&◌, ◌==◌}
 use Rattle.std.proofs.lemmas.Bool.{cases_lt}
 use Rattle.vm_model.specs.declared.event.Event.{Event}
@@ -37,7 +38,9 @@ Flats header outside past = (host r i : ℕ) → D.flat (ground header outside) 
 
 -- a file with a live control on a host is in use on no other
 abbrev pub Homes : Header → Outside → List Event → Type 0
-Homes header outside past = (g o : ℕ) → o < named header → is_private header outside o ≡ true → control header g o past ≡ 1 → (h : ℕ) → (h ≡ g → ⊥) → in_use header outside h o past ≡ false
+Homes header outside past =
+    (g o : ℕ) → o < named header → is_private header outside o ≡ true → control header g o past ≡ 1 → (h : ℕ) → (h ≡ g → ⊥)
+    → in_use header outside h o past ≡ false
 
 pub record Holds (header : Header) (outside : Outside) (past : List Event) : Type 0 where
   pub worlds : Worlds header outside past
@@ -57,13 +60,16 @@ clash : (b : Bool) → b ≡ false → b ≡ true → ⊥
 clash b isnt is = cc
 
 -- the entry that an address leads to
-pub led : (header : Header) (outside : Outside) (task address : ℕ) (past : List Event) → Entries header outside past → (at : At header task address past) → FoundRow (OwnedAt header outside past at.host) address at.entry
+pub led : (header : Header) (outside : Outside) (task address : ℕ) (past : List Event) → Entries header outside past → (at : At header task address past)
+    → FoundRow (OwnedAt header outside past at.host) address at.entry
 led header outside task address past entries at = found_row (OwnedAt header outside past at.host) address _ at.entry (entries task at.host at.lives) at.found
 
 -- the top place of a page of a region in use
-pub tops : (header : Header) (outside : Outside) (host r i o p : ℕ) (past : List Event) → in_use header outside host r past ≡ true → IsTop (region_of header r past) i o p → i < (region_of header r past).pages → C.Tops (ground header outside) r i o p (deeds header outside host past)
+pub tops : (header : Header) (outside : Outside) (host r i o p : ℕ) (past : List Event) → in_use header outside host r past ≡ true
+    → IsTop (region_of header r past) i o p → i < (region_of header r past).pages → C.Tops (ground header outside) r i o p (deeds header outside host past)
 tops header outside host r i o p past used top less =
-    let same : D.row (ground header outside) r (deeds header outside host past) ≡ as_row (in_use header outside host r past) (region_of header r past) = row_is header outside host r past in
+    let same : D.row (ground header outside) r (deeds header outside host past) ≡ as_row (in_use header outside host r past) (region_of header r past) = row_is
+    header outside host r past in
     record {
       used = ap (λ (w : D.Row). w.used) same ∙ used;
       object = ap (λ (w : D.Row). w.top) same ∙ top.object;
@@ -71,24 +77,28 @@ tops header outside host r i o p past used top less =
       inside = subst (λ (n : ℕ). i < n) (sym (ap (λ (w : D.Row). w.pages) same)) less;
     }
 
-pub mark_is : (header : Header) (outside : Outside) (host r : ℕ) (past : List Event) → (region_of header r past).mark ≡ false → (D.row (ground header outside) r (deeds header outside host past)).mark ≡ false
+pub mark_is : (header : Header) (outside : Outside) (host r : ℕ) (past : List Event) → (region_of header r past).mark ≡ false
+    → (D.row (ground header outside) r (deeds header outside host past)).mark ≡ false
 mark_is header outside host r past plain = ap (λ (w : D.Row). w.mark) (row_is header outside host r past) ∙ plain
 
 -- a region is private where its top object is
-pub region_private : (header : Header) (outside : Outside) (r i o p : ℕ) (past : List Event) → NumberedAt header past → r < next_region header past → IsTop (region_of header r past) i o p → is_private header outside o ≡ true → is_private header outside r ≡ true
+pub region_private : (header : Header) (outside : Outside) (r i o p : ℕ) (past : List Event) → NumberedAt header past → r < next_region header past
+    → IsTop (region_of header r past) i o p → is_private header outside o ≡ true → is_private header outside r ≡ true
 region_private header outside r i o p past n made top ours = ⊎_elim
     (λ less. subst (λ (k : ℕ). is_private header outside k ≡ true) (sym top.object ∙ n.declared_top r less) ours)
     (λ le. later_alike header outside r o le (omega (arith, n.temporary r le made, top.object)) ∙ ours)
     (cases_lt r (named header))
 
 -- a region over a temporary object is no declared one
-pub region_later : (header : Header) (r i o p : ℕ) (past : List Event) → NumberedAt header past → IsTop (region_of header r past) i o p → named header ≤ o → named header ≤ r
+pub region_later : (header : Header) (r i o p : ℕ) (past : List Event) → NumberedAt header past → IsTop (region_of header r past) i o p → named header ≤ o
+    → named header ≤ r
 region_later header r i o p past n top above = ⊎_elim
     (λ less. absurd (omega (arith, less, above, top.object, n.declared_top r less)))
     (λ le. le)
     (cases_lt r (named header))
 
-pub plain_spot : (header : Header) (outside : Outside) (host o p : ℕ) (past : List Event) → named header ≤ o → (D.spot (ground header outside) o p (deeds header outside host past)).file ≡ false
+pub plain_spot : (header : Header) (outside : Outside) (host o p : ℕ) (past : List Event) → named header ≤ o
+    → (D.spot (ground header outside) o p (deeds header outside host past)).file ≡ false
 plain_spot header outside host o p past above = file_is (ground header outside) o p (deeds header outside host past) ∙ not_file header o above
 
 -- walks
@@ -102,50 +112,69 @@ absent_of live number below absent lives is = by below absent (subst (λ (l : Op
     by true false e = absurd (let bad : true ≡ false = e in cc)
     by false false e = absurd (let bad : true ≡ false = e in cc)
 
-passed : (header : Header) (outside : Outside) (host o p : ℕ) (past : List Event) → named header ≤ o → Passes (sight header host o p past) → Passed (D.spot (ground header outside) o p (deeds header outside host past))
+passed : (header : Header) (outside : Outside) (host o p : ℕ) (past : List Event) → named header ≤ o → Passes (sight header host o p past)
+    → Passed (D.spot (ground header outside) o p (deeds header outside host past))
 passed header outside host o p past above passes =
     let same : D.spot (ground header outside) o p (deeds header outside host past) ≡ spot header outside host o p past = spot_is header outside host o p past in
-    let i : SpotIsLocal (is_file header o) (last_control host o past) (live_control host o past) (spot header outside host o p past) (page_on header host o p past) = spot_is_local header outside past host o p in
+    let i : SpotIsLocal (is_file header o) (last_control host o past) (live_control host o past) (spot header outside host o p past)
+    (page_on header host o p past) = spot_is_local header outside past host o p in
     record {
       away = ap (λ (s : Spot). s.here) same ∙ i.here ∙ passes.away;
       plain = plain_spot header outside host o p past above;
       unasked = ap (λ (s : Spot). s.asked) same ∙ i.asked ∙ passes.unasked;
       without = λ lives.
-          let live : live_control host o past ≡ Some (last_control host o past) = sym i.control ∙ ap (λ (n : ℕ). if n == 1 then Some (last_control host o past) else None) (sym (ap (λ (s : Spot). s.control) same) ∙ lives) in
-          ap (λ (s : Spot). s.absent) same ∙ i.absent ∙ ap (λ (b : Bool). not b && (page_on header host o p past).absent) (not_file header o above) ∙ absent_of (live_control host o past) (last_control host o past) (nat_lt o (named header)) (page_on header host o p past).absent live passes.without;
+          let live : live_control host o past ≡ Some (last_control host o past) = sym i.control
+          ∙ ap (λ (n : ℕ). if n == 1 then Some (last_control host o past) else None) (sym (ap (λ (s : Spot). s.control) same) ∙ lives) in
+          ap (λ (s : Spot). s.absent) same ∙ i.absent ∙ ap (λ (b : Bool). not b && (page_on header host o p past).absent) (not_file header o above)
+          ∙ absent_of (live_control host o past) (last_control host o past) (nat_lt o (named header)) (page_on header host o p past).absent live
+          passes.without;
     }
 
-pub walks : (header : Header) (outside : Outside) (host : ℕ) (past : List Event) → NumberedAt header past → (n o p l lp : ℕ) → W.Walks (λ k q. sight header host k q past) (λ k. backing_of header k past) n o p l lp
+pub walks : (header : Header) (outside : Outside) (host : ℕ) (past : List Event) → NumberedAt header past → (n o p l lp : ℕ)
+    → W.Walks (λ k q. sight header host k q past) (λ k. backing_of header k past) n o p l lp
     → C.Walks (ground header outside) n o p l lp (deeds header outside host past)
 walks header outside host past num zero o p l lp walk = walk
 walks header outside host past num (suc n) o p l lp walk =
     let same : D.link (ground header outside) o (deeds header outside host past) ≡ as_link (backing_of header o past) = link_is header outside host o past in (
       passed header outside host o p past (num.upper o walk.1) walk.0,
       ap (λ (x : D.Link). x.backed) same ∙ walk.1,
-      subst (λ (x : D.Link). C.Walks (ground header outside) n x.under (x.shift + p) l lp (deeds header outside host past)) (sym same) (walks header outside host past num n (backing_of header o past).under ((backing_of header o past).shift + p) l lp walk.2),
+      subst (λ (x : D.Link). C.Walks (ground header outside) n x.under (x.shift + p) l lp (deeds header outside host past)) (sym same)
+          (walks header outside host past num n (backing_of header o past).under ((backing_of header o past).shift + p) l lp walk.2),
     )
 
-pub sinks : (header : Header) (outside : Outside) (host : ℕ) (past : List Event) → NumberedAt header past → (n o p : ℕ) → named header ≤ o → W.Sinks (λ k q. sight header host k q past) (λ k. backing_of header k past) n o p
+pub sinks : (header : Header) (outside : Outside) (host : ℕ) (past : List Event) → NumberedAt header past → (n o p : ℕ) → named header ≤ o
+    → W.Sinks (λ k q. sight header host k q past) (λ k. backing_of header k past) n o p
     → C.Sinks (ground header outside) n o p (deeds header outside host past)
-sinks header outside host past num zero o p above walk = (passed header outside host o p past above walk.0, ap (λ (x : D.Link). x.backed) (link_is header outside host o past) ∙ walk.1)
+sinks header outside host past num zero o p above walk =
+    (passed header outside host o p past above walk.0, ap (λ (x : D.Link). x.backed) (link_is header outside host o past) ∙ walk.1)
 sinks header outside host past num (suc n) o p above walk =
     let same : D.link (ground header outside) o (deeds header outside host past) ≡ as_link (backing_of header o past) = link_is header outside host o past in (
       passed header outside host o p past above walk.0,
       ap (λ (x : D.Link). x.backed) same ∙ walk.1,
-      subst (λ (x : D.Link). C.Sinks (ground header outside) n x.under (x.shift + p) (deeds header outside host past)) (sym same) (sinks header outside host past num n (backing_of header o past).under ((backing_of header o past).shift + p) (num.lower o walk.1) walk.2),
+      subst (λ (x : D.Link). C.Sinks (ground header outside) n x.under (x.shift + p) (deeds header outside host past)) (sym same)
+          (sinks header outside host past num n (backing_of header o past).under ((backing_of header o past).shift + p) (num.lower o walk.1) walk.2),
     )
 
 -- chains
 
-below : (header : Header) (outside : Outside) (host : ℕ) (past : List Event) (n o u : ℕ) → C.Below (λ k. D.link (ground header outside) k (deeds header outside host past)) n o u → W.Below (λ k. backing_of header k past) n o u
+below : (header : Header) (outside : Outside) (host : ℕ) (past : List Event) (n o u : ℕ)
+    → C.Below (λ k. D.link (ground header outside) k (deeds header outside host past)) n o u → W.Below (λ k. backing_of header k past) n o u
 below header outside host past zero o u is = is
 below header outside host past (suc n) o u is =
     let same : D.link (ground header outside) o (deeds header outside host past) ≡ as_link (backing_of header o past) = link_is header outside host o past in (
       sym (ap (λ (x : D.Link). x.backed) same) ∙ is.0,
-      below header outside host past n (backing_of header o past).under u (subst (λ (x : D.Link). C.Below (λ k. D.link (ground header outside) k (deeds header outside host past)) n x.under u) same is.1),
+      below header outside host past n (backing_of header o past).under u (subst (λ (x : D.Link). C.Below
+          (λ k. D.link (ground header outside) k (deeds header outside host past)) n x.under u) same is.1),
     )
 
-pub reach : (header : Header) (outside : Outside) (host o : ℕ) (past : List Event) → C.Reach (ground header outside) o (deeds header outside host past) → Reach header outside host o past
+pub reach : (header : Header) (outside : Outside) (host o : ℕ) (past : List Event) → C.Reach (ground header outside) o (deeds header outside host past)
+    → Reach header outside host o past
 reach header outside host o past is =
-    let same : D.row (ground header outside) is.0 (deeds header outside host past) ≡ as_row (in_use header outside host is.0 past) (region_of header is.0 past) = row_is header outside host is.0 past in
-    (is.0, is.1, sym (ap (λ (w : D.Row). w.used) same) ∙ is.2, below header outside host past is.1 (region_of header is.0 past).top o (subst (λ (w : D.Row). C.Below (λ k. D.link (ground header outside) k (deeds header outside host past)) is.1 w.top o) same is.3))
+    let same : D.row (ground header outside) is.0 (deeds header outside host past) ≡ as_row (in_use header outside host is.0 past)
+    (region_of header is.0 past) = row_is header outside host is.0 past in (
+      is.0,
+      is.1,
+      sym (ap (λ (w : D.Row). w.used) same) ∙ is.2,
+      below header outside host past is.1 (region_of header is.0 past).top o (subst
+          (λ (w : D.Row). C.Below (λ k. D.link (ground header outside) k (deeds header outside host past)) is.1 w.top o) same is.3),
+    )

@@ -40,13 +40,15 @@ ended file true true n last number (Some k) is = by_number (k == number)
     by_number true = dead file
     by_number false = is
 
-begun : (b : Bool) (n last number : ℕ) (live : Option ℕ) → living n last ≡ live → living (if b then 1 else n) (if b then number else last) ≡ (if b then Some number else live)
+begun : (b : Bool) (n last number : ℕ) (live : Option ℕ) → living n last ≡ live
+    → living (if b then 1 else n) (if b then number else last) ≡ (if b then Some number else live)
 begun true n last number live is = refl
 begun false n last number live is = is
 
 -- the object whose control ends is this one, or the event is about another
 same_live : (host o k : ℕ) (past : List Event) (own : Bool) (file : Bool) (n number : ℕ) → living n (last_control host o past) ≡ live_control host o past
-    → living (if (own && is_control number (live_control host k past)) && k == o then (if file then 0 else 2) else n) (last_control host o past) ≡ (if own && k == o then without_control number (live_control host o past) else live_control host o past)
+    → living (if (own && is_control number (live_control host k past)) && k == o then (if file then 0 else 2) else n)
+    (last_control host o past) ≡ (if own && k == o then without_control number (live_control host o past) else live_control host o past)
 same_live host o k past own file n number is = by_object (k == o) refl
   where
     away : (b : Bool) → living (if b && false then (if file then 0 else 2) else n) (last_control host o past) ≡ live_control host o past
@@ -57,17 +59,25 @@ same_live host o k past own file n number is = by_object (k == o) refl
     off true = refl
     off false = refl
 
-    by_object : (b : Bool) → (k == o) ≡ b → living (if (own && is_control number (live_control host k past)) && b then (if file then 0 else 2) else n) (last_control host o past) ≡ (if own && b then without_control number (live_control host o past) else live_control host o past)
+    by_object : (b : Bool) → (k == o) ≡ b → living (if (own && is_control number (live_control host k past)) && b then (if file then 0 else 2) else n)
+        (last_control host o past) ≡ (if own && b then without_control number (live_control host o past) else live_control host o past)
     by_object true e =
         let same : k ≡ o = grind (arith, nat_tests) in
-        ap (λ (j : ℕ). living (if (own && is_control number (live_control host j past)) && true then (if file then 0 else 2) else n) (last_control host o past)) same ∙ ended file own true n (last_control host o past) number (live_control host o past) is
+        ap (λ (j : ℕ). living (if (own && is_control number (live_control host j past)) && true then (if file then 0 else 2) else n) (last_control host o past))
+        same ∙ ended file own true n (last_control host o past) number (live_control host o past) is
     by_object false e = away (own && is_control number (live_control host k past)) ∙ sym (off own)
 
-pub control_is_live : (header : Header) (host o : ℕ) (past : List Event) → living (control header host o past) (last_control host o past) ≡ live_control host o past
+pub control_is_live : (header : Header) (host o : ℕ) (past : List Event)
+    → living (control header host o past) (last_control host o past) ≡ live_control host o past
 control_is_live header host o [] = refl
-control_is_live header host o (event.Sent (Up at to) (message.Init number size) ∷ past) = begun (at.0 == host && to.0 == o) (control header host o past) (last_control host o past) number (live_control host o past) (control_is_live header host o past)
-control_is_live header host o (event.Sent (Up at to) (message.Create number size) ∷ past) = begun (at.0 == host && to.0 == o) (control header host o past) (last_control host o past) number (live_control host o past) (control_is_live header host o past)
-control_is_live header host o (event.Sent (Up at to) (message.Terminate number) ∷ past) = same_live host o to.0 past (at.0 == host) (is_file header o) (control header host o past) number (control_is_live header host o past)
+control_is_live header host o (event.Sent (Up at to) (message.Init number size) ∷ past) =
+    begun (at.0 == host && to.0 == o) (control header host o past) (last_control host o past) number (live_control host o past)
+    (control_is_live header host o past)
+control_is_live header host o (event.Sent (Up at to) (message.Create number size) ∷ past) =
+    begun (at.0 == host && to.0 == o) (control header host o past) (last_control host o past) number (live_control host o past)
+    (control_is_live header host o past)
+control_is_live header host o (event.Sent (Up at to) (message.Terminate number) ∷ past) =
+    same_live host o to.0 past (at.0 == host) (is_file header o) (control header host o past) number (control_is_live header host o past)
 control_is_live header host o (event.Sent (Up at to) m ∷ past) = control_is_live header host o past
 control_is_live header host o (e ∷ past) = control_is_live header host o past
 
@@ -82,7 +92,9 @@ one_of n last number is = by_one (n == 1) refl is
     by_one false one e = absurd (cc)
 
 pub has_control : (header : Header) (host o number : ℕ) (past : List Event) → live_control host o past ≡ Some number → control header host o past ≡ 1
-has_control header host o number past lives = (one_of (control header host o past) (last_control host o past) number (control_is_live header host o past ∙ lives)).0
+has_control header host o number past lives =
+    (one_of (control header host o past) (last_control host o past) number (control_is_live header host o past ∙ lives)).0
 
 pub is_newest : (header : Header) (host o number : ℕ) (past : List Event) → live_control host o past ≡ Some number → last_control host o past ≡ number
-is_newest header host o number past lives = (one_of (control header host o past) (last_control host o past) number (control_is_live header host o past ∙ lives)).1
+is_newest header host o number past lives =
+    (one_of (control header host o past) (last_control host o past) number (control_is_live header host o past ∙ lives)).1

@@ -9,5 +9,6 @@ use Rattle.vm_legal.specs.Outside.{Outside}
 use Rattle.vm_flat.proofs.Law.{law}
 use Rattle.vm_flat.proofs.Translation.{sustained}
 
-pub answers : (header : Header) (outside : Outside) (history : List Event) → EachEvent (HasCause header outside) history → EachEvent (OwnBytes header) history → EachEvent (CopiesCurrent header outside) history → EachEvent (LoadsCurrent header outside) history → EachEvent (FlatBytes header outside) history
+pub answers : (header : Header) (outside : Outside) (history : List Event) → EachEvent (HasCause header outside) history → EachEvent (OwnBytes header) history
+    → EachEvent (CopiesCurrent header outside) history → EachEvent (LoadsCurrent header outside) history → EachEvent (FlatBytes header outside) history
 answers header outside history caused own current loads = law header outside history (sustained header outside history caused) own current loads

@@ -24,7 +24,8 @@ pub record Numbered (first : ℕ) (regions : ℕ → Region) (backings : ℕ →
   pub lower : (o : ℕ) → (backings o).backed ≡ true → first ≤ (backings o).under
 
 abbrev pub NumberedAt : Header → List Event → Type 0
-NumberedAt header past = Numbered (named header) (λ r. region_of header r past) (λ o. backing_of header o past) (next_region header past) (next_object header past)
+NumberedAt header past =
+    Numbered (named header) (λ r. region_of header r past) (λ o. backing_of header o past) (next_region header past) (next_object header past)
 
 pub numbered_start : (header : Header) → NumberedAt header []
 numbered_start header =
@@ -39,7 +40,8 @@ numbered_start header =
       lower = λ o backed. absurd (cc);
     }
 
-pub numbered_region_made : (header : Header) (region : RegionId) (object : ObjectId) (pages : ℕ) (past : List Event) → NumberedAt header past → region.0 ≡ next_region header past → object.0 ≡ next_object header past → NumberedAt header (event.RegionMade region object pages ∷ past)
+pub numbered_region_made : (header : Header) (region : RegionId) (object : ObjectId) (pages : ℕ) (past : List Event) → NumberedAt header past
+    → region.0 ≡ next_region header past → object.0 ≡ next_object header past → NumberedAt header (event.RegionMade region object pages ∷ past)
 numbered_region_made header region object pages past n is new =
     record {
       later_regions = omega (arith, n.later_regions);
@@ -58,19 +60,26 @@ numbered_region_made header region object pages past n is new =
     apart : (r : ℕ) → r < named header → r ≢ region.0
     apart r less e = omega (arith, less, e, is, n.later_regions)
 
-pub numbered_region_copied : (header : Header) (region source : RegionId) (offset pages : ℕ) (past : List Event) → NumberedAt header past → region.0 ≡ next_region header past → named header ≤ source.0 → source.0 < next_region header past → NumberedAt header (event.RegionCopied region source offset pages ∷ past)
+pub numbered_region_copied : (header : Header) (region source : RegionId) (offset pages : ℕ) (past : List Event) → NumberedAt header past
+    → region.0 ≡ next_region header past → named header ≤ source.0 → source.0 < next_region header past
+    → NumberedAt header (event.RegionCopied region source offset pages ∷ past)
 numbered_region_copied header region source offset pages past n is temporary made =
     record {
       later_regions = omega (arith, n.later_regions);
       later_objects = n.later_objects;
       declared_top = λ r less. if_no r region.0 (region_of header source.0 past).top (region_of header r past).top (apart r less) ∙ n.declared_top r less;
-      declared_shift = λ r less. if_no r region.0 ((region_of header source.0 past).shift + offset) (region_of header r past).shift (apart r less) ∙ n.declared_shift r less;
+      declared_shift =
+          λ r less. if_no r region.0 ((region_of header source.0 past).shift + offset) (region_of header r past).shift (apart r less) ∙ n.declared_shift r less;
       declared_mark = λ r less.
           if_no r region.0 true (if r == source.0 then true else (region_of header r past).mark) (apart r less)
           ∙ if_no r source.0 true (region_of header r past).mark (λ e. omega (arith, less, e, temporary)) ∙ n.declared_mark r less;
       temporary = λ r above below. elim (ℕ_discrete r region.0) [
         | yes e ↦ omega (arith, if_yes r region.0 (region_of header source.0 past).top (region_of header r past).top e, n.temporary source.0 temporary made)
-        | no other ↦ omega (arith, if_no r region.0 (region_of header source.0 past).top (region_of header r past).top other, n.temporary r above (omega (arith, below, other, is)))
+        | no other ↦ omega (
+          arith,
+          if_no r region.0 (region_of header source.0 past).top (region_of header r past).top other,
+          n.temporary r above (omega (arith, below, other, is)),
+        )
       ];
       upper = n.upper;
       lower = n.lower;
@@ -90,7 +99,9 @@ marked_later header r past n marked = by_test (nat_lt r (named header)) refl
     by_test true is = absurd (clash (region_of header r past).mark (n.declared_mark r (grind (arith, nat_tests))) marked)
     by_test false is = grind (arith, nat_tests)
 
-pub numbered_shadowed : (header : Header) (region : RegionId) (new old : ObjectId) (past : List Event) → NumberedAt header past → new.0 ≡ next_object header past → (region_of header region.0 past).mark ≡ true → region.0 < next_region header past → NumberedAt header (event.Shadowed region new old ∷ past)
+pub numbered_shadowed : (header : Header) (region : RegionId) (new old : ObjectId) (past : List Event) → NumberedAt header past
+    → new.0 ≡ next_object header past → (region_of header region.0 past).mark ≡ true → region.0 < next_region header past
+    → NumberedAt header (event.Shadowed region new old ∷ past)
 numbered_shadowed header region new old past n is marked made =
     record {
       later_regions = n.later_regions;
@@ -108,7 +119,11 @@ numbered_shadowed header region new old past n is marked made =
       ];
       lower = λ o backed. elim (ℕ_discrete o new.0) [
         | yes e ↦ omega (arith, if_yes o new.0 (region_of header region.0 past).top (backing_of header o past).under e, n.temporary region.0 later made)
-        | no other ↦ omega (arith, if_no o new.0 (region_of header region.0 past).top (backing_of header o past).under other, n.lower o (sym (if_no o new.0 true (backing_of header o past).backed other) ∙ backed))
+        | no other ↦ omega (
+          arith,
+          if_no o new.0 (region_of header region.0 past).top (backing_of header o past).under other,
+          n.lower o (sym (if_no o new.0 true (backing_of header o past).backed other) ∙ backed),
+        )
       ];
     }
   where
@@ -119,8 +134,10 @@ numbered_shadowed header region new old past n is marked made =
     apart r less e = omega (arith, less, e, marked_later header region.0 past n marked)
 
 -- temporary objects and regions are all alike
-pub later_alike : (header : Header) (outside : Outside) (a b : ℕ) → named header ≤ a → named header ≤ b → is_private header outside a ≡ is_private header outside b
-later_alike header outside a b above also = let x : nat_lt a (named header) ≡ false = grind (arith, nat_tests) in let y : nat_lt b (named header) ≡ false = grind (arith, nat_tests) in grind arith
+pub later_alike : (header : Header) (outside : Outside) (a b : ℕ) → named header ≤ a → named header ≤ b
+    → is_private header outside a ≡ is_private header outside b
+later_alike header outside a b above also =
+    let x : nat_lt a (named header) ≡ false = grind (arith, nat_tests) in let y : nat_lt b (named header) ≡ false = grind (arith, nat_tests) in grind arith
 
 pub told_private : (header : Header) (outside : Outside) (r : ℕ) → named header ≤ r → outside.paging ≡ true → is_private header outside r ≡ true
 told_private header outside r above told = let x : nat_lt r (named header) ≡ false = grind (arith, nat_tests) in grind arith

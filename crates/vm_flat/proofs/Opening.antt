@@ -30,8 +30,10 @@ ended_one false file n is small = small
 
 file_control : (header : Header) (host o : ℕ) (past : List Event) → is_file header o ≡ true → control header host o past ≤ 1
 file_control header host o [] is = omega arith
-file_control header host o (event.Sent (Up at to) (message.Init number size) ∷ past) is = other_one (at.0 == host && to.0 == o) _ (file_control header host o past is)
-file_control header host o (event.Sent (Up at to) (message.Create number size) ∷ past) is = other_one (at.0 == host && to.0 == o) _ (file_control header host o past is)
+file_control header host o (event.Sent (Up at to) (message.Init number size) ∷ past) is =
+    other_one (at.0 == host && to.0 == o) _ (file_control header host o past is)
+file_control header host o (event.Sent (Up at to) (message.Create number size) ∷ past) is =
+    other_one (at.0 == host && to.0 == o) _ (file_control header host o past is)
 file_control header host o (event.Sent (Up at to) (message.Terminate number) ∷ past) is =
     ended_one ((at.0 == host && is_control number (live_control host to.0 past)) && to.0 == o) (is_file header o) _ is (file_control header host o past is)
 file_control header host o (event.Sent (Up at to) m ∷ past) is = file_control header host o past is
@@ -45,7 +47,8 @@ dead n last is small = by_one (n == 1) refl is
     by_one false one e = grind (arith, nat_tests)
 
 pub unopened : (header : Header) (host o : ℕ) (past : List Event) → is_file header o ≡ true → live_control host o past ≡ None → control header host o past ≡ 0
-unopened header host o past is none = dead (control header host o past) (last_control host o past) (control_is_live header host o past ∙ none) (file_control header host o past is)
+unopened header host o past is none =
+    dead (control header host o past) (last_control host o past) (control_is_live header host o past ∙ none) (file_control header host o past is)
 
 -- a host that never had a control has none
 
@@ -57,14 +60,17 @@ number_is : (a b : ℕ) → (a == b) ≡ true → a ≡ b
 number_is a b is = grind (arith, nat_tests)
 
 -- this control is another's
-begun : (b : Bool) (number last n : ℕ) (live : Option ℕ) → (b ≡ true → (k : ℕ) × (number ≡ suc k)) → (if b then number else last) ≡ 0 → (last ≡ 0 → (n ≡ 0) × (live ≡ None))
+begun : (b : Bool) (number last n : ℕ) (live : Option ℕ) → (b ≡ true → (k : ℕ) × (number ≡ suc k)) → (if b then number else last) ≡ 0
+    → (last ≡ 0 → (n ≡ 0) × (live ≡ None))
     → ((if b then 1 else n) ≡ 0) × ((if b then Some number else live) ≡ None)
 begun true number last n live positive none was = let k : (k : ℕ) × (number ≡ suc k) = positive refl in absurd (omega (arith, k.1, none))
 begun false number last n live positive none was = was none
 
 -- there is none to end
-ended : (header : Header) (host o : ℕ) (at : HostId) (to : ObjectId) (number : ℕ) (past : List Event) → Never header host o past → Never header host o (event.Sent (Up at to) (message.Terminate number) ∷ past)
-ended header host o at to number past never = record { control = by_object (at.0 == host) (to.0 == o) refl; live = without (at.0 == host && to.0 == o) (live_control host o past) never.live }
+ended : (header : Header) (host o : ℕ) (at : HostId) (to : ObjectId) (number : ℕ) (past : List Event) → Never header host o past
+    → Never header host o (event.Sent (Up at to) (message.Terminate number) ∷ past)
+ended header host o at to number past never =
+    record { control = by_object (at.0 == host) (to.0 == o) refl; live = without (at.0 == host && to.0 == o) (live_control host o past) never.live }
   where
     without : (b : Bool) (live : Option ℕ) → live ≡ None → (if b then without_control number live else live) ≡ None
     without true None is = refl
@@ -85,14 +91,19 @@ ended header host o at to number past never = record { control = by_object (at.0
     away true false x y = refl
     away false b x y = refl
 
-    by_object : (a c : Bool) → (to.0 == o) ≡ c → (if (a && is_control number (live_control host to.0 past)) && c then (if is_file header o then 0 else 2) else control header host o past) ≡ 0
-    by_object a true same = off a (is_control number (live_control host to.0 past)) true _ (control header host o past) (ap (λ (k : ℕ). is_control number (live_control host k past)) (number_is to.0 o same) ∙ gone (live_control host o past) never.live) ∙ never.control
+    by_object : (a c : Bool) → (to.0 == o) ≡ c → (if (a && is_control number (live_control host to.0 past)) && c then (if is_file header o then 0 else 2) else
+        control header host o past) ≡ 0
+    by_object a true same =
+        off a (is_control number (live_control host to.0 past)) true _ (control header host o past)
+        (ap (λ (k : ℕ). is_control number (live_control host k past)) (number_is to.0 o same) ∙ gone (live_control host o past) never.live) ∙ never.control
     by_object a false same = away a (is_control number (live_control host to.0 past)) _ (control header host o past) ∙ never.control
 
-pub unmade : (header : Header) (outside : Outside) (host o : ℕ) (past : List Event) → EachEvent (HasCause header outside) past → last_control host o past ≡ 0 → Never header host o past
+pub unmade : (header : Header) (outside : Outside) (host o : ℕ) (past : List Event) → EachEvent (HasCause header outside) past → last_control host o past ≡ 0
+    → Never header host o past
 unmade header outside host o [] caused none = record { control = refl; live = refl }
 unmade header outside host o (event.Sent (Up at to) (message.Init number size) ∷ past) caused none =
-    let is : (control header host o (event.Sent (Up at to) (message.Init number size) ∷ past) ≡ 0) × (live_control host o (event.Sent (Up at to) (message.Init number size) ∷ past) ≡ None) =
+    let is : (control header host o (event.Sent (Up at to) (message.Init number size) ∷ past) ≡ 0)
+    × (live_control host o (event.Sent (Up at to) (message.Init number size) ∷ past) ≡ None) =
     begun (at.0 == host && to.0 == o) number (last_control host o past) (control header host o past) (live_control host o past) positive none
     (λ zero. let never : Never header host o past = unmade header outside host o past caused.1 zero in (never.control, never.live)) in
     record { control = is.0; live = is.1 }
@@ -101,7 +112,8 @@ unmade header outside host o (event.Sent (Up at to) (message.Init number size) �
     positive mine = by_cause header outside (event.Sent (Up at to) (message.Init number size)) past caused.0
         (λ doing c. (last_control at.0 to.0 past, c.number))
 unmade header outside host o (event.Sent (Up at to) (message.Create number size) ∷ past) caused none =
-    let is : (control header host o (event.Sent (Up at to) (message.Create number size) ∷ past) ≡ 0) × (live_control host o (event.Sent (Up at to) (message.Create number size) ∷ past) ≡ None) =
+    let is : (control header host o (event.Sent (Up at to) (message.Create number size) ∷ past) ≡ 0)
+    × (live_control host o (event.Sent (Up at to) (message.Create number size) ∷ past) ≡ None) =
     begun (at.0 == host && to.0 == o) number (last_control host o past) (control header host o past) (live_control host o past) positive none
     (λ zero. let never : Never header host o past = unmade header outside host o past caused.1 zero in (never.control, never.live)) in
     record { control = is.0; live = is.1 }
@@ -109,6 +121,9 @@ unmade header outside host o (event.Sent (Up at to) (message.Create number size)
     positive : (at.0 == host && to.0 == o) ≡ true → (k : ℕ) × (number ≡ suc k)
     positive mine = by_cause header outside (event.Sent (Up at to) (message.Create number size)) past caused.0
         (λ doing c. (0, c.number))
-unmade header outside host o (event.Sent (Up at to) (message.Terminate number) ∷ past) caused none = ended header host o at to number past (unmade header outside host o past caused.1 none)
-unmade header outside host o (event.Sent (Up at to) m ∷ past) caused none = let never : Never header host o past = unmade header outside host o past caused.1 none in record { control = never.control; live = never.live }
-unmade header outside host o (e ∷ past) caused none = let never : Never header host o past = unmade header outside host o past caused.1 none in record { control = never.control; live = never.live }
+unmade header outside host o (event.Sent (Up at to) (message.Terminate number) ∷ past) caused none =
+    ended header host o at to number past (unmade header outside host o past caused.1 none)
+unmade header outside host o (event.Sent (Up at to) m ∷ past) caused none =
+    let never : Never header host o past = unmade header outside host o past caused.1 none in record { control = never.control; live = never.live }
+unmade header outside host o (e ∷ past) caused none =
+    let never : Never header host o past = unmade header outside host o past caused.1 none in record { control = never.control; live = never.live }

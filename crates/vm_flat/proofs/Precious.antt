@@ -12,7 +12,8 @@ use Rattle.vm_model.specs.declared.message.Message.TheVariants as message
 use Rattle.vm_model.specs.declared.script.Header.{Header}
 use Rattle.vm_model.specs.Channels.{down_port, queue}
 use Rattle.vm_model.specs.Controls.{is_control, live_control}
-use Rattle.vm_model.specs.Local.{LocalEffect, Local, Place, Zeroes, Raises, Stores, Drops, Returns, Asks, Unlocks, TakesPage, TakesNothing, TakesError, TakesLock, Begins, Ends, Elsewhere, effect, is_on, is_place, local, local_after, sent_effect, taken_effect}
+use Rattle.vm_model.specs.Local.{LocalEffect, Local, Place, Zeroes, Raises, Stores, Drops, Returns, Asks, Unlocks, TakesPage, TakesNothing, TakesError}
+use Rattle.vm_model.specs.Local.{TakesLock, Begins, Ends, Elsewhere, effect, is_on, is_place, local, local_after, sent_effect, taken_effect}
 use Rattle.vm_model.specs.Moments.{EachEvent}
 use Rattle.vm_model.specs.Server.{first}
 use Rattle.vm_model.specs.Side.{rest}
@@ -43,7 +44,15 @@ plain_moved size Asks was is plain = plain
 plain_moved size Unlocks was is plain = plain
 plain_moved size (TakesPage lock precious bytes) was is plain = by was.asked
   where
-    by : (b : Bool) → (if b then record was { here = true; bytes = bytes; lock = lock; dirty = false; precious = precious; unlocking = false; asked = false } else was).precious ≡ false
+    by : (b : Bool) → (if b then record was {
+      here = true;
+      bytes = bytes;
+      lock = lock;
+      dirty = false;
+      precious = precious;
+      unlocking = false;
+      asked = false;
+    } else was).precious ≡ false
     by true = is
     by false = plain
 plain_moved size TakesNothing was is plain = by was.asked
@@ -88,7 +97,8 @@ front : (q : List Message) (m : Message) → first q ≡ Some m → AreUnpreciou
 front [] m is all = absurd (cc)
 front (x ∷ q) m is all = let same : x ≡ m = cc in subst (λ (y : Message). IsUnprecious y) same all.0
 
-sent_plain : (header : Header) (outside : Outside) (doing : Command) (host o control : ℕ) (m : Message) (past : List Event) → MaySendDown header outside doing host o control m past → IsUnprecious m
+sent_plain : (header : Header) (outside : Outside) (doing : Command) (host o control : ℕ) (m : Message) (past : List Event)
+    → MaySendDown header outside doing host o control m past → IsUnprecious m
 sent_plain header outside doing host o control (message.Supply page lock precious bytes) past c = c.3
 sent_plain header outside doing host o control other past c = tt
 
@@ -128,25 +138,33 @@ sources header host past = λ source. local header.size host source past
 object_is : (a h b o k n : ℕ) (x : Bool) → (a == h && (b == o && x)) ≡ true → b ≡ o
 object_is a h b o k n x is = grind (arith, nat_tests)
 
-event_plain : (header : Header) (outside : Outside) (host o p : ℕ) (e : Event) (past : List Event) → Plain header past → HasCause header outside e past → is_paged header o ≡ true → IsPlain (effect host (spot o p) (sources header host past) e past)
+event_plain : (header : Header) (outside : Outside) (host o p : ℕ) (e : Event) (past : List Event) → Plain header past → HasCause header outside e past
+    → is_paged header o ≡ true → IsPlain (effect host (spot o p) (sources header host past) e past)
 event_plain header outside host o p (event.Zeroed at object page) past was c paged = plain_if (at.0 == host && is_place (spot o p) object.0 page.0) Zeroes tt
-event_plain header outside host o p (event.Raised at lower lower_page upper upper_page) past was c paged = plain_if (at.0 == host && is_place (spot o p) upper.0 upper_page.0) (Raises _) tt
-event_plain header outside host o p (event.CopiedPage task page object object_page target) past was c paged = plain_if (is_on host (host_of task.0 past) && is_place (spot o p) target.0 page.0) (Raises _) tt
-event_plain header outside host o p (event.Stored task object page at size value) past was c paged = plain_if (is_on host (host_of task.0 past) && is_place (spot o p) object.0 page.0) (Stores at (little_endian_bytes size value)) tt
+event_plain header outside host o p (event.Raised at lower lower_page upper upper_page) past was c paged =
+    plain_if (at.0 == host && is_place (spot o p) upper.0 upper_page.0) (Raises _) tt
+event_plain header outside host o p (event.CopiedPage task page object object_page target) past was c paged =
+    plain_if (is_on host (host_of task.0 past) && is_place (spot o p) target.0 page.0) (Raises _) tt
+event_plain header outside host o p (event.Stored task object page at size value) past was c paged =
+    plain_if (is_on host (host_of task.0 past) && is_place (spot o p) object.0 page.0) (Stores at (little_endian_bytes size value)) tt
 event_plain header outside host o p (event.Dropped at object page) past was c paged = plain_if (at.0 == host && is_place (spot o p) object.0 page.0) Drops tt
-event_plain header outside host o p (event.Sent (Up at object) m) past was c paged = plain_if (at.0 == host && object.0 == o) (sent_effect p (live_control host o past) m) (up_plain p (live_control host o past) m)
+event_plain header outside host o p (event.Sent (Up at object) m) past was c paged =
+    plain_if (at.0 == host && object.0 == o) (sent_effect p (live_control host o past) m) (up_plain p (live_control host o past) m)
 event_plain header outside host o p (event.Taken (Down at object control) m) past was c paged =
     guarded (at.0 == host && (object.0 == o && is_control control (live_control host o past))) (taken_effect p m)
     (λ own. down_plain p m (front (queue (Down at object control) past) m c.1.0 (was.queued at.0 object.0 control
     (ap (λ (k : ℕ). is_paged header k) (object_is at.0 host object.0 o control control (is_control control (live_control host o past)) own) ∙ paged))))
 event_plain header outside host o p other past was c paged = tt
 
-queue_plain : (header : Header) (outside : Outside) (h o k : ℕ) (e : Event) (past : List Event) → Plain header past → HasCause header outside e past → is_paged header o ≡ true → AreUnprecious (queue (down_port h o k) (e ∷ past))
+queue_plain : (header : Header) (outside : Outside) (h o k : ℕ) (e : Event) (past : List Event) → Plain header past → HasCause header outside e past
+    → is_paged header o ≡ true → AreUnprecious (queue (down_port h o k) (e ∷ past))
 queue_plain header outside h o k (event.Sent (Down at object n) m) past was c paged =
     added (at.0 == h && (object.0 == o && n == k)) (queue (down_port h o k) past) m
     (λ own. sent_plain header outside c.0 at.0 object.0 n m past
-    (paged_may header outside c.0 at.0 object.0 n m past (ap (λ (j : ℕ). is_paged header j) (object_is at.0 h object.0 o k n (n == k) own) ∙ paged) c.1)) (was.queued h o k paged)
-queue_plain header outside h o k (event.Taken (Down at object n) m) past was c paged = less (at.0 == h && (object.0 == o && n == k)) (queue (down_port h o k) past) (was.queued h o k paged)
+    (paged_may header outside c.0 at.0 object.0 n m past (ap (λ (j : ℕ). is_paged header j) (object_is at.0 h object.0 o k n (n == k) own) ∙ paged) c.1))
+    (was.queued h o k paged)
+queue_plain header outside h o k (event.Taken (Down at object n) m) past was c paged =
+    less (at.0 == h && (object.0 == o && n == k)) (queue (down_port h o k) past) (was.queued h o k paged)
 queue_plain header outside h o k e past was c paged = was.queued h o k paged
 
 plain_of : (header : Header) (outside : Outside) (past : List Event) → EachEvent (HasCause header outside) past → Plain header past
@@ -156,8 +174,10 @@ plain_of header outside (e ∷ past) caused =
     record {
       queued = λ h o k paged. queue_plain header outside h o k e past was caused.0 paged;
       here = λ h o p paged.
-          plain_moved header.size (effect h (spot o p) (sources header h past) e past) (page_on header h o p past) (event_plain header outside h o p e past was caused.0 paged) (was.here h o p paged);
+          plain_moved header.size (effect h (spot o p) (sources header h past) e past) (page_on header h o p past)
+          (event_plain header outside h o p e past was caused.0 paged) (was.here h o p paged);
     }
 
-pub unprecious : (header : Header) (outside : Outside) (host o p : ℕ) (past : List Event) → EachEvent (HasCause header outside) past → is_paged header o ≡ true → (page_on header host o p past).precious ≡ false
+pub unprecious : (header : Header) (outside : Outside) (host o p : ℕ) (past : List Event) → EachEvent (HasCause header outside) past → is_paged header o ≡ true
+    → (page_on header host o p past).precious ≡ false
 unprecious header outside host o p past caused paged = (plain_of header outside past caused).here host o p paged

@@ -38,14 +38,17 @@ use Rattle.vm_flat.proofs.Using.{by_cause, counted, named_regions}
 use Rattle.vm_flat.proofs.World.{World, placed, reach_top, view}
 
 -- a declared object has the pages that were declared
-pub pages_declared : (header : Header) (outside : Outside) (r : ℕ) (past : List Event) → EachEvent (HasCause header outside) past → r < named header → (region_of header r past).pages ≡ declared_pages header r
+pub pages_declared : (header : Header) (outside : Outside) (r : ℕ) (past : List Event) → EachEvent (HasCause header outside) past → r < named header
+    → (region_of header r past).pages ≡ declared_pages header r
 pages_declared header outside r [] caused below = refl
 pages_declared header outside r (event.RegionMade new object pages ∷ past) caused below =
     by_cause header outside (event.RegionMade new object pages) past caused.0
-    (λ doing c. if_no r new.0 pages (region_of header r past).pages (λ same. omega (arith, same, below, c.0, named_regions header past)) ∙ pages_declared header outside r past caused.1 below)
+    (λ doing c. if_no r new.0 pages (region_of header r past).pages (λ same. omega (arith, same, below, c.0, named_regions header past))
+    ∙ pages_declared header outside r past caused.1 below)
 pages_declared header outside r (event.RegionCopied new source offset pages ∷ past) caused below =
     by_cause header outside (event.RegionCopied new source offset pages) past caused.0
-    (λ doing c. if_no r new.0 pages (region_of header r past).pages (λ same. omega (arith, same, below, c.next, named_regions header past)) ∙ pages_declared header outside r past caused.1 below)
+    (λ doing c. if_no r new.0 pages (region_of header r past).pages (λ same. omega (arith, same, below, c.next, named_regions header past))
+    ∙ pages_declared header outside r past caused.1 below)
 pages_declared header outside r (e ∷ past) caused below = pages_declared header outside r past caused.1 below
 
 -- unless a changed page is here, its content is what was returned last
@@ -62,8 +65,10 @@ has_some None true first file = (first, refl)
 has_some (Some bytes) true first file = (bytes, refl)
 has_some was false first file = absurd (let bad : false ≡ true = file in cc)
 
-pub settled : (header : Header) (outside : Outside) (history : List Event) → EachEvent (HasCause header outside) history → EachEvent (CopiesCurrent header outside) history → (host o p : ℕ) → is_file header o ≡ true → is_said header outside o ≡ false
-    → V.in_use header host o history ≡ true → p < declared_pages header o → queue (up_port host o) history ≡ [] → ((page_on header host o p history).here ≡ true → (page_on header host o p history).dirty ≡ false)
+pub settled : (header : Header) (outside : Outside) (history : List Event) → EachEvent (HasCause header outside) history
+    → EachEvent (CopiesCurrent header outside) history → (host o p : ℕ) → is_file header o ≡ true → is_said header outside o ≡ false
+    → V.in_use header host o history ≡ true → p < declared_pages header o → queue (up_port host o) history ≡ []
+    → ((page_on header host o p history).here ≡ true → (page_on header host o p history).dirty ≡ false)
     → pager_has header outside host o p history ≡ Some (flat_page header outside o p history)
 settled header outside history caused current host o p file silent used inside empty clean =
     by (has_some (last_return host o p history) (is_file header o) (start_page header outside o p) file)
@@ -91,21 +96,29 @@ settled header outside history caused current host o p file silent used inside e
     top = record { object = h.numbered.declared_top o below; page = let shift = h.numbered.declared_shift o below in omega (arith, shift) }
 
     at : C.Tops (ground header outside) o p o p (deeds header outside host history)
-    at = tops header outside host o p o p history (counted header outside host o history caused private used) top (subst (λ (n : ℕ). p < n) (sym (pages_declared header outside o history caused below)) inside)
+    at =
+        tops header outside host o p o p history (counted header outside host o history caused private used) top
+        (subst (λ (n : ℕ). p < n) (sym (pages_declared header outside o history caused below)) inside)
 
     w : World (ground header outside) (deeds header outside host history)
     w = h.worlds host
 
-    shows : (bytes : List ℕ) → content (D.spot (ground header outside) o p (deeds header outside host history)) ≡ Some bytes → view (ground header outside) o p (deeds header outside host history) ≡ bytes
-    shows bytes is = let reach = reach_top (ground header outside) o p o p (deeds header outside host history) w.shape at in ((placed (ground header outside) o p (deeds header outside host history) w reach).fits reach).solid bytes is
+    shows : (bytes : List ℕ) → content (D.spot (ground header outside) o p (deeds header outside host history)) ≡ Some bytes
+        → view (ground header outside) o p (deeds header outside host history) ≡ bytes
+    shows bytes is =
+        let reach = reach_top (ground header outside) o p o p (deeds header outside host history) w.shape
+        at in ((placed (ground header outside) o p (deeds header outside host history) w reach).fits reach).solid bytes is
 
     flat : D.flat (ground header outside) o p (deeds header outside host history) ≡ view (ground header outside) o p (deeds header outside host history)
     flat =
-        w.regional o p at.used at.inside ∙ ap (λ k. view (ground header outside) k ((D.row (ground header outside) o (deeds header outside host history)).shift + p) (deeds header outside host history)) at.object
+        w.regional o p at.used at.inside ∙ ap (λ k. view (ground header outside) k
+        ((D.row (ground header outside) o (deeds header outside host history)).shift + p) (deeds header outside host history)) at.object
         ∙ ap (λ q. view (ground header outside) o q (deeds header outside host history)) at.page
 
-    by : (bytes : List ℕ) × (pager_has header outside host o p history ≡ Some bytes) → pager_has header outside host o p history ≡ Some (flat_page header outside o p history)
+    by : (bytes : List ℕ) × (pager_has header outside host o p history ≡ Some bytes)
+        → pager_has header outside host o p history ≡ Some (flat_page header outside o p history)
     by (bytes, has) =
         let is : content (D.spot (ground header outside) o p (deeds header outside host history)) ≡ Some bytes =
-        ap content (spot_is header outside host o p history) ∙ content_clean s (page_on header host o p history) i.here i.dirty clean ∙ sym taken ∙ kept_is header outside host o p history silent ∙ has in
+        ap content (spot_is header outside host o p history) ∙ content_clean s (page_on header host o p history) i.here i.dirty clean ∙ sym taken
+        ∙ kept_is header outside host o p history silent ∙ has in
         has ∙ ap Some (sym (shows bytes is) ∙ sym flat ∙ h.flats host o p)

@@ -19,12 +19,19 @@ use Rattle.vm_legal.specs.Outside.{Outside, Untold, is_shared}
 use Rattle.vm_legal.specs.Bytes.{OwnBytes, CopiesCurrent, FlatBytes}
 use Rattle.vm_legal.specs.Licences.{HasCause, IsDoneAt, Wanted, Flushed}
 use Rattle.vm_legal.specs.Walks.{page_on}
-use Rattle.vm_flat.proofs.FileStart.{all, mapped, settling, past_0, past_1, past_2, past_3, past_4, past_5, past_6, past_7, past_8, past_9, past_10, past_11, past_12, past_13, past_14, past_15, past_16}
+use Rattle.vm_flat.proofs.FileStart.{all, mapped, settling, past_0, past_1, past_2, past_3, past_4, past_5, past_6, past_7, past_8, past_9, past_10, past_11}
+use Rattle.vm_flat.proofs.FileStart.{past_12, past_13, past_14, past_15, past_16}
 use Rattle.vm_legal.proofs.Unshared.{NoneIsShared, loads_unshared, none_shared}
 use Rattle.vm_flat.proofs.Loads.{answers}
 
 abbrev header : Header
-header = record { size = 16; slots = 1; frames = record { items = 8 ∷ []; room = 0 }; objects = record { items = record { name = 102 ∷ []; kind = File; pages = 1 } ∷ []; room = 0 } }
+header =
+    record {
+      size = 16;
+      slots = 1;
+      frames = record { items = 8 ∷ []; room = 0 };
+      objects = record { items = record { name = 102 ∷ []; kind = File; pages = 1 } ∷ []; room = 0 };
+    }
 
 abbrev outside : Outside
 outside = record { files = Untold; paging = true }
@@ -94,13 +101,17 @@ abbrev past_34 : List Event
 past_34 = event.Taken (Down (record { 0 = 0 }) (record { 0 = 0 }) 1) (message.Lock (record { 0 = 0 }) 1 2 true 8 true) ∷ past_33
 
 abbrev past_35 : List Event
-past_35 = event.Sent (Up (record { 0 = 0 }) (record { 0 = 0 })) (message.Return 1 (record { 0 = 0 }) true false (9 ∷ 5 ∷ 0 ∷ 0 ∷ 0 ∷ 0 ∷ 0 ∷ 0 ∷ 0 ∷ 0 ∷ 0 ∷ 0 ∷ 0 ∷ 0 ∷ 0 ∷ 0 ∷ [])) ∷ past_34
+past_35 =
+    event.Sent (Up (record { 0 = 0 }) (record { 0 = 0 })) (message.Return 1 (record { 0 = 0 }) true false
+    (9 ∷ 5 ∷ 0 ∷ 0 ∷ 0 ∷ 0 ∷ 0 ∷ 0 ∷ 0 ∷ 0 ∷ 0 ∷ 0 ∷ 0 ∷ 0 ∷ 0 ∷ 0 ∷ [])) ∷ past_34
 
 abbrev past_36 : List Event
 past_36 = event.Sent (Up (record { 0 = 0 }) (record { 0 = 0 })) (message.Completed 1 (record { 0 = 0 }) 1) ∷ past_35
 
 abbrev past_37 : List Event
-past_37 = event.Taken (Up (record { 0 = 0 }) (record { 0 = 0 })) (message.Return 1 (record { 0 = 0 }) true false (9 ∷ 5 ∷ 0 ∷ 0 ∷ 0 ∷ 0 ∷ 0 ∷ 0 ∷ 0 ∷ 0 ∷ 0 ∷ 0 ∷ 0 ∷ 0 ∷ 0 ∷ 0 ∷ [])) ∷ past_36
+past_37 =
+    event.Taken (Up (record { 0 = 0 }) (record { 0 = 0 })) (message.Return 1 (record { 0 = 0 }) true false
+    (9 ∷ 5 ∷ 0 ∷ 0 ∷ 0 ∷ 0 ∷ 0 ∷ 0 ∷ 0 ∷ 0 ∷ 0 ∷ 0 ∷ 0 ∷ 0 ∷ 0 ∷ 0 ∷ [])) ∷ past_36
 
 abbrev past_38 : List Event
 past_38 = event.Taken (Up (record { 0 = 0 }) (record { 0 = 0 })) (message.Completed 1 (record { 0 = 0 }) 1) ∷ past_37
@@ -121,10 +132,14 @@ abbrev past_43 : List Event
 past_43 = event.Taken (Up (record { 0 = 0 }) (record { 0 = 0 })) (message.Request 1 (record { 0 = 0 }) 1) ∷ past_42
 
 abbrev past_44 : List Event
-past_44 = event.Sent (Down (record { 0 = 0 }) (record { 0 = 0 }) 1) (message.Supply (record { 0 = 0 }) 0 false (9 ∷ 5 ∷ 0 ∷ 0 ∷ 0 ∷ 0 ∷ 0 ∷ 0 ∷ 0 ∷ 0 ∷ 0 ∷ 0 ∷ 0 ∷ 0 ∷ 0 ∷ 0 ∷ [])) ∷ past_43
+past_44 =
+    event.Sent (Down (record { 0 = 0 }) (record { 0 = 0 }) 1) (message.Supply (record { 0 = 0 }) 0 false
+    (9 ∷ 5 ∷ 0 ∷ 0 ∷ 0 ∷ 0 ∷ 0 ∷ 0 ∷ 0 ∷ 0 ∷ 0 ∷ 0 ∷ 0 ∷ 0 ∷ 0 ∷ 0 ∷ [])) ∷ past_43
 
 abbrev past_45 : List Event
-past_45 = event.Taken (Down (record { 0 = 0 }) (record { 0 = 0 }) 1) (message.Supply (record { 0 = 0 }) 0 false (9 ∷ 5 ∷ 0 ∷ 0 ∷ 0 ∷ 0 ∷ 0 ∷ 0 ∷ 0 ∷ 0 ∷ 0 ∷ 0 ∷ 0 ∷ 0 ∷ 0 ∷ 0 ∷ [])) ∷ past_44
+past_45 =
+    event.Taken (Down (record { 0 = 0 }) (record { 0 = 0 }) 1) (message.Supply (record { 0 = 0 }) 0 false
+    (9 ∷ 5 ∷ 0 ∷ 0 ∷ 0 ∷ 0 ∷ 0 ∷ 0 ∷ 0 ∷ 0 ∷ 0 ∷ 0 ∷ 0 ∷ 0 ∷ 0 ∷ 0 ∷ [])) ∷ past_44
 
 abbrev past_46 : List Event
 past_46 = event.Loaded (record { 0 = 0 }) (record { 0 = 0 }) (record { 0 = 0 }) 1289 ∷ past_45
@@ -157,10 +172,42 @@ caused_2 : EachEvent (HasCause header outside) past_2
 caused_2 = ((settling, tt), caused_1)
 
 caused_3 : EachEvent (HasCause header outside) past_3
-caused_3 = ((settling, record { idle = refl; host = 0; lives = refl; whole = refl; inside = omega arith; made = omega arith; used = λ above. refl; file = λ is. refl; unfilled = refl }), caused_2)
+caused_3 = (
+  (
+    settling,
+    record {
+      idle = refl;
+      host = 0;
+      lives = refl;
+      whole = refl;
+      inside = omega arith;
+      made = omega arith;
+      used = λ above. refl;
+      file = λ is. refl;
+      unfilled = refl;
+    },
+  ),
+  caused_2,
+)
 
 caused_4 : EachEvent (HasCause header outside) past_4
-caused_4 = ((settling, record { number = refl; sized = refl; declared = omega arith; none = refl; task = 0; address = 64; at = record { host = 0; entry = mapped; lives = refl; found = refl }; on_host = refl; region = refl }), caused_3)
+caused_4 = (
+  (
+    settling,
+    record {
+      number = refl;
+      sized = refl;
+      declared = omega arith;
+      none = refl;
+      task = 0;
+      address = 64;
+      at = record { host = 0; entry = mapped; lives = refl; found = refl };
+      on_host = refl;
+      region = refl;
+    },
+  ),
+  caused_3,
+)
 
 caused_5 : EachEvent (HasCause header outside) past_5
 caused_5 = ((settling, tt), caused_4)
@@ -181,19 +228,67 @@ caused_10 : EachEvent (HasCause header outside) past_10
 caused_10 = ((settling, (refl, (refl, omega arith))), caused_9)
 
 caused_11 : EachEvent (HasCause header outside) past_11
-caused_11 = ((settling, record { task = 0; access = Loading 64 2; waits = record { waits = refl; at = record { host = 0; entry = mapped; lives = refl; found = refl }; left = tt }; on_host = refl; unmarked = λ store. refl; comes = record { top = 0; top_page = 0; steps = 0; is_top = record { object = refl; page = refl }; walks = (refl, refl) }; number = refl; live = refl; ready = refl; away = refl; unasked = refl; known = refl }), caused_10)
+caused_11 = (
+  (
+    settling,
+    record {
+      task = 0;
+      access = Loading 64 2;
+      waits = record { waits = refl; at = record { host = 0; entry = mapped; lives = refl; found = refl }; left = tt };
+      on_host = refl;
+      unmarked = λ store. refl;
+      comes = record { top = 0; top_page = 0; steps = 0; is_top = record { object = refl; page = refl }; walks = (refl, refl) };
+      number = refl;
+      live = refl;
+      ready = refl;
+      away = refl;
+      unasked = refl;
+      known = refl;
+    },
+  ),
+  caused_10,
+)
 
 caused_12 : EachEvent (HasCause header outside) past_12
 caused_12 = ((settling, (refl, (refl, omega arith))), caused_11)
 
 caused_13 : EachEvent (HasCause header outside) past_13
-caused_13 = ((settling, (record { access = 1; taken = refl; unanswered = refl }, record { kept = refl; read = refl }, refl, refl, λ temporary. absurd (cc), λ told. absurd (cc))), caused_12)
+caused_13 = (
+  (
+    settling,
+    (
+      record { access = 1; taken = refl; unanswered = refl },
+      record { kept = refl; read = refl },
+      refl,
+      refl,
+      λ temporary. absurd (cc),
+      λ told. absurd (cc),
+    ),
+  ),
+  caused_12,
+)
 
 caused_14 : EachEvent (HasCause header outside) past_14
 caused_14 = ((settling, (refl, (refl, omega arith))), caused_13)
 
 caused_15 : EachEvent (HasCause header outside) past_15
-caused_15 = ((settling, record { address = 64; bytes = 2; waits = record { waits = refl; at = record { host = 0; entry = mapped; lives = refl; found = refl }; left = tt }; comes = record { top = 0; top_page = 0; steps = 0; is_top = record { object = refl; page = refl }; walks = (refl, refl) }; here = refl }), caused_14)
+caused_15 = (
+  (
+    settling,
+    record {
+      address = 64;
+      bytes = 2;
+      waits = record {
+        waits = refl;
+        at = record { host = 0; entry = mapped; lives = refl; found = refl };
+        left = tt;
+      };
+      comes = record { top = 0; top_page = 0; steps = 0; is_top = record { object = refl; page = refl }; walks = (refl, refl) };
+      here = refl;
+    },
+  ),
+  caused_14,
+)
 
 caused_16 : EachEvent (HasCause header outside) past_16
 caused_16 = ((settling, tt), caused_15)
@@ -205,13 +300,50 @@ caused_18 : EachEvent (HasCause header outside) past_18
 caused_18 = ((settling, (refl, refl)), caused_17)
 
 caused_19 : EachEvent (HasCause header outside) past_19
-caused_19 = ((settling, record { address = 64; bytes = 16; to = 128; waits = record { waits = refl; at = record { host = 0; entry = mapped; lives = refl; found = refl }; left = omega arith }; next = refl; declared = omega arith; supplied = refl; is_top = record { object = refl; page = refl }; here = refl; region = 1; filled = refl; inside = omega arith; away = refl; unasked = refl }), caused_18)
+caused_19 = (
+  (
+    settling,
+    record {
+      address = 64;
+      bytes = 16;
+      to = 128;
+      waits = record { waits = refl; at = record { host = 0; entry = mapped; lives = refl; found = refl }; left = omega arith };
+      next = refl;
+      declared = omega arith;
+      supplied = refl;
+      is_top = record { object = refl; page = refl };
+      here = refl;
+      region = 1;
+      filled = refl;
+      inside = omega arith;
+      away = refl;
+      unasked = refl;
+    },
+  ),
+  caused_18,
+)
 
 caused_20 : EachEvent (HasCause header outside) past_20
 caused_20 = ((settling, record { address = 64; bytes = 16; to = 128; waits = refl; all = refl }), caused_19)
 
 caused_21 : EachEvent (HasCause header outside) past_21
-caused_21 = ((settling, record { idle = refl; host = 0; lives = refl; whole = refl; inside = omega arith; made = omega arith; used = λ above. refl; file = λ is. refl; unfilled = refl }), caused_20)
+caused_21 = (
+  (
+    settling,
+    record {
+      idle = refl;
+      host = 0;
+      lives = refl;
+      whole = refl;
+      inside = omega arith;
+      made = omega arith;
+      used = λ above. refl;
+      file = λ is. refl;
+      unfilled = refl;
+    },
+  ),
+  caused_20,
+)
 
 caused_22 : EachEvent (HasCause header outside) past_22
 caused_22 = ((settling, tt), caused_21)
@@ -220,7 +352,20 @@ caused_23 : EachEvent (HasCause header outside) past_23
 caused_23 = ((settling, refl), caused_22)
 
 caused_24 : EachEvent (HasCause header outside) past_24
-caused_24 = ((settling, record { address = 64; waits = record { waits = refl; at = record { host = 0; entry = mapped; lives = refl; found = refl }; left = tt }; is_top = record { object = refl; page = refl }; unmarked = refl; here = refl; place = refl }), caused_23)
+caused_24 = (
+  (
+    settling,
+    record {
+      address = 64;
+      waits = record { waits = refl; at = record { host = 0; entry = mapped; lives = refl; found = refl }; left = tt };
+      is_top = record { object = refl; page = refl };
+      unmarked = refl;
+      here = refl;
+      place = refl;
+    },
+  ),
+  caused_23,
+)
 
 caused_25 : EachEvent (HasCause header outside) past_25
 caused_25 = ((settling, tt), caused_24)
@@ -229,7 +374,23 @@ caused_26 : EachEvent (HasCause header outside) past_26
 caused_26 = ((settling, refl), caused_25)
 
 caused_27 : EachEvent (HasCause header outside) past_27
-caused_27 = ((settling, record { address = 128; bytes = 2; waits = record { waits = refl; at = record { host = 0; entry = copy; lives = refl; found = refl }; left = tt }; comes = record { top = 1; top_page = 0; steps = 0; is_top = record { object = refl; page = refl }; walks = (refl, refl) }; here = refl }), caused_26)
+caused_27 = (
+  (
+    settling,
+    record {
+      address = 128;
+      bytes = 2;
+      waits = record {
+        waits = refl;
+        at = record { host = 0; entry = copy; lives = refl; found = refl };
+        left = tt;
+      };
+      comes = record { top = 1; top_page = 0; steps = 0; is_top = record { object = refl; page = refl }; walks = (refl, refl) };
+      here = refl;
+    },
+  ),
+  caused_26,
+)
 
 caused_28 : EachEvent (HasCause header outside) past_28
 caused_28 = ((settling, tt), caused_27)
@@ -238,7 +399,23 @@ caused_29 : EachEvent (HasCause header outside) past_29
 caused_29 = ((settling, refl), caused_28)
 
 caused_30 : EachEvent (HasCause header outside) past_30
-caused_30 = ((settling, record { address = 64; bytes = 2; waits = record { waits = refl; at = record { host = 0; entry = mapped; lives = refl; found = refl }; left = tt }; comes = record { top = 0; top_page = 0; steps = 0; is_top = record { object = refl; page = refl }; walks = (refl, refl) }; here = refl }), caused_29)
+caused_30 = (
+  (
+    settling,
+    record {
+      address = 64;
+      bytes = 2;
+      waits = record {
+        waits = refl;
+        at = record { host = 0; entry = mapped; lives = refl; found = refl };
+        left = tt;
+      };
+      comes = record { top = 0; top_page = 0; steps = 0; is_top = record { object = refl; page = refl }; walks = (refl, refl) };
+      here = refl;
+    },
+  ),
+  caused_29,
+)
 
 caused_31 : EachEvent (HasCause header outside) past_31
 caused_31 = ((settling, tt), caused_30)
@@ -253,10 +430,48 @@ caused_34 : EachEvent (HasCause header outside) past_34
 caused_34 = ((settling, (refl, (refl, omega arith))), caused_33)
 
 caused_35 : EachEvent (HasCause header outside) past_35
-caused_35 = ((settling, record { live = refl; here = refl; due = refl; same = refl; flag = refl; why = Wanted 2 true (record { control = 1; first = 0; count = 1; lock = 8; reply = true; taken = refl; from = omega arith; below = omega arith; undone = refl; rising = λ later above. refl }) refl refl }), caused_34)
+caused_35 = (
+  (
+    settling,
+    record {
+      live = refl;
+      here = refl;
+      due = refl;
+      same = refl;
+      flag = refl;
+      why = Wanted 2 true (record {
+        control = 1;
+        first = 0;
+        count = 1;
+        lock = 8;
+        reply = true;
+        taken = refl;
+        from = omega arith;
+        below = omega arith;
+        undone = refl;
+        rising = λ later above. refl;
+      }) refl refl;
+    },
+  ),
+  caused_34,
+)
 
 caused_36 : EachEvent (HasCause header outside) past_36
-caused_36 = ((settling, record { live = refl; returns = 2; flush = true; lock = 8; taken = refl; once = refl; done = λ page from below. flushed page past_35 (λ here. absurd (let bad : false ≡ true = here in cc)) below }), caused_35)
+caused_36 = (
+  (
+    settling,
+    record {
+      live = refl;
+      returns = 2;
+      flush = true;
+      lock = 8;
+      taken = refl;
+      once = refl;
+      done = λ page from below. flushed page past_35 (λ here. absurd (let bad : false ≡ true = here in cc)) below;
+    },
+  ),
+  caused_35,
+)
 
 caused_37 : EachEvent (HasCause header outside) past_37
 caused_37 = ((settling, (refl, (refl, omega arith))), caused_36)
@@ -271,7 +486,26 @@ caused_40 : EachEvent (HasCause header outside) past_40
 caused_40 = ((settling, refl), caused_39)
 
 caused_41 : EachEvent (HasCause header outside) past_41
-caused_41 = ((settling, record { task = 0; access = Loading 64 2; waits = record { waits = refl; at = record { host = 0; entry = mapped; lives = refl; found = refl }; left = tt }; on_host = refl; unmarked = λ store. refl; comes = record { top = 0; top_page = 0; steps = 0; is_top = record { object = refl; page = refl }; walks = (refl, refl) }; number = refl; live = refl; ready = refl; away = refl; unasked = refl; known = refl }), caused_40)
+caused_41 = (
+  (
+    settling,
+    record {
+      task = 0;
+      access = Loading 64 2;
+      waits = record { waits = refl; at = record { host = 0; entry = mapped; lives = refl; found = refl }; left = tt };
+      on_host = refl;
+      unmarked = λ store. refl;
+      comes = record { top = 0; top_page = 0; steps = 0; is_top = record { object = refl; page = refl }; walks = (refl, refl) };
+      number = refl;
+      live = refl;
+      ready = refl;
+      away = refl;
+      unasked = refl;
+      known = refl;
+    },
+  ),
+  caused_40,
+)
 
 caused_42 : EachEvent (HasCause header outside) past_42
 caused_42 = ((settling, tt), caused_41)
@@ -280,13 +514,42 @@ caused_43 : EachEvent (HasCause header outside) past_43
 caused_43 = ((settling, (refl, (refl, omega arith))), caused_42)
 
 caused_44 : EachEvent (HasCause header outside) past_44
-caused_44 = ((settling, (record { access = 1; taken = refl; unanswered = refl }, record { kept = refl; read = refl }, refl, refl, λ temporary. absurd (cc), λ told. absurd (cc))), caused_43)
+caused_44 = (
+  (
+    settling,
+    (
+      record { access = 1; taken = refl; unanswered = refl },
+      record { kept = refl; read = refl },
+      refl,
+      refl,
+      λ temporary. absurd (cc),
+      λ told. absurd (cc),
+    ),
+  ),
+  caused_43,
+)
 
 caused_45 : EachEvent (HasCause header outside) past_45
 caused_45 = ((settling, (refl, (refl, omega arith))), caused_44)
 
 caused_46 : EachEvent (HasCause header outside) past_46
-caused_46 = ((settling, record { address = 64; bytes = 2; waits = record { waits = refl; at = record { host = 0; entry = mapped; lives = refl; found = refl }; left = tt }; comes = record { top = 0; top_page = 0; steps = 0; is_top = record { object = refl; page = refl }; walks = (refl, refl) }; here = refl }), caused_45)
+caused_46 = (
+  (
+    settling,
+    record {
+      address = 64;
+      bytes = 2;
+      waits = record {
+        waits = refl;
+        at = record { host = 0; entry = mapped; lives = refl; found = refl };
+        left = tt;
+      };
+      comes = record { top = 0; top_page = 0; steps = 0; is_top = record { object = refl; page = refl }; walks = (refl, refl) };
+      here = refl;
+    },
+  ),
+  caused_45,
+)
 
 caused_47 : EachEvent (HasCause header outside) past_47
 caused_47 = ((settling, tt), caused_46)
@@ -301,13 +564,54 @@ caused_50 : EachEvent (HasCause header outside) past_50
 caused_50 = ((settling, (refl, (refl, omega arith))), caused_49)
 
 caused_51 : EachEvent (HasCause header outside) past_51
-caused_51 = ((settling, record { here = refl; why = Flushed 2 (record { control = 1; first = 0; count = 1; lock = 8; reply = true; taken = refl; from = omega arith; below = omega arith; undone = refl; rising = λ later above. refl }) refl }), caused_50)
+caused_51 = (
+  (
+    settling,
+    record {
+      here = refl;
+      why = Flushed 2 (record {
+        control = 1;
+        first = 0;
+        count = 1;
+        lock = 8;
+        reply = true;
+        taken = refl;
+        from = omega arith;
+        below = omega arith;
+        undone = refl;
+        rising = λ later above. refl;
+      }) refl;
+    },
+  ),
+  caused_50,
+)
 
 caused_52 : EachEvent (HasCause header outside) past_52
-caused_52 = ((settling, record { live = refl; returns = 2; flush = true; lock = 8; taken = refl; once = refl; done = λ page from below. flushed page past_51 (λ here. absurd (let bad : false ≡ true = here in cc)) below }), caused_51)
+caused_52 = (
+  (
+    settling,
+    record {
+      live = refl;
+      returns = 2;
+      flush = true;
+      lock = 8;
+      taken = refl;
+      once = refl;
+      done = λ page from below. flushed page past_51 (λ here. absurd (let bad : false ≡ true = here in cc)) below;
+    },
+  ),
+  caused_51,
+)
 
 own_15 : OwnBytes header (event.Loaded (record { 0 = 0 }) (record { 0 = 0 }) (record { 0 = 0 }) 1284) past_14
-own_15 = record { address = 64; bytes = 2; waits = record { waits = refl; at = record { host = 0; entry = mapped; lives = refl; found = refl }; left = tt }; readable = record { here = refl; unlocked = inl refl }; number = refl }
+own_15 =
+    record {
+      address = 64;
+      bytes = 2;
+      waits = record { waits = refl; at = record { host = 0; entry = mapped; lives = refl; found = refl }; left = tt };
+      readable = record { here = refl; unlocked = inl refl };
+      number = refl;
+    }
 
 number_is : (a b : ℕ) → (a == b) ≡ true → a ≡ b
 number_is a b is = grind (arith, nat_tests)
@@ -316,22 +620,301 @@ own_19 : OwnBytes header (event.CopiedPage (record { 0 = 0 }) (record { 0 = 0 })
 own_19 = λ host lives. subst (λ (h : ℕ). CanRead (page_on header h 0 0 past_18)) (number_is 0 host lives) (record { here = refl; unlocked = inl refl })
 
 own_24 : OwnBytes header (event.Stored (record { 0 = 0 }) (record { 0 = 0 }) (record { 0 = 0 }) 0 1 9) past_23
-own_24 = record { address = 64; waits = record { waits = refl; at = record { host = 0; entry = mapped; lives = refl; found = refl }; left = tt }; writable = record { here = refl; unlocked = refl }; place = refl }
+own_24 =
+    record {
+      address = 64;
+      waits = record { waits = refl; at = record { host = 0; entry = mapped; lives = refl; found = refl }; left = tt };
+      writable = record { here = refl; unlocked = refl };
+      place = refl;
+    }
 
 own_27 : OwnBytes header (event.Loaded (record { 0 = 0 }) (record { 0 = 1 }) (record { 0 = 0 }) 1284) past_26
-own_27 = record { address = 128; bytes = 2; waits = record { waits = refl; at = record { host = 0; entry = copy; lives = refl; found = refl }; left = tt }; readable = record { here = refl; unlocked = inl refl }; number = refl }
+own_27 =
+    record {
+      address = 128;
+      bytes = 2;
+      waits = record { waits = refl; at = record { host = 0; entry = copy; lives = refl; found = refl }; left = tt };
+      readable = record { here = refl; unlocked = inl refl };
+      number = refl;
+    }
 
 own_30 : OwnBytes header (event.Loaded (record { 0 = 0 }) (record { 0 = 0 }) (record { 0 = 0 }) 1289) past_29
-own_30 = record { address = 64; bytes = 2; waits = record { waits = refl; at = record { host = 0; entry = mapped; lives = refl; found = refl }; left = tt }; readable = record { here = refl; unlocked = inl refl }; number = refl }
+own_30 =
+    record {
+      address = 64;
+      bytes = 2;
+      waits = record { waits = refl; at = record { host = 0; entry = mapped; lives = refl; found = refl }; left = tt };
+      readable = record { here = refl; unlocked = inl refl };
+      number = refl;
+    }
 
 own_46 : OwnBytes header (event.Loaded (record { 0 = 0 }) (record { 0 = 0 }) (record { 0 = 0 }) 1289) past_45
-own_46 = record { address = 64; bytes = 2; waits = record { waits = refl; at = record { host = 0; entry = mapped; lives = refl; found = refl }; left = tt }; readable = record { here = refl; unlocked = inl refl }; number = refl }
+own_46 =
+    record {
+      address = 64;
+      bytes = 2;
+      waits = record { waits = refl; at = record { host = 0; entry = mapped; lives = refl; found = refl }; left = tt };
+      readable = record { here = refl; unlocked = inl refl };
+      number = refl;
+    }
 
 own_bytes : EachEvent (OwnBytes header) past_52
-own_bytes = (tt, (tt, (tt, (tt, (tt, (tt, (own_46, (tt, (tt, (tt, (tt, (tt, (tt, (tt, (tt, (tt, (tt, (tt, (tt, (tt, (tt, (tt, (own_30, (tt, (tt, (own_27, (tt, (tt, (own_24, (tt, (tt, (tt, (tt, (own_19, (tt, (tt, (tt, (own_15, (tt, (tt, (tt, (tt, (tt, (tt, (tt, (tt, (tt, (tt, (tt, (tt, (tt, (tt, (tt, tt)))))))))))))))))))))))))))))))))))))))))))))))))))))
+own_bytes = (
+  tt,
+  (
+    tt,
+    (
+      tt,
+      (
+        tt,
+        (
+          tt,
+          (
+            tt,
+            (
+              own_46,
+              (
+                tt,
+                (
+                  tt,
+                  (
+                    tt,
+                    (
+                      tt,
+                      (
+                        tt,
+                        (
+                          tt,
+                          (
+                            tt,
+                            (
+                              tt,
+                              (
+                                tt,
+                                (
+                                  tt,
+                                  (
+                                    tt,
+                                    (
+                                      tt,
+                                      (
+                                        tt,
+                                        (
+                                          tt,
+                                          (
+                                            tt,
+                                            (
+                                              own_30,
+                                              (
+                                                tt,
+                                                (
+                                                  tt,
+                                                  (
+                                                    own_27,
+                                                    (
+                                                      tt,
+                                                      (
+                                                        tt,
+                                                        (
+                                                          own_24,
+                                                          (
+                                                            tt,
+                                                            (
+                                                              tt,
+                                                              (
+                                                                tt,
+                                                                (
+                                                                  tt,
+                                                                  (
+                                                                    own_19,
+                                                                    (
+                                                                      tt,
+                                                                      (
+                                                                        tt,
+                                                                        (
+                                                                          tt,
+                                                                          (
+                                                                            own_15,
+                                                                            (
+                                                                              tt,
+                                                                              (
+                                                                                tt,
+                                                                                (
+                                                                                  tt,
+                                                                                  (
+                                                                                    tt,
+                                                                                    (tt, (tt, (tt, (tt, (tt, (tt, (tt, (tt, (tt, (tt, (tt, tt))))))))))),
+                                                                                  ),
+                                                                                ),
+                                                                              ),
+                                                                            ),
+                                                                          ),
+                                                                        ),
+                                                                      ),
+                                                                    ),
+                                                                  ),
+                                                                ),
+                                                              ),
+                                                            ),
+                                                          ),
+                                                        ),
+                                                      ),
+                                                    ),
+                                                  ),
+                                                ),
+                                              ),
+                                            ),
+                                          ),
+                                        ),
+                                      ),
+                                    ),
+                                  ),
+                                ),
+                              ),
+                            ),
+                          ),
+                        ),
+                      ),
+                    ),
+                  ),
+                ),
+              ),
+            ),
+          ),
+        ),
+      ),
+    ),
+  ),
+)
 
 current : EachEvent (CopiesCurrent header outside) past_52
-current = (tt, (tt, (tt, (tt, (tt, (tt, (tt, (tt, (tt, (tt, (tt, (tt, (tt, (tt, (tt, (tt, (tt, (tt, (tt, (tt, (tt, (tt, (tt, (tt, (tt, (tt, (tt, (tt, (tt, (tt, (tt, (tt, (tt, (λ shared. absurd (cc), (tt, (tt, (tt, (tt, (tt, (tt, (tt, (tt, (tt, (tt, (tt, (tt, (tt, (tt, (tt, (tt, (tt, (tt, (tt, tt)))))))))))))))))))))))))))))))))))))))))))))))))))))
+current = (
+  tt,
+  (
+    tt,
+    (
+      tt,
+      (
+        tt,
+        (
+          tt,
+          (
+            tt,
+            (
+              tt,
+              (
+                tt,
+                (
+                  tt,
+                  (
+                    tt,
+                    (
+                      tt,
+                      (
+                        tt,
+                        (
+                          tt,
+                          (
+                            tt,
+                            (
+                              tt,
+                              (
+                                tt,
+                                (
+                                  tt,
+                                  (
+                                    tt,
+                                    (
+                                      tt,
+                                      (
+                                        tt,
+                                        (
+                                          tt,
+                                          (
+                                            tt,
+                                            (
+                                              tt,
+                                              (
+                                                tt,
+                                                (
+                                                  tt,
+                                                  (
+                                                    tt,
+                                                    (
+                                                      tt,
+                                                      (
+                                                        tt,
+                                                        (
+                                                          tt,
+                                                          (
+                                                            tt,
+                                                            (
+                                                              tt,
+                                                              (
+                                                                tt,
+                                                                (
+                                                                  tt,
+                                                                  (
+                                                                    λ shared. absurd (cc),
+                                                                    (
+                                                                      tt,
+                                                                      (
+                                                                        tt,
+                                                                        (
+                                                                          tt,
+                                                                          (
+                                                                            tt,
+                                                                            (
+                                                                              tt,
+                                                                              (
+                                                                                tt,
+                                                                                (
+                                                                                  tt,
+                                                                                  (
+                                                                                    tt,
+                                                                                    (tt, (tt, (tt, (tt, (tt, (tt, (tt, (tt, (tt, (tt, (tt, tt))))))))))),
+                                                                                  ),
+                                                                                ),
+                                                                              ),
+                                                                            ),
+                                                                          ),
+                                                                        ),
+                                                                      ),
+                                                                    ),
+                                                                  ),
+                                                                ),
+                                                              ),
+                                                            ),
+                                                          ),
+                                                        ),
+                                                      ),
+                                                    ),
+                                                  ),
+                                                ),
+                                              ),
+                                            ),
+                                          ),
+                                        ),
+                                      ),
+                                    ),
+                                  ),
+                                ),
+                              ),
+                            ),
+                          ),
+                        ),
+                      ),
+                    ),
+                  ),
+                ),
+              ),
+            ),
+          ),
+        ),
+      ),
+    ),
+  ),
+)
 
 unshared : NoneIsShared header
 unshared = none_shared header (λ o below. let first : 0 ≡ o = omega (arith, below) in subst (λ (z : ℕ). is_shared header z ≡ false) first refl)

@@ -2,11 +2,13 @@
 use Rattle.std.proofs.Common.{◌≡◌, ℕ, ◌+◌, ◌≤◌, List, [], ◌∷◌, ◌++◌, arith, Bool, true, false, Option, Some, None, refl, ap, sym, length, if◌then◌else◌, ◌≢◌}
 use Rattle.std.proofs.lemmas.Bool.Decides.{nat_tests}
 use Rattle.std.specs.Prelude.{◌⊎◌}
-use Rattle.vm_flat.specs.Words.{SpotDownWord, Supplying, Unavailing, Erring, SpotEffect, Creates, Requests, Returns, TakesRequest, TakesReturn, Answers, Takes, Zeroes, Raises, Stores, Drops, Ends, StepEnds, Nothing}
+use Rattle.vm_flat.specs.Words.{SpotDownWord, Supplying, Unavailing, Erring, SpotEffect, Creates, Requests, Returns, TakesRequest, TakesReturn, Answers, Takes}
+use Rattle.vm_flat.specs.Words.{Zeroes, Raises, Stores, Drops, Ends, StepEnds, Nothing}
 use Rattle.vm_model.specs.Side.{rest}
 use Rattle.vm_flat.specs.Spot.{Spot, first_spot, spot_after}
 use Rattle.vm_flat.proofs.Allowed.{Passed, MayAnswer, May, content}
-use Rattle.vm_flat.proofs.Queues.{requests, returns, behind, latest, requests_ask, requests_return, returns_ask, behind_ask, behind_return, latest_ask, latest_return, latest_none, Says, Carry, carry_end, carry_rest, carry_none, carry_first, length_end}
+use Rattle.vm_flat.proofs.Queues.{requests, returns, behind, latest, requests_ask, requests_return, returns_ask, behind_ask, behind_return, latest_ask}
+use Rattle.vm_flat.proofs.Queues.{latest_return, latest_none, Says, Carry, carry_end, carry_rest, carry_none, carry_first, length_end}
 
 abbrev pub count : Bool → ℕ
 count true = 1
@@ -47,7 +49,8 @@ keep_creates z s ok may = grind (arith, nat_tests)
 pub keep_requests : (z : List ℕ) (s : Spot) (lives : Bool) → Sound z s → May z s (Requests lives) → Sound z (spot_after z s (Requests lives))
 keep_requests z s lives ok may = grind (arith, nat_tests, requests_ask, returns_ask, behind_ask, latest_ask)
 
-pub keep_returns : (z : List ℕ) (s : Spot) (keep : Bool) (bytes : List ℕ) → Sound z s → May z s (Returns keep bytes) → Sound z (spot_after z s (Returns keep bytes))
+pub keep_returns : (z : List ℕ) (s : Spot) (keep : Bool) (bytes : List ℕ) → Sound z s → May z s (Returns keep bytes)
+    → Sound z (spot_after z s (Returns keep bytes))
 keep_returns z s keep bytes ok may =
     let quiet : s.asked ≡ false = grind (arith) in
     let up : requests s.up ≡ 0 = grind (arith) in
@@ -81,13 +84,15 @@ pub keep_tells : (z : List ℕ) (s : Spot) (w : SpotDownWord) → Sound z s → 
 keep_tells z s (Supplying bytes) ok may =
     let down : length s.down ≡ 0 = grind (arith) in
     let up : returns s.up ≡ 0 = grind (arith) in
-    let carried : Carry (nothing z s) (Some bytes) (s.down ++ Supplying bytes ∷ []) = carry_end (nothing z s) (Some bytes) s.down (Supplying bytes) (carry_none (nothing z s) (Some bytes) s.down down) refl in
+    let carried : Carry (nothing z s) (Some bytes) (s.down ++ Supplying bytes ∷ []) = carry_end (nothing z s) (Some bytes) s.down (Supplying bytes)
+    (carry_none (nothing z s) (Some bytes) s.down down) refl in
     grind (arith, nat_tests, length_end, latest_none)
 keep_tells z s Unavailing ok may =
     let down : length s.down ≡ 0 = grind (arith) in
     let up : returns s.up ≡ 0 = grind (arith) in
     let none : Some z ≡ nothing z s = ap (λ (b : Bool). if b then Some z else None) (sym may.1) in
-    let carried : Carry (nothing z s) (Some z) (s.down ++ Unavailing ∷ []) = carry_end (nothing z s) (Some z) s.down Unavailing (carry_none (nothing z s) (Some z) s.down down) none in
+    let carried : Carry (nothing z s) (Some z) (s.down ++ Unavailing ∷ []) = carry_end (nothing z s) (Some z) s.down Unavailing
+    (carry_none (nothing z s) (Some z) s.down down) none in
     grind (arith, nat_tests, length_end, latest_none)
 keep_tells z s Erring ok may =
     let carried : Carry (nothing z s) s.returned (s.down ++ Erring ∷ []) = carry_end (nothing z s) s.returned s.down Erring ok.coming tt in

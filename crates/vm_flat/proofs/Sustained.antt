@@ -30,10 +30,13 @@ Reach header outside host object past = Reaches (λ r. in_use header outside hos
 -- the host's control of an object: 0 none, 1 live, 2 ended for ever
 abbrev pub control : Header → ℕ → ℕ → List Event → ℕ
 control header host object [] = 0
-control header host object (event.Sent (Up at to) (message.Init number size) ∷ past) = if at.0 == host && to.0 == object then 1 else control header host object past
-control header host object (event.Sent (Up at to) (message.Create number size) ∷ past) = if at.0 == host && to.0 == object then 1 else control header host object past
+control header host object (event.Sent (Up at to) (message.Init number size) ∷ past) =
+    if at.0 == host && to.0 == object then 1 else control header host object past
+control header host object (event.Sent (Up at to) (message.Create number size) ∷ past) =
+    if at.0 == host && to.0 == object then 1 else control header host object past
 control header host object (event.Sent (Up at to) (message.Terminate number) ∷ past) =
-    if (at.0 == host && is_control number (live_control host to.0 past)) && to.0 == object then (if is_file header object then 0 else 2) else control header host object past
+    if (at.0 == host && is_control number (live_control host to.0 past)) && to.0 == object then (if is_file header object then 0 else 2) else control header
+    host object past
 control header host object (e ∷ past) = control header host object past
 
 -- the step took the pager's word that there is no such page, and the page was asked
@@ -43,12 +46,13 @@ pub record Fills (s : Spot) (page : Local) : Type 0 where
   pub unasked : page.asked ≡ false
 
 -- a dirty page goes back to its pager, as it is
-pub record GivesBack (header : Header) (outside : Outside) (host control_of object page : ℕ) (changed : Bool) (bytes : List ℕ) (past : List Event) : Type 0 where
-  pub live : live_control host object past ≡ Some control_of
-  pub here : (page_on header host object page past).here ≡ true
-  pub dirty : (page_on header host object page past).dirty ≡ true
-  pub same : bytes ≡ (page_on header host object page past).bytes
-  pub flag : changed ≡ (page_on header host object page past).dirty
+pub record GivesBack (header : Header) (outside : Outside) (host control_of object page : ℕ) (changed : Bool) (bytes : List ℕ) (past : List Event) : Type 0
+  where
+    pub live : live_control host object past ≡ Some control_of
+    pub here : (page_on header host object page past).here ≡ true
+    pub dirty : (page_on header host object page past).dirty ≡ true
+    pub same : bytes ≡ (page_on header host object page past).bytes
+    pub flag : changed ≡ (page_on header host object page past).dirty
 
 -- an object ends on a host: it is a declared one, or no region leads to it, and nothing of it is here or asked
 pub record Ends (header : Header) (outside : Outside) (host control_of object : ℕ) (past : List Event) : Type 0 where
@@ -86,7 +90,8 @@ pub record Request : Type 0 where
 abbrev pub request_taken : List Event → Option Request
 request_taken [] = None
 request_taken (event.Line line ∷ past) = None
-request_taken (event.Taken (Up host object) (message.Request control page access) ∷ past) = Some (record { host = host.0; object = object.0; control_of = control; page = page.0 })
+request_taken (event.Taken (Up host object) (message.Request control page access) ∷ past) =
+    Some (record { host = host.0; object = object.0; control_of = control; page = page.0 })
 request_taken (event.Taken channel other ∷ past) = None
 request_taken (e ∷ past) = request_taken past
 
@@ -108,9 +113,11 @@ MaySendUp header outside host object other past = Unit {0}
 -- what its pager sends down
 abbrev pub MaySendDown : Header → Outside → ℕ → ℕ → ℕ → Message → List Event → Type 0
 MaySendDown header outside host object number (message.Supply page lock precious bytes) past =
-    Answers header outside host object number page.0 past × (is_said header outside object ≡ false → MaySupply (spot header outside host object page.0 past) bytes)
+    Answers header outside host object number page.0 past
+    × (is_said header outside object ≡ false → MaySupply (spot header outside host object page.0 past) bytes)
 MaySendDown header outside host object number (message.Unavailable page) past =
-    Answers header outside host object number page.0 past × (is_said header outside object ≡ false → MayLack (zeros header) (spot header outside host object page.0 past))
+    Answers header outside host object number page.0 past
+    × (is_said header outside object ≡ false → MayLack (zeros header) (spot header outside host object page.0 past))
 MaySendDown header outside host object number (message.Error page reason) past = Answers header outside host object number page.0 past
 -- the file pager's clean wants all changed pages back
 MaySendDown header outside host object number (message.Lock page count returns flush lock reply) past = returns ≡ 2
@@ -133,7 +140,8 @@ pub data Leaves (header : Header) (outside : Outside) (host object page : ℕ) (
   -- no region leads to its temporary object
   Unreached : named header ≤ object → (Reach header outside host object past → ⊥) → Leaves header outside host object page dirty past
   -- its pager flushes it, and doesn't want it back
-  Flushed : (returns : ℕ) (precious : Bool) → L.IsLocked host object page returns true past → L.gives_back returns dirty precious ≡ false → Leaves header outside host object page dirty past
+  Flushed : (returns : ℕ) (precious : Bool) → L.IsLocked host object page returns true past → L.gives_back returns dirty precious ≡ false
+      → Leaves header outside host object page dirty past
 
 pub record Drops (header : Header) (outside : Outside) (host object page : ℕ) (past : List Event) : Type 0 where
   pub here : (page_on header host object page past).here ≡ true
@@ -148,11 +156,13 @@ Sustained header outside (event.Loaded task object page value) past = L.Loads he
 Sustained header outside (event.Stored task object page at bytes value) past = L.Stores header task.0 object.0 page.0 at bytes value past
 Sustained header outside (event.CopiedPage task page object object_page target) past = L.CopiesPage header task.0 page.0 object.0 object_page.0 target.0 past
 Sustained header outside (event.Zeroed host object page) past =
-    is_private header outside object.0 ≡ true → ((object.0 < named header) × Fills (spot header outside host.0 object.0 page.0 past) (page_on header host.0 object.0 page.0 past)) ⊎ L.Bottoms header host.0 object.0 page.0 past
+    is_private header outside object.0 ≡ true → ((object.0 < named header)
+    × Fills (spot header outside host.0 object.0 page.0 past) (page_on header host.0 object.0 page.0 past)) ⊎ L.Bottoms header host.0 object.0 page.0 past
 Sustained header outside (event.Raised host lower lower_page upper upper_page) past = L.Raises header host.0 lower.0 lower_page.0 upper.0 upper_page.0 past
 Sustained header outside (event.Dropped host object page) past = is_private header outside object.0 ≡ true → Drops header outside host.0 object.0 page.0 past
 Sustained header outside (event.Sent (Up host object) m) past = is_private header outside object.0 ≡ true → MaySendUp header outside host.0 object.0 m past
-Sustained header outside (event.Sent (Down host object number) m) past = is_private header outside object.0 ≡ true → MaySendDown header outside host.0 object.0 number m past
+Sustained header outside (event.Sent (Down host object number) m) past =
+    is_private header outside object.0 ≡ true → MaySendDown header outside host.0 object.0 number m past
 -- each channel is first in, first out
 Sustained header outside (event.Taken channel m) past = first (queue channel past) ≡ Some m
 Sustained header outside other past = Unit {0}

@@ -1,5 +1,6 @@
 -- In a step that took a message no task loses an entry; so whoever lives there lives on.
-use Rattle.std.proofs.Common.{ℕ, ◌≡◌, ◌<◌, ◌+◌, ◌-◌, ◌/◌, ◌⊎◌, inl, inr, List, [], ◌∷◌, ◌++◌, reverse, length, Bool, true, false, Option, Some, None, MatchOption, refl, sym, ap, subst, ◌∙◌, arith, append_assoc, if◌then◌else◌}
+use Rattle.std.proofs.Common.{ℕ, ◌≡◌, ◌<◌, ◌+◌, ◌-◌, ◌/◌, ◌⊎◌, inl, inr, List, [], ◌∷◌, ◌++◌, reverse, length, Bool, true, false, Option, Some, None}
+use Rattle.std.proofs.Common.{MatchOption, refl, sym, ap, subst, ◌∙◌, arith, append_assoc, if◌then◌else◌}
 use mathlib.Core.List.{reverse_aux}
 use Rattle.std.proofs.lemmas.Bool.Decides.{nat_tests}
 use Rattle.std.specs.Prelude.{◌==◌, ◌&&◌, ◌||◌, is_some, nat_lt}
@@ -30,7 +31,8 @@ use Rattle.vm_model.specs.Regions.{next_object, next_region}
 use Rattle.vm_model.specs.Server.{first as oldest}
 use Rattle.vm_model.specs.Tasks.{entries_of, has_entry, host_of}
 use Rattle.vm_legal.proofs.Inside.{taken_more}
-use Rattle.vm_legal.specs.Follows.{Follows, FollowsAnyCut, IsBegun, IsConsequence, IsGroup, IsRun, clean_head, copy_head, fork_head, head, inherits, inherits_all, map_head, next_behind, opening, say_head, take_head}
+use Rattle.vm_legal.specs.Follows.{Follows, FollowsAnyCut, IsBegun, IsConsequence, IsGroup, IsRun, clean_head, copy_head, fork_head, head, inherits}
+use Rattle.vm_legal.specs.Follows.{inherits_all, map_head, next_behind, opening, say_head, take_head}
 use Rattle.vm_legal.specs.Frames.{frames_wired}
 use Rattle.vm_legal.specs.Licences.{AllLicensed, HasCause, IsUnheld}
 use Rattle.vm_legal.specs.Outside.{Outside}
@@ -102,13 +104,17 @@ inherits_inner Never size child next row = tt
 
 all_inner : (size : ℕ) (child : TaskId) (next : ℕ) (rows : List Entry) → AllInner (inherits_all size child next rows)
 all_inner size child next [] = tt
-all_inner size child next (row ∷ rows) = inner_both (inherits row.inherit size child next row) (inherits_all size child (next_behind row.inherit next) rows) (inherits_inner row.inherit size child next row) (all_inner size child (next_behind row.inherit next) rows)
+all_inner size child next (row ∷ rows) =
+    inner_both (inherits row.inherit size child next row) (inherits_all size child (next_behind row.inherit next) rows)
+    (inherits_inner row.inherit size child next row) (all_inner size child (next_behind row.inherit next) rows)
 
 forked : (size next : ℕ) (child : TaskId) (x : Option ℕ) (rows : List Entry) (first : List Event) → fork_head size next child x rows ≡ Some first → IsHead first
 forked size next child None rows first is = no_head first is
-forked size next child (Some host) rows first is = plain (event.TaskMade child (record { 0 = host }) ∷ inherits_all size child next rows) first (tt, all_inner size child next rows) is
+forked size next child (Some host) rows first is =
+    plain (event.TaskMade child (record { 0 = host }) ∷ inherits_all size child next rows) first (tt, all_inner size child next rows) is
 
-copied : (declared size next object : ℕ) (task : TaskId) (address bytes : ℕ) (target : TaskId) (to : ℕ) (x : Option Entry) (first : List Event) → copy_head declared size next object task address bytes target to x ≡ Some first → IsHead first
+copied : (declared size next object : ℕ) (task : TaskId) (address bytes : ℕ) (target : TaskId) (to : ℕ) (x : Option Entry) (first : List Event)
+    → copy_head declared size next object task address bytes target to x ≡ Some first → IsHead first
 copied declared size next object task address bytes target to None first is = no_head first is
 copied declared size next object task address bytes target to (Some row) first is = by (nat_lt row.region.0 declared) is
   where
@@ -136,7 +142,8 @@ opened : (host : ℕ) (object : ObjectId) (next size : ℕ) (x : Option ℕ) →
 opened host object next size None = (tt, tt)
 opened host object next size (Some control) = tt
 
-mapped : (header : Header) (task : TaskId) (address bytes : ℕ) (object : ObjectId) (offset : ℕ) (before : List Event) (x : Option ℕ) (first : List Event) → map_head header task address bytes object offset before x ≡ Some first → IsHead first
+mapped : (header : Header) (task : TaskId) (address bytes : ℕ) (object : ObjectId) (offset : ℕ) (before : List Event) (x : Option ℕ) (first : List Event)
+    → map_head header task address bytes object offset before x ≡ Some first → IsHead first
 mapped header task address bytes object offset before None first is = no_head first is
 mapped header task address bytes object offset before (Some host) first is =
     plain
@@ -144,7 +151,8 @@ mapped header task address bytes object offset before (Some host) first is =
     ∷ opening host object (last_control host object.0 before + 1) header.size (live_control host object.0 before))
     first (tt, opened host object (last_control host object.0 before + 1) header.size (live_control host object.0 before)) is
 
-cleaned : (object : ObjectId) (page : PageNo) (count : ℕ) (flush : Bool) (x : Option Known) (first : List Event) → Some (clean_head object page count flush x) ≡ Some first → IsHead first
+cleaned : (object : ObjectId) (page : PageNo) (count : ℕ) (flush : Bool) (x : Option Known) (first : List Event)
+    → Some (clean_head object page count flush x) ≡ Some first → IsHead first
 cleaned object page count flush None first is = plain [] first tt is
 cleaned object page count flush (Some known) first is =
     plain (event.Sent (Down (record { 0 = known.host }) object known.control) (message.Lock page count 2 flush 8 true) ∷ []) first (tt, tt) is
@@ -158,8 +166,11 @@ is_head header before (command.Allocate task address bytes) first is =
 is_head header before (command.Task task host) first is = plain (event.TaskMade task host ∷ []) first (tt, tt) is
 is_head header before (command.Load task address size) first is = plain (event.BegunLoad task address size ∷ []) first (tt, tt) is
 is_head header before (command.Store task address size value) first is = plain (event.BegunStore task address size value ∷ []) first (tt, tt) is
-is_head header before (command.Fork task child) first is = forked header.size (next_region header before) child (host_of task.0 before) (entries_of header.size task.0 before) first is
-is_head header before (command.Copy task address bytes target to) first is = copied (named header) header.size (next_region header before) (next_object header before) task address bytes target to (entry_at address (entries_of header.size task.0 before)) first is
+is_head header before (command.Fork task child) first is =
+    forked header.size (next_region header before) child (host_of task.0 before) (entries_of header.size task.0 before) first is
+is_head header before (command.Copy task address bytes target to) first is =
+    copied (named header) header.size (next_region header before) (next_object header before) task address bytes target to
+    (entry_at address (entries_of header.size task.0 before)) first is
 is_head header before (command.Exit task) first is = plain (event.TaskEnded task ∷ []) first (tt, tt) is
 is_head header before (command.Deallocate task address bytes) first is = plain (event.Removed task address bytes ∷ []) first (tt, tt) is
 is_head header before (command.Protect task address bytes prot) first is = plain (event.Protected task address bytes prot ∷ []) first (tt, tt) is
@@ -172,33 +183,45 @@ is_head header before (command.Pageout host count) first is = plain [] first tt 
 is_head header before (command.FailFiles count) first is = plain [] first tt is
 is_head header before (command.FailPaging count) first is = plain [] first tt is
 is_head header before (command.Say host object m) first is = said host object m (live_control host.0 object.0 before) first is
-is_head header before (command.Map task address bytes object offset) first is = mapped header task address bytes object offset before (host_of task.0 before) first is
-is_head header before (command.Clean object page count flush) first is = cleaned object page count flush (known_below (length header.frames.items) object.0 before) first is
+is_head header before (command.Map task address bytes object offset) first is =
+    mapped header task address bytes object offset before (host_of task.0 before) first is
+is_head header before (command.Clean object page count flush) first is =
+    cleaned object page count flush (known_below (length header.frames.items) object.0 before) first is
 
-behind_line : (first : List Event) (line : ℕ) (past : List Event) → IsHead first → EachEvent TakingKeeps past → EachEvent TakingKeeps (reverse first ++ event.Line line ∷ past)
-behind_line first line past (inl inner) was = behind_nothing (reverse first) (event.Line line ∷ past) (inner_onto first [] inner tt) refl ((λ letter is. tt), was)
+behind_line : (first : List Event) (line : ℕ) (past : List Event) → IsHead first → EachEvent TakingKeeps past
+    → EachEvent TakingKeeps (reverse first ++ event.Line line ∷ past)
+behind_line first line past (inl inner) was =
+    behind_nothing (reverse first) (event.Line line ∷ past) (inner_onto first [] inner tt) refl ((λ letter is. tt), was)
 behind_line first line past (inr (channel, m, is)) was =
     subst (λ (z : List Event). EachEvent TakingKeeps (reverse z ++ event.Line line ∷ past)) is ((λ letter taken. tt), ((λ letter taken. tt), was))
 
 -- groups
 
-group_keeps : (header : Header) (outside : Outside) (past : List Event) (numbered : Numbered) (group : List Event) (refused : Option Code) (x : Option (List Event)) → head header past numbered.command ≡ x
-    → MatchOption refused (MatchOption x ⊥ (λ events. IsRun header outside past numbered events group)) (λ code. group ≡ event.Refused code ∷ []) → EachEvent TakingKeeps past → EachEvent TakingKeeps (group ++ event.Line numbered.line ∷ past)
+group_keeps : (header : Header) (outside : Outside) (past : List Event) (numbered : Numbered) (group : List Event) (refused : Option Code)
+    (x : Option (List Event)) → head header past numbered.command ≡ x
+    → MatchOption refused (MatchOption x ⊥ (λ events. IsRun header outside past numbered events group)) (λ code. group ≡ event.Refused code ∷ [])
+    → EachEvent TakingKeeps past → EachEvent TakingKeeps (group ++ event.Line numbered.line ∷ past)
 group_keeps header outside past numbered group None None is made was = absurd made
 group_keeps header outside past numbered group None (Some events) is run was =
-    let whole = consequences run.more (reverse events ++ event.Line numbered.line ∷ past) run.follows (behind_line events numbered.line past (is_head header past numbered.command events is) was) in
-    subst (EachEvent TakingKeeps) (sym (append_assoc run.more (reverse events) (event.Line numbered.line ∷ past)) ∙ ap (λ z. z ++ event.Line numbered.line ∷ past) (sym run.is)) whole
+    let whole = consequences run.more (reverse events ++ event.Line numbered.line ∷ past) run.follows
+    (behind_line events numbered.line past (is_head header past numbered.command events is) was) in
+    subst (EachEvent TakingKeeps) (sym (append_assoc run.more (reverse events) (event.Line numbered.line ∷ past))
+    ∙ ap (λ z. z ++ event.Line numbered.line ∷ past) (sym run.is)) whole
 group_keeps header outside past numbered group (Some code) x is made was =
     subst (λ (g : List Event). EachEvent TakingKeeps (g ++ event.Line numbered.line ∷ past)) (sym made) ((λ letter taken. tt), ((λ letter taken. tt), was))
 
-with_group : (header : Header) (outside : Outside) (past : List Event) (numbered : Numbered) (group history : List Event) → history ≡ group ++ event.Line numbered.line ∷ past → IsGroup header outside past numbered group
+with_group : (header : Header) (outside : Outside) (past : List Event) (numbered : Numbered) (group history : List Event)
+    → history ≡ group ++ event.Line numbered.line ∷ past → IsGroup header outside past numbered group
     → EachEvent TakingKeeps past → EachEvent TakingKeeps history
 with_group header outside past numbered group history is made was =
-    subst (EachEvent TakingKeeps) (sym is) (group_keeps header outside past numbered group (refusal header past numbered.command) (head header past numbered.command) refl made was)
+    subst (EachEvent TakingKeeps) (sym is) (group_keeps header outside past numbered group (refusal header past numbered.command)
+    (head header past numbered.command) refl made was)
 
-whole_keeps : (header : Header) (outside : Outside) (commands : List Numbered) (history : List Event) → Follows header outside commands history → EachEvent TakingKeeps history
+whole_keeps : (header : Header) (outside : Outside) (commands : List Numbered) (history : List Event) → Follows header outside commands history
+    → EachEvent TakingKeeps history
 whole_keeps header outside [] history is = subst (EachEvent TakingKeeps) (sym is) tt
-whole_keeps header outside (numbered ∷ before) history (past, group, is, made, done, follows) = with_group header outside past numbered group history is made (whole_keeps header outside before past follows)
+whole_keeps header outside (numbered ∷ before) history (past, group, is, made, done, follows) =
+    with_group header outside past numbered group history is made (whole_keeps header outside before past follows)
 
 -- wherever the history ends
 
@@ -206,9 +229,11 @@ each_behind : (front past : List Event) → EachEvent TakingKeeps (front ++ past
 each_behind [] past each = each
 each_behind (e ∷ front) past each = each_behind front past each.1
 
-begun_keeps : (header : Header) (outside : Outside) (past : List Event) (numbered : Numbered) (group : List Event) (refused : Option Code) (x : Option (List Event)) → head header past numbered.command ≡ x
+begun_keeps : (header : Header) (outside : Outside) (past : List Event) (numbered : Numbered) (group : List Event) (refused : Option Code)
+    (x : Option (List Event)) → head header past numbered.command ≡ x
     → MatchOption refused
-    (MatchOption x ⊥ (λ first. IsRun header outside past numbered first group ⊎ (IsBegun first group × AllLicensed header outside numbered.command group (event.Line numbered.line ∷ past))))
+    (MatchOption x ⊥ (λ first. IsRun header outside past numbered first group
+    ⊎ (IsBegun first group × AllLicensed header outside numbered.command group (event.Line numbered.line ∷ past))))
     (λ code. (group ≡ []) ⊎ (group ≡ event.Refused code ∷ []))
     → EachEvent TakingKeeps past → EachEvent TakingKeeps (group ++ event.Line numbered.line ∷ past)
 begun_keeps header outside past numbered group None None is made was = absurd made
@@ -217,13 +242,16 @@ begun_keeps header outside past numbered group None (Some first) is (inr begun) 
     let behind = event.Line numbered.line ∷ past in
     let whole = behind_line first numbered.line past (is_head header past numbered.command first is) was in
     each_behind begun.0.rest (group ++ behind) (subst (EachEvent TakingKeeps) (ap (λ z. z ++ behind) begun.0.is ∙ append_assoc begun.0.rest group behind) whole)
-begun_keeps header outside past numbered group (Some code) x is (inl none) was = subst (λ (g : List Event). EachEvent TakingKeeps (g ++ event.Line numbered.line ∷ past)) (sym none) ((λ letter taken. tt), was)
+begun_keeps header outside past numbered group (Some code) x is (inl none) was =
+    subst (λ (g : List Event). EachEvent TakingKeeps (g ++ event.Line numbered.line ∷ past)) (sym none) ((λ letter taken. tt), was)
 begun_keeps header outside past numbered group (Some code) x is (inr made) was = group_keeps header outside past numbered group (Some code) x is made was
 
-pub takings_keep : (header : Header) (outside : Outside) (commands : List Numbered) (history : List Event) → FollowsAnyCut header outside commands history → EachEvent TakingKeeps history
+pub takings_keep : (header : Header) (outside : Outside) (commands : List Numbered) (history : List Event) → FollowsAnyCut header outside commands history
+    → EachEvent TakingKeeps history
 takings_keep header outside [] history is = subst (EachEvent TakingKeeps) (sym is) tt
 takings_keep header outside (numbered ∷ before) history (past, group, is, made, follows) =
-    subst (EachEvent TakingKeeps) (sym is) (begun_keeps header outside past numbered group (refusal header past numbered.command) (head header past numbered.command) refl made (whole_keeps header outside before past follows))
+    subst (EachEvent TakingKeeps) (sym is) (begun_keeps header outside past numbered group (refusal header past numbered.command)
+    (head header past numbered.command) refl made (whole_keeps header outside before past follows))
 
 -- in such a step
 
@@ -236,16 +264,19 @@ without : (region : ℕ) (row : Entry) (rows : List Entry) → has_entry region 
 without region row [] none = refl
 without region row (first ∷ rows) none = by (nat_lt row.address first.address) (without region row rows) none
   where
-    by : (b : Bool) → (has_entry region (entered row rows) ≡ false → has_entry region rows ≡ false) → has_entry region (if b then row ∷ first ∷ rows else first ∷ entered row rows) ≡ false → has_entry region (first ∷ rows) ≡ false
+    by : (b : Bool) → (has_entry region (entered row rows) ≡ false → has_entry region rows ≡ false)
+        → has_entry region (if b then row ∷ first ∷ rows else first ∷ entered row rows) ≡ false → has_entry region (first ∷ rows) ≡ false
     by true later is = (neither (row.region.0 == region) (has_entry region (first ∷ rows)) is).1
     by false later is = let both = neither (first.region.0 == region) (has_entry region (entered row rows)) is in rw (both.0, later both.1) refl
 
-fewer : (b : Bool) (region : ℕ) (row : Entry) (rows : List Entry) → has_entry region (if b then entered row rows else rows) ≡ false → has_entry region rows ≡ false
+fewer : (b : Bool) (region : ℕ) (row : Entry) (rows : List Entry) → has_entry region (if b then entered row rows else rows) ≡ false
+    → has_entry region rows ≡ false
 fewer true region row rows none = without region row rows none
 fewer false region row rows none = none
 
 -- what nothing holds now was held by nothing when the step began
-unheld_then : (header : Header) (host region : ℕ) (letter : Letter) (past : List Event) → EachEvent TakingKeeps past → taken_letter past ≡ Some letter → IsUnheld header host region past → IsUnheld header host region (before_step past)
+unheld_then : (header : Header) (host region : ℕ) (letter : Letter) (past : List Event) → EachEvent TakingKeeps past → taken_letter past ≡ Some letter
+    → IsUnheld header host region past → IsUnheld header host region (before_step past)
 unheld_then header host region letter [] keeps is unheld = not_taken letter is
 unheld_then header host region letter (event.Line line ∷ past) keeps is unheld = not_taken letter is
 unheld_then header host region letter (event.Taken channel m ∷ past) keeps is unheld = unheld
@@ -253,13 +284,15 @@ unheld_then header host region letter (event.TaskMade task at ∷ past) keeps is
 unheld_then header host region letter (event.TaskEnded task ∷ past) keeps is unheld = absurd (keeps.0 letter is)
 unheld_then header host region letter (event.Entered task address bytes on offset prot inherit ∷ past) keeps is unheld =
     unheld_then header host region letter past keeps.1 is (λ owner lives.
-    fewer (task.0 == owner) region (record { address = address; bytes = bytes; region = on; offset = offset; prot = prot; inherit = inherit }) (entries_of header.size owner past) (unheld owner lives))
+    fewer (task.0 == owner) region (record { address = address; bytes = bytes; region = on; offset = offset; prot = prot; inherit = inherit })
+    (entries_of header.size owner past) (unheld owner lives))
 unheld_then header host region letter (event.Removed task address bytes ∷ past) keeps is unheld = absurd (keeps.0 letter is)
 unheld_then header host region letter (event.Protected task address bytes prot ∷ past) keeps is unheld = absurd (keeps.0 letter is)
 unheld_then header host region letter (event.Inherited task address bytes inherit ∷ past) keeps is unheld = absurd (keeps.0 letter is)
 unheld_then header host region letter (e ∷ past) keeps is unheld = unheld_then header host region letter past keeps.1 is unheld
 
-prompt_then : (header : Header) (letter : Letter) (past : List Event) → BeforeSteps (Prompt header) past → taken_letter past ≡ Some letter → Prompt header (before_step past)
+prompt_then : (header : Header) (letter : Letter) (past : List Event) → BeforeSteps (Prompt header) past → taken_letter past ≡ Some letter
+    → Prompt header (before_step past)
 prompt_then header letter [] prompt is = not_taken letter is
 prompt_then header letter (event.Line line ∷ past) prompt is = not_taken letter is
 prompt_then header letter (event.Taken channel m ∷ past) prompt is = prompt.0
@@ -280,7 +313,8 @@ absence header host o p [] is = not_absent _ is
 absence header host o p (event.Line line ∷ past) is = not_absent _ is
 absence header host o p (event.Taken (Up at object) m ∷ past) is = not_absent _ is
 absence header host o p (event.Taken (Down at object control) (message.Unavailable page) ∷ past) is =
-    let c : Came host o p at.0 object.0 page.0 (is_control control (live_control at.0 object.0 past) && (page_on header at.0 object.0 page.0 past).asked) = came host o p at.0 object.0 page.0 _ is in
+    let c : Came host o p at.0 object.0 page.0 (is_control control (live_control at.0 object.0 past) && (page_on header at.0 object.0 page.0 past).asked) = came
+    host o p at.0 object.0 page.0 _ is in
     record {
       letter = record { channel = Down at object control; message = message.Unavailable page };
       taken = refl;
@@ -295,31 +329,38 @@ none_some : (x : Option ℕ) → x ≡ None → is_some x ≡ true → ⊥
 none_some x none some = let bad : false ≡ true = sym (ap is_some none) ∙ some in cc
 
 -- no declared object's control ends in such a step
-ends_never : {A : Type 0} (header : Header) (host o p : ℕ) (past : List Event) → EachEvent TakingKeeps past → BeforeSteps (Prompt header) past → host < length header.frames.items → o < named header → absence_taken header.size past ≡ Some (absent host o p)
+ends_never : {A : Type 0} (header : Header) (host o p : ℕ) (past : List Event) → EachEvent TakingKeeps past → BeforeSteps (Prompt header) past
+    → host < length header.frames.items → o < named header → absence_taken header.size past ≡ Some (absent host o p)
     → IsUnheld header host o past → A
 ends_never header host o p past keeps prompt inside below is unheld =
     let was : Absence host o past = absence header host o p past is in
     absurd
-    (none_some (live_control host o (before_step past)) ((prompt_then header was.letter past prompt was.taken host inside).swept.declared_controls o below (unheld_then header host o was.letter past keeps was.taken unheld)) was.lived)
+    (none_some (live_control host o (before_step past)) ((prompt_then header was.letter past prompt was.taken host inside).swept.declared_controls o below
+    (unheld_then header host o was.letter past keeps was.taken unheld)) was.lived)
 
 begun_lives : (b : Bool) (control : ℕ) (live : Option ℕ) → is_some live ≡ true → is_some (if b then Some control else live) ≡ true
 begun_lives true control live is = refl
 begun_lives false control live is = is
 
-ended_lives : (b : Bool) (control : ℕ) (live : Option ℕ) → (b ≡ true → ⊥) → is_some live ≡ true → is_some (if b then without_control control live else live) ≡ true
+ended_lives : (b : Bool) (control : ℕ) (live : Option ℕ) → (b ≡ true → ⊥) → is_some live ≡ true
+    → is_some (if b then without_control control live else live) ≡ true
 ended_lives true control live never is = absurd (never refl)
 ended_lives false control live never is = is
 
 -- the control lives on, to the end of the step
-pub lives_on_then : (header : Header) (outside : Outside) (host o p : ℕ) (past : List Event) → EachEvent (HasCause header outside) past → EachEvent TakingKeeps past → BeforeSteps (Prompt header) past → host < length header.frames.items → o < named header
+pub lives_on_then : (header : Header) (outside : Outside) (host o p : ℕ) (past : List Event) → EachEvent (HasCause header outside) past
+    → EachEvent TakingKeeps past → BeforeSteps (Prompt header) past → host < length header.frames.items → o < named header
     → absence_taken header.size past ≡ Some (absent host o p) → is_some (live_control host o past) ≡ true
 lives_on_then header outside host o p [] caused keeps prompt inside below is = not_absent _ is
 lives_on_then header outside host o p (event.Line line ∷ past) caused keeps prompt inside below is = not_absent _ is
-lives_on_then header outside host o p (event.Taken channel m ∷ past) caused keeps prompt inside below is = (absence header host o p (event.Taken channel m ∷ past) is).lived
+lives_on_then header outside host o p (event.Taken channel m ∷ past) caused keeps prompt inside below is =
+    (absence header host o p (event.Taken channel m ∷ past) is).lived
 lives_on_then header outside host o p (event.Sent (Up at object) (message.Init control size) ∷ past) caused keeps prompt inside below is =
-    begun_lives (at.0 == host && object.0 == o) control (live_control host o past) (lives_on_then header outside host o p past caused.1 keeps.1 prompt inside below is)
+    begun_lives (at.0 == host && object.0 == o) control (live_control host o past)
+    (lives_on_then header outside host o p past caused.1 keeps.1 prompt inside below is)
 lives_on_then header outside host o p (event.Sent (Up at object) (message.Create control size) ∷ past) caused keeps prompt inside below is =
-    begun_lives (at.0 == host && object.0 == o) control (live_control host o past) (lives_on_then header outside host o p past caused.1 keeps.1 prompt inside below is)
+    begun_lives (at.0 == host && object.0 == o) control (live_control host o past)
+    (lives_on_then header outside host o p past caused.1 keeps.1 prompt inside below is)
 lives_on_then header outside host o p (event.Sent (Up at object) (message.Terminate control) ∷ past) caused keeps prompt inside below is =
     ended_lives (at.0 == host && object.0 == o) control (live_control host o past)
     (λ same.
@@ -327,7 +368,10 @@ lives_on_then header outside host o p (event.Sent (Up at object) (message.Termin
     let object_is : object.0 ≡ o = grind (arith, nat_tests) in
     by_cause header outside (event.Sent (Up at object) (message.Terminate control)) past caused.0 (λ doing c.
     ends_never header host o p past keeps.1 prompt inside below is
-    (subst (λ (h : ℕ). IsUnheld header h o past) at_is (subst (λ (k : ℕ). IsUnheld header at.0 k past) object_is (c.unheld (subst (λ (k : ℕ). k < named header) (sym object_is) below))))))
+    (subst (λ (h : ℕ). IsUnheld header h o past) at_is (subst (λ (k : ℕ). IsUnheld header at.0 k past) object_is
+    (c.unheld (subst (λ (k : ℕ). k < named header) (sym object_is) below))))))
     (lives_on_then header outside host o p past caused.1 keeps.1 prompt inside below is)
-lives_on_then header outside host o p (event.Sent (Up at object) m ∷ past) caused keeps prompt inside below is = lives_on_then header outside host o p past caused.1 keeps.1 prompt inside below is
-lives_on_then header outside host o p (e ∷ past) caused keeps prompt inside below is = lives_on_then header outside host o p past caused.1 keeps.1 prompt inside below is
+lives_on_then header outside host o p (event.Sent (Up at object) m ∷ past) caused keeps prompt inside below is =
+    lives_on_then header outside host o p past caused.1 keeps.1 prompt inside below is
+lives_on_then header outside host o p (e ∷ past) caused keeps prompt inside below is =
+    lives_on_then header outside host o p past caused.1 keeps.1 prompt inside below is

@@ -1,14 +1,18 @@
 -- Deeds that leave regions and objects as they are, and change what one place has.
 use Rattle.std.proofs.Common.{false, ◌<◌, ◌≡◌, ℕ, suc, ◌≤◌, List, ◌∷◌, arith, Bool, true, ◌∙◌, inl, inr}
 use Rattle.std.specs.Prelude.{◌⊎◌}
-use Rattle.vm_flat.specs.Words.{SpotDownWord, SpotEffect, Creates, Requests, Returns, TakesRequest, TakesReturn, Takes, Zeroes, Raises, Drops, Ends, StepEnds, Nothing}
+use Rattle.vm_flat.specs.Words.{SpotDownWord, SpotEffect, Creates, Requests, Returns, TakesRequest, TakesReturn, Takes, Zeroes, Raises, Drops, Ends, StepEnds}
+use Rattle.vm_flat.specs.Words.{Nothing}
 use Rattle.vm_flat.specs.Spot.{spot_after}
-use Rattle.vm_flat.proofs.Deeds.{pages, Ground, covered, Deed, Line, Zeroed, Raised, Dropped, Created, Asked, Returned, TookRequest, TookReturn, Took, Terminated, Elsewhere, objects, link, spot}
+use Rattle.vm_flat.proofs.Deeds.{pages, Ground, covered, Deed, Line, Zeroed, Raised, Dropped, Created, Asked, Returned, TookRequest, TookReturn, Took}
+use Rattle.vm_flat.proofs.Deeds.{Terminated, Elsewhere, objects, link, spot}
 use Rattle.vm_flat.proofs.Causes.{Reach, Tops, Cause, Ours, Bottoms, Finds}
-use Rattle.vm_flat.proofs.Good.{good_step, good_creates, good_requests, good_returns, good_takes_request, good_takes_return, good_takes, good_zeroes, good_fills, good_raises, good_drops, good_ends}
+use Rattle.vm_flat.proofs.Good.{good_step, good_creates, good_requests, good_returns, good_takes_request, good_takes_return, good_takes, good_zeroes}
+use Rattle.vm_flat.proofs.Good.{good_fills, good_raises, good_drops, good_ends}
 use Rattle.vm_flat.proofs.Control.{control_is}
 use Rattle.vm_flat.proofs.File.{file_is}
-use Rattle.vm_flat.proofs.World.{ReachAt, World, GoodAt, view, tops_below, under_view, Barren, reach_top, sinks_passed, sunk_below, found, each_place, each_object}
+use Rattle.vm_flat.proofs.World.{ReachAt, World, GoodAt, view, tops_below, under_view, Barren, reach_top, sinks_passed, sunk_below, found, each_place}
+use Rattle.vm_flat.proofs.World.{each_object}
 
 -- the places after an effect
 abbrev pub After : Ground → List Deed → ℕ → ℕ → SpotEffect → Type 0
@@ -18,7 +22,9 @@ pub rest_nothing : (z : Ground) (past : List Deed) → World z past → (o p : �
 rest_nothing z past w o p = w.places o p
 
 pub rest_step : (z : Ground) (past : List Deed) → World z past → (o p : ℕ) → After z past o p StepEnds
-rest_step z past w o p ours = good_step z.zeros (ReachAt z o p past) (objects z past ≤ o) (Barren z o p past) (view z o p past) (link z o past).backed (under_view z o p past) (spot z o p past) (w.places o p ours)
+rest_step z past w o p ours =
+    good_step z.zeros (ReachAt z o p past) (objects z past ≤ o) (Barren z o p past) (view z o p past) (link z o past).backed (under_view z o p past)
+    (spot z o p past) (w.places o p ours)
 
 dead : (R Q P : Type 0) → P ⊎ (R → ⊥) → P ⊎ (R × Q → ⊥)
 dead R Q P (inl clean) = inl clean
@@ -36,57 +42,69 @@ after_dropped z own o p past w c =
       shape = w.shape;
       regional = w.regional;
       places = each_place (After z past) o p own Drops Nothing
-          (λ is ours. good_drops z.zeros (ReachAt z o p past) (objects z past ≤ o) (Barren z o p past) (view z o p past) (link z o past).backed (under_view z o p past) (spot z o p past) (w.places o p ours) (c (record { on_host = is; covered = ours })).0 (dead (Reach z o past) (p < pages z o past) ((spot z o p past).dirty ≡ false) (c (record { on_host = is; covered = ours })).1))
+          (λ is ours. good_drops z.zeros (ReachAt z o p past) (objects z past ≤ o) (Barren z o p past) (view z o p past) (link z o past).backed
+          (under_view z o p past) (spot z o p past) (w.places o p ours) (c (record { on_host = is; covered = ours })).0
+          (dead (Reach z o past) (p < pages z o past) ((spot z o p past).dirty ≡ false) (c (record { on_host = is; covered = ours })).1))
           (rest_nothing z past w);
     }
 
-pub after_asked : (z : Ground) (own lives : Bool) (o p : ℕ) (past : List Deed) → World z past → Cause z (Asked own lives o p) past → World z (Asked own lives o p ∷ past)
+pub after_asked : (z : Ground) (own lives : Bool) (o p : ℕ) (past : List Deed) → World z past → Cause z (Asked own lives o p) past
+    → World z (Asked own lives o p ∷ past)
 after_asked z own lives o p past w c =
     record {
       shape = w.shape;
       regional = w.regional;
       places = each_place (After z past) o p own (Requests lives) Nothing
-          (λ is ours. good_requests z.zeros (ReachAt z o p past) (objects z past ≤ o) (Barren z o p past) (view z o p past) (link z o past).backed (under_view z o p past) (spot z o p past) lives (w.places o p ours) (c (record { on_host = is; covered = ours })))
+          (λ is ours. good_requests z.zeros (ReachAt z o p past) (objects z past ≤ o) (Barren z o p past) (view z o p past) (link z o past).backed
+          (under_view z o p past) (spot z o p past) lives (w.places o p ours) (c (record { on_host = is; covered = ours })))
           (rest_nothing z past w);
     }
 
-pub after_returned : (z : Ground) (own : Bool) (o p : ℕ) (keep : Bool) (bytes : List ℕ) (past : List Deed) → World z past → Cause z (Returned own o p keep bytes) past → World z (Returned own o p keep bytes ∷ past)
+pub after_returned : (z : Ground) (own : Bool) (o p : ℕ) (keep : Bool) (bytes : List ℕ) (past : List Deed) → World z past
+    → Cause z (Returned own o p keep bytes) past → World z (Returned own o p keep bytes ∷ past)
 after_returned z own o p keep bytes past w c =
     record {
       shape = w.shape;
       regional = w.regional;
       places = each_place (After z past) o p own (Returns keep bytes) Nothing
-          (λ is ours. good_returns z.zeros (ReachAt z o p past) (objects z past ≤ o) (Barren z o p past) (view z o p past) (link z o past).backed (under_view z o p past) (spot z o p past) keep bytes (w.places o p ours) (c (record { on_host = is; covered = ours })))
+          (λ is ours. good_returns z.zeros (ReachAt z o p past) (objects z past ≤ o) (Barren z o p past) (view z o p past) (link z o past).backed
+          (under_view z o p past) (spot z o p past) keep bytes (w.places o p ours) (c (record { on_host = is; covered = ours })))
           (rest_nothing z past w);
     }
 
-pub after_took_request : (z : Ground) (own : Bool) (o p : ℕ) (past : List Deed) → World z past → Cause z (TookRequest own o p) past → World z (TookRequest own o p ∷ past)
+pub after_took_request : (z : Ground) (own : Bool) (o p : ℕ) (past : List Deed) → World z past → Cause z (TookRequest own o p) past
+    → World z (TookRequest own o p ∷ past)
 after_took_request z own o p past w c =
     record {
       shape = w.shape;
       regional = w.regional;
       places = each_place (After z past) o p own TakesRequest StepEnds
-          (λ is ours. good_takes_request z.zeros (ReachAt z o p past) (objects z past ≤ o) (Barren z o p past) (view z o p past) (link z o past).backed (under_view z o p past) (spot z o p past) (w.places o p ours) (c (record { on_host = is; covered = ours })))
+          (λ is ours. good_takes_request z.zeros (ReachAt z o p past) (objects z past ≤ o) (Barren z o p past) (view z o p past) (link z o past).backed
+          (under_view z o p past) (spot z o p past) (w.places o p ours) (c (record { on_host = is; covered = ours })))
           (rest_step z past w);
     }
 
-pub after_took_return : (z : Ground) (own : Bool) (o p : ℕ) (bytes : List ℕ) (past : List Deed) → World z past → Cause z (TookReturn own o p bytes) past → World z (TookReturn own o p bytes ∷ past)
+pub after_took_return : (z : Ground) (own : Bool) (o p : ℕ) (bytes : List ℕ) (past : List Deed) → World z past → Cause z (TookReturn own o p bytes) past
+    → World z (TookReturn own o p bytes ∷ past)
 after_took_return z own o p bytes past w c =
     record {
       shape = w.shape;
       regional = w.regional;
       places = each_place (After z past) o p own (TakesReturn bytes) StepEnds
-          (λ is ours. good_takes_return z.zeros (ReachAt z o p past) (objects z past ≤ o) (Barren z o p past) (view z o p past) (link z o past).backed (under_view z o p past) (spot z o p past) bytes (w.places o p ours) (c (record { on_host = is; covered = ours })))
+          (λ is ours. good_takes_return z.zeros (ReachAt z o p past) (objects z past ≤ o) (Barren z o p past) (view z o p past) (link z o past).backed
+          (under_view z o p past) (spot z o p past) bytes (w.places o p ours) (c (record { on_host = is; covered = ours })))
           (rest_step z past w);
     }
 
-pub after_took : (z : Ground) (own : Bool) (o p : ℕ) (word : SpotDownWord) (past : List Deed) → World z past → Cause z (Took own o p word) past → World z (Took own o p word ∷ past)
+pub after_took : (z : Ground) (own : Bool) (o p : ℕ) (word : SpotDownWord) (past : List Deed) → World z past → Cause z (Took own o p word) past
+    → World z (Took own o p word ∷ past)
 after_took z own o p word past w c =
     record {
       shape = w.shape;
       regional = w.regional;
       places = each_place (After z past) o p own (Takes word) StepEnds
-          (λ is ours. good_takes z.zeros (ReachAt z o p past) (objects z past ≤ o) (Barren z o p past) (view z o p past) (link z o past).backed (under_view z o p past) (spot z o p past) word (w.places o p ours) (c (record { on_host = is; covered = ours })))
+          (λ is ours. good_takes z.zeros (ReachAt z o p past) (objects z past ≤ o) (Barren z o p past) (view z o p past) (link z o past).backed
+          (under_view z o p past) (spot z o p past) word (w.places o p ours) (c (record { on_host = is; covered = ours })))
           (rest_step z past w);
     }
 
@@ -96,7 +114,9 @@ after_created z own o past w c =
       shape = w.shape;
       regional = w.regional;
       places = each_object (After z past) o own Creates Nothing
-          (λ is p ours. good_creates z.zeros (ReachAt z o p past) (objects z past ≤ o) (Barren z o p past) (view z o p past) (link z o past).backed (under_view z o p past) (spot z o p past) (w.places o p ours) (control_is z o p past ∙ (c (record { on_host = is; covered = ours })).1) (λ u. omega (arith, u, (c (record { on_host = is; covered = ours })).0)))
+          (λ is p ours. good_creates z.zeros (ReachAt z o p past) (objects z past ≤ o) (Barren z o p past) (view z o p past) (link z o past).backed
+          (under_view z o p past) (spot z o p past) (w.places o p ours) (control_is z o p past ∙ (c (record { on_host = is; covered = ours })).1)
+          (λ u. omega (arith, u, (c (record { on_host = is; covered = ours })).0)))
           (rest_nothing z past w);
     }
 
@@ -106,7 +126,13 @@ after_terminated z own o past w c =
       shape = w.shape;
       regional = w.regional;
       places = each_object (After z past) o own Ends Nothing
-          (λ is p ours. good_ends z.zeros (ReachAt z o p past) (objects z past ≤ o) (Barren z o p past) (view z o p past) (link z o past).backed (under_view z o p past) (spot z o p past) (w.places o p ours) (control_is z o p past ∙ (c (record { on_host = is; covered = ours })).1, ((c (record { on_host = is; covered = ours })).2 p).0, ((c (record { on_host = is; covered = ours })).2 p).1) (ends p (record { on_host = is; covered = ours })))
+          (λ is p ours. good_ends z.zeros (ReachAt z o p past) (objects z past ≤ o) (Barren z o p past) (view z o p past) (link z o past).backed
+          (under_view z o p past) (spot z o p past) (w.places o p ours) (
+            control_is z o p past ∙ (c (record { on_host = is; covered = ours })).1,
+            ((c (record { on_host = is; covered = ours })).2 p).0,
+            ((c (record { on_host = is; covered = ours })).2 p).1,
+          )
+          (ends p (record { on_host = is; covered = ours })))
           (rest_nothing z past w);
     }
   where
@@ -122,16 +148,24 @@ after_zeroed z own o p past w c =
       shape = w.shape;
       regional = w.regional;
       places = each_place (After z past) o p own Zeroes Nothing
-          (λ is ours. elim (c (record { on_host = is; covered = ours })) [ inl fills ↦ good_fills z.zeros (ReachAt z o p past) (objects z past ≤ o) (Barren z o p past) (view z o p past) (link z o past).backed (under_view z o p past) (spot z o p past) (w.places o p ours) fills.1 | inr bottoms ↦ sunk bottoms ours ])
+          (λ is ours. elim (c (record { on_host = is; covered = ours })) [
+            | inl fills ↦ good_fills z.zeros (ReachAt z o p past) (objects z past ≤ o)
+                (Barren z o p past) (view z o p past) (link z o past).backed (under_view z o p past) (spot z o p past) (w.places o p ours) fills.1
+            | inr bottoms ↦
+                sunk bottoms ours
+          ])
           (rest_nothing z past w);
     }
   where
     sunk : Bottoms z o p past → After z past o p Zeroes
     sunk b ours =
-        good_zeroes z.zeros (ReachAt z o p past) (objects z past ≤ o) (Barren z o p past) (view z o p past) (link z o past).backed (under_view z o p past) (spot z o p past) (w.places o p ours)
-        (sinks_passed z b.steps o p past b.sinks) (reach_top z b.region b.index o p past w.shape b.tops) (born z b.region b.index o p past w b.tops) (sunk_below z b.steps o p past w (reach_top z b.region b.index o p past w.shape b.tops) b.sinks)
+        good_zeroes z.zeros (ReachAt z o p past) (objects z past ≤ o) (Barren z o p past) (view z o p past) (link z o past).backed (under_view z o p past)
+        (spot z o p past) (w.places o p ours)
+        (sinks_passed z b.steps o p past b.sinks) (reach_top z b.region b.index o p past w.shape b.tops) (born z b.region b.index o p past w b.tops)
+        (sunk_below z b.steps o p past w (reach_top z b.region b.index o p past w.shape b.tops) b.sinks)
 
-pub after_raised : (z : Ground) (own : Bool) (l lp o p : ℕ) (past : List Deed) → World z past → Cause z (Raised own l lp o p) past → World z (Raised own l lp o p ∷ past)
+pub after_raised : (z : Ground) (own : Bool) (l lp o p : ℕ) (past : List Deed) → World z past → Cause z (Raised own l lp o p) past
+    → World z (Raised own l lp o p ∷ past)
 after_raised z own l lp o p past w c =
     record {
       shape = w.shape;
@@ -143,5 +177,7 @@ after_raised z own l lp o p past w c =
   where
     raised : Finds z l lp o p past → After z past o p (Raises (spot z l lp past).bytes)
     raised f ours =
-        good_raises z.zeros (ReachAt z o p past) (objects z past ≤ o) (Barren z o p past) (view z o p past) (link z o past).backed (under_view z o p past) (spot z o p past) (spot z l lp past).bytes (w.places o p ours)
-        (f.walks.0.away, f.walks.0.unasked, f.walks.0.plain) (born z f.region f.index o p past w f.tops) (found z (suc f.steps) o p l lp past w (reach_top z f.region f.index o p past w.shape f.tops) f.walks f.here)
+        good_raises z.zeros (ReachAt z o p past) (objects z past ≤ o) (Barren z o p past) (view z o p past) (link z o past).backed (under_view z o p past)
+        (spot z o p past) (spot z l lp past).bytes (w.places o p ours)
+        (f.walks.0.away, f.walks.0.unasked, f.walks.0.plain) (born z f.region f.index o p past w f.tops)
+        (found z (suc f.steps) o p l lp past w (reach_top z f.region f.index o p past w.shape f.tops) f.walks f.here)

@@ -20,7 +20,8 @@ use Rattle.vm_flat.proofs.Sustained as S
 use Rattle.vm_flat.proofs.Uses as U
 
 -- what follows from a cause, whatever the command
-pub by_cause : {R : Type 0} (header : Header) (outside : Outside) (e : Event) (past : List Event) → HasCause header outside e past → ((doing : Command) → Caused header outside doing e past → R) → R
+pub by_cause : {R : Type 0} (header : Header) (outside : Outside) (e : Event) (past : List Event) → HasCause header outside e past
+    → ((doing : Command) → Caused header outside doing e past → R) → R
 by_cause header outside e past (doing, c) so = so doing c
 
 weaker_if : (b x y u v : Bool) → (b ≡ true → x ≡ true → u ≡ true) → (y ≡ true → v ≡ true) → (if b then x else y) ≡ true → (if b then u else v) ≡ true
@@ -42,19 +43,27 @@ also false b is own = own
 number_is : (a b : ℕ) → (a == b) ≡ true → a ≡ b
 number_is a b is = grind (arith, nat_tests)
 
-pub used : (header : Header) (outside : Outside) (host r : ℕ) (past : List Event) → U.in_use header outside host r past ≡ true → V.in_use header host r past ≡ true
+pub used : (header : Header) (outside : Outside) (host r : ℕ) (past : List Event) → U.in_use header outside host r past ≡ true
+    → V.in_use header host r past ≡ true
 used header outside host r [] is = is
 used header outside host r (event.RegionMade new object pages ∷ past) is =
-    weaker_if (r == new.0) (made_here host past && outside.paging) (U.in_use header outside host r past) (made_here host past) (V.in_use header host r past) (λ same here. first (made_here host past) outside.paging here) (used header outside host r past) is
+    weaker_if (r == new.0) (made_here host past && outside.paging) (U.in_use header outside host r past) (made_here host past) (V.in_use header host r past)
+    (λ same here. first (made_here host past) outside.paging here) (used header outside host r past) is
 used header outside host r (event.RegionCopied new source offset pages ∷ past) is =
-    weaker_if (r == new.0) (U.in_use header outside host source.0 past) (U.in_use header outside host r past) (V.in_use header host source.0 past) (V.in_use header host r past) (λ same. used header outside host source.0 past) (used header outside host r past) is
-used header outside host r (event.Entered task address bytes entered offset prot inherit ∷ past) is = weaker_and (not (r == entered.0) || lives_on host task.0 past) _ _ (used header outside host r past) is
-used header outside host r (event.Removed task address bytes ∷ past) is = weaker_and (is_kept header r (event.Removed task address bytes ∷ past)) _ _ (used header outside host r past) is
-used header outside host r (event.TaskEnded task ∷ past) is = weaker_and (is_kept header r (event.TaskEnded task ∷ past)) _ _ (used header outside host r past) is
-used header outside host r (event.Failed task object page ∷ past) is = weaker_and (is_kept header r (event.Failed task object page ∷ past)) _ _ (used header outside host r past) is
+    weaker_if (r == new.0) (U.in_use header outside host source.0 past) (U.in_use header outside host r past) (V.in_use header host source.0 past)
+    (V.in_use header host r past) (λ same. used header outside host source.0 past) (used header outside host r past) is
+used header outside host r (event.Entered task address bytes entered offset prot inherit ∷ past) is =
+    weaker_and (not (r == entered.0) || lives_on host task.0 past) _ _ (used header outside host r past) is
+used header outside host r (event.Removed task address bytes ∷ past) is =
+    weaker_and (is_kept header r (event.Removed task address bytes ∷ past)) _ _ (used header outside host r past) is
+used header outside host r (event.TaskEnded task ∷ past) is =
+    weaker_and (is_kept header r (event.TaskEnded task ∷ past)) _ _ (used header outside host r past) is
+used header outside host r (event.Failed task object page ∷ past) is =
+    weaker_and (is_kept header r (event.Failed task object page ∷ past)) _ _ (used header outside host r past) is
 used header outside host r (e ∷ past) is = used header outside host r past is
 
-pub reached : (header : Header) (outside : Outside) (host object : ℕ) (past : List Event) → S.Reach header outside host object past → W.Reach header host object past
+pub reached : (header : Header) (outside : Outside) (host object : ℕ) (past : List Event) → S.Reach header outside host object past
+    → W.Reach header host object past
 reached header outside host object past (r, n, is, below) = (r, n, used header outside host r past is, below)
 
 pub named_regions : (header : Header) (past : List Event) → named header ≤ next_region header past
@@ -63,23 +72,32 @@ named_regions header (event.RegionMade region object pages ∷ past) = omega (ar
 named_regions header (event.RegionCopied region source offset pages ∷ past) = omega (arith, named_regions header past)
 named_regions header (e ∷ past) = named_regions header past
 
-pub counted : (header : Header) (outside : Outside) (host r : ℕ) (past : List Event) → EachEvent (HasCause header outside) past → is_private header outside r ≡ true → V.in_use header host r past ≡ true → U.in_use header outside host r past ≡ true
+pub counted : (header : Header) (outside : Outside) (host r : ℕ) (past : List Event) → EachEvent (HasCause header outside) past
+    → is_private header outside r ≡ true → V.in_use header host r past ≡ true → U.in_use header outside host r past ≡ true
 counted header outside host r [] caused ours is = is
 counted header outside host r (event.RegionMade new object pages ∷ past) caused ours is =
-    weaker_if (r == new.0) (made_here host past) (V.in_use header host r past) (made_here host past && outside.paging) (U.in_use header outside host r past) (λ same here. also (made_here host past) outside.paging (told same) here) (counted header outside host r past caused.1 ours) is
+    weaker_if (r == new.0) (made_here host past) (V.in_use header host r past) (made_here host past && outside.paging) (U.in_use header outside host r past)
+    (λ same here. also (made_here host past) outside.paging (told same) here) (counted header outside host r past caused.1 ours) is
   where
     told : (r == new.0) ≡ true → outside.paging ≡ true
     told same =
-        by_cause header outside (event.RegionMade new object pages) past caused.0 (λ doing c. later_told header outside r (omega (arith, number_is r new.0 same, c.0, named_regions header past)) ours)
+        by_cause header outside (event.RegionMade new object pages) past caused.0
+        (λ doing c. later_told header outside r (omega (arith, number_is r new.0 same, c.0, named_regions header past)) ours)
 counted header outside host r (event.RegionCopied new source offset pages ∷ past) caused ours is =
-    weaker_if (r == new.0) (V.in_use header host source.0 past) (V.in_use header host r past) (U.in_use header outside host source.0 past) (U.in_use header outside host r past) (λ same. counted header outside host source.0 past caused.1 (told same)) (counted header outside host r past caused.1 ours) is
+    weaker_if (r == new.0) (V.in_use header host source.0 past) (V.in_use header host r past) (U.in_use header outside host source.0 past)
+    (U.in_use header outside host r past) (λ same. counted header outside host source.0 past caused.1 (told same))
+    (counted header outside host r past caused.1 ours) is
   where
     told : (r == new.0) ≡ true → is_private header outside source.0 ≡ true
     told same =
         by_cause header outside (event.RegionCopied new source offset pages) past caused.0
         (λ doing c. later_alike header outside source.0 r c.temporary (omega (arith, number_is r new.0 same, c.next, named_regions header past)) ∙ ours)
-counted header outside host r (event.Entered task address bytes entered offset prot inherit ∷ past) caused ours is = weaker_and (not (r == entered.0) || lives_on host task.0 past) _ _ (counted header outside host r past caused.1 ours) is
-counted header outside host r (event.Removed task address bytes ∷ past) caused ours is = weaker_and (is_kept header r (event.Removed task address bytes ∷ past)) _ _ (counted header outside host r past caused.1 ours) is
-counted header outside host r (event.TaskEnded task ∷ past) caused ours is = weaker_and (is_kept header r (event.TaskEnded task ∷ past)) _ _ (counted header outside host r past caused.1 ours) is
-counted header outside host r (event.Failed task object page ∷ past) caused ours is = weaker_and (is_kept header r (event.Failed task object page ∷ past)) _ _ (counted header outside host r past caused.1 ours) is
+counted header outside host r (event.Entered task address bytes entered offset prot inherit ∷ past) caused ours is =
+    weaker_and (not (r == entered.0) || lives_on host task.0 past) _ _ (counted header outside host r past caused.1 ours) is
+counted header outside host r (event.Removed task address bytes ∷ past) caused ours is =
+    weaker_and (is_kept header r (event.Removed task address bytes ∷ past)) _ _ (counted header outside host r past caused.1 ours) is
+counted header outside host r (event.TaskEnded task ∷ past) caused ours is =
+    weaker_and (is_kept header r (event.TaskEnded task ∷ past)) _ _ (counted header outside host r past caused.1 ours) is
+counted header outside host r (event.Failed task object page ∷ past) caused ours is =
+    weaker_and (is_kept header r (event.Failed task object page ∷ past)) _ _ (counted header outside host r past caused.1 ours) is
 counted header outside host r (e ∷ past) caused ours is = counted header outside host r past caused.1 ours is

@@ -29,15 +29,18 @@ use Rattle.vm_flat.proofs.Lives.{itself}
 use Rattle.vm_flat.proofs.Locals.{is_live, spot_is_local}
 use Rattle.vm_flat.proofs.Pagers.{both_no}
 
-void_if : (z : List ℕ) (s : Spot) (b : Bool) (e f : SpotEffect) → (b ≡ true → (spot_after z s e).void ≡ s.void) → (spot_after z s f).void ≡ s.void → (spot_after z s (if b then e else f)).void ≡ s.void
+void_if : (z : List ℕ) (s : Spot) (b : Bool) (e f : SpotEffect) → (b ≡ true → (spot_after z s e).void ≡ s.void) → (spot_after z s f).void ≡ s.void
+    → (spot_after z s (if b then e else f)).void ≡ s.void
 void_if z s true e f one two = one refl
 void_if z s false e f one two = two
 
-sent_up_void : (z : List ℕ) (s : Spot) (o p : ℕ) (own : Bool) (live : Option ℕ) (object : ℕ) (m : Message) → (spot_after z s (effect_sent_up o p own live object m)).void ≡ s.void
+sent_up_void : (z : List ℕ) (s : Spot) (o p : ℕ) (own : Bool) (live : Option ℕ) (object : ℕ) (m : Message)
+    → (spot_after z s (effect_sent_up o p own live object m)).void ≡ s.void
 sent_up_void z s o p own live object (message.Init control size) = void_if z s (own && object == o) Creates Nothing (λ b. refl) refl
 sent_up_void z s o p own live object (message.Create control size) = void_if z s (own && object == o) Creates Nothing (λ b. refl) refl
 sent_up_void z s o p own live object (message.Request control page access) = void_if z s (own && (object == o && page.0 == p)) _ Nothing (λ b. refl) refl
-sent_up_void z s o p own live object (message.Return control page dirty keep bytes) = void_if z s (own && (object == o && page.0 == p)) _ Nothing (λ b. refl) refl
+sent_up_void z s o p own live object (message.Return control page dirty keep bytes) =
+    void_if z s (own && (object == o && page.0 == p)) _ Nothing (λ b. refl) refl
 sent_up_void z s o p own live object (message.Terminate control) = void_if z s _ Ends Nothing (λ b. refl) refl
 sent_up_void z s o p own live object other = refl
 
@@ -53,7 +56,8 @@ is_up (Some letter) = by_channel letter.channel
     by_channel (Down host object control) = false
 
 -- what a step took of a pager's word came down, not up
-came_down : (size : ℕ) (past : List Event) (a : Asked) (host object : ℕ) (m : Message) → absence_taken size past ≡ Some a → taken_letter past ≡ Some (record { channel = Up (record { 0 = host }) (record { 0 = object }); message = m }) → ⊥
+came_down : (size : ℕ) (past : List Event) (a : Asked) (host object : ℕ) (m : Message) → absence_taken size past ≡ Some a
+    → taken_letter past ≡ Some (record { channel = Up (record { 0 = host }) (record { 0 = object }); message = m }) → ⊥
 came_down size [] a host object m is up = not_absent a is
 came_down size (event.Line line ∷ past) a host object m is up = not_absent a is
 came_down size (event.Taken (Up at of) n ∷ past) a host object m is up = not_absent a is
@@ -75,14 +79,19 @@ number_is : (a b : ℕ) → (a == b) ≡ true → a ≡ b
 number_is a b is = grind (arith, nat_tests)
 
 -- an answer cannot be sent in such a step
-sent_down_void : (header : Header) (outside : Outside) (doing : Command) (z : List ℕ) (s : Spot) (o p at object control : ℕ) (own tells : Bool) (m : Message) (past : List Event) (a : Asked)
-    → absence_taken header.size past ≡ Some a → ((object == o) ≡ true → MaySendDown header outside doing at object control m past) → (spot_after z s (effect_sent_down o p own tells object m)).void ≡ s.void
+sent_down_void : (header : Header) (outside : Outside) (doing : Command) (z : List ℕ) (s : Spot) (o p at object control : ℕ) (own tells : Bool) (m : Message)
+    (past : List Event) (a : Asked)
+    → absence_taken header.size past ≡ Some a → ((object == o) ≡ true → MaySendDown header outside doing at object control m past)
+    → (spot_after z s (effect_sent_down o p own tells object m)).void ≡ s.void
 sent_down_void header outside doing z s o p at object control own tells (message.Supply page lock precious bytes) past a is c =
-    void_if z s (own && (object == o && page.0 == p)) (Answers tells (Supplying bytes)) Nothing (λ b. absurd (came_down header.size past a at object _ is (c (first (object == o) (page.0 == p) (second own _ b))).0.taken)) refl
+    void_if z s (own && (object == o && page.0 == p)) (Answers tells (Supplying bytes)) Nothing
+    (λ b. absurd (came_down header.size past a at object _ is (c (first (object == o) (page.0 == p) (second own _ b))).0.taken)) refl
 sent_down_void header outside doing z s o p at object control own tells (message.Unavailable page) past a is c =
-    void_if z s (own && (object == o && page.0 == p)) (Answers tells Unavailing) Nothing (λ b. absurd (came_down header.size past a at object _ is (c (first (object == o) (page.0 == p) (second own _ b))).0.taken)) refl
+    void_if z s (own && (object == o && page.0 == p)) (Answers tells Unavailing) Nothing
+    (λ b. absurd (came_down header.size past a at object _ is (c (first (object == o) (page.0 == p) (second own _ b))).0.taken)) refl
 sent_down_void header outside doing z s o p at object control own tells (message.Error page reason) past a is c =
-    void_if z s (own && (object == o && page.0 == p)) (Answers tells Erring) Nothing (λ b. absurd (came_down header.size past a at object _ is (c (first (object == o) (page.0 == p) (second own _ b))).0.taken)) refl
+    void_if z s (own && (object == o && page.0 == p)) (Answers tells Erring) Nothing
+    (λ b. absurd (came_down header.size past a at object _ is (c (first (object == o) (page.0 == p) (second own _ b))).0.taken)) refl
 sent_down_void header outside doing z s o p at object control own tells other past a is c = refl
 
 zeroed_void : (z : List ℕ) (s : Spot) (own here : Bool) → here ≡ false → (spot_after z s (if own && here then Zeroes else Nothing)).void ≡ s.void
@@ -91,7 +100,8 @@ zeroed_void z s false here is = refl
 zeroed_void z s true true is = absurd (let bad : true ≡ false = is in cc)
 
 -- the place hears the word where the live control asked
-hears_void : (z : List ℕ) (s : Spot) (own : Bool) → own ≡ true → (s.control == 1) ≡ true → s.asked ≡ true → s.file ≡ true → (spot_after z s (if own then Takes Unavailing else StepEnds)).void ≡ true
+hears_void : (z : List ℕ) (s : Spot) (own : Bool) → own ≡ true → (s.control == 1) ≡ true → s.asked ≡ true → s.file ≡ true
+    → (spot_after z s (if own then Takes Unavailing else StepEnds)).void ≡ true
 hears_void z s own mine lives asked file = rw (mine, lives, asked, file) refl
 
 abbrev pub absent : ℕ → ℕ → ℕ → Asked
@@ -115,21 +125,27 @@ abbrev page_in : Option Asked → ℕ
 page_in None = 0
 page_in (Some a) = a.page
 
-pub came : (host o p at object page : ℕ) (b : Bool) → (if b then Some (absent at object page) else None) ≡ Some (absent host o p) → Came host o p at object page b
+pub came : (host o p at object page : ℕ) (b : Bool) → (if b then Some (absent at object page) else None) ≡ Some (absent host o p)
+    → Came host o p at object page b
 came host o p at object page true is = record { counts = refl; host = ap (λ x. host_in x) is; object = ap (λ x. object_in x) is; page = ap (λ x. page_in x) is }
 came host o p at object page false is = not_absent _ is
 
-took_void : (header : Header) (outside : Outside) (host o p control : ℕ) (past : List Event) → is_file header o ≡ true → (is_control control (live_control host o past) && (page_on header host o p past).asked) ≡ true
-    → (spot_after (zeros header) (spot header outside host o p past) (effect_taken_down o p (host == host && control == last_control host o past) o (message.Unavailable (record { 0 = p })))).void ≡ true
+took_void : (header : Header) (outside : Outside) (host o p control : ℕ) (past : List Event) → is_file header o ≡ true
+    → (is_control control (live_control host o past) && (page_on header host o p past).asked) ≡ true
+    → (spot_after (zeros header) (spot header outside host o p past) (effect_taken_down o p (host == host && control == last_control host o past) o
+    (message.Unavailable (record { 0 = p })))).void ≡ true
 took_void header outside host o p control past file counts =
     hears_void (zeros header) (spot header outside host o p past) ((host == host && control == last_control host o past) && (o == o && p == p))
-    (rw (itself host, itself o, itself p, newest) refl) lives (i.asked ∙ second (is_control control (live_control host o past)) (page_on header host o p past).asked counts) (i.file ∙ file)
+    (rw (itself host, itself o, itself p, newest) refl) lives (i.asked
+    ∙ second (is_control control (live_control host o past)) (page_on header host o p past).asked counts) (i.file ∙ file)
   where
     i : SpotIsLocal (is_file header o) (last_control host o past) (live_control host o past) (spot header outside host o p past) (page_on header host o p past)
     i = spot_is_local header outside past host o p
 
     both : ((spot header outside host o p past).control == 1 && control == last_control host o past) ≡ true
-    both = sym (is_live (last_control host o past) (live_control host o past) (spot header outside host o p past) control i.control) ∙ first (is_control control (live_control host o past)) (page_on header host o p past).asked counts
+    both =
+        sym (is_live (last_control host o past) (live_control host o past) (spot header outside host o p past) control i.control)
+        ∙ first (is_control control (live_control host o past)) (page_on header host o p past).asked counts
 
     lives : ((spot header outside host o p past).control == 1) ≡ true
     lives = first ((spot header outside host o p past).control == 1) (control == last_control host o past) both
@@ -137,13 +153,21 @@ took_void header outside host o p control past file counts =
     newest : (control == last_control host o past) ≡ true
     newest = second ((spot header outside host o p past).control == 1) (control == last_control host o past) both
 
-taken_void : (header : Header) (outside : Outside) (host o p : ℕ) (at : HostId) (object : ObjectId) (control : ℕ) (m : Message) (past : List Event) → is_file header o ≡ true
-    → absence_taken header.size (event.Taken (Down at object control) m ∷ past) ≡ Some (absent host o p) → (spot header outside host o p (event.Taken (Down at object control) m ∷ past)).void ≡ true
+taken_void : (header : Header) (outside : Outside) (host o p : ℕ) (at : HostId) (object : ObjectId) (control : ℕ) (m : Message) (past : List Event)
+    → is_file header o ≡ true
+    → absence_taken header.size (event.Taken (Down at object control) m ∷ past) ≡ Some (absent host o p)
+    → (spot header outside host o p (event.Taken (Down at object control) m ∷ past)).void ≡ true
 taken_void header outside host o p at object control (message.Unavailable page) past file is =
-    let c : Came host o p at.0 object.0 page.0 (is_control control (live_control at.0 object.0 past) && (page_on header at.0 object.0 page.0 past).asked) = came host o p at.0 object.0 page.0 _ is in
-    subst (λ (h : ℕ). (spot_after (zeros header) (spot header outside host o p past) (effect_taken_down o p (h == host && control == last_control host object.0 past) object.0 (message.Unavailable (record { 0 = page.0 })))).void ≡ true) (sym c.host)
-    (subst (λ (k : ℕ). (spot_after (zeros header) (spot header outside host o p past) (effect_taken_down o p (host == host && control == last_control host k past) k (message.Unavailable (record { 0 = page.0 })))).void ≡ true) (sym c.object)
-    (subst (λ (q : ℕ). (spot_after (zeros header) (spot header outside host o p past) (effect_taken_down o p (host == host && control == last_control host o past) o (message.Unavailable (record { 0 = q })))).void ≡ true) (sym c.page)
+    let c : Came host o p at.0 object.0 page.0 (is_control control (live_control at.0 object.0 past) && (page_on header at.0 object.0 page.0 past).asked) = came
+    host o p at.0 object.0 page.0 _ is in
+    subst (λ (h : ℕ). (spot_after (zeros header) (spot header outside host o p past)
+    (effect_taken_down o p (h == host && control == last_control host object.0 past) object.0 (message.Unavailable (record { 0 = page.0 })))).void ≡ true)
+    (sym c.host)
+    (subst (λ (k : ℕ). (spot_after (zeros header) (spot header outside host o p past)
+    (effect_taken_down o p (host == host && control == last_control host k past) k (message.Unavailable (record { 0 = page.0 })))).void ≡ true)
+    (sym c.object)
+    (subst (λ (q : ℕ). (spot_after (zeros header) (spot header outside host o p past)
+    (effect_taken_down o p (host == host && control == last_control host o past) o (message.Unavailable (record { 0 = q })))).void ≡ true) (sym c.page)
     (took_void header outside host o p control past file
     (subst (λ (h : ℕ). (is_control control (live_control h o past) && (page_on header h o p past).asked) ≡ true) c.host
     (subst (λ (k : ℕ). (is_control control (live_control at.0 k past) && (page_on header at.0 k p past).asked) ≡ true) c.object
@@ -155,23 +179,34 @@ pub void_is : (header : Header) (outside : Outside) (host o p : ℕ) (past : Lis
 void_is header outside host o p [] caused file is none = not_absent _ is
 void_is header outside host o p (event.Line line ∷ past) caused file is none = not_absent _ is
 void_is header outside host o p (event.Taken (Up at object) m ∷ past) caused file is none = not_absent _ is
-void_is header outside host o p (event.Taken (Down at object control) m ∷ past) caused file is none = taken_void header outside host o p at object control m past file is
+void_is header outside host o p (event.Taken (Down at object control) m ∷ past) caused file is none =
+    taken_void header outside host o p at object control m past file is
 void_is header outside host o p (event.Zeroed at object page ∷ past) caused file is none =
-    let no : ((object.0 == o && page.0 == p) ≡ false) × (since (zeroes o p) past ≡ false) = both_no (object.0 == o && page.0 == p) (since (zeroes o p) past) none in
-    zeroed_void (zeros header) (spot header outside host o p past) (at.0 == host) (object.0 == o && page.0 == p) no.0 ∙ void_is header outside host o p past caused.1 file is no.1
-void_is header outside host o p (event.Dropped at object page ∷ past) caused file is none = void_if _ _ (at.0 == host && (object.0 == o && page.0 == p)) Drops Nothing (λ b. refl) refl ∙ void_is header outside host o p past caused.1 file is none
+    let no : ((object.0 == o && page.0 == p) ≡ false) × (since (zeroes o p) past ≡ false) = both_no (object.0 == o && page.0 == p) (since (zeroes o p) past)
+    none in
+    zeroed_void (zeros header) (spot header outside host o p past) (at.0 == host) (object.0 == o && page.0 == p) no.0
+    ∙ void_is header outside host o p past caused.1 file is no.1
+void_is header outside host o p (event.Dropped at object page ∷ past) caused file is none =
+    void_if _ _ (at.0 == host && (object.0 == o && page.0 == p)) Drops Nothing (λ b. refl) refl ∙ void_is header outside host o p past caused.1 file is none
 void_is header outside host o p (event.Raised at lower lower_page upper upper_page ∷ past) caused file is none =
-    void_if _ _ (at.0 == host && (upper.0 == o && upper_page.0 == p)) (Raises (spot header outside host lower.0 lower_page.0 past).bytes) Nothing (λ b. refl) refl ∙ void_is header outside host o p past caused.1 file is none
+    void_if _ _ (at.0 == host && (upper.0 == o && upper_page.0 == p)) (Raises (spot header outside host lower.0 lower_page.0 past).bytes) Nothing (λ b. refl)
+    refl ∙ void_is header outside host o p past caused.1 file is none
 void_is header outside host o p (event.Stored task object page at size value ∷ past) caused file is none =
-    void_if _ _ (lives_on host task.0 past && (object.0 == o && page.0 == p)) (Stores at (little_endian_bytes size value)) Nothing (λ b. refl) refl ∙ void_is header outside host o p past caused.1 file is none
+    void_if _ _ (lives_on host task.0 past && (object.0 == o && page.0 == p)) (Stores at (little_endian_bytes size value)) Nothing (λ b. refl) refl
+    ∙ void_is header outside host o p past caused.1 file is none
 void_is header outside host o p (event.CopiedPage task page object object_page target ∷ past) caused file is none =
-    void_if _ _ (lives_on host task.0 past && (target.0 == o && page.0 == p)) (Raises (spot header outside host object.0 object_page.0 past).bytes) Nothing (λ b. refl) refl ∙ void_is header outside host o p past caused.1 file is none
+    void_if _ _ (lives_on host task.0 past && (target.0 == o && page.0 == p)) (Raises (spot header outside host object.0 object_page.0 past).bytes) Nothing
+    (λ b. refl) refl ∙ void_is header outside host o p past caused.1 file is none
 void_is header outside host o p (event.Sent (Up at object) m ∷ past) caused file is none =
-    sent_up_void (zeros header) (spot header outside host o p past) o p (at.0 == host) (live_control host object.0 past) object.0 m ∙ void_is header outside host o p past caused.1 file is none
+    sent_up_void (zeros header) (spot header outside host o p past) o p (at.0 == host) (live_control host object.0 past) object.0 m
+    ∙ void_is header outside host o p past caused.1 file is none
 void_is header outside host o p (event.Sent (Down at object control) m ∷ past) caused file is none =
-    sent_down_void header outside caused.0.0 (zeros header) (spot header outside host o p past) o p at.0 object.0 control (at.0 == host && control == last_control host object.0 past) (is_said header outside object.0) m past (absent host o p) is may
+    sent_down_void header outside caused.0.0 (zeros header) (spot header outside host o p past) o p at.0 object.0 control
+    (at.0 == host && control == last_control host object.0 past) (is_said header outside object.0) m past (absent host o p) is may
     ∙ void_is header outside host o p past caused.1 file is (both_no false (since (zeroes o p) past) none).1
   where
     may : (object.0 == o) ≡ true → MaySendDown header outside caused.0.0 at.0 object.0 control m past
-    may same = paged_may header outside caused.0.0 at.0 object.0 control m past (ap (λ (k : ℕ). is_paged header k) (number_is object.0 o same) ∙ file_paged header o file) caused.0.1
+    may same =
+        paged_may header outside caused.0.0 at.0 object.0 control m past (ap (λ (k : ℕ). is_paged header k) (number_is object.0 o same)
+        ∙ file_paged header o file) caused.0.1
 void_is header outside host o p (e ∷ past) caused file is none = void_is header outside host o p past caused.1 file is none

@@ -17,7 +17,13 @@ use Rattle.vm_legal.specs.Outside.{Outside, Untold}
 
 -- pages of 16 bytes, one host of 4 frames, a file of one page
 abbrev pub header : Header
-header = record { size = 16; slots = 4; frames = record { items = 4 ∷ []; room = 0 }; objects = record { items = record { name = 102 ∷ []; kind = File; pages = 1 } ∷ []; room = 0 } }
+header =
+    record {
+      size = 16;
+      slots = 4;
+      frames = record { items = 4 ∷ []; room = 0 };
+      objects = record { items = record { name = 102 ∷ []; kind = File; pages = 1 } ∷ []; room = 0 };
+    }
 
 abbrev pub outside : Outside
 outside = record { files = Untold; paging = true }
@@ -81,4 +87,5 @@ asked =
 
 -- and those behind it
 abbrev pub history : List Event
-history = event.Loaded task file page 0 ∷ event.Taken down (message.Supply page 0 false zero_page) ∷ event.Sent down (message.Supply page 0 false zero_page) ∷ asked
+history =
+    event.Loaded task file page 0 ∷ event.Taken down (message.Supply page 0 false zero_page) ∷ event.Sent down (message.Supply page 0 false zero_page) ∷ asked

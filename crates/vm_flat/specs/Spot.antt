@@ -2,7 +2,8 @@
 use Rattle.std.specs.Prelude.{not, ℕ, ◌==◌, List, [], ◌∷◌, ◌++◌, Bool, true, false, if◌then◌else◌, ◌&&◌, Option, Some, None}
 use Rattle.vm_base.specs.Pages.{with_bytes}
 use Rattle.vm_model.specs.Side.{rest}
-use Rattle.vm_flat.specs.Words.{SpotUpWord, Requesting, Returning, SpotDownWord, Supplying, Unavailing, Erring, SpotEffect, Creates, Requests, Returns, TakesRequest, TakesReturn, Answers, Takes, Zeroes, Raises, Stores, Drops, Ends, StepEnds, Nothing}
+use Rattle.vm_flat.specs.Words.{SpotUpWord, Requesting, Returning, SpotDownWord, Supplying, Unavailing, Erring, SpotEffect, Creates, Requests, Returns}
+use Rattle.vm_flat.specs.Words.{TakesRequest, TakesReturn, Answers, Takes, Zeroes, Raises, Stores, Drops, Ends, StepEnds, Nothing}
 
 pub record Spot : Type 0 where
   -- what is on the way about the page, oldest first
@@ -64,13 +65,22 @@ spot_after_taking s (Supplying bytes) b =
       step = false;
       void = false;
     }
-spot_after_taking s Unavailing b = record s { down = rest s.down; absent = if b && not s.file then true else s.absent; asked = if b then false else s.asked; step = false; void = b && s.file }
+spot_after_taking s Unavailing b =
+    record s { down = rest s.down; absent = if b && not s.file then true else s.absent; asked = if b then false else s.asked; step = false; void = b && s.file }
 spot_after_taking s Erring b = record s { down = rest s.down; asked = if b then false else s.asked; step = false; void = false }
 
 abbrev pub spot_after : List ℕ → Spot → SpotEffect → Spot
 spot_after z s Creates = record s { control = 1; asked = false }
 spot_after z s (Requests lives) = record s { up = s.up ++ Requesting ∷ []; asked = if lives then true else s.asked }
-spot_after z s (Returns keep bytes) = record s { up = s.up ++ Returning bytes ∷ []; here = keep && s.here; bytes = if keep then s.bytes else []; dirty = false; absent = false; returned = Some bytes }
+spot_after z s (Returns keep bytes) =
+    record s {
+      up = s.up ++ Returning bytes ∷ [];
+      here = keep && s.here;
+      bytes = if keep then s.bytes else [];
+      dirty = false;
+      absent = false;
+      returned = Some bytes;
+    }
 spot_after z s TakesRequest = record s { up = rest s.up; step = true; void = false }
 spot_after z s (TakesReturn bytes) = record s { up = rest s.up; kept = Some bytes; step = false; void = false }
 spot_after z s (Answers tells word) =

@@ -24,8 +24,10 @@ file_has pages host object page past = newer (last_return host object page past)
 -- The message, if it is an answer of a file's pager, is what that has: the page, or that there is none where that is zeros. A pager gives
 -- no page of which the last return was not stored, so what it took last is what it stored last.
 abbrev pub IsToldAnswer : Header → (ℕ → ℕ → List ℕ) → ℕ → ℕ → Message → List Event → Type 0
-IsToldAnswer header pages host object (message.Supply page lock precious bytes) past = is_file header object ≡ true → file_has pages host object page.0 past ≡ Some bytes
-IsToldAnswer header pages host object (message.Unavailable page) past = is_file header object ≡ true → file_has pages host object page.0 past ≡ Some (zeros header)
+IsToldAnswer header pages host object (message.Supply page lock precious bytes) past =
+    is_file header object ≡ true → file_has pages host object page.0 past ≡ Some bytes
+IsToldAnswer header pages host object (message.Unavailable page) past =
+    is_file header object ≡ true → file_has pages host object page.0 past ≡ Some (zeros header)
 IsToldAnswer header pages host object other past = Unit {0}
 
 -- the event, if it is an answer of a file's pager, carries what that pager has, where the files held these pages at the start

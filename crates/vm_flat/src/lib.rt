@@ -36,7 +36,8 @@ ghost use Rattle.vm_flat.specs.Told.{AnswersTold, told, untold};
 /// memory says so.
 #[tactic(auto, using(crate::proofs::Loads::answers))]
 pub fn loads_answer()
-    ensures { (header : Header) (outside : Outside) (history : List Event) → EachEvent (HasCause header outside) history → EachEvent (OwnBytes header) history → EachEvent (CopiesCurrent header outside) history → EachEvent (LoadsCurrent header outside) history → EachEvent (FlatBytes header outside) history }
+    ensures { (header : Header) (outside : Outside) (history : List Event) → EachEvent (HasCause header outside) history → EachEvent (OwnBytes header) history
+        → EachEvent (CopiesCurrent header outside) history → EachEvent (LoadsCurrent header outside) history → EachEvent (FlatBytes header outside) history }
 {}
 
 /// A place is what its host has of the page, at every moment of every history: there is one notion of
@@ -45,9 +46,14 @@ pub fn loads_answer()
 /// Each event that has its cause is founded.
 #[tactic(auto, using(crate::proofs::Locals::spot_is_local, crate::proofs::Locals::each_founded, crate::proofs::Locals::known_absent))]
 pub fn places_are_local()
-    ensures page { (header : Header) (outside : Outside) (history : List Event) (host o p : ℕ) → SpotIsLocal (is_file header o) (last_control host o history) (live_control host o history) (spot header outside host o p history) (local header.size host (record { object = o; page = p }) history) }
-    ensures known_absent { (header : Header) (outside : Outside) (history : List Event) (host o p : ℕ) → is_private header outside o ≡ true → (spot header outside host o p history).absent ≡ is_known_absent header (record { object = o; page = p }) (local header.size host (record { object = o; page = p }) history) }
-    ensures founded { (header : Header) (outside : Outside) (history : List Event) → EachEvent (HasCause header outside) history → EachEvent (IsFounded header.size) history }
+    ensures page { (header : Header) (outside : Outside) (history : List Event) (host o p : ℕ)
+        → SpotIsLocal (is_file header o) (last_control host o history) (live_control host o history) (spot header outside host o p history)
+        (local header.size host (record { object = o; page = p }) history) }
+    ensures known_absent { (header : Header) (outside : Outside) (history : List Event) (host o p : ℕ) → is_private header outside o ≡ true
+        → (spot header outside host o p history).absent ≡ is_known_absent header (record { object = o; page = p })
+        (local header.size host (record { object = o; page = p }) history) }
+    ensures founded { (header : Header) (outside : Outside) (history : List Event)
+        → EachEvent (HasCause header outside) history → EachEvent (IsFounded header.size) history }
 {}
 
 /// What a file's pager took last is the flat map's page, where the file is told, no changed copy of the page
@@ -58,9 +64,17 @@ pub fn places_are_local()
 /// touched.
 #[tactic(auto, using(crate::proofs::Settled::settled, crate::proofs::Staying::none_here, crate::proofs::Beyond::none_beyond))]
 pub fn files_hold_the_flat_map()
-    ensures settled { (header : Header) (outside : Outside) (history : List Event) → EachEvent (HasCause header outside) history → EachEvent (CopiesCurrent header outside) history → (host o p : ℕ) → is_file header o ≡ true → is_said header outside o ≡ false → in_use header host o history ≡ true → p < declared_pages header o → queue (up_port host o) history ≡ [] → ((page_on header host o p history).here ≡ true → (page_on header host o p history).dirty ≡ false) → pager_has header outside host o p history ≡ Some (flat_page header outside o p history) }
-    ensures away { (header : Header) (outside : Outside) (commands : List Numbered) (history : List Event) → FollowsAnyCut header outside commands history → EachEvent (CopiesCurrent header outside) history → BeforeSteps (Prompt header) history → (host o p : ℕ) → host < length header.frames.items → is_file header o ≡ true → live_control host o history ≡ None → (page_on header host o p history).here ≡ false }
-    ensures beyond { (header : Header) (outside : Outside) (history : List Event) → EachEvent (HasCause header outside) history → EachEvent (CopiesCurrent header outside) history → (host o p : ℕ) → is_file header o ≡ true → declared_pages header o ≤ p → last_return host o p history ≡ None }
+    ensures settled { (header : Header) (outside : Outside) (history : List Event) → EachEvent (HasCause header outside) history
+        → EachEvent (CopiesCurrent header outside) history → (host o p : ℕ) → is_file header o ≡ true → is_said header outside o ≡ false
+        → in_use header host o history ≡ true → p < declared_pages header o → queue (up_port host o) history ≡ []
+        → ((page_on header host o p history).here ≡ true → (page_on header host o p history).dirty ≡ false)
+        → pager_has header outside host o p history ≡ Some (flat_page header outside o p history) }
+    ensures away { (header : Header) (outside : Outside) (commands : List Numbered) (history : List Event) → FollowsAnyCut header outside commands history
+        → EachEvent (CopiesCurrent header outside) history → BeforeSteps (Prompt header) history → (host o p : ℕ) → host < length header.frames.items
+        → is_file header o ≡ true → live_control host o history ≡ None → (page_on header host o p history).here ≡ false }
+    ensures beyond { (header : Header) (outside : Outside) (history : List Event) → EachEvent (HasCause header outside) history
+        → EachEvent (CopiesCurrent header outside) history → (host o p : ℕ) → is_file header o ≡ true → declared_pages header o ≤ p
+        → last_return host o p history ≡ None }
 {}
 
 /// Files that aren't told, as those of a folder: what their pages are each answer of their pagers says anew, so
@@ -75,10 +89,15 @@ pub fn files_hold_the_flat_map()
 /// of its answers is such.
 #[tactic(auto, using(crate::proofs::Told::told_causes, crate::proofs::Told::each_told, crate::proofs::Told::untold_causes))]
 pub fn untold_files_answer()
-    ensures causes { (header : Header) (outside : Outside) (pages : ℕ → ℕ → List ℕ) (history : List Event) → EachEvent (HasCause header outside) history → EachEvent (AnswersTold header pages) history → EachEvent (HasCause header (told outside pages)) history }
-    ensures answers { (header : Header) (outside : Outside) (pages : ℕ → ℕ → List ℕ) (history : List Event) → EachEvent (HasCause header outside) history → EachEvent (AnswersTold header pages) history → EachEvent (OwnBytes header) history → EachEvent (CopiesCurrent header (told outside pages)) history → EachEvent (LoadsCurrent header (told outside pages)) history → EachEvent (FlatBytes header (told outside pages)) history }
-    ensures each { (header : Header) (outside : Outside) (pages : ℕ → ℕ → List ℕ) (history : List Event) → EachEvent (HasCause header (told outside pages)) history → EachEvent (AnswersTold header pages) history }
-    ensures untold { (header : Header) (outside : Outside) (pages : ℕ → ℕ → List ℕ) (history : List Event) → EachEvent (HasCause header (told outside pages)) history → EachEvent (HasCause header (untold outside)) history }
+    ensures causes { (header : Header) (outside : Outside) (pages : ℕ → ℕ → List ℕ) (history : List Event) → EachEvent (HasCause header outside) history
+        → EachEvent (AnswersTold header pages) history → EachEvent (HasCause header (told outside pages)) history }
+    ensures answers { (header : Header) (outside : Outside) (pages : ℕ → ℕ → List ℕ) (history : List Event) → EachEvent (HasCause header outside) history
+        → EachEvent (AnswersTold header pages) history → EachEvent (OwnBytes header) history → EachEvent (CopiesCurrent header (told outside pages)) history
+        → EachEvent (LoadsCurrent header (told outside pages)) history → EachEvent (FlatBytes header (told outside pages)) history }
+    ensures each { (header : Header) (outside : Outside) (pages : ℕ → ℕ → List ℕ) (history : List Event)
+        → EachEvent (HasCause header (told outside pages)) history → EachEvent (AnswersTold header pages) history }
+    ensures untold { (header : Header) (outside : Outside) (pages : ℕ → ℕ → List ℕ) (history : List Event)
+        → EachEvent (HasCause header (told outside pages)) history → EachEvent (HasCause header (untold outside)) history }
 {}
 
 /// By the causes alone a file that isn't told may forget: its pager took back a page with a 7, then supplies

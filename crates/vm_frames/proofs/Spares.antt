@@ -1,5 +1,6 @@
 -- The frames that are not claimed: how many there are, and what a claim and a release leave of their list.
-use Rattle.std.proofs.Common.{ℕ, zero, suc, ◌≡◌, ◌≢◌, ◌+◌, ◌-◌, ◌<◌, ◌≤◌, ◌==◌, Bool, true, false, List, [], ◌∷◌, length, get_or, set, replicate, refl, sym, ◌∙◌, ap, arith}
+use Rattle.std.proofs.Common.{ℕ, zero, suc, ◌≡◌, ◌≢◌, ◌+◌, ◌-◌, ◌<◌, ◌≤◌, ◌==◌, Bool, true, false, List, [], ◌∷◌, length, get_or, set, replicate, refl, sym}
+use Rattle.std.proofs.Common.{◌∙◌, ap, arith}
 use Rattle.std.proofs.lemmas.Bool.{false≢true}
 use Rattle.std.proofs.lemmas.Bool.Decides.{nat_tests}
 use Rattle.std.proofs.lemmas.List.{get_or-replicate, get_or-set_other}
@@ -35,7 +36,8 @@ count_released (mark ∷ marks) zero is = rw is refl
 count_released (true ∷ marks) (suc f) is = ap suc (count_released marks f is)
 count_released (false ∷ marks) (suc f) is = count_released marks f is
 
-pub mark_set : (marks : List Bool) (f other : ℕ) (mark : Bool) → f < length marks → get_or (set marks f mark) other false ≡ (if f == other then mark else get_or marks other false)
+pub mark_set : (marks : List Bool) (f other : ℕ) (mark : Bool) → f < length marks
+    → get_or (set marks f mark) other false ≡ (if f == other then mark else get_or marks other false)
 mark_set [] f other mark inside = absurd (omega arith)
 mark_set (x ∷ marks) zero zero mark inside = grind (arith, nat_tests)
 mark_set (x ∷ marks) zero (suc other) mark inside = grind (arith, nat_tests)
@@ -69,9 +71,11 @@ lower_not_listed f low (suc n) less = let rest = lower_not_listed f (suc low) n 
 
 pub all_spare : (low n most : ℕ) → low + n ≤ most → AreSpare (replicate most false) (frames_from low n)
 all_spare low zero most within = tt
-all_spare low (suc n) most within = (get_or-replicate most low false true (omega arith), lower_not_listed low (suc low) n (omega arith), all_spare (suc low) n most (omega arith))
+all_spare low (suc n) most within =
+    (get_or-replicate most low false true (omega arith), lower_not_listed low (suc low) n (omega arith), all_spare (suc low) n most (omega arith))
 
-pub frames_more : (low next n : ℕ) (front : List FrameNo) → next ≡ suc low → next ≤ n → front ≡ frames_from next (n - next) → (record { 0 = low }) ∷ front ≡ frames_from low (n - low)
+pub frames_more : (low next n : ℕ) (front : List FrameNo) → next ≡ suc low → next ≤ n → front ≡ frames_from next (n - next)
+    → (record { 0 = low }) ∷ front ≡ frames_from low (n - low)
 frames_more low next n front after within is =
     let count : n - low ≡ suc (n - next) = omega arith in
     rw (count, is, after) refl

@@ -5,12 +5,14 @@ use Rattle.std.proofs.lemmas.List.{get_or-set_same, length-replicate, length-set
 use Rattle.vm_base.specs.declared.ids.FrameNo.{FrameNo}
 use Rattle.vm_frames.specs.Frames.{Claims, FrameTable, Releases, claimed, free, is_claimed}
 use Rattle.vm_frames.specs.Kept.{AreFrames, frame_table, frames_from}
-use Rattle.vm_frames.proofs.Spares.{all_spare, claim_there, count_all, count_claimed, count_none, count_released, mark_set, mark_there, not_spare, spare_kept, unclaimed}
+use Rattle.vm_frames.proofs.Spares.{all_spare, claim_there, count_all, count_claimed, count_none, count_released, mark_set, mark_there, not_spare, spare_kept}
+use Rattle.vm_frames.proofs.Spares.{unclaimed}
 
 pub reverse_push : (old new : List FrameNo) (f : FrameNo) → new ≡ old ++ f ∷ [] → reverse new ≡ f ∷ reverse old
 reverse_push old new f is = rw is (reverse-append old (f ∷ []))
 
-pub new_kept : (n most : ℕ) (size : List ℕ) (rest : List FrameNo) → rest ≡ frames_from 0 n → n ≤ most → n < 2 ^ 32 → AreFrames (replicate n size) (replicate n false) rest most 0
+pub new_kept : (n most : ℕ) (size : List ℕ) (rest : List FrameNo) → rest ≡ frames_from 0 n → n ≤ most → n < 2 ^ 32
+    → AreFrames (replicate n size) (replicate n false) rest most 0
 new_kept n most size rest is room few =
     let pages = length-replicate n size in
     let marks = length-replicate n false in
@@ -25,10 +27,13 @@ new_kept n most size rest is room few =
       few = omega (arith, marks);
     }
 
-pub roomier : (all : List (List ℕ)) (marks : List Bool) (rest : List FrameNo) (most more out : ℕ) → AreFrames all marks rest most out → most ≤ more → AreFrames all marks rest more out
-roomier all marks rest most more out kept le = record { pages = kept.pages; spare = kept.spare; counted = kept.counted; wired = kept.wired; room = omega (arith, kept.room); few = kept.few }
+pub roomier : (all : List (List ℕ)) (marks : List Bool) (rest : List FrameNo) (most more out : ℕ) → AreFrames all marks rest most out → most ≤ more
+    → AreFrames all marks rest more out
+roomier all marks rest most more out kept le =
+    record { pages = kept.pages; spare = kept.spare; counted = kept.counted; wired = kept.wired; room = omega (arith, kept.room); few = kept.few }
 
-pub claim_kept : (all : List (List ℕ)) (marks : List Bool) (rest : List FrameNo) (most out : ℕ) (f : FrameNo) (table : FrameTable) → AreFrames all marks (f ∷ rest) most out → frame_table all marks out ≡ table → 0 < free table
+pub claim_kept : (all : List (List ℕ)) (marks : List Bool) (rest : List FrameNo) (most out : ℕ) (f : FrameNo) (table : FrameTable)
+    → AreFrames all marks (f ∷ rest) most out → frame_table all marks out ≡ table → 0 < free table
     → AreFrames all (set marks f.0 true) rest most out
 claim_kept all marks rest most out f table kept view some =
     let more = count_claimed marks f.0 kept.spare.0 in
@@ -44,7 +49,8 @@ claim_kept all marks rest most out f table kept view some =
       few = omega (arith, kept.few, long);
     }
 
-pub claims : (all : List (List ℕ)) (marks : List Bool) (rest : List FrameNo) (most out : ℕ) (f : FrameNo) (table : FrameTable) → AreFrames all marks (f ∷ rest) most out → frame_table all marks out ≡ table → 0 < free table
+pub claims : (all : List (List ℕ)) (marks : List Bool) (rest : List FrameNo) (most out : ℕ) (f : FrameNo) (table : FrameTable)
+    → AreFrames all marks (f ∷ rest) most out → frame_table all marks out ≡ table → 0 < free table
     → Claims f.0 table (frame_table all (set marks f.0 true) out)
 claims all marks rest most out f table kept view some =
     let inside = claim_there marks f.0 kept.spare.0 in
@@ -60,7 +66,8 @@ claims all marks rest most out f table kept view some =
       left = omega (arith, some, more, long);
     }
 
-pub release_kept : (all : List (List ℕ)) (marks : List Bool) (rest : List FrameNo) (most out : ℕ) (f : FrameNo) → AreFrames all marks rest most out → get_or marks f.0 false ≡ true
+pub release_kept : (all : List (List ℕ)) (marks : List Bool) (rest : List FrameNo) (most out : ℕ) (f : FrameNo) → AreFrames all marks rest most out
+    → get_or marks f.0 false ≡ true
     → AreFrames all (set marks f.0 false) (f ∷ rest) most out
 release_kept all marks rest most out f kept is =
     let less = count_released marks f.0 is in
@@ -76,7 +83,8 @@ release_kept all marks rest most out f kept is =
       few = omega (arith, kept.few, long);
     }
 
-pub releases : (all : List (List ℕ)) (marks : List Bool) (rest : List FrameNo) (most out : ℕ) (f : FrameNo) (table : FrameTable) → AreFrames all marks rest most out → frame_table all marks out ≡ table → is_claimed table f.0 ≡ true
+pub releases : (all : List (List ℕ)) (marks : List Bool) (rest : List FrameNo) (most out : ℕ) (f : FrameNo) (table : FrameTable)
+    → AreFrames all marks rest most out → frame_table all marks out ≡ table → is_claimed table f.0 ≡ true
     → Releases f.0 table (frame_table all (set marks f.0 false) out)
 releases all marks rest most out f table kept view claimed =
     let is : get_or marks f.0 false ≡ true = rw (← view) at claimed in

@@ -1,5 +1,6 @@
 // The frames of a host.
-ghost use Rattle.std.specs.Prelude.{◌≡◌, ◌≢◌, ◌+◌, ◌<◌, ◌≤◌, [], true, false, IfOk, IsSome, MatchOption, get_or, if◌then◌else◌, length, nat_le, replicate, reverse, set, vec_capacity};
+ghost use Rattle.std.specs.Prelude.{◌≡◌, ◌≢◌, ◌+◌, ◌<◌, ◌≤◌, [], true, false, IfOk, IsSome, MatchOption, get_or, if◌then◌else◌, length, nat_le, replicate};
+ghost use Rattle.std.specs.Prelude.{reverse, set, vec_capacity};
 ghost use Rattle.std.specs.Borrow.{sem};
 ghost use Rattle.vm_frames.specs.Frames.{Claims, FrameTable, Releases, claimed, free, frame_count, held, is_claimed, page_in};
 ghost use Rattle.vm_frames.specs.Kept.{frames_from};

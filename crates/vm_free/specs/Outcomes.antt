@@ -27,7 +27,8 @@ abbrev pub Agrees : Values → List Event → Type 0
 Agrees values later = (t : ℕ) → AreOldest (loaded t later) (values t)
 
 -- behind a set-up's history a run ended the accesses of the free part in an order, and its loads gave an outcome
-pub record Shows (header : Header) (outside : Outside) (free : List Numbered) (start : List Event) (order : List ℕ) (values : Values) (later : List Event) : Type 0 where
+pub record Shows (header : Header) (outside : Outside) (free : List Numbered) (start : List Event) (order : List ℕ) (values : Values) (later : List Event) :
+    Type 0 where
   pub one : IsOneMemory header outside (later ++ start)
   pub goes : GoesOn free later
   pub ended : order_of later ≡ order
@@ -43,7 +44,8 @@ AllShown header outside free start outcomes = (order : List ℕ) → IsOrder fre
 
 -- whatever is mapped, loads of it answer the flat map
 abbrev pub AllFlat : Header → Outside → List Event → Type 0
-AllFlat header outside start = (t address : ℕ) (entry : Entry) → entry_at address (entries_of header.size t start) ≡ Some entry → is_flat header outside entry.region.0 ≡ true
+AllFlat header outside start =
+    (t address : ℕ) (entry : Entry) → entry_at address (entries_of header.size t start) ≡ Some entry → is_flat header outside entry.region.0 ≡ true
 
 -- no answer of a pager says what a file has: files are told, or there are none
 abbrev pub NothingIsSaid : Header → Outside → Type 0

@@ -20,5 +20,7 @@ ghost use Rattle.vm_free.specs.Outcomes.{AllFlat, AllShown, AreAll, NothingIsSai
 /// Nobody waits at the set-up's end, and whatever is mapped then is memory of which the flat map speaks. No answer
 /// of a pager says what a file has: where one does, memory depends on more than the order of the accesses.
 pub fn shown_outcomes_are_all()
-    ensures { (header : Header) (outside : Outside) (free : List Numbered) (start : List Event) (outcomes : List Values) → NobodyWaits start → NothingIsSaid header outside → AllFlat header outside start → AllShown header outside free start outcomes → AreAll header outside free start outcomes }
+    ensures { (header : Header) (outside : Outside) (free : List Numbered) (start : List Event) (outcomes : List Values) → NobodyWaits start
+        → NothingIsSaid header outside → AllFlat header outside start → AllShown header outside free start outcomes
+        → AreAll header outside free start outcomes }
 {}

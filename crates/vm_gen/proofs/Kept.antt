@@ -1,5 +1,6 @@
 -- A made script keeps the ranges that scripts keep.
-use Rattle.std.proofs.Common.{◌≡◌, ◌≢◌, ℕ, zero, suc, ◌+◌, ◌%◌, ◌<◌, ◌≤◌, ◌^◌, ◌==◌, inl, inr, Bool, true, false, nat_le, cond, if◌then◌else◌, List, [], ◌∷◌, length, refl, subst, arith}
+use Rattle.std.proofs.Common.{◌≡◌, ◌≢◌, ℕ, zero, suc, ◌+◌, ◌%◌, ◌<◌, ◌≤◌, ◌^◌, ◌==◌, inl, inr, Bool, true, false, nat_le, cond, if◌then◌else◌, List, [], ◌∷◌}
+use Rattle.std.proofs.Common.{length, refl, subst, arith}
 use Rattle.std.proofs.lemmas.List.Elements.{All-nil, All-cons}
 use Rattle.std.proofs.lemmas.List.Kept.{AllPairs-cons}
 use Rattle.std.specs.List.{All}
@@ -49,7 +50,8 @@ loaded : (task address : ℕ) → task < 16 → address < 16384 → IsOfMade (lo
 loaded task address one two = record { task = omega (arith, one); address = omega (arith, two); size = inr (inr (inl refl)) }
 
 stored : (task address value : ℕ) → task < 16 → address < 16384 → value < 256 → IsOfMade (store_at task address value)
-stored task address value one two three = (record { task = omega (arith, one); address = omega (arith, two); size = inr (inr (inl refl)) }, omega (arith, three))
+stored task address value one two three =
+    (record { task = omega (arith, one); address = omega (arith, two); size = inr (inr (inl refl)) }, omega (arith, three))
 
 from_below : (value : ℕ) → (if value % 2 == 0 then 4096 else 0) < 2 ^ 32
 from_below value = elim (value % 2 == 0) as (λ t. cond t 4096 0 < 2 ^ 32) [ true ↦ omega arith | false ↦ omega arith ]
@@ -89,22 +91,34 @@ drawn_kept words = draw_kept _ _ _ _
 
 opening_kept : All (λ numbered. IsOfMade numbered.command) opening_commands
 opening_kept =
-    inside IsOfMade allocate_line 17 6 (add_lines map_line 11 6 (add_lines task_line 5 6 [])) (λ t less. record { task = omega (arith, less); address = omega arith; bytes = omega arith })
-    (inside IsOfMade map_line 11 6 (add_lines task_line 5 6 []) (λ t less. (record { task = omega (arith, less); address = omega arith; bytes = omega arith }, omega arith, omega arith))
+    inside IsOfMade allocate_line 17 6 (add_lines map_line 11 6 (add_lines task_line 5 6 []))
+    (λ t less. record { task = omega (arith, less); address = omega arith; bytes = omega arith })
+    (inside IsOfMade map_line 11 6 (add_lines task_line 5 6 []) (λ t less. (
+      record { task = omega (arith, less); address = omega arith; bytes = omega arith },
+      omega arith,
+      omega arith,
+    ))
     (inside IsOfMade task_line 5 6 [] (λ t less. (omega (arith, less), omega arith)) (All-nil (λ numbered. IsOfMade numbered.command))))
 
 made_kept : (number lines : ℕ) → All (λ numbered. IsOfMade numbered.command) (made_commands number lines)
 made_kept number lines =
     All-cons (λ numbered. IsOfMade numbered.command) _ _ (omega arith)
-    (inside IsOfMade (drawn_line number) 23 lines opening_commands (λ line less. command_kept (drawn (words_at number line)).0 (drawn_kept (words_at number line))) opening_kept)
+    (inside IsOfMade (drawn_line number) 23 lines opening_commands (λ line less. command_kept (drawn (words_at number line)).0
+    (drawn_kept (words_at number line))) opening_kept)
 
 opening_rises : RiseBelow 23 opening_commands
-opening_rises = rising allocate_line 17 6 (add_lines map_line 11 6 (add_lines task_line 5 6 [])) (omega arith) (rising map_line 11 6 (add_lines task_line 5 6 []) (omega arith) (rising task_line 5 6 [] (omega arith) tt))
+opening_rises =
+    rising allocate_line 17 6 (add_lines map_line 11 6 (add_lines task_line 5 6 [])) (omega arith)
+    (rising map_line 11 6 (add_lines task_line 5 6 []) (omega arith) (rising task_line 5 6 [] (omega arith) tt))
 
 made_rises : (number lines : ℕ) → RiseBelow (lines + 23 + 1) (made_commands number lines)
 made_rises number lines =
-    let same : 23 + lines ≡ lines + 23 = omega arith in
-    (omega arith, omega arith, subst (λ z. RiseBelow z (add_lines (drawn_line number) 23 lines opening_commands)) same (rising (drawn_line number) 23 lines opening_commands (omega arith) opening_rises))
+    let same : 23 + lines ≡ lines + 23 = omega arith in (
+      omega arith,
+      omega arith,
+      subst (λ z. RiseBelow z (add_lines (drawn_line number) 23 lines opening_commands)) same
+          (rising (drawn_line number) 23 lines opening_commands (omega arith) opening_rises),
+    )
 
 -- as many as the lines without the header's
 pub made_count : (number lines : ℕ) → length (made_commands number lines) ≡ lines + 19
@@ -130,7 +144,9 @@ keeps_ranges number lines script few made =
     eight = (omega arith, omega arith)
 
     three_frames : All (IsBetween 2 4096) (8 ∷ 8 ∷ 8 ∷ [])
-    three_frames = All-cons (IsBetween 2 4096) 8 (8 ∷ 8 ∷ []) eight (All-cons (IsBetween 2 4096) 8 (8 ∷ []) eight (All-cons (IsBetween 2 4096) 8 [] eight (All-nil (IsBetween 2 4096))))
+    three_frames =
+        All-cons (IsBetween 2 4096) 8 (8 ∷ 8 ∷ []) eight (All-cons (IsBetween 2 4096) 8 (8 ∷ []) eight
+        (All-cons (IsBetween 2 4096) 8 [] eight (All-nil (IsBetween 2 4096))))
 
     four : IsBetween 1 4096 4
     four = (omega arith, omega arith)

@@ -1,5 +1,6 @@
 // The kernels of all hosts.
-ghost use Rattle.std.specs.Prelude.{ℕ, ◌≡◌, ◌+◌, ◌<◌, ◌≤◌, ◌∷◌, ◌++◌, List, [], length, true, false, None, Some, IfOk, OnErr, OnOk, MatchOption, is_some, option_map};
+ghost use Rattle.std.specs.Prelude.{ℕ, ◌≡◌, ◌+◌, ◌<◌, ◌≤◌, ◌∷◌, ◌++◌, List, [], length, true, false, None, Some, IfOk, OnErr, OnOk, MatchOption, is_some};
+ghost use Rattle.std.specs.Prelude.{option_map};
 ghost use Rattle.vm_base.specs.declared.code.Code.TheVariants as code;
 ghost use Rattle.vm_base.specs.declared.ids.HostId.{HostId};
 ghost use Rattle.vm_model.specs.declared.event.Event.TheVariants as event;
@@ -82,7 +83,8 @@ impl Hosts {
         log: &mut Events,
     ) -> Result<u32, NoMemory>
         ensures rests { (header : Header) (past : List Event) → AllRest header self.old past → AllRest header self.new past }
-        ensures queues { (header : Header) (past : List Event) → AllRest header self.old past → AllQueued header self.old past → AllQueued header self.new past }
+        ensures queues { (header : Header) (past : List Event) → AllRest header self.old past → AllQueued header self.old past
+            → AllQueued header self.new past }
         ensures items { log.new.items ≡ log.old.items }
         ensures ready { IfOk result (λ events. IsReady breadth events self.new log.new.room × (events + more ≤ log.new.room)) }
     {
@@ -102,7 +104,8 @@ impl Hosts {
     // Makes room for one step in the tables of each host, and gives how many events the step adds at most.
     fn reserve_tables(&mut self, breadth: Breadth) -> Result<u64, NoMemory>
         ensures rests { (header : Header) (past : List Event) → AllRest header self.old past → AllRest header self.new past }
-        ensures queues { (header : Header) (past : List Event) → AllRest header self.old past → AllQueued header self.old past → AllQueued header self.new past }
+        ensures queues { (header : Header) (past : List Event) → AllRest header self.old past → AllQueued header self.old past
+            → AllQueued header self.new past }
         ensures ready { IfOk result (λ most. (space : ℕ) → most ≤ space → IsReady breadth most self.new space) }
     {
         let mut most: u64 = 0;
@@ -131,7 +134,8 @@ impl Hosts {
         requires ready { (events : ℕ) × IsReady (breadth_of command.now) events self.old log.old.room }
         ensures began { OnOk result (Began given.header given.outside command.now given.past self.new log.new.items) }
         ensures few { OnOk result ((events : ℕ) → IsReady (breadth_of command.now) events self.old log.old.room → length log.new.items ≤ events) }
-        ensures err { OnErr result (AllRest given.header self.new given.past × ((AllQueued given.header self.old given.past → AllQueued given.header self.new given.past) × (log.new.items ≡ []))) }
+        ensures err { OnErr result (AllRest given.header self.new given.past
+            × ((AllQueued given.header self.old given.past → AllQueued given.header self.new given.past) × (log.new.items ≡ []))) }
     {
         let Some(host) = self.host_for(command) else {
             unreachable!()
@@ -159,7 +163,8 @@ impl Hosts {
         requires licensed { LicensedInTurn given.header given.outside given.command (event.Taken (channels.Down host object control) message.now) given.past }
         requires empty { log.old.items ≡ [] }
         requires ready { (events : ℕ) × IsReady (word_breadth message.now) events self.old log.old.room }
-        ensures passed { OnOk result (HostsPart given.header given.outside given.command (event.Taken (channels.Down host object control) message.now ∷ given.past) self.new log.new.items) }
+        ensures passed { OnOk result (HostsPart given.header given.outside given.command
+            (event.Taken (channels.Down host object control) message.now ∷ given.past) self.new log.new.items) }
         ensures failed { OnOk result (IsErrorPaid given.header (log.new.items ++ event.Taken (channels.Down host object control) message.now ∷ given.past)) }
         ensures zeroed { OnOk result (IsAbsencePaid given.header (log.new.items ++ event.Taken (channels.Down host object control) message.now ∷ given.past)) }
         ensures locked { OnOk result (IsLockPaid given.header (log.new.items ++ event.Taken (channels.Down host object control) message.now ∷ given.past)) }
@@ -361,7 +366,8 @@ impl Hosts {
         requires rests { AllRest given.header self.now given.past }
         requires range { InRange given.header command.now }
         requires built { kernel_runs command.now ≡ true }
-        ensures { MatchOption result (refusal given.header given.past command.now ≡ Some code.NoSuchName) (λ (h : HostId). ActsOn given.header h.0 command.now given.past) }
+        ensures { MatchOption result (refusal given.header given.past command.now ≡ Some code.NoSuchName)
+            (λ (h : HostId). ActsOn given.header h.0 command.now given.past) }
     {
         match command {
             Command::Task { host, .. }

@@ -11,7 +11,8 @@ use Rattle.vm_abroad.specs.Home.{HaveHomes}
 use Rattle.vm_shadow.specs.declared.ids.Ids.{Ids}
 use Rattle.vm_kernel.specs.Matches.{IsReplied, IsSettled}
 
--- what the kernels of all hosts say alike: the next numbers, how many regions are marked, that no more can be than objects are left for, and what waits for no event any more
+-- what the kernels of all hosts say alike: the next numbers, how many regions are marked, that no more can be than objects are left for, and what waits for no
+-- event any more
 pub record IsCommon (header : Header) (ids : Ids) (past : List Event) : Type 0 where
   pub region : ids.next_region ≡ next_region header past
   pub object : ids.next_object ≡ next_object header past

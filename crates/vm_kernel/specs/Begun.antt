@@ -171,7 +171,8 @@ pub record Ran (header : Header) (h : ℕ) (outside : Outside) (doing : Command)
   pub done : IsDoneInTurn header doing events past
 
 -- inside a command's step, with some entries that have just gone among the counts
-pub record IsInStep (header : Header) (h : ℕ) (outside : Outside) (doing : Command) (past : List Event) (k : Parts) (ids : Ids) (gone : List Entry) (events : List Event) : Type 0 where
+pub record IsInStep (header : Header) (h : ℕ) (outside : Outside) (doing : Command) (past : List Event) (k : Parts) (ids : Ids) (gone : List Entry)
+    (events : List Event) : Type 0 where
   pub begins : IsLined past
   pub matches : Matches header h k ids gone (events ++ past)
   pub waits : HasWaits header h k woken.Nobody (events ++ past)
@@ -201,16 +202,18 @@ pub record Passing : Type 0 where
   pub command : Command
 
 -- a kernel's part of such a step: the events behind the taking
-pub record Passed (header : Header) (h : ℕ) (outside : Outside) (doing : Command) (past : List Event) (k : Parts) (ids : Ids) (events : List Event) : Type 0 where
-  pub rests : Rests header h k ids (events ++ past)
-  pub goes : LegalEvents header h outside doing past [] events
+pub record Passed (header : Header) (h : ℕ) (outside : Outside) (doing : Command) (past : List Event) (k : Parts) (ids : Ids) (events : List Event) : Type 0
+  where
+    pub rests : Rests header h k ids (events ++ past)
+    pub goes : LegalEvents header h outside doing past [] events
 
 -- the frame queue was served at the end of a step: it goes no further, and nobody of the host waits in vain
-pub record Served (header : Header) (h : ℕ) (outside : Outside) (doing : Command) (past old : List Event) (k : Parts) (ids : Ids) (new : List Event) : Type 0 where
-  pub rests : Rests header h k ids (new ++ past)
-  pub goes : LegalEvents header h outside doing past old new
-  pub queue : HasQueue header h k (new ++ past)
-  pub prompt : PromptAt header h (new ++ past)
+pub record Served (header : Header) (h : ℕ) (outside : Outside) (doing : Command) (past old : List Event) (k : Parts) (ids : Ids) (new : List Event) : Type 0
+  where
+    pub rests : Rests header h k ids (new ++ past)
+    pub goes : LegalEvents header h outside doing past old new
+    pub queue : HasQueue header h k (new ++ past)
+    pub prompt : PromptAt header h (new ++ past)
 
 -- the return of a page that the host didn't keep was taken
 pub record IsLaundered (h : ℕ) (front : List Event) : Type 0 where

@@ -24,12 +24,14 @@ pub record MadeRange (region : RegionId) (object : ObjectId) (pages entries : �
   pub laundry : new.laundry ≡ old.laundry
   pub waits : new.waits ≡ old.waits
   pub region_row : PutsRegion region.0 (Some (record { top = object; shift = 0; pages = pages; marked = false; entries = entries })) old.chains new.chains
-  pub object_row : PutsObject object.0 (Some (record { kind = Temp; pages = pages; state = Without; control = 0; live = false; references = 1 })) old.memory.objects new.memory.objects
+  pub object_row : PutsObject object.0 (Some (record { kind = Temp; pages = pages; state = Without; control = 0; live = false; references = 1 }))
+      old.memory.objects new.memory.objects
   pub marks : SameMarks old.memory.objects new.memory.objects
 
 -- an entry on the whole of a region: readable, writable, and copied by a fork
 abbrev pub whole_entry : ℕ → ℕ → RegionId → Entry
-whole_entry address bytes region = record { address = address; bytes = bytes; region = region; offset = 0; prot = record { read = true; write = true }; inherit = Copy }
+whole_entry address bytes region =
+    record { address = address; bytes = bytes; region = region; offset = 0; prot = record { read = true; write = true }; inherit = Copy }
 
 -- that an entry is entered
 abbrev pub entering : Entry → MapChange
@@ -37,11 +39,13 @@ entering row = record { kind = kind.Enter; address = row.address; bytes = row.by
 
 -- the range gets some entry
 abbrev pub enter : ℕ → ℕ → MapChange
-enter address bytes = record { kind = kind.Enter; address = address; bytes = bytes; entry = None; prot = record { read = false; write = false }; inherit = Never }
+enter address bytes =
+    record { kind = kind.Enter; address = address; bytes = bytes; entry = None; prot = record { read = false; write = false }; inherit = Never }
 
 -- the range is unmapped
 abbrev pub removal : ℕ → ℕ → MapChange
-removal address bytes = record { kind = kind.Remove; address = address; bytes = bytes; entry = None; prot = record { read = false; write = false }; inherit = Never }
+removal address bytes =
+    record { kind = kind.Remove; address = address; bytes = bytes; entry = None; prot = record { read = false; write = false }; inherit = Never }
 
 -- the range gets a protection
 abbrev pub protection : ℕ → ℕ → Prot → MapChange
@@ -49,4 +53,5 @@ protection address bytes prot = record { kind = kind.Protect; address = address;
 
 -- the range gets an inheritance
 abbrev pub inheritance : ℕ → ℕ → Inherit → MapChange
-inheritance address bytes inherit = record { kind = kind.Inherit; address = address; bytes = bytes; entry = None; prot = record { read = false; write = false }; inherit = inherit }
+inheritance address bytes inherit =
+    record { kind = kind.Inherit; address = address; bytes = bytes; entry = None; prot = record { read = false; write = false }; inherit = inherit }

@@ -39,9 +39,11 @@ EndsInRegion header past region e = EndsUnder header past (region_of header regi
 pub data EndInTurn (header : Header) (past : List Event) (gone : List Entry) : List Entry → List Event → Type 0 where
   NoneCounted : EndInTurn header past gone gone []
   -- one is counted out, and nothing ends with it
-  RegionStays : (row : Entry) (left : List Entry) (events : List Event) → EndInTurn header past gone (row ∷ left) events → EndInTurn header past gone left events
+  RegionStays : (row : Entry) (left : List Entry) (events : List Event) → EndInTurn header past gone (row ∷ left) events
+      → EndInTurn header past gone left events
   -- its last entry is counted out: what ends then is in its chain
-  RegionEnds : (row : Entry) (left : List Entry) (more events : List Event) → EndInTurn header past gone (row ∷ left) events → All (λ (other : Entry). other.region ≢ row.region) left
+  RegionEnds : (row : Entry) (left : List Entry) (more events : List Event) → EndInTurn header past gone (row ∷ left) events
+      → All (λ (other : Entry). other.region ≢ row.region) left
       → EachOf (EndsInRegion header past row.region.0) more → EndInTurn header past gone left (more ++ events)
 
 -- no entry that is left leads to the region of one, and what ended is in its chain
@@ -70,5 +72,6 @@ pub record EndBehind (header : Header) (past : List Event) (first : Event) (gone
 -- what a command says of that: a task that ends loses its entries, and a range that is unmapped the parts in it
 abbrev pub EndsByAddress : Header → List Event → Command → List Event → Type 0
 EndsByAddress header past (command.Exit task) events = EndBehind header past (event.TaskEnded task) (entries_of header.size task.0 past) events
-EndsByAddress header past (command.Deallocate task address bytes) events = EndBehind header past (event.Removed task address bytes) (parts_in header.size address bytes (entries_of header.size task.0 past)) events
+EndsByAddress header past (command.Deallocate task address bytes) events =
+    EndBehind header past (event.Removed task address bytes) (parts_in header.size address bytes (entries_of header.size task.0 past)) events
 EndsByAddress header past other events = Unit {0}

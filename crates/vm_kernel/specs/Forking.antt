@@ -64,7 +64,8 @@ pub record CanCopy (task : ℕ) (source : RegionId) (offset : ℕ) (row : Entry)
   pub marks : ids.marks + 2 < 2 ^ 32
 
 -- a task got such an entry: the region is copied, its object has one reference more, and both were told
-pub record EntersCopy (task : TaskId) (source : RegionId) (offset : ℕ) (row : Entry) (old new : Parts) (old_ids new_ids : Ids) (before after : List Event) : Type 0 where
+pub record EntersCopy (task : TaskId) (source : RegionId) (offset : ℕ) (row : Entry) (old new : Parts) (old_ids new_ids : Ids) (before after : List Event) :
+    Type 0 where
   pub host : new.host ≡ old.host
   pub size : new.size ≡ old.size
   pub declared : new.declared ≡ old.declared

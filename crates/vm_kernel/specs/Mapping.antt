@@ -31,10 +31,12 @@ referred declared (Some row) = record row { references = row.references + 1 }
 
 -- one entry more leads to the region of a declared object, which is made where it isn't there
 pub data Holds (object : ObjectId) (declared : Declared) (old new : Parts) : Type 0 where
-  Again : (row : RegionRow) → region_at old.chains object.0 ≡ Some row → PutsRegion object.0 (Some (record row { entries = row.entries + 1 })) old.chains new.chains
+  Again : (row : RegionRow) → region_at old.chains object.0 ≡ Some row
+      → PutsRegion object.0 (Some (record row { entries = row.entries + 1 })) old.chains new.chains
       → new ≡ record old { chains = new.chains } → Holds object declared old new
   First : region_at old.chains object.0 ≡ None → PutsRegion object.0 (Some (declared_region object declared)) old.chains new.chains
-      → PutsObject object.0 (Some (referred declared (object_at old.memory.objects object.0))) old.memory.objects new.memory.objects → SameMarks old.memory.objects new.memory.objects
+      → PutsObject object.0 (Some (referred declared (object_at old.memory.objects object.0))) old.memory.objects new.memory.objects
+      → SameMarks old.memory.objects new.memory.objects
       → new ≡ record old { memory = record old.memory { objects = new.memory.objects }; chains = new.chains } → Holds object declared old new
 
 -- a control of an object lives, or the next one can begin
@@ -45,6 +47,8 @@ can_open (Some known) = known.live || nat_lt known.control (2 ^ 32 - 3)
 -- where no control of an object lives the next one begins, and the object's pager is told of it
 pub data Opens (object : ObjectId) (known : ObjectRow) (old new : Parts) (before after : List Event) : Type 0 where
   IsOpen : known.live ≡ true → new ≡ old → after ≡ before → Opens object known old new before after
-  Begins : known.live ≡ false → PutsObject object.0 (Some (record known { control = known.control + 1; live = true; state = Sent })) old.memory.objects new.memory.objects
-      → SameMarks old.memory.objects new.memory.objects → known.control + 1 < 2 ^ 32 - 1 → new ≡ record old { memory = record old.memory { objects = new.memory.objects } }
+  Begins : known.live ≡ false → PutsObject object.0 (Some (record known { control = known.control + 1; live = true; state = Sent })) old.memory.objects
+      new.memory.objects
+      → SameMarks old.memory.objects new.memory.objects → known.control + 1 < 2 ^ 32 - 1
+      → new ≡ record old { memory = record old.memory { objects = new.memory.objects } }
       → after ≡ event.Sent (Up old.host object) (message.Init (known.control + 1) old.size) ∷ before → Opens object known old new before after

@@ -24,7 +24,8 @@ use Rattle.vm_legal.specs.Used.{in_use}
 use Rattle.vm_abroad.specs.Home.{HaveHomes, home_of, object_home}
 use Rattle.vm_state.specs.References.{AllReferred}
 use Rattle.vm_state.specs.Filling.{AllUsed, HasCopies}
-use Rattle.vm_state.specs.Stands.{AreShared, HasControls, HasEntries, HasFrames, HasHomes, HasKinds, HasLaundry, HasPages, HasRegions, HasTasks, HasUse, KnowsFiles}
+use Rattle.vm_state.specs.Stands.{AreShared, HasControls, HasEntries, HasFrames, HasHomes, HasKinds, HasLaundry, HasPages, HasRegions, HasTasks, HasUse}
+use Rattle.vm_state.specs.Stands.{KnowsFiles}
 use Rattle.vm_abroad.specs.Sound.{holds}
 use Rattle.vm_abroad.specs.Whose.{IsShut}
 use Rattle.vm_supply.specs.declared.woken.Woken.{Woken}
@@ -71,15 +72,18 @@ pub record Matches (header : Header) (h : ℕ) (k : Parts) (ids : Ids) (gone : L
   pub declared : k.declared.items ≡ header.objects.items
   pub fits : PartsFit k
   pub tasks : HasTasks h header.size k.maps (λ task. host_of task past) (λ task. entries_of header.size task past)
-  pub regions : HasRegions k.chains k.memory.objects ids (λ r. region_of header r past) (λ o. backing_of header o past) (next_region header past) (next_object header past) (marked_regions header past)
+  pub regions : HasRegions k.chains k.memory.objects ids (λ r. region_of header r past) (λ o. backing_of header o past) (next_region header past)
+      (next_object header past) (marked_regions header past)
   pub kinds : HasKinds header k.memory.objects k.chains
   pub homes : HasHomes header h k.chains (λ r. home_of r past)
   pub files : KnowsFiles header h k.memory.objects (λ o. home_of o past)
   pub entries : HasEntries header.size k.maps k.chains gone
   pub shared : AreShared (named header) k.maps
   pub pages : HasPages k.memory.frames k.memory.resident k.memory.objects (λ o p. known_local header o p (local header.size h (place_of o p) past))
-  pub uses : HasUse header k.maps k.waits.rows (λ r. in_use header h r past) (made_tasks past) (λ task r. holds header.size task r past) (next_region header past)
-  pub controls : HasControls (named header) h k.memory.objects (λ o. last_control h o past) (λ o. live_control h o past) (λ o. is_ready h o past) (λ o. object_home o past)
+  pub uses : HasUse header k.maps k.waits.rows (λ r. in_use header h r past) (made_tasks past) (λ task r. holds header.size task r past)
+      (next_region header past)
+  pub controls : HasControls (named header) h k.memory.objects (λ o. last_control h o past) (λ o. live_control h o past) (λ o. is_ready h o past)
+      (λ o. object_home o past)
   pub homeless : HaveHomes header past
   pub settled : IsSettled past
   pub replied : IsReplied past
@@ -89,7 +93,8 @@ pub record Matches (header : Header) (h : ℕ) (k : Parts) (ids : Ids) (gone : L
 -- the accesses that wait, of a kernel with these maps, regions, pages and objects; some may have been woken
 abbrev pub HasWaits : Header → ℕ → Parts → Woken → List Event → Type 0
 HasWaits header h k who past =
-    HasWaiters k.maps k.chains k.memory.resident k.memory.objects k.waits.rows (is_woken who) (λ task. waiting task past) (StaysAway header h past) (IsUnmet header h past)
+    HasWaiters k.maps k.chains k.memory.resident k.memory.objects k.waits.rows (is_woken who) (λ task. waiting task past) (StaysAway header h past)
+    (IsUnmet header h past)
 
 -- each region has an entry or is filled by an access that waits
 abbrev pub UsesAll : Header → Parts → List Event → Type 0

@@ -89,7 +89,8 @@ Reclaims other = Unit {0}
 abbrev pub IsKeptSource : Header → ℕ → Sparing → ℕ → ℕ → List Event → Type 0
 IsKeptSource header host ReclaimsNone object page past = ⊥
 IsKeptSource header host (SparesSource front) object page past = FrontCopies header host front object page past
-IsKeptSource header host (SparesSourceSince front moment) object page past = FrontCopies header host front object page past × FrontCopies header host front object page moment
+IsKeptSource header host (SparesSourceSince front moment) object page past =
+    FrontCopies header host front object page past × FrontCopies header host front object page moment
 
 -- a page is spared: it is that one, or somebody waits for its unlock
 abbrev pub IsSpared : Header → ℕ → Sparing → ℕ → ℕ → List Event → Type 0
@@ -163,7 +164,8 @@ DoesBy header by past (event.Raised host lower lower_page upper upper_page) old 
 DoesBy header by past (event.CopiedPage task page object object_page target) old new = CopiesBoth object.0 object_page.0 target.0 page.0 old new
 DoesBy header by past (event.Dropped host object page) old new = DepartsFrom header host.0 by past object.0 page.0 old new
 DoesBy header by past (event.Sent (Up host object) (message.Return control page dirty false bytes)) old new =
-    IsVictim header host.0 by (uncreated past) object.0 page.0 old new ⊎ (DepartsUnheld header host.0 past object.0 page.0 old new ⊎ DepartsLocked host.0 past object.0 page.0 old new)
+    IsVictim header host.0 by (uncreated past) object.0 page.0 old new
+    ⊎ (DepartsUnheld header host.0 past object.0 page.0 old new ⊎ DepartsLocked host.0 past object.0 page.0 old new)
 DoesBy header by past other old new = new ≡ old
 
 -- a victim was looked for, and there is none: each page on the lists is spared
@@ -177,8 +179,10 @@ pub record Searches (header : Header) (host : ℕ) (by : Sparing) (past : List E
 -- The lists are as the events say that were added to some, one after another, and as looks for a victim left them that found none.
 pub data PlaysBy (header : Header) (by : Sparing) (past before : List Event) (old : Paging) : List Event → Paging → Type 0 where
   Still : PlaysBy header by past before old before old
-  Looks : (host : ℕ) (events : List Event) (mid new : Paging) → PlaysBy header by past before old events mid → Searches header host by (events ++ past) mid new → PlaysBy header by past before old events new
-  Then : (e : Event) (events : List Event) (mid new : Paging) → PlaysBy header by past before old events mid → DoesBy header by (events ++ past) e mid new → PlaysBy header by past before old (e ∷ events) new
+  Looks : (host : ℕ) (events : List Event) (mid new : Paging) → PlaysBy header by past before old events mid → Searches header host by (events ++ past) mid new
+      → PlaysBy header by past before old events new
+  Then : (e : Event) (events : List Event) (mid new : Paging) → PlaysBy header by past before old events mid → DoesBy header by (events ++ past) e mid new
+      → PlaysBy header by past before old (e ∷ events) new
 
 -- and no page was reclaimed
 abbrev pub Does : Header → List Event → Event → Paging → Paging → Type 0
@@ -198,7 +202,8 @@ AnswerBrings object (Supplied page lock precious bytes) old new = Arrives object
 AnswerBrings object other old new = new ≡ old
 
 -- an answer was heard, and the events followed
-pub record PlaysAnswer (header : Header) (past : List Event) (object : ObjectId) (outcome : AnswerOutcome) (old : Paging) (events : List Event) (new : Paging) : Type 0 where
+pub record PlaysAnswer (header : Header) (past : List Event) (object : ObjectId) (outcome : AnswerOutcome) (old : Paging) (events : List Event) (new : Paging) :
+    Type 0 where
   pub heard : Paging
   pub brings : AnswerBrings object outcome old heard
   pub plays : Plays header past [] heard events new

@@ -1,7 +1,9 @@
 -- Why a kernel refuses a command, from what it keeps.
-use Rattle.std.specs.Prelude.{ℕ, ◌+◌, ◌/◌, ◌%◌, ◌<◌, ◌==◌, ◌&&◌, ◌||◌, if◌then◌else◌, Bool, false, not, List, length, nat_le, nat_lt, reverse, slice_get, Option, Some, None, IsSome, is_some}
+use Rattle.std.specs.Prelude.{ℕ, ◌+◌, ◌/◌, ◌%◌, ◌<◌, ◌==◌, ◌&&◌, ◌||◌, if◌then◌else◌, Bool, false, not, List, length, nat_le, nat_lt, reverse, slice_get}
+use Rattle.std.specs.Prelude.{Option, Some, None, IsSome, is_some}
 use Rattle.vm_base.specs.declared.code.Code.{Code}
-use Rattle.vm_base.specs.declared.code.Code.TheVariants.{Blocked, InvalidAddress, InvalidArgument, NoSpace, ProtectionFailure, ResourceShortage, TableFull, WrongHost}
+use Rattle.vm_base.specs.declared.code.Code.TheVariants.{Blocked, InvalidAddress, InvalidArgument, NoSpace, ProtectionFailure, ResourceShortage, TableFull}
+use Rattle.vm_base.specs.declared.code.Code.TheVariants.{WrongHost}
 use Rattle.vm_base.specs.declared.entry.Entry.{Entry}
 use Rattle.vm_base.specs.declared.ids.Access.{Access}
 use Rattle.vm_base.specs.declared.ids.Access.TheVariants as need
@@ -76,7 +78,8 @@ is_marked chains r = mark_in (region_at chains r)
 
 -- a fork of these entries makes too many regions, or leaves too few objects for those that are marked
 abbrev pub makes_too_many : ChainTable → List Entry → Ids → Bool
-makes_too_many chains rows ids = nat_lt most_regions (ids.next_region + copies rows) || nat_lt most_objects (object_total ids + copies rows + new_marks (is_marked chains) rows)
+makes_too_many chains rows ids =
+    nat_lt most_regions (ids.next_region + copies rows) || nat_lt most_objects (object_total ids + copies rows + new_marks (is_marked chains) rows)
 
 -- the code of a fork of a task with these entries
 abbrev pub fork_code : ChainTable → List Entry → Ids → Option Code
@@ -125,7 +128,8 @@ changing_code k (command.Deallocate task address bytes) = change_code k task.0 (
 changing_code k (command.Protect task address bytes prot) = change_code k task.0 (protection address bytes prot)
 changing_code k (command.Inherit task address bytes inherit) =
     acting_in k task.0
-    (code_where (is_copied inherit && meets_declared (length k.declared.items) address bytes (rows_in task.0 k.maps)) InvalidArgument (judged k.maps.size (inheritance address bytes inherit) (rows_in task.0 k.maps)))
+    (code_where (is_copied inherit && meets_declared (length k.declared.items) address bytes (rows_in task.0 k.maps)) InvalidArgument
+    (judged k.maps.size (inheritance address bytes inherit) (rows_in task.0 k.maps)))
 changing_code k other = None
 
 -- the code of a command; what it maps may belong to another host

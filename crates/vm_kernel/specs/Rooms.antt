@@ -1,5 +1,6 @@
 -- Room for a step: what is still to be told at most where accesses are run again and the queue is served, and what there is room for.
-use Rattle.std.specs.Prelude.{ℕ, zero, suc, ◌+◌, ◌*◌, ◌-◌, ◌<◌, ◌≤◌, ◌≡◌, ◌==◌, ◌&&◌, ◌||◌, Bool, false, true, List, length, Option, Some, None, if◌then◌else◌, vec_capacity, min}
+use Rattle.std.specs.Prelude.{ℕ, zero, suc, ◌+◌, ◌*◌, ◌-◌, ◌<◌, ◌≤◌, ◌≡◌, ◌==◌, ◌&&◌, ◌||◌, Bool, false, true, List, length, Option, Some, None, if◌then◌else◌}
+use Rattle.std.specs.Prelude.{vec_capacity, min}
 use Rattle.vm_base.specs.declared.ids.PageKey.{PageKey}
 use Rattle.vm_base.specs.Listing.{Listed}
 use Rattle.vm_frames.specs.Frames.{FrameTable, frame_count, free}
@@ -57,8 +58,8 @@ abbrev pub if_copies : ℕ → ℕ → ℕ
 if_copies zero n = 0
 if_copies (suc copies) n = n
 
--- What is still to be told, at most: three events for each access that is to be run, and the shadow of each region that is marked; and where slow copies wait, for each
--- frame that may get another page the end of the page that it has and the page that a slow copy puts there.
+-- What is still to be told, at most: three events for each access that is to be run, and the shadow of each region that is marked; and where slow copies wait,
+-- for each frame that may get another page the end of the page that it has and the page that a slow copy puts there.
 abbrev pub dues : Parts → ℕ
 dues k = 3 * to_run k.waits.rows + k.chains.marked + 2 * if_copies (count_copies k.waits.rows) (loose_frames k.memory) + one_if_full k.memory.frames
 
@@ -80,8 +81,8 @@ pub record IsRoomy (more rows_more : ℕ) (k : Parts) (room : ℕ) : Type 0 wher
   pub shadows : k.chains.marked + rows_more ≤ k.chains.spare
   pub objects : k.chains.marked + rows_more ≤ k.memory.objects.rows
 
--- What a call in front of the accesses that are run has told and taken, where it had so much in hand and has so much left: no more events than it had in hand; and no
--- more rows, shadows and objects than it makes.
+-- What a call in front of the accesses that are run has told and taken, where it had so much in hand and has so much left: no more events than it had in hand;
+-- and no more rows, shadows and objects than it makes.
 pub record Spends (hand makes left : ℕ) (old : Parts) (before : Listed Event) (new : Parts) (after : Listed Event) : Type 0 where
   pub told : length after.items + (full_dues new + left) ≤ length before.items + (full_dues old + hand)
   pub room : before.room + (full_dues new + left) ≤ after.room + (full_dues old + hand)
@@ -120,9 +121,9 @@ word_breadth other = breadth.Few
 abbrev pub of_entries : ℕ → Parts → ℕ
 of_entries task k = 1 + 4 * length (rows_in task k.maps)
 
--- What is told at most in front of the accesses that are run: some events; a fork makes a task and copies entries; a copy may wait for its pages, and then each frame
--- counts twice; an end takes each page and each control, a pageout reclaims each page, of which a new pager may be told, a lock request may have each page given back,
--- and an error may end slow copies.
+-- What is told at most in front of the accesses that are run: some events; a fork makes a task and copies entries; a copy may wait for its pages, and then each
+-- frame counts twice; an end takes each page and each control, a pageout reclaims each page, of which a new pager may be told, a lock request may have each
+-- page given back, and an error may end slow copies.
 abbrev pub front : Breadth → Parts → ℕ
 front breadth.Few k = 5
 front (breadth.Entries task) k = of_entries task.0 k

@@ -53,7 +53,8 @@ pub record IsTheSource (header : Header) (h : ℕ) (by : Sparing) (source : Opti
   pub only : (o p : ℕ) → IsKeptSource header h by o p past → source ≡ Some (page_key o p)
 
 -- an access wants a frame, and stands in the queue; its region may have got an object of its own, or it has copied pages, each in a frame
-pub record JoinsQueue (header : Header) (h : ℕ) (was : Waiting) (may_claim : Bool) (source : Option PageKey) (old new : Parts) (before after : List Event) : Type 0 where
+pub record JoinsQueue (header : Header) (h : ℕ) (was : Waiting) (may_claim : Bool) (source : Option PageKey) (old new : Parts) (before after : List Event) :
+    Type 0 where
   pub claims : Bool
   pub front : List Event
   pub prepared : IsFront was.task claims front
@@ -81,9 +82,13 @@ wants_frame attempt.Ran = false
 pub record FreesWhere (h : ℕ) (Spares : ℕ → ℕ → PageRow → Type 0) (answer : Reclaim) (old new : Parts) (before after : List Event) : Type 0 where
   pub waits : new.waits ≡ old.waits
   pub freed : answer ≡ reclaim.Freed → (claimed old.memory.frames ≡ claimed new.memory.frames + 1) × (departures h after ≡ departures h before + 1)
-  pub returned : answer ≡ reclaim.Returned → (claimed new.memory.frames ≡ claimed old.memory.frames) × (departures h after ≡ departures h before + 1) × (free new.memory.frames ≡ free old.memory.frames) × (0 < returns_out h after)
-  pub nothing : answer ≡ reclaim.Nothing → (after ≡ before) × ((o p : ℕ) (row : PageRow) → row_at new.memory.resident o p ≡ Some row → row.here ≡ true → Spares o p row) × (free new.memory.frames ≡ free old.memory.frames)
-  pub kept : (o p : ℕ) (row : PageRow) → row_at old.memory.resident o p ≡ Some row → row.here ≡ true → Spares o p row → row_at new.memory.resident o p ≡ Some row
+  pub returned : answer ≡ reclaim.Returned → (claimed new.memory.frames ≡ claimed old.memory.frames) × (departures h after ≡ departures h before + 1)
+      × (free new.memory.frames ≡ free old.memory.frames) × (0 < returns_out h after)
+  pub nothing : answer ≡ reclaim.Nothing → (after ≡ before)
+      × ((o p : ℕ) (row : PageRow) → row_at new.memory.resident o p ≡ Some row → row.here ≡ true → Spares o p row)
+      × (free new.memory.frames ≡ free old.memory.frames)
+  pub kept : (o p : ℕ) (row : PageRow) → row_at old.memory.resident o p ≡ Some row → row.here ≡ true → Spares o p row
+      → row_at new.memory.resident o p ≡ Some row
 
 -- those whose frames are skipped are spared
 abbrev pub FreesBut : ℕ → List FrameNo → Reclaim → Parts → Parts → List Event → List Event → Type 0
@@ -91,7 +96,8 @@ FreesBut h skip answer old new before after = FreesWhere h (λ o p row. is_skipp
 
 -- one page is spared, and those of which an unlock is outstanding
 abbrev pub FreesOrReturns : ℕ → Option PageKey → Reclaim → Parts → Parts → List Event → List Event → Type 0
-FreesOrReturns h spared answer old new before after = FreesWhere h (λ o p row. (spared ≡ Some (page_key o p)) ⊎ (row.unlock_sent ≡ true)) answer old new before after
+FreesOrReturns h spared answer old new before after =
+    FreesWhere h (λ o p row. (spared ≡ Some (page_key o p)) ⊎ (row.unlock_sent ≡ true)) answer old new before after
 
 abbrev pub option_list : Option FrameNo → List FrameNo
 option_list None = []

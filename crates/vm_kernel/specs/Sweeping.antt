@@ -66,7 +66,8 @@ pub record Releasing : Type 0 where
   pub rest : List Entry
 
 -- some entries have gone, but are still among the counts
-pub record Sweeps (header : Header) (h : ℕ) (outside : Outside) (doing : Command) (past : List Event) (k : Parts) (ids : Ids) (gone : List Entry) (events : List Event) : Type 0 where
+pub record Sweeps (header : Header) (h : ℕ) (outside : Outside) (doing : Command) (past : List Event) (k : Parts) (ids : Ids) (gone : List Entry)
+    (events : List Event) : Type 0 where
   pub runs : IsInStep header h outside doing past k ids gone events
   pub used : UsesAll header k (events ++ past)
   pub referred : AllReferred k.chains k.memory.objects k.memory.resident

@@ -86,7 +86,8 @@ HasFailed (woken.Page key) past = Unit {0}
 
 -- and each access that waited for the page, in a table as it was, was ended by it
 abbrev pub HasEnded : Woken → List Waiting → List Event → Type 0
-HasEnded (woken.Fails key) rows past = (t : ℕ) (w : Waiting) → entry rows t ≡ Some w → w.on ≡ on.Page key → since (fails_task t key.object.0 key.page.0) past ≡ true
+HasEnded (woken.Fails key) rows past =
+    (t : ℕ) (w : Waiting) → entry rows t ≡ Some w → w.on ≡ on.Page key → since (fails_task t key.object.0 key.page.0) past ≡ true
 HasEnded woken.Nobody rows past = Unit {0}
 HasEnded (woken.ReadyOf object) rows past = Unit {0}
 HasEnded (woken.Page key) rows past = Unit {0}
@@ -100,16 +101,22 @@ KeepsAskers (woken.Page key) old new = Unit {0}
 
 -- an error that the step took has ended each access that waited for its page
 abbrev pub EndsEach : Header → List Waiting → List Event → Type 0
-EndsEach header rows past = (host object page t : ℕ) (w : Waiting) → error_taken header.size past ≡ Some (record { host = host; object = object; page = page }) → entry rows t ≡ Some w → w.on ≡ on.Page (page_key object page)
+EndsEach header rows past =
+    (host object page t : ℕ) (w : Waiting) → error_taken header.size past ≡ Some (record { host = host; object = object; page = page }) → entry rows t ≡ Some w
+    → w.on ≡ on.Page (page_key object page)
     → since (fails_task t object page) past ≡ true
 
 -- an error that the step took has ended some access
 abbrev pub IsErrorPaid : Header → List Event → Type 0
-IsErrorPaid header past = (host object page : ℕ) → error_taken header.size past ≡ Some (record { host = host; object = object; page = page }) → since (fails_access object page) past ≡ true
+IsErrorPaid header past =
+    (host object page : ℕ) → error_taken header.size past ≡ Some (record { host = host; object = object; page = page })
+    → since (fails_access object page) past ≡ true
 
 -- zeros have come where the step took the word of a declared object's pager that it has no such page
 abbrev pub IsAbsencePaid : Header → List Event → Type 0
-IsAbsencePaid header past = (host object page : ℕ) → object < named header → absence_taken header.size past ≡ Some (record { host = host; object = object; page = page }) → since (zeroes object page) past ≡ true
+IsAbsencePaid header past =
+    (host object page : ℕ) → object < named header → absence_taken header.size past ≡ Some (record { host = host; object = object; page = page })
+    → since (zeroes object page) past ≡ true
 
 -- a lock request that the step took is obeyed
 abbrev pub IsLockPaid : Header → List Event → Type 0
@@ -117,7 +124,8 @@ IsLockPaid header past = (request : LockRequest) → lock_taken past ≡ Some re
 
 -- the access waits for a page of the range that isn't asked, so for its unlock
 abbrev pub is_unlocked : ResidentTable → ℕ → ℕ → ℕ → On → Bool
-is_unlocked resident object page count (on.Page key) = key.object.0 == object && (in_range key.page.0 page count && not (is_away (row_at resident key.object.0 key.page.0)))
+is_unlocked resident object page count (on.Page key) =
+    key.object.0 == object && (in_range key.page.0 page count && not (is_away (row_at resident key.object.0 key.page.0)))
 is_unlocked resident object page count on.Again = false
 is_unlocked resident object page count (on.Ready other) = false
 is_unlocked resident object page count on.Frame = false

@@ -87,40 +87,47 @@ pub record RunsNoneYet (events : List Event) : Type 0 where
 -- pages that a task's slow copy made, each in a frame that it claimed; and whether there are any
 pub data AreCopied (task : TaskId) : Bool → List Event → Type 0 where
   NoPage : AreCopied task false []
-  OnePage : (page object_page : PageNo) → (object target : ObjectId) → (some : Bool) → (front : List Event) → AreCopied task some front → AreCopied task true (event.CopiedPage task page object object_page target ∷ front)
+  OnePage : (page object_page : PageNo) → (object target : ObjectId) → (some : Bool) → (front : List Event) → AreCopied task some front
+      → AreCopied task true (event.CopiedPage task page object object_page target ∷ front)
 
 -- what stands first where a task's access is run, and whether it claimed frames: a shadow for the region of a store, or the pages of a slow copy, or nothing
 pub data IsFront (task : TaskId) : Bool → List Event → Type 0 where
   Shadow : (region : RegionId) → (new old : ObjectId) → IsFront task false (event.Shadowed region new old ∷ [])
   Pages : (some : Bool) → (front : List Event) → AreCopied task some front → IsFront task some front
 
--- what a task's access did when it was run, and whether it claimed a frame: no more than make a shadow, or copy pages; it found its page and ended; it copied its last
--- page and ended; it asked for the unlock of its page; it claimed one for a page of zeros, or for a copy of its page, with which it ended; or it claimed one for a page
--- that it asked for, on which it waits now, and none of those that were run earlier
+-- what a task's access did when it was run, and whether it claimed a frame: no more than make a shadow, or copy pages; it found its page and ended; it copied
+-- its last page and ended; it asked for the unlock of its page; it claimed one for a page of zeros, or for a copy of its page, with which it ended; or it
+-- claimed one for a page that it asked for, on which it waits now, and none of those that were run earlier
 pub data Did (rows : List Waiting) (earlier : ℕ → Type 0) (task : TaskId) : Bool → List Event → Type 0 where
   Nothing : (claims : Bool) → (front : List Event) → IsFront task claims front → Did rows earlier task claims front
   Found : (front : List Event) → IsFront task false front → (end : Event) → IsEnd task.0 end → Did rows earlier task false (end ∷ front)
   Filled : (front : List Event) → AreCopied task true front → (address bytes : ℕ) → (region : RegionId)
       → Did rows earlier task true (event.Entered task address bytes region 0 (record { read = true; write = true }) Copy ∷ event.CopyEnded task ∷ front)
-  ForUnlock : (claims : Bool) → (front : List Event) → IsFront task claims front → (host : HostId) → (key : PageKey) → (control access : ℕ) → Did rows earlier task claims (event.Sent (Up host key.object) (message.Unlock control key.page access) ∷ front)
+  ForUnlock : (claims : Bool) → (front : List Event) → IsFront task claims front → (host : HostId) → (key : PageKey) → (control access : ℕ)
+      → Did rows earlier task claims (event.Sent (Up host key.object) (message.Unlock control key.page access) ∷ front)
   ForZeros : (front : List Event) → IsFront task false front → (end : Event) → (host : HostId) → (key : PageKey) → IsEnd task.0 end
       → Did rows earlier task true (end ∷ event.Zeroed host key.object key.page ∷ front)
   ForCopy : (front : List Event) → IsFront task false front → (end : Event) → (host : HostId) → (lower upper : PageKey) → IsEnd task.0 end
       → Did rows earlier task true (end ∷ event.Raised host lower.object lower.page upper.object upper.page ∷ front)
-  ForAsked : (claims : Bool) → (front : List Event) → IsFront task claims front → (host : HostId) → (key : PageKey) → (control steps : ℕ) → (row : Waiting) → entry rows task.0 ≡ Some row → row.on ≡ on.Page key
+  ForAsked : (claims : Bool) → (front : List Event) → IsFront task claims front → (host : HostId) → (key : PageKey) → (control steps : ℕ) → (row : Waiting)
+      → entry rows task.0 ≡ Some row → row.on ≡ on.Page key
       → ((t : ℕ) (w : Waiting) → earlier t → entry rows t ≡ Some w → w.on ≢ on.Page key)
       → Did rows earlier task true (event.Sent (Up host key.object) (message.Request control key.page (wanted_number row.want steps)) ∷ front)
 
--- Some accesses were run again, each once, in the order in which they began: from when on the next one began, the queue, and the events, which have the newest first.
+-- Some accesses were run again, each once, in the order in which they began: from when on the next one began, the queue, and the events, which have the newest
+-- first.
 pub data Restarts (header : Header) (h : ℕ) (rows : List Waiting) (past : List Event) (old : List TaskId) : ℕ → List TaskId → List Event → Type 0 where
   -- none was run yet
   Start : (events : List Event) → RunsNoneYet events → Restarts header h rows past old 0 old events
   -- one wants a frame while somebody queues or none is free: it joins the back; a slow copy has copied pages only where nobody queues
-  Joins : (task : TaskId) (from : ℕ) (queue : List TaskId) (claims : Bool) (front events : List Event) → Restarts header h rows past old from queue events → from ≤ begun_at task.0 (events ++ past) → IsFront task claims front
-      → (claims ≡ true → queue ≡ []) → (wants : Wants header h ((front ++ events) ++ past)) → wants.task ≡ task.0 → (queue ≢ []) ⊎ (frames_free header h ((front ++ events) ++ past) ≡ 0)
+  Joins : (task : TaskId) (from : ℕ) (queue : List TaskId) (claims : Bool) (front events : List Event) → Restarts header h rows past old from queue events
+      → from ≤ begun_at task.0 (events ++ past) → IsFront task claims front
+      → (claims ≡ true → queue ≡ []) → (wants : Wants header h ((front ++ events) ++ past)) → wants.task ≡ task.0 → (queue ≢ [])
+      ⊎ (frames_free header h ((front ++ events) ++ past) ≡ 0)
       → Restarts header h rows past old (suc (begun_at task.0 (events ++ past))) (queue ++ task ∷ []) (front ++ events)
   -- one doesn't join, and claims a frame only where nobody queues
-  Goes : (task : TaskId) (from : ℕ) (queue : List TaskId) (claims : Bool) (own events : List Event) → Restarts header h rows past old from queue events → from ≤ begun_at task.0 (events ++ past)
+  Goes : (task : TaskId) (from : ℕ) (queue : List TaskId) (claims : Bool) (own events : List Event) → Restarts header h rows past old from queue events
+      → from ≤ begun_at task.0 (events ++ past)
       → Did rows (λ t. begun_at t (events ++ past) < begun_at task.0 (events ++ past)) task claims own → (claims ≡ true → queue ≡ [])
       → Restarts header h rows past old (suc (begun_at task.0 (events ++ past))) queue (own ++ events)
 
@@ -135,12 +142,15 @@ RunsFront first e = RunsNone e
 
 -- Those who left were run one after another, and nobody else was but who stood first then, who copied pages and stayed. Pages were reclaimed for
 -- the one who stood first then, and none while one was run.
-pub data ClaimsInTurn (header : Header) (past before : List Event) (old : Paging) (rows : List Waiting) : Option TaskId → List TaskId → List Event → Paging → Type 0 where
+pub data ClaimsInTurn (header : Header) (past before : List Event) (old : Paging) (rows : List Waiting) : Option TaskId → List TaskId → List Event → Paging
+    → Type 0 where
   -- nobody has left
-  Stays : (first : Option TaskId) (late : List Event) (new : Paging) → EachOf (RunsFront first) late → PlaysBy header (SparesSource first) past before old (late ++ before) new → ClaimsInTurn header past before old rows first [] late new
+  Stays : (first : Option TaskId) (late : List Event) (new : Paging) → EachOf (RunsFront first) late
+      → PlaysBy header (SparesSource first) past before old (late ++ before) new → ClaimsInTurn header past before old rows first [] late new
   -- the last who left was run behind the others, and then somebody stands first, or nobody
   Leaves : (first : Option TaskId) (task : TaskId) (left : List TaskId) (claims : Bool) (late own early : List Event) (mid ran new : Paging)
-      → ClaimsInTurn header past before old rows (Some task) left early mid → Did rows (λ t. is_listed t left ≡ true) task claims own → Plays header past (early ++ before) mid (own ++ (early ++ before)) ran
+      → ClaimsInTurn header past before old rows (Some task) left early mid → Did rows (λ t. is_listed t left ≡ true) task claims own
+      → Plays header past (early ++ before) mid (own ++ (early ++ before)) ran
       → EachOf (RunsFront first) late → PlaysBy header (SparesSource first) past (own ++ (early ++ before)) ran (late ++ (own ++ (early ++ before))) new
       → ClaimsInTurn header past before old rows first (task ∷ left) (late ++ (own ++ early)) new
 
@@ -174,8 +184,8 @@ pub record RunsNobody (old new : List TaskId) (before after : List Event) : Type
   pub told : after ≡ more ++ before
   pub none : EachOf RunsNone more
 
--- an access was run once: it claims no frame where it may not; if it wants one still, no more than a shadow was made, or pages were copied; it is not to be run again;
--- and only its own row has changed
+-- an access was run once: it claims no frame where it may not; if it wants one still, no more than a shadow was made, or pages were copied; it is not to be run
+-- again; and only its own row has changed
 pub record RunsOnce (was : Waiting) (may_claim wants : Bool) (old new : WaitTable) (before after : List Event) : Type 0 where
   pub more : List Event
   pub told : after ≡ more ++ before

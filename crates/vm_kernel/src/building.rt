@@ -68,7 +68,8 @@ impl Parts {
     pub fn make_task(&mut self, ids: &Ids, task: TaskId, log: &mut Events) -> Result<(), NoMemory>
         ghost given: { Given }
         requires { Starts given.header given.host (command.Task task (host_id given.host)) given.past self.old ids.now log.old.items }
-        ensures ran { OnOk result (Ran given.header given.host given.outside (command.Task task (host_id given.host)) given.past self.new ids.now log.new.items) }
+        ensures ran { OnOk result (Ran given.header given.host given.outside (command.Task task (host_id given.host)) given.past self.new ids.now
+            log.new.items) }
         ensures plays { OnOk result (Plays given.header given.past log.old.items (paging self.old) log.new.items (paging self.new)) }
         ensures quiet { OnOk result (QueueIsStill self.old.waits.queue self.new.waits.queue log.old.items log.new.items) }
         ensures spends { OnOk result (Spends 1 1 0 self.old log.old self.new log.new) }
@@ -147,7 +148,8 @@ impl Parts {
     pub fn wire(&mut self, ids: &Ids, count: u32, log: &mut Events) -> Result<(), NoMemory>
         ghost given: { Given }
         requires { Starts given.header given.host (command.Wire (host_id given.host) count) given.past self.old ids.now log.old.items }
-        ensures ran { OnOk result (Ran given.header given.host given.outside (command.Wire (host_id given.host) count) given.past self.new ids.now log.new.items) }
+        ensures ran { OnOk result (Ran given.header given.host given.outside (command.Wire (host_id given.host) count) given.past self.new ids.now
+            log.new.items) }
         ensures plays { OnOk result (Plays given.header given.past log.old.items (paging self.old) log.new.items (paging self.new)) }
         ensures quiet { OnOk result (QueueIsStill self.old.waits.queue self.new.waits.queue log.old.items log.new.items) }
         ensures spends { OnOk result (Spends 1 1 0 self.old log.old self.new log.new) }
@@ -161,7 +163,8 @@ impl Parts {
     pub fn unwire(&mut self, ids: &Ids, count: u32, log: &mut Events) -> Result<(), NoMemory>
         ghost given: { Given }
         requires { Starts given.header given.host (command.Unwire (host_id given.host) count) given.past self.old ids.now log.old.items }
-        ensures ran { OnOk result (Ran given.header given.host given.outside (command.Unwire (host_id given.host) count) given.past self.new ids.now log.new.items) }
+        ensures ran { OnOk result (Ran given.header given.host given.outside (command.Unwire (host_id given.host) count) given.past self.new ids.now
+            log.new.items) }
         ensures plays { OnOk result (Plays given.header given.past log.old.items (paging self.old) log.new.items (paging self.new)) }
         ensures quiet { OnOk result (QueueIsStill self.old.waits.queue self.new.waits.queue log.old.items log.new.items) }
         ensures spends { OnOk result (Spends 1 1 0 self.old log.old self.new log.new) }

@@ -113,7 +113,8 @@ impl Parts {
         ensures quiet { OnOk result (QueueIsStill self.old.waits.queue self.new.waits.queue log.old.items log.new.items) }
         ensures ends { OnOk result (EndsByAddress given.header given.past given.command log.new.items) }
         ensures spends { OnOk result (Spends (1 + leaving self.old ids.now) 0 0 self.old log.old self.new log.new) }
-        ensures err { IsRoomy (1 + leaving self.old ids.now) 0 self.old log.old.room → HasBuffers self.old → OnErr result ((self.new ≡ self.old) × (log.new.items ≡ log.old.items)) }
+        ensures err { IsRoomy (1 + leaving self.old ids.now) 0 self.old log.old.room → HasBuffers self.old
+            → OnErr result ((self.new ≡ self.old) × (log.new.items ≡ log.old.items)) }
         ensures buffers { OnOk result (HasBuffers self.old → HasBuffers self.new) }
         ensures skip { OnOk result (KeepsSkip self.old self.new) }
     {
@@ -140,7 +141,8 @@ impl Parts {
     ) -> Result<(), NoMemory>
         ghost given: { Given }
         requires { Starts given.header given.host (command.Protect task address bytes prot) given.past self.old ids.now log.old.items }
-        ensures ran { OnOk result (Ran given.header given.host given.outside (command.Protect task address bytes prot) given.past self.new ids.now log.new.items) }
+        ensures ran { OnOk result (Ran given.header given.host given.outside (command.Protect task address bytes prot) given.past self.new ids.now
+            log.new.items) }
         ensures plays { OnOk result (Plays given.header given.past log.old.items (paging self.old) log.new.items (paging self.new)) }
         ensures quiet { OnOk result (QueueIsStill self.old.waits.queue self.new.waits.queue log.old.items log.new.items) }
         ensures spends { OnOk result (Spends 1 1 0 self.old log.old self.new log.new) }
@@ -170,7 +172,8 @@ impl Parts {
     ) -> Result<(), NoMemory>
         ghost given: { Given }
         requires { Starts given.header given.host (command.Inherit task address bytes inherit) given.past self.old ids.now log.old.items }
-        ensures ran { OnOk result (Ran given.header given.host given.outside (command.Inherit task address bytes inherit) given.past self.new ids.now log.new.items) }
+        ensures ran { OnOk result (Ran given.header given.host given.outside (command.Inherit task address bytes inherit) given.past self.new ids.now
+            log.new.items) }
         ensures plays { OnOk result (Plays given.header given.past log.old.items (paging self.old) log.new.items (paging self.new)) }
         ensures quiet { OnOk result (QueueIsStill self.old.waits.queue self.new.waits.queue log.old.items log.new.items) }
         ensures spends { OnOk result (Spends 1 1 0 self.old log.old self.new log.new) }

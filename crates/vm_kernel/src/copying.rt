@@ -48,7 +48,8 @@ pub fn new_marks(entries: &Entries, chains: &Chains) -> u32
 // Whether a fork copies an entry on a region without a mark, and none on its region of the entries
 // from a place on.
 fn is_newly_marked(entry: Entry, entries: &Entries, from: u32, chains: &Chains) -> bool
-    ensures { result ≡ (is_copied entry.inherit && (not (copies_from entry.region.0 (drop from (by_address entries.now))) && not (is_marked chains.now entry.region.0))) }
+    ensures { result ≡ (is_copied entry.inherit && (not (copies_from entry.region.0 (drop from (by_address entries.now))) && not
+        (is_marked chains.now entry.region.0))) }
 {
     is_copied(entry.inherit)
         && !is_marked(chains, entry.region)

@@ -81,11 +81,14 @@ impl Parts {
         requires is { given.command ≡ command.Pageout (host_id given.host) count }
         requires starts { Starts given.header given.host given.command given.past self.old ids.now log.old.items }
         ensures ran { OnOk result (Ran given.header given.host given.outside given.command given.past self.new ids.now log.new.items) }
-        ensures plays { OnOk result (PlaysBy given.header (SparesSourceSince (first_in_queue self.old.waits.queue) given.past) given.past log.old.items (paging self.old) log.new.items (paging self.new)) }
+        ensures plays { OnOk result (PlaysBy given.header (SparesSourceSince (first_in_queue self.old.waits.queue) given.past) given.past log.old.items
+            (paging self.old) log.new.items (paging self.new)) }
         ensures quiet { OnOk result (QueueIsStill self.old.waits.queue self.new.waits.queue log.old.items log.new.items) }
         ensures spends { OnOk result (Spends (2 * listed_pages self.old.memory.queues) 0 0 self.old log.old self.new log.new) }
-        ensures succeeds { IsRoomy (2 * listed_pages self.old.memory.queues) 0 self.old log.old.room → min count (listed_pages self.old.memory.queues) + 1 ≤ self.old.memory.buffers.count → IsSkipRoom self.old → IsOk result }
-        ensures spare { OnOk result ((min count (listed_pages self.old.memory.queues) + 1 ≤ self.old.memory.buffers.count → 0 < self.new.memory.buffers.count) × (vec_capacity self.old.skip ≤ vec_capacity self.new.skip)) }
+        ensures succeeds { IsRoomy (2 * listed_pages self.old.memory.queues) 0 self.old log.old.room
+            → min count (listed_pages self.old.memory.queues) + 1 ≤ self.old.memory.buffers.count → IsSkipRoom self.old → IsOk result }
+        ensures spare { OnOk result ((min count (listed_pages self.old.memory.queues) + 1 ≤ self.old.memory.buffers.count → 0 < self.new.memory.buffers.count)
+            × (vec_capacity self.old.skip ≤ vec_capacity self.new.skip)) }
         ensures rows { OnOk result (length self.new.waits.rows ≤ length self.old.waits.rows) }
     {
         // What the front is to copy now, it was to copy when the pageout began.
@@ -150,7 +153,8 @@ impl Parts {
         ensures rests { OnOk result (Rests given.header given.host self.new ids.now (log.new.items ++ given.past)) }
         ensures goes { OnOk result (LegalEvents given.header given.host given.outside given.command given.past log.old.items log.new.items) }
         ensures reclaims { OnOk result (EachGone given.host log.old.items log.new.items) }
-        ensures reclaimed { IfOk result (λ answer. FreesOrReturns given.host spared answer self.old self.new (log.old.items ++ given.past) (log.new.items ++ given.past)) }
+        ensures reclaimed { IfOk result (λ answer. FreesOrReturns given.host spared answer self.old self.new (log.old.items ++ given.past)
+            (log.new.items ++ given.past)) }
         ensures plays { OnOk result (PlaysBy given.header given.by given.past log.old.items (paging self.old) log.new.items (paging self.new)) }
         ensures spared { OnOk result (IfSome spared (λ key. IsHere self.new key)) }
         ensures room { 2 ≤ log.old.room → 0 < self.old.memory.buffers.count → IsSkipRoom self.old → IsOk result }
@@ -175,7 +179,8 @@ impl Parts {
         ensures rests { OnOk result (Rests given.header given.host self.new ids.now (log.new.items ++ given.past)) }
         ensures goes { OnOk result (LegalEvents given.header given.host given.outside given.command given.past log.old.items log.new.items) }
         ensures reclaims { OnOk result (EachGone given.host log.old.items log.new.items) }
-        ensures reclaimed { IfOk result (λ answer. FreesBut given.host self.old.skip.items answer self.old self.new (log.old.items ++ given.past) (log.new.items ++ given.past)) }
+        ensures reclaimed { IfOk result (λ answer. FreesBut given.host self.old.skip.items answer self.old self.new (log.old.items ++ given.past)
+            (log.new.items ++ given.past)) }
         ensures plays { OnOk result (PlaysBy given.header given.by given.past log.old.items (paging self.old) log.new.items (paging self.new)) }
         ensures room { 2 ≤ log.old.room → 0 < self.old.memory.buffers.count → IsOk result }
         ensures empty { listed_pages self.old.memory.queues ≡ 0 → IsOk result }

@@ -9,7 +9,8 @@ ghost use Rattle.vm_model.specs.declared.command.Command.TheVariants as command;
 ghost use Rattle.vm_kernel.specs.Begun.{Ran, Given, Starts};
 ghost use Rattle.vm_kernel.specs.Forking.{CanCopy, CanShare, EntersCopy, Shares};
 ghost use Rattle.vm_kernel.specs.Plays.{Plays, paging};
-ghost use Rattle.vm_kernel.specs.Rooms.{HasBuffers, HasMore, HasRoom, IsRoomy, IsSkipRoom, KeepsSpare, Spends, dues, front, full_dues, making, of_entries, to_run};
+ghost use Rattle.vm_kernel.specs.Rooms.{HasBuffers, HasMore, HasRoom, IsRoomy, IsSkipRoom, KeepsSpare, Spends, dues, front, full_dues, making, of_entries};
+ghost use Rattle.vm_kernel.specs.Rooms.{to_run};
 ghost use Rattle.vm_kernel.specs.declared.breadth.Breadth.TheVariants as wide;
 ghost use Rattle.vm_kernel.specs.Turns.{QueueIsStill, Restarted};
 ghost use Rattle.vm_shadow.specs.declared.ids.Ids.{Ids as Numbers};
@@ -38,7 +39,8 @@ impl Parts {
         ensures plays { OnOk result (Plays given.header given.past log.old.items (paging self.old) log.new.items (paging self.new)) }
         ensures quiet { OnOk result (QueueIsStill self.old.waits.queue self.new.waits.queue log.old.items log.new.items) }
         ensures spends { OnOk result (Spends (of_entries task.0 self.old) (of_entries task.0 self.old) 0 self.old log.old self.new log.new) }
-        ensures err { IsRoomy (of_entries task.0 self.old) (of_entries task.0 self.old) self.old log.old.room → OnErr result ((self.new ≡ self.old) × ((ids.new ≡ ids.old) × (log.new.items ≡ log.old.items))) }
+        ensures err { IsRoomy (of_entries task.0 self.old) (of_entries task.0 self.old) self.old log.old.room
+            → OnErr result ((self.new ≡ self.old) × ((ids.new ≡ ids.old) × (log.new.items ≡ log.old.items))) }
         ensures spare { OnOk result (KeepsSpare self.old self.new) }
     {
         self.maps.add_task(child)?;
@@ -72,12 +74,18 @@ impl Parts {
     ) -> Result<(), NoMemory>
         ghost given: { Given }
         requires { Starts given.header given.host (command.Copy task address bytes target to) given.past self.old ids.old log.old.items }
-        ensures ran { OnOk result (Ran given.header given.host given.outside (command.Copy task address bytes target to) given.past self.new ids.new log.new.items) }
+        ensures ran { OnOk result (Ran given.header given.host given.outside (command.Copy task address bytes target to) given.past self.new ids.new
+            log.new.items) }
         ensures plays { OnOk result (Plays given.header given.past log.old.items (paging self.old) log.new.items (paging self.new)) }
-        ensures restarts { OnOk result (Restarted given.header given.host self.new.waits.rows given.past self.old.waits.queue self.new.waits.queue log.new.items) }
+        ensures restarts { OnOk result (Restarted given.header given.host self.new.waits.rows given.past self.old.waits.queue self.new.waits.queue
+            log.new.items) }
         ensures few { OnOk result (length log.new.items + dues self.new ≤ length log.old.items + (full_dues self.old + front wide.Frames self.old)) }
-        ensures room { (more : ℕ) → HasMore (front wide.Frames self.old) (making wide.Frames self.old) more self.old log.old.room → 0 < self.old.waits.room → HasBuffers self.old → length self.old.waits.rows + 1 < vec_capacity self.old.skip → OnOk result (HasRoom more self.new log.new.room × (0 < self.new.memory.buffers.count × IsSkipRoom self.new)) }
-        ensures err { HasMore (front wide.Frames self.old) (making wide.Frames self.old) 0 self.old log.old.room → 0 < self.old.waits.room → HasBuffers self.old → length self.old.waits.rows + 1 < vec_capacity self.old.skip → OnErr result ((self.new ≡ self.old) × ((ids.new ≡ ids.old) × (log.new.items ≡ log.old.items))) }
+        ensures room { (more : ℕ) → HasMore (front wide.Frames self.old) (making wide.Frames self.old) more self.old log.old.room → 0 < self.old.waits.room
+            → HasBuffers self.old → length self.old.waits.rows + 1 < vec_capacity self.old.skip
+            → OnOk result (HasRoom more self.new log.new.room × (0 < self.new.memory.buffers.count × IsSkipRoom self.new)) }
+        ensures err { HasMore (front wide.Frames self.old) (making wide.Frames self.old) 0 self.old log.old.room → 0 < self.old.waits.room → HasBuffers self.old
+            → length self.old.waits.rows + 1 < vec_capacity self.old.skip
+            → OnErr result ((self.new ≡ self.old) × ((ids.new ≡ ids.old) × (log.new.items ≡ log.old.items))) }
     {
         let place = self.place(task, address);
         if place.region.0 < self.declared.len() {

@@ -121,12 +121,16 @@ impl Kernel {
         requires starts { Starts given.header given.host command.now given.past self.old ids.old log.old.items }
         requires built { kernel_runs command.now ≡ true }
         ensures ran { OnOk result (Ran given.header given.host given.outside command.now given.past self.new ids.new log.new.items) }
-        ensures plays { OnOk result (PlaysBy given.header (may_reclaim command.now self.old.waits.queue given.past) given.past [] (paging self.old) log.new.items (paging self.new)) }
-        ensures restarts { OnOk result (Restarted given.header given.host self.new.waits.rows given.past self.old.waits.queue self.new.waits.queue log.new.items) }
+        ensures plays { OnOk result (PlaysBy given.header (may_reclaim command.now self.old.waits.queue given.past) given.past [] (paging self.old)
+            log.new.items (paging self.new)) }
+        ensures restarts { OnOk result (Restarted given.header given.host self.new.waits.rows given.past self.old.waits.queue self.new.waits.queue
+            log.new.items) }
         ensures ends { OnOk result (EndsByAddress given.header given.past command.now log.new.items) }
         ensures few { OnOk result (length log.new.items + dues self.new ≤ full_dues self.old + front (breadth_of command.now) self.old) }
-        ensures room { (more : ℕ) → IsReady (breadth_of command.now) self.old → most (breadth_of command.now) self.old + more ≤ log.old.room → OnOk result (ServeRoom more self.new log.new.room) }
-        ensures err { IsReady (breadth_of command.now) self.old → most (breadth_of command.now) self.old ≤ log.old.room → OnErr result ((self.new ≡ with_rooms_of self.new self.old) × ((ids.new ≡ ids.old) × (log.new.items ≡ []))) }
+        ensures room { (more : ℕ) → IsReady (breadth_of command.now) self.old → most (breadth_of command.now) self.old + more ≤ log.old.room
+            → OnOk result (ServeRoom more self.new log.new.room) }
+        ensures err { IsReady (breadth_of command.now) self.old → most (breadth_of command.now) self.old ≤ log.old.room
+            → OnErr result ((self.new ≡ with_rooms_of self.new self.old) × ((ids.new ≡ ids.old) × (log.new.items ≡ []))) }
     {
         self.parts.reserve_for(command)?;
         self.parts.run(command, ids, log)
@@ -159,12 +163,18 @@ impl Kernel {
         ensures failed { OnOk result (IsErrorPaid given.header (log.new.items ++ (given.front ++ given.past))) }
         ensures zeroed { OnOk result (IsAbsencePaid given.header (log.new.items ++ (given.front ++ given.past))) }
         ensures locked { OnOk result (IsLockPaid given.header (log.new.items ++ (given.front ++ given.past))) }
-        ensures plays { OnOk result (PlaysAnswer given.header (given.front ++ given.past) object (outcome_of (object_at self.old.memory.objects object.0) control (row_at self.old.memory.resident object.0) message.now) (paging self.old) log.new.items (paging self.new)) }
-        ensures ended { HasQueue given.header given.host self.old given.past → OnOk result (EndsAll given.header (log.new.items ++ (given.front ++ given.past))) }
-        ensures restarts { OnOk result (Restarted given.header given.host self.new.waits.rows (given.front ++ given.past) self.old.waits.queue self.new.waits.queue log.new.items) }
+        ensures plays { OnOk result (PlaysAnswer given.header (given.front ++ given.past) object
+            (outcome_of (object_at self.old.memory.objects object.0) control (row_at self.old.memory.resident object.0) message.now) (paging self.old)
+            log.new.items (paging self.new)) }
+        ensures ended { HasQueue given.header given.host self.old given.past
+            → OnOk result (EndsAll given.header (log.new.items ++ (given.front ++ given.past))) }
+        ensures restarts { OnOk result (Restarted given.header given.host self.new.waits.rows (given.front ++ given.past) self.old.waits.queue
+            self.new.waits.queue log.new.items) }
         ensures few { OnOk result (length log.new.items + dues self.new ≤ full_dues self.old + front (word_breadth message.now) self.old) }
-        ensures room { (more : ℕ) → IsReady (word_breadth message.now) self.old → most (word_breadth message.now) self.old + more ≤ log.old.room → OnOk result (ServeRoom more self.new log.new.room) }
-        ensures err { IsReady (word_breadth message.now) self.old → most (word_breadth message.now) self.old ≤ log.old.room → OnErr result ((self.new ≡ with_rooms_of self.new self.old) × ((ids.new ≡ ids.old) × (log.new.items ≡ []))) }
+        ensures room { (more : ℕ) → IsReady (word_breadth message.now) self.old → most (word_breadth message.now) self.old + more ≤ log.old.room
+            → OnOk result (ServeRoom more self.new log.new.room) }
+        ensures err { IsReady (word_breadth message.now) self.old → most (word_breadth message.now) self.old ≤ log.old.room
+            → OnErr result ((self.new ≡ with_rooms_of self.new self.old) × ((ids.new ≡ ids.old) × (log.new.items ≡ []))) }
     {
         self.parts.reserve_for_word(message)?;
         self.parts.take(ids, object, control, message, log)
@@ -196,7 +206,8 @@ impl Kernel {
         requires rests { Rests given.header given.host self.old ids.old (log.old.items ++ given.past) }
         requires room { (more : ℕ) × ServeRoom more self.old log.old.room }
         ensures served { Served given.header given.host given.outside given.command given.past log.old.items self.new ids.new log.new.items }
-        ensures awake { OnlyReturned (named given.header) given.host (log.new.items ++ given.past) → NoneSleepsOn given.header given.host (log.new.items ++ given.past) }
+        ensures awake { OnlyReturned (named given.header) given.host (log.new.items ++ given.past)
+            → NoneSleepsOn given.header given.host (log.new.items ++ given.past) }
         ensures leaves { LeavesInTurn given.header given.past self.old self.new log.old.items log.new.items }
         ensures others { KeepsOthers self.old.waits.queue self.old.waits.rows self.new.waits.rows }
         ensures few { length log.new.items ≤ length log.old.items + dues self.old + 2 }

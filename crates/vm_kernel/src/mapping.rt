@@ -51,11 +51,13 @@ impl Parts {
     ) -> Result<(), NoMemory>
         ghost given: { Given }
         requires { Starts given.header given.host (command.Map task address bytes object offset) given.past self.old ids.now log.old.items }
-        ensures ran { OnOk result (Ran given.header given.host given.outside (command.Map task address bytes object offset) given.past self.new ids.now log.new.items) }
+        ensures ran { OnOk result (Ran given.header given.host given.outside (command.Map task address bytes object offset) given.past self.new ids.now
+            log.new.items) }
         ensures plays { OnOk result (Plays given.header given.past log.old.items (paging self.old) log.new.items (paging self.new)) }
         ensures quiet { OnOk result (QueueIsStill self.old.waits.queue self.new.waits.queue log.old.items log.new.items) }
         ensures spends { OnOk result (Spends 2 2 0 self.old log.old self.new log.new) }
-        ensures succeeds { IsRoomy 2 2 self.old log.old.room → IfSome (object_at self.old.memory.objects object.0) (λ known. known.control < 2 ^ 32 - 3) → IsOk result }
+        ensures succeeds { IsRoomy 2 2 self.old log.old.room → IfSome (object_at self.old.memory.objects object.0) (λ known. known.control < 2 ^ 32 - 3)
+            → IsOk result }
         ensures err { IsRoomy 2 2 self.old log.old.room → OnErr result ((self.new ≡ self.old) × (log.new.items ≡ log.old.items)) }
         ensures spare { OnOk result (KeepsSpare self.old self.new) }
     {
@@ -115,7 +117,8 @@ impl Parts {
     // Where no control of an object lives the next one begins, and the object's pager is told of it.
     fn open(&mut self, object: ObjectId, log: &mut Events) -> Result<(), NoMemory>
         requires known { IsSome (object_at self.old.memory.objects object.0) }
-        ensures opens { OnOk result (IfSome (object_at self.old.memory.objects object.0) (λ known. Opens object known self.old self.new log.old.items log.new.items)) }
+        ensures opens { OnOk result (IfSome (object_at self.old.memory.objects object.0)
+            (λ known. Opens object known self.old self.new log.old.items log.new.items)) }
         ensures succeeds { IfSome (object_at self.old.memory.objects object.0) (λ known. known.control < 2 ^ 32 - 3 → 0 < log.old.room → IsOk result) }
         ensures can { can_open (object_at self.old.memory.objects object.0) ≡ true → 0 < log.old.room → IsOk result }
         ensures objects { self.new.memory.objects.rows ≡ self.old.memory.objects.rows }

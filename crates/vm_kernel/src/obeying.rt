@@ -8,7 +8,8 @@ ghost use Rattle.vm_kernel.specs.Matches.{Rests, Works, host_id};
 ghost use Rattle.vm_kernel.specs.Plays.{Plays, PlaysAnswer, paging};
 ghost use Rattle.vm_kernel.specs.Rooms.{Dies, HasBuffers, IsRoomy, KeepsSkip, Spends, heeding};
 ghost use Rattle.vm_parts.specs.Listed.{listed_pages};
-ghost use Rattle.vm_kernel.specs.Taking.{EndsNobody, FailsNow, HasAsker, IsAbsencePaid, IsAnswered, IsLockPaid, IsWord, KeepsAskers, PageWaitedFor, is_away, is_lock_request, is_unlocked, page_waited};
+ghost use Rattle.vm_kernel.specs.Taking.{EndsNobody, FailsNow, HasAsker, IsAbsencePaid, IsAnswered, IsLockPaid, IsWord, KeepsAskers, PageWaitedFor, is_away};
+ghost use Rattle.vm_kernel.specs.Taking.{is_lock_request, is_unlocked, page_waited};
 ghost use Rattle.vm_waits.specs.Waits.{oldest_row, woken};
 ghost use Rattle.vm_kernel.specs.Turns.{RunsNoneYet};
 ghost use Rattle.vm_objects.specs.Objects.{object_at};
@@ -53,10 +54,15 @@ impl Parts {
         ensures early { OnOk result (RunsNoneYet log.new.items) }
         ensures zeroed { OnOk result (IsAbsencePaid given.header (log.new.items ++ (given.front ++ given.past))) }
         ensures locked { OnOk result (IsLockPaid given.header (log.new.items ++ (given.front ++ given.past))) }
-        ensures plays { OnOk result (PlaysAnswer given.header (given.front ++ given.past) object (outcome_of (object_at self.old.memory.objects object.0) control (row_at self.old.memory.resident object.0) message.now) (paging self.old) log.new.items (paging self.new)) }
+        ensures plays { OnOk result (PlaysAnswer given.header (given.front ++ given.past) object
+            (outcome_of (object_at self.old.memory.objects object.0) control (row_at self.old.memory.resident object.0) message.now) (paging self.old)
+            log.new.items (paging self.new)) }
         ensures spends { OnOk result (Spends (heeding message.now self.old) 0 0 self.old log.old self.new log.new) }
-        ensures succeeds { IsRoomy (heeding message.now self.old) 0 self.old log.old.room → (is_lock_request message.now ≡ true → listed_pages self.old.memory.queues + 1 ≤ self.old.memory.buffers.count) → 0 < self.old.memory.objects.marks → IsOk result }
-        ensures buffers { OnOk result ((is_lock_request message.now ≡ true → listed_pages self.old.memory.queues + 1 ≤ self.old.memory.buffers.count) → HasBuffers self.old → 0 < self.new.memory.buffers.count) }
+        ensures succeeds { IsRoomy (heeding message.now self.old) 0 self.old log.old.room
+            → (is_lock_request message.now ≡ true → listed_pages self.old.memory.queues + 1 ≤ self.old.memory.buffers.count) → 0 < self.old.memory.objects.marks
+            → IsOk result }
+        ensures buffers { OnOk result ((is_lock_request message.now ≡ true → listed_pages self.old.memory.queues + 1 ≤ self.old.memory.buffers.count)
+            → HasBuffers self.old → 0 < self.new.memory.buffers.count) }
         ensures failing { IfOk result (λ woken. (key : PageKey) → woken ≡ who.Fails key → HasBuffers self.old → HasBuffers self.new) }
         ensures dies { IfOk result (λ woken. (key : PageKey) → woken ≡ who.Fails key → Dies message.now self.old self.new) }
         ensures skip { OnOk result (KeepsSkip self.old self.new) }
@@ -95,7 +101,8 @@ impl Parts {
         ensures locked { OnOk result (IsLockPaid given.header (log.new.items ++ (given.front ++ given.past))) }
         ensures plays { OnOk result (Plays given.header (given.front ++ given.past) [] (paging self.old) log.new.items (paging self.new)) }
         ensures spends { OnOk result (Spends (listed_pages self.old.memory.queues + 1) 0 0 self.old log.old self.new log.new) }
-        ensures succeeds { IsRoomy (listed_pages self.old.memory.queues + 1) 0 self.old log.old.room → listed_pages self.old.memory.queues + 1 ≤ self.old.memory.buffers.count → IsOk result }
+        ensures succeeds { IsRoomy (listed_pages self.old.memory.queues + 1) 0 self.old log.old.room
+            → listed_pages self.old.memory.queues + 1 ≤ self.old.memory.buffers.count → IsOk result }
         ensures buffers { OnOk result (listed_pages self.old.memory.queues + 1 ≤ self.old.memory.buffers.count → 0 < self.new.memory.buffers.count) }
         ensures skip { OnOk result (KeepsSkip self.old self.new) }
     {

@@ -17,8 +17,13 @@ ghost use Rattle.vm_kernel.specs.declared.parts.Parts.{Parts};
 /// nobody of the host waits in vain; nor does it take a frame there.
 #[tactic(auto, using(crate::proofs::abroad::OthersEvents::frames_abroad))]
 pub fn others_leave_the_kernel()
-    ensures rests { (header : Header) (outside : Outside) (h : ℕ) (k : Parts) (ids next : Ids) (events past : List Event) → Sound header past → Rests header h k ids past → EachIn (IsAbroad header outside h) events past → IsCommon header next (events ++ past) → Rests header h k next (events ++ past) }
-    ensures queue { (header : Header) (outside : Outside) (h : ℕ) (k : Parts) (ids : Ids) (events past : List Event) → Sound header past → Rests header h k ids past → EachIn (IsAbroad header outside h) events past → HasQueue header h k past → HasQueue header h k (events ++ past) }
-    ensures prompt { (header : Header) (outside : Outside) (h : ℕ) (k : Parts) (ids : Ids) (events past : List Event) → Sound header past → Rests header h k ids past → EachIn (IsAbroad header outside h) events past → PromptAt header h past → PromptAt header h (events ++ past) }
-    ensures frames { (header : Header) (outside : Outside) (h : ℕ) (events past : List Event) → EachIn (IsAbroad header outside h) events past → Suffice header h past → MomentsIn (Suffice header h) events past }
+    ensures rests { (header : Header) (outside : Outside) (h : ℕ) (k : Parts) (ids next : Ids) (events past : List Event) → Sound header past
+        → Rests header h k ids past → EachIn (IsAbroad header outside h) events past → IsCommon header next (events ++ past)
+        → Rests header h k next (events ++ past) }
+    ensures queue { (header : Header) (outside : Outside) (h : ℕ) (k : Parts) (ids : Ids) (events past : List Event) → Sound header past
+        → Rests header h k ids past → EachIn (IsAbroad header outside h) events past → HasQueue header h k past → HasQueue header h k (events ++ past) }
+    ensures prompt { (header : Header) (outside : Outside) (h : ℕ) (k : Parts) (ids : Ids) (events past : List Event) → Sound header past
+        → Rests header h k ids past → EachIn (IsAbroad header outside h) events past → PromptAt header h past → PromptAt header h (events ++ past) }
+    ensures frames { (header : Header) (outside : Outside) (h : ℕ) (events past : List Event) → EachIn (IsAbroad header outside h) events past
+        → Suffice header h past → MomentsIn (Suffice header h) events past }
 {}

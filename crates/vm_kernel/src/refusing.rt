@@ -10,7 +10,8 @@ ghost use Rattle.vm_frames.specs.Frames.{free};
 ghost use Rattle.vm_maps.specs.Maps.{entries_in, rows_in};
 ghost use Rattle.vm_kernel.specs.Begun.{Given, acts_on};
 ghost use Rattle.vm_state.specs.Stands.{HasTasks};
-ghost use Rattle.vm_kernel.specs.Refusing.{IsForHere, access_code, acting_in, change_code, changing_code, code_of, copy_code, fork_code, is_copy_full, is_uncopied, makes_too_many, map_code, object_total, range_code, source_code};
+ghost use Rattle.vm_kernel.specs.Refusing.{IsForHere, access_code, acting_in, change_code, changing_code, code_of, copy_code, fork_code, is_copy_full};
+ghost use Rattle.vm_kernel.specs.Refusing.{is_uncopied, makes_too_many, map_code, object_total, range_code, source_code};
 
 use crate::changes::{enter, inheritance, protection, removal};
 use crate::copying::{copies, is_marked, meets_declared, new_marks};
@@ -318,7 +319,8 @@ impl Parts {
         requires here { IsSome (entries_in task.0 self.now.maps) }
         requires there { IsSome (entries_in target.0 self.now.maps) }
         requires range { is_range self.now.maps.size to bytes ≡ true }
-        ensures { result ≡ source_code self.now ids.now (task.0 == target.0) (rows_in target.0 self.now.maps) address bytes to (entry_at address (rows_in task.0 self.now.maps)) }
+        ensures { result ≡ source_code self.now ids.now (task.0 == target.0) (rows_in target.0 self.now.maps) address bytes to
+            (entry_at address (rows_in task.0 self.now.maps)) }
     {
         let Some(entry) = self.maps.entry(task, address) else {
             return Some(Code::InvalidAddress);

@@ -24,12 +24,19 @@ impl Parts {
         requires starts { Starts given.header given.host command.now given.past self.old ids.old log.old.items }
         requires built { kernel_runs command.now ≡ true }
         ensures ran { OnOk result (Ran given.header given.host given.outside command.now given.past self.new ids.new log.new.items) }
-        ensures plays { OnOk result (PlaysBy given.header (may_reclaim command.now self.old.waits.queue given.past) given.past log.old.items (paging self.old) log.new.items (paging self.new)) }
-        ensures restarts { OnOk result (Restarted given.header given.host self.new.waits.rows given.past self.old.waits.queue self.new.waits.queue log.new.items) }
+        ensures plays { OnOk result (PlaysBy given.header (may_reclaim command.now self.old.waits.queue given.past) given.past log.old.items (paging self.old)
+            log.new.items (paging self.new)) }
+        ensures restarts { OnOk result (Restarted given.header given.host self.new.waits.rows given.past self.old.waits.queue self.new.waits.queue
+            log.new.items) }
         ensures ends { OnOk result (EndsByAddress given.header given.past command.now log.new.items) }
-        ensures few { OnOk result (length log.new.items + dues self.new ≤ length log.old.items + (full_dues self.old + front (breadth_of command.now) self.old)) }
-        ensures room { (more : ℕ) → HasMore (front (breadth_of command.now) self.old) (making (breadth_of command.now) self.old) more self.old log.old.room → 0 < self.old.waits.room → HasBuffers self.old → length self.old.waits.rows + 1 < vec_capacity self.old.skip → HasReturns command.now self.old → OnOk result (HasRoom more self.new log.new.room × (0 < self.new.memory.buffers.count × IsSkipRoom self.new)) }
-        ensures err { HasMore (front (breadth_of command.now) self.old) (making (breadth_of command.now) self.old) 0 self.old log.old.room → 0 < self.old.waits.room → HasBuffers self.old → length self.old.waits.rows + 1 < vec_capacity self.old.skip → HasReturns command.now self.old → OnErr result ((self.new ≡ self.old) × ((ids.new ≡ ids.old) × (log.new.items ≡ log.old.items))) }
+        ensures few { OnOk result (length log.new.items + dues self.new ≤ length log.old.items + (full_dues self.old + front (breadth_of command.now)
+            self.old)) }
+        ensures room { (more : ℕ) → HasMore (front (breadth_of command.now) self.old) (making (breadth_of command.now) self.old) more self.old log.old.room
+            → 0 < self.old.waits.room → HasBuffers self.old → length self.old.waits.rows + 1 < vec_capacity self.old.skip → HasReturns command.now self.old
+            → OnOk result (HasRoom more self.new log.new.room × (0 < self.new.memory.buffers.count × IsSkipRoom self.new)) }
+        ensures err { HasMore (front (breadth_of command.now) self.old) (making (breadth_of command.now) self.old) 0 self.old log.old.room
+            → 0 < self.old.waits.room → HasBuffers self.old → length self.old.waits.rows + 1 < vec_capacity self.old.skip → HasReturns command.now self.old
+            → OnErr result ((self.new ≡ self.old) × ((ids.new ≡ ids.old) × (log.new.items ≡ log.old.items))) }
     {
         self.memory.queues.stand_once();
         match command {
@@ -84,11 +91,17 @@ impl Parts {
         requires changes { changes_entries command.now ≡ true }
         ensures ran { OnOk result (Ran given.header given.host given.outside command.now given.past self.new ids.new log.new.items) }
         ensures plays { OnOk result (Plays given.header given.past log.old.items (paging self.old) log.new.items (paging self.new)) }
-        ensures restarts { OnOk result (Restarted given.header given.host self.new.waits.rows given.past self.old.waits.queue self.new.waits.queue log.new.items) }
+        ensures restarts { OnOk result (Restarted given.header given.host self.new.waits.rows given.past self.old.waits.queue self.new.waits.queue
+            log.new.items) }
         ensures ends { OnOk result (EndsByAddress given.header given.past command.now log.new.items) }
-        ensures few { OnOk result (length log.new.items + dues self.new ≤ length log.old.items + (full_dues self.old + front (breadth_of command.now) self.old)) }
-        ensures room { (more : ℕ) → HasMore (front (breadth_of command.now) self.old) (making (breadth_of command.now) self.old) more self.old log.old.room → 0 < self.old.waits.room → HasBuffers self.old → IsSkipRoom self.old → OnOk result (HasRoom more self.new log.new.room × (0 < self.new.memory.buffers.count × IsSkipRoom self.new)) }
-        ensures err { HasMore (front (breadth_of command.now) self.old) (making (breadth_of command.now) self.old) 0 self.old log.old.room → 0 < self.old.waits.room → HasBuffers self.old → IsSkipRoom self.old → OnErr result ((self.new ≡ self.old) × ((ids.new ≡ ids.old) × (log.new.items ≡ log.old.items))) }
+        ensures few { OnOk result (length log.new.items + dues self.new ≤ length log.old.items + (full_dues self.old + front (breadth_of command.now)
+            self.old)) }
+        ensures room { (more : ℕ) → HasMore (front (breadth_of command.now) self.old) (making (breadth_of command.now) self.old) more self.old log.old.room
+            → 0 < self.old.waits.room → HasBuffers self.old → IsSkipRoom self.old
+            → OnOk result (HasRoom more self.new log.new.room × (0 < self.new.memory.buffers.count × IsSkipRoom self.new)) }
+        ensures err { HasMore (front (breadth_of command.now) self.old) (making (breadth_of command.now) self.old) 0 self.old log.old.room
+            → 0 < self.old.waits.room → HasBuffers self.old → IsSkipRoom self.old
+            → OnErr result ((self.new ≡ self.old) × ((ids.new ≡ ids.old) × (log.new.items ≡ log.old.items))) }
     {
         self.memory.queues.stand_once();
         match command {

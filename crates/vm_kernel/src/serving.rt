@@ -41,7 +41,8 @@ impl Parts {
         ensures works { OnOk result (Works given.header given.host self.new ids.new woken.Nobody (log.new.items ++ given.past)) }
         ensures goes { OnOk result (LegalEvents given.header given.host given.outside given.command given.past log.old.items log.new.items) }
         ensures ends { OnOk result (FindsPage given.header waiting.task.0 (log.old.items ++ given.past) → EndsNext waiting.task.0 log.old.items log.new.items) }
-        ensures attempts { IfOk result (λ answer. Attempts given.header given.host waiting may_claim answer self.old self.new (log.old.items ++ given.past) (log.new.items ++ given.past)) }
+        ensures attempts { IfOk result (λ answer. Attempts given.header given.host waiting may_claim answer self.old self.new (log.old.items ++ given.past)
+            (log.new.items ++ given.past)) }
         ensures plays { OnOk result (Plays given.header given.past log.old.items (paging self.old) log.new.items (paging self.new)) }
         ensures once { IfOk result (λ answer. RunsOnce waiting may_claim (wants_frame answer) self.old.waits self.new.waits log.old.items log.new.items) }
         ensures room { (more : ℕ) → HasRoom more self.old log.old.room → IsOk result × HasRoom more self.new log.new.room }
@@ -91,7 +92,8 @@ impl Parts {
         ensures goes { OnOk result (LegalEvents given.header given.host given.outside given.command given.past log.old.items log.new.items) }
         ensures first { OnOk result (RunsFirst given.header self.old.waits.rows given.past log.old.items log.new.items) }
         ensures plays { OnOk result (Plays given.header given.past log.old.items (paging self.old) log.new.items (paging self.new)) }
-        ensures restarts { OnOk result (RunsNoneYet log.old.items → Restarted given.header given.host self.new.waits.rows given.past self.old.waits.queue self.new.waits.queue log.new.items) }
+        ensures restarts { OnOk result (RunsNoneYet log.old.items
+            → Restarted given.header given.host self.new.waits.rows given.past self.old.waits.queue self.new.waits.queue log.new.items) }
         ensures room { (more : ℕ) → HasRoom more self.old log.old.room → IsOk result × HasRoom more self.new log.new.room }
         ensures spare { OnOk result (KeepsSpare self.old self.new) }
         ensures few { OnOk result (length log.new.items + dues self.new ≤ length log.old.items + dues self.old) }
@@ -113,7 +115,8 @@ impl Parts {
         ensures served { OnOk result (QueueIsServed given.header given.host self.new (log.new.items ++ given.past)) }
         ensures leaves { OnOk result (LeavesInTurn given.header given.past self.old self.new log.old.items log.new.items) }
         ensures others { OnOk result (KeepsOthers self.old.waits.queue self.old.waits.rows self.new.waits.rows) }
-        ensures room { (more : ℕ) → HasRoom (more + 2) self.old log.old.room → 0 < self.old.memory.buffers.count → IsSkipRoom self.old → IsOk result × (more ≤ log.new.room) }
+        ensures room { (more : ℕ) → HasRoom (more + 2) self.old log.old.room → 0 < self.old.memory.buffers.count → IsSkipRoom self.old → IsOk result
+            × (more ≤ log.new.room) }
         ensures idle { queued self.old.waits.rows ≡ 0 → IsOk result × ((self.new ≡ self.old) × ((ids.new ≡ ids.old) × (log.new ≡ log.old))) }
         ensures few { OnOk result (length log.new.items ≤ length log.old.items + dues self.old + 2) }
     {
@@ -148,7 +151,8 @@ impl Parts {
         ensures reclaims { OnOk result (EachGone given.host log.old.items log.new.items) }
         ensures freed { IfOk result (λ stops. stops ≡ false → claimed self.old.memory.frames ≡ claimed self.new.memory.frames + 1) }
         ensures full { IfOk result (λ stops. stops ≡ true → HostIsFull given.header given.host (log.new.items ++ given.past)) }
-        ensures plays { OnOk result (PlaysBy given.header (SparesSource (first_in_queue self.old.waits.queue)) given.past log.old.items (paging self.old) log.new.items (paging self.new)) }
+        ensures plays { OnOk result (PlaysBy given.header (SparesSource (first_in_queue self.old.waits.queue)) given.past log.old.items (paging self.old)
+            log.new.items (paging self.new)) }
         ensures spared { OnOk result (IfSome source (λ key. IsHere self.new key)) }
         ensures room { (more : ℕ) → ServeRoom more self.old log.old.room → IsOk result × IfOk result (λ stops. StopsRoom stops more self.new log.new.room) }
         ensures few { IfOk result (λ stops. stops ≡ false → length log.new.items + dues self.new ≤ length log.old.items + dues self.old) }
@@ -171,10 +175,12 @@ impl Parts {
         ensures goes { OnOk result (LegalEvents given.header given.host given.outside given.command given.past log.old.items log.new.items) }
         ensures queue { OnOk result (HasQueue given.header given.host self.new (log.new.items ++ given.past)) }
         ensures prompt { OnOk result (PromptAt given.header given.host (log.new.items ++ given.past)) }
-        ensures awake { OnOk result (OnlyReturned (named given.header) given.host (log.new.items ++ given.past) → NoneSleepsOn given.header given.host (log.new.items ++ given.past)) }
+        ensures awake { OnOk result (OnlyReturned (named given.header) given.host (log.new.items ++ given.past)
+            → NoneSleepsOn given.header given.host (log.new.items ++ given.past)) }
         ensures leaves { OnOk result (LeavesInTurn given.header given.past self.old self.new log.old.items log.new.items) }
         ensures others { OnOk result (KeepsOthers self.old.waits.queue self.old.waits.rows self.new.waits.rows) }
-        ensures room { (more : ℕ) → HasRoom (more + 2) self.old log.old.room → 0 < self.old.memory.buffers.count → IsSkipRoom self.old → IsOk result × (more ≤ log.new.room) }
+        ensures room { (more : ℕ) → HasRoom (more + 2) self.old log.old.room → 0 < self.old.memory.buffers.count → IsSkipRoom self.old → IsOk result
+            × (more ≤ log.new.room) }
         ensures idle { queued self.old.waits.rows ≡ 0 → IsOk result × ((self.new ≡ self.old) × ((ids.new ≡ ids.old) × (log.new ≡ log.old))) }
         ensures few { OnOk result (length log.new.items ≤ length log.old.items + dues self.old + 2) }
     {

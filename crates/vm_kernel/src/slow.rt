@@ -39,10 +39,13 @@ impl Parts {
         requires order { InOrder 0 (2 ^ 32) (rows_in task.0 self.old.maps) }
         ensures ran { OnOk result (Ran given.header given.host given.outside given.command given.past self.new ids.new log.new.items) }
         ensures plays { OnOk result (Plays given.header given.past log.old.items (paging self.old) log.new.items (paging self.new)) }
-        ensures restarts { OnOk result (Restarted given.header given.host self.new.waits.rows given.past self.old.waits.queue self.new.waits.queue log.new.items) }
+        ensures restarts { OnOk result (Restarted given.header given.host self.new.waits.rows given.past self.old.waits.queue self.new.waits.queue
+            log.new.items) }
         ensures few { OnOk result (length log.new.items + dues self.new ≤ length log.old.items + (full_dues self.old + front wide.Frames self.old)) }
-        ensures room { (more : ℕ) → HasMore (front wide.Frames self.old) (making wide.Frames self.old) more self.old log.old.room → 0 < self.old.waits.room → OnOk result (HasRoom more self.new log.new.room) × IsOk result }
-        ensures spare { OnOk result ((self.old.memory.buffers.count ≤ self.new.memory.buffers.count) × ((vec_capacity self.old.skip ≤ vec_capacity self.new.skip) × (length self.new.waits.rows ≤ length self.old.waits.rows + 1))) }
+        ensures room { (more : ℕ) → HasMore (front wide.Frames self.old) (making wide.Frames self.old) more self.old log.old.room → 0 < self.old.waits.room
+            → OnOk result (HasRoom more self.new log.new.room) × IsOk result }
+        ensures spare { OnOk result ((self.old.memory.buffers.count ≤ self.new.memory.buffers.count)
+            × ((vec_capacity self.old.skip ≤ vec_capacity self.new.skip) × (length self.new.waits.rows ≤ length self.old.waits.rows + 1))) }
     {
         self.waits.reserve(1)?;
         let pages = (bytes / u64::from(self.size.bytes())) as u32;

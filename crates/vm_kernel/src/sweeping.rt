@@ -54,7 +54,8 @@ impl Parts {
         ensures sweeps { OnOk result (Sweeps given.header given.host given.outside given.command given.past self.new ids.now given.rest log.new.items) }
         ensures plays { OnOk result (Plays given.header given.past log.old.items (paging self.old) log.new.items (paging self.new)) }
         ensures quiet { OnOk result (QueueIsStill self.old.waits.queue self.new.waits.queue log.old.items log.new.items) }
-        ensures ends { OnOk result (CountsOut given.header (log.old.items ++ given.past) (drop i (by_address gone.now)) given.rest log.old.items log.new.items) }
+        ensures ends { OnOk result (CountsOut given.header (log.old.items ++ given.past) (drop i (by_address gone.now)) given.rest log.old.items
+            log.new.items) }
         ensures spends { OnOk result (Spends (leaving self.old ids.now) 0 (leaving self.new ids.now) self.old log.old self.new log.new) }
         ensures succeeds { IsRoomy (leaving self.old ids.now) 0 self.old log.old.room → HasBuffers self.old → IsOk result }
         ensures buffers { OnOk result (HasBuffers self.old → HasBuffers self.new) }
@@ -84,7 +85,8 @@ impl Parts {
         ensures pages { OnOk result (OnlyLoses self.old.memory.resident self.new.memory.resident) }
         ensures plays { OnOk result (Plays given.header given.past log.old.items (paging self.old) log.new.items (paging self.new)) }
         ensures only { OnOk result (EndsOnly log.old.items log.new.items) }
-        ensures under { OnOk result (EndsBelow given.header (log.old.items ++ given.past) (region_of given.header region.0 (log.old.items ++ given.past)).top log.old.items log.new.items) }
+        ensures under { OnOk result (EndsBelow given.header (log.old.items ++ given.past) (region_of given.header region.0 (log.old.items ++ given.past)).top
+            log.old.items log.new.items) }
         ensures spends { OnOk result (Spends (leaving self.old ids.now) 0 (leaving self.new ids.now) self.old log.old self.new log.new) }
         ensures succeeds { IsRoomy (leaving self.old ids.now) 0 self.old log.old.room → HasBuffers self.old → IsOk result }
         ensures buffers { OnOk result (HasBuffers self.old → HasBuffers self.new) }

@@ -6,14 +6,16 @@ ghost use Rattle.vm_supply.specs.declared.woken.Woken.TheVariants as who;
 ghost use Rattle.vm_kernel.specs.Begun.{Doing, IsLaundered, LegalEvents, Passing};
 ghost use Rattle.vm_kernel.specs.Matches.{Rests, Works, host_id};
 ghost use Rattle.vm_frames.specs.Frames.{frame_count};
-ghost use Rattle.vm_kernel.specs.Taking.{EndsEach, EndsNobody, Erring, FailsNow, HasAsker, HasEnded, HasFailed, IsAbsencePaid, IsAnswered, IsErrorPaid, IsLockPaid, IsWord, is_lock_request};
+ghost use Rattle.vm_kernel.specs.Taking.{EndsEach, EndsNobody, Erring, FailsNow, HasAsker, HasEnded, HasFailed, IsAbsencePaid, IsAnswered, IsErrorPaid};
+ghost use Rattle.vm_kernel.specs.Taking.{IsLockPaid, IsWord, is_lock_request};
 ghost use Rattle.vm_base.specs.declared.ids.PageKey.{PageKey};
 ghost use Rattle.vm_objects.specs.Objects.{object_at};
 ghost use Rattle.vm_parts.specs.Listed.{listed_pages};
 ghost use Rattle.vm_resident.specs.Resident.{row_at};
 ghost use Rattle.vm_supply.specs.Answers.{IsAnswer, outcome_of};
 ghost use Rattle.vm_kernel.specs.Plays.{Plays, PlaysAnswer, paging};
-ghost use Rattle.vm_kernel.specs.Rooms.{Dies, HasBuffers, HasMore, HasRoom, IsRoomy, IsSkipRoom, KeepsSkip, Spends, dues, front, full_dues, leaving, making, to_run, waking, word_breadth};
+ghost use Rattle.vm_kernel.specs.Rooms.{Dies, HasBuffers, HasMore, HasRoom, IsRoomy, IsSkipRoom, KeepsSkip, Spends, dues, front, full_dues, leaving, making};
+ghost use Rattle.vm_kernel.specs.Rooms.{to_run, waking, word_breadth};
 ghost use Rattle.vm_kernel.specs.Turns.{IsBrought, Restarted, RunsNobody};
 
 use crate::parts::Parts;
@@ -47,7 +49,9 @@ impl Parts {
         ensures goes { OnOk result (LegalEvents given.header given.host given.outside given.command (given.front ++ given.past) [] log.new.items) }
         ensures brought { OnOk result (IsBrought log.new.items) }
         ensures zeroed { OnOk result (IsAbsencePaid given.header (log.new.items ++ (given.front ++ given.past))) }
-        ensures plays { OnOk result (PlaysAnswer given.header (given.front ++ given.past) object (outcome_of (object_at self.old.memory.objects object.0) control (row_at self.old.memory.resident object.0) message.now) (paging self.old) log.new.items (paging self.new)) }
+        ensures plays { OnOk result (PlaysAnswer given.header (given.front ++ given.past) object
+            (outcome_of (object_at self.old.memory.objects object.0) control (row_at self.old.memory.resident object.0) message.now) (paging self.old)
+            log.new.items (paging self.new)) }
         ensures spends { OnOk result (Spends 1 0 0 self.old log.old self.new log.new) }
         ensures succeeds { IsRoomy 1 0 self.old log.old.room → 0 < self.old.memory.objects.marks → IsOk result }
         ensures buffers { OnOk result (self.new.memory.buffers ≡ self.old.memory.buffers) }
@@ -75,9 +79,11 @@ impl Parts {
         ensures ended { OnOk result (HasEnded woken self.old.waits.rows (log.new.items ++ given.past)) }
         ensures quiet { OnOk result (RunsNobody self.old.waits.queue self.new.waits.queue log.old.items log.new.items) }
         ensures spends { OnOk result (Spends (waking woken self.old ids.now) 0 0 self.old log.old self.new log.new) }
-        ensures succeeds { IsRoomy (waking woken self.old ids.now) 0 self.old log.old.room → ((key : PageKey) → woken ≡ who.Fails key → HasBuffers self.old) → IsOk result }
+        ensures succeeds { IsRoomy (waking woken self.old ids.now) 0 self.old log.old.room → ((key : PageKey) → woken ≡ who.Fails key → HasBuffers self.old)
+            → IsOk result }
         ensures buffers { OnOk result (HasBuffers self.old → HasBuffers self.new) }
-        ensures enough { OnOk result (((key : PageKey) → woken ≡ who.Fails key → HasBuffers self.old) → 0 < self.old.memory.buffers.count → 0 < self.new.memory.buffers.count) }
+        ensures enough { OnOk result (((key : PageKey) → woken ≡ who.Fails key → HasBuffers self.old) → 0 < self.old.memory.buffers.count
+            → 0 < self.new.memory.buffers.count) }
         ensures skip { OnOk result (KeepsSkip self.old self.new) }
     {
         match woken {
@@ -148,11 +154,18 @@ impl Parts {
         ensures failed { OnOk result (IsErrorPaid given.header (log.new.items ++ (given.front ++ given.past))) }
         ensures zeroed { OnOk result (IsAbsencePaid given.header (log.new.items ++ (given.front ++ given.past))) }
         ensures locked { OnOk result (IsLockPaid given.header (log.new.items ++ (given.front ++ given.past))) }
-        ensures plays { OnOk result (PlaysAnswer given.header (given.front ++ given.past) object (outcome_of (object_at self.old.memory.objects object.0) control (row_at self.old.memory.resident object.0) message.now) (paging self.old) log.new.items (paging self.new)) }
+        ensures plays { OnOk result (PlaysAnswer given.header (given.front ++ given.past) object
+            (outcome_of (object_at self.old.memory.objects object.0) control (row_at self.old.memory.resident object.0) message.now) (paging self.old)
+            log.new.items (paging self.new)) }
         ensures ended { OnOk result (EndsEach given.header self.old.waits.rows (log.new.items ++ (given.front ++ given.past))) }
-        ensures restarts { OnOk result (Restarted given.header given.host self.new.waits.rows (given.front ++ given.past) self.old.waits.queue self.new.waits.queue log.new.items) }
-        ensures few { OnOk result (length log.new.items + dues self.new ≤ length log.old.items + (full_dues self.old + front (word_breadth message.now) self.old)) }
-        ensures room { (more : ℕ) → HasMore (front (word_breadth message.now) self.old) (making (word_breadth message.now) self.old) more self.old log.old.room → 0 < self.old.memory.objects.marks → HasBuffers self.old → IsSkipRoom self.old → (is_lock_request message.now ≡ true → listed_pages self.old.memory.queues + 1 ≤ self.old.memory.buffers.count) → IsOk result × (HasRoom more self.new log.new.room × (0 < self.new.memory.buffers.count × IsSkipRoom self.new)) }
+        ensures restarts { OnOk result (Restarted given.header given.host self.new.waits.rows (given.front ++ given.past) self.old.waits.queue
+            self.new.waits.queue log.new.items) }
+        ensures few { OnOk result (length log.new.items + dues self.new ≤ length log.old.items + (full_dues self.old + front (word_breadth message.now)
+            self.old)) }
+        ensures room { (more : ℕ) → HasMore (front (word_breadth message.now) self.old) (making (word_breadth message.now) self.old) more self.old log.old.room
+            → 0 < self.old.memory.objects.marks → HasBuffers self.old → IsSkipRoom self.old
+            → (is_lock_request message.now ≡ true → listed_pages self.old.memory.queues + 1 ≤ self.old.memory.buffers.count) → IsOk result
+            × (HasRoom more self.new log.new.room × (0 < self.new.memory.buffers.count × IsSkipRoom self.new)) }
     {
         self.memory.queues.stand_once();
         let woken = self.heed(ids, object, control, message, log)?;

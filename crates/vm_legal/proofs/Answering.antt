@@ -67,9 +67,15 @@ pub record Did (header : Header) (host o : ℕ) (m : Message) (now : List Event)
 pub paid_of : (header : Header) (host o : ℕ) (m : Message) (now : List Event) → Did header host o m now → IsPaid header now
 paid_of header host o m now did = record {
   none_owed = did.none_owed;
-  init = λ at object control size paged is. subst (λ (k : ℕ). since (readies k) now ≡ true) (ap object_of (sym did.took ∙ is)) (did.ready (ap (test_of opens) (sym did.took ∙ is)));
-  create = λ at object control size paged is. subst (λ (k : ℕ). since (readies k) now ≡ true) (ap object_of (sym did.took ∙ is)) (did.ready (ap (test_of opens) (sym did.took ∙ is)));
-  request = λ at object control page access paged is. subst (λ (k : ℕ). since (answers k page) now ≡ true) (ap object_of (sym did.took ∙ is)) (did.answered page (ap (test_of (asks page)) (sym did.took ∙ is) ∙ itself page));
+  init =
+      λ at object control size paged is. subst (λ (k : ℕ). since (readies k) now ≡ true) (ap object_of (sym did.took ∙ is))
+      (did.ready (ap (test_of opens) (sym did.took ∙ is)));
+  create =
+      λ at object control size paged is. subst (λ (k : ℕ). since (readies k) now ≡ true) (ap object_of (sym did.took ∙ is))
+      (did.ready (ap (test_of opens) (sym did.took ∙ is)));
+  request =
+      λ at object control page access paged is. subst (λ (k : ℕ). since (answers k page) now ≡ true) (ap object_of (sym did.took ∙ is))
+      (did.answered page (ap (test_of (asks page)) (sym did.took ∙ is) ∙ itself page));
   error = λ at object page is. absurd (none-some _ (sym did.no_error ∙ is));
   absence = λ at object page declared is. absurd (none-some _ (sym did.no_absence ∙ is));
   lock = λ request is. no_request request now (no_lock now (ap came_down did.took)) is;
@@ -77,5 +83,6 @@ paid_of header host o m now did = record {
       let same = sym did.took ∙ is in
       subst (λ (k : ℕ). since (lacks_slot k page) now ≡ true) (ap object_of same)
       (did.lacking page (subst (λ (k : ℕ). named header ≤ k) (sym (ap object_of same)) temporary) (ap (test_of (returns page)) same ∙ itself page)
-      (subst (λ (k : ℕ). LacksSlot header host k page (before_step now)) (sym (ap object_of same)) (subst (λ (h : ℕ). LacksSlot header h object page (before_step now)) (sym (ap host_of same)) lacks)));
+      (subst (λ (k : ℕ). LacksSlot header host k page (before_step now)) (sym (ap object_of same))
+      (subst (λ (h : ℕ). LacksSlot header h object page (before_step now)) (sym (ap host_of same)) lacks)));
 }

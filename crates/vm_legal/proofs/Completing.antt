@@ -21,27 +21,33 @@ neither false b one first second = let bad : true ≡ false = sym one ∙ second
 same : (a b : LockRequest) → ◌≡◌ {A = Option LockRequest} (Some a) (Some b) → a ≡ b
 same a b e = cc
 
-pub once : (header : Header) (outside : Outside) (doing : Command) (host : HostId) (object : ObjectId) (control count : ℕ) (first : PageNo) (past : List Event) → since (completes host.0 object.0) past ≡ true
+pub once : (header : Header) (outside : Outside) (doing : Command) (host : HostId) (object : ObjectId) (control count : ℕ) (first : PageNo) (past : List Event)
+    → since (completes host.0 object.0) past ≡ true
     → Caused header outside doing (event.Sent (Up host object) (message.Completed control first count)) past → ⊥
 once header outside doing host object control count first past was c = let bad : true ≡ false = sym was ∙ c.once in cc
 
-pub unasked : (header : Header) (outside : Outside) (doing : Command) (host : HostId) (object : ObjectId) (control count : ℕ) (first : PageNo) (past : List Event) (request : LockRequest) → lock_taken past ≡ Some request → request.reply ≡ false
+pub unasked : (header : Header) (outside : Outside) (doing : Command) (host : HostId) (object : ObjectId) (control count : ℕ) (first : PageNo)
+    (past : List Event) (request : LockRequest) → lock_taken past ≡ Some request → request.reply ≡ false
     → Caused header outside doing (event.Sent (Up host object) (message.Completed control first count)) past → ⊥
 unasked header outside doing host object control count first past request took silent c =
     let is : request ≡ _ = same request _ (sym took ∙ c.taken) in
     let bad : true ≡ false = sym (ap (λ (r : LockRequest). r.reply) is) ∙ silent in cc
 
-pub done : (header : Header) (outside : Outside) (doing : Command) (host : HostId) (object : ObjectId) (control count page : ℕ) (first : PageNo) (past : List Event) (request : LockRequest) → lock_taken past ≡ Some request
+pub done : (header : Header) (outside : Outside) (doing : Command) (host : HostId) (object : ObjectId) (control count page : ℕ) (first : PageNo)
+    (past : List Event) (request : LockRequest) → lock_taken past ≡ Some request
     → first.0 ≤ page → page < first.0 + count → (page_on header host.0 object.0 page past).here ≡ true
     → (request.flush || gives_back request.returns (page_on header host.0 object.0 page past).dirty (page_on header host.0 object.0 page past).precious) ≡ true
     → Caused header outside doing (event.Sent (Up host object) (message.Completed control first count)) past → ⊥
 done header outside doing host object control count page first past request took from below here wanted c =
     let is : request ≡ _ = same request _ (sym took ∙ c.taken) in
     let left = c.done page from below here in
-    neither request.flush (gives_back request.returns (page_on header host.0 object.0 page past).dirty (page_on header host.0 object.0 page past).precious) wanted
+    neither request.flush (gives_back request.returns (page_on header host.0 object.0 page past).dirty (page_on header host.0 object.0 page past).precious)
+    wanted
     (ap (λ (r : LockRequest). r.flush) is ∙ left.0)
-    (ap (λ (r : LockRequest). gives_back r.returns (page_on header host.0 object.0 page past).dirty (page_on header host.0 object.0 page past).precious) is ∙ left.1)
+    (ap (λ (r : LockRequest). gives_back r.returns (page_on header host.0 object.0 page past).dirty (page_on header host.0 object.0 page past).precious) is
+    ∙ left.1)
 
-pub behind : (header : Header) (outside : Outside) (doing : Command) (host : HostId) (object : ObjectId) (control access : ℕ) (page : PageNo) (past : List Event) → is_answered_over host.0 object.0 page.0 (lock_taken past) ≡ true
+pub behind : (header : Header) (outside : Outside) (doing : Command) (host : HostId) (object : ObjectId) (control access : ℕ) (page : PageNo)
+    (past : List Event) → is_answered_over host.0 object.0 page.0 (lock_taken past) ≡ true
     → since (completes host.0 object.0) past ≡ false → Caused header outside doing (event.Sent (Up host object) (message.Unlock control page access)) past → ⊥
 behind header outside doing host object control access page past over not_yet c = let bad : true ≡ false = sym (c.behind over) ∙ not_yet in cc

@@ -7,8 +7,10 @@ use Rattle.vm_legal.specs.Accesses.{WaitsUnlocked}
 use Rattle.vm_legal.specs.Prompt.{IsExhausted, IsSource}
 use Rattle.vm_legal.specs.Walks.{page_on}
 
-pub exhausted_still : (header : Header) (host : ℕ) (old new : List Event) → ((o p : ℕ) → (page_on header host o p new).here ≡ true → (page_on header host o p old).here ≡ true)
-    → ((o p : ℕ) → WaitsUnlocked header host o p old → WaitsUnlocked header host o p new) → ((o p : ℕ) → IsSource header host o p old → IsSource header host o p new)
+pub exhausted_still : (header : Header) (host : ℕ) (old new : List Event)
+    → ((o p : ℕ) → (page_on header host o p new).here ≡ true → (page_on header host o p old).here ≡ true)
+    → ((o p : ℕ) → WaitsUnlocked header host o p old → WaitsUnlocked header host o p new)
+    → ((o p : ℕ) → IsSource header host o p old → IsSource header host o p new)
     → IsExhausted header host old old → IsExhausted header host new new
 exhausted_still header host old new was unlocked source is = record {
   spare = is.spare;

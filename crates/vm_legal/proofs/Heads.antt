@@ -42,7 +42,8 @@ forked : (size next : ℕ) (child : TaskId) (x : Option ℕ) (rows : List Entry)
 forked size next child None rows is = absurd (let bad : true ≡ false = is in cc)
 forked size next child (Some host) rows is = refl
 
-mapped : (header : Header) (task : TaskId) (address bytes : ℕ) (object : ObjectId) (offset : ℕ) (past : List Event) (x : Option ℕ) → is_none x ≡ false → IsSome (map_head header task address bytes object offset past x)
+mapped : (header : Header) (task : TaskId) (address bytes : ℕ) (object : ObjectId) (offset : ℕ) (past : List Event) (x : Option ℕ) → is_none x ≡ false
+    → IsSome (map_head header task address bytes object offset past x)
 mapped header task address bytes object offset past None is = absurd (let bad : true ≡ false = is in cc)
 mapped header task address bytes object offset past (Some host) is = refl
 
@@ -54,7 +55,8 @@ taken : (channel : Channel) (messages : List Message) → is_empty messages ≡ 
 taken channel [] is = absurd (let bad : true ≡ false = is in cc)
 taken channel (m ∷ more) is = refl
 
-copied : (header : Header) (next object : ℕ) (task : TaskId) (address bytes : ℕ) (target : TaskId) (to : ℕ) (past : List Event) (x : Option Entry) → copy_refusal header address bytes target.0 to past x ≡ None
+copied : (header : Header) (next object : ℕ) (task : TaskId) (address bytes : ℕ) (target : TaskId) (to : ℕ) (past : List Event) (x : Option Entry)
+    → copy_refusal header address bytes target.0 to past x ≡ None
     → IsSome (copy_head (named header) header.size next object task address bytes target to x)
 copied header next object task address bytes target to past None is = absurd (let bad : Some code.InvalidAddress ≡ None = is in cc)
 copied header next object task address bytes target to past (Some row) is = refl
@@ -64,7 +66,8 @@ record IsCopied (header : Header) (past : List Event) (task : TaskId) (address b
   copied : is_uncopied header (task.0 == target.0) x ≡ false
   found : copy_refusal header address bytes target.0 to past x ≡ None
 
-copy_passed : (header : Header) (past : List Event) (task : TaskId) (address bytes : ℕ) (target : TaskId) (to : ℕ) → refusal header past (command.Copy task address bytes target to) ≡ None
+copy_passed : (header : Header) (past : List Event) (task : TaskId) (address bytes : ℕ) (target : TaskId) (to : ℕ)
+    → refusal header past (command.Copy task address bytes target to) ≡ None
     → IsCopied header past task address bytes target to (entry_at address (entries_of header.size task.0 past))
 copy_passed header past task address bytes target to accepted =
     let ranges = not (is_range header.size address bytes && is_range header.size to bytes) in
@@ -74,7 +77,10 @@ copy_passed header past task address bytes target to accepted =
     let one = passed (is_none (host_of task.0 past) || is_none (host_of target.0 past)) code.NoSuchName _ accepted in
     let two = passed (is_some (waiting task.0 past) || is_some (waiting target.0 past)) code.Blocked _ one.1 in
     let three = passed (ranges || (large || (apart || uncopied))) code.InvalidArgument _ two.1 in
-    record { copied = (neither apart uncopied (neither large (apart || uncopied) (neither ranges (large || (apart || uncopied)) three.0).1).1).1; found = three.1 }
+    record {
+      copied = (neither apart uncopied (neither large (apart || uncopied) (neither ranges (large || (apart || uncopied)) three.0).1).1).1;
+      found = three.1;
+    }
 
 pub has_head : (header : Header) (past : List Event) (doing : Command) → refusal header past doing ≡ None → IsSome (head header past doing)
 has_head header past (command.Task task host) accepted = refl
@@ -82,13 +88,15 @@ has_head header past (command.Allocate task address bytes) accepted = refl
 has_head header past (command.Load task address size) accepted = refl
 has_head header past (command.Store task address size value) accepted = refl
 has_head header past (command.Fork task child) accepted =
-    forked header.size (next_region header past) child (host_of task.0 past) (entries_of header.size task.0 past) (passed (is_none (host_of task.0 past)) code.NoSuchName _ accepted).0
+    forked header.size (next_region header past) child (host_of task.0 past) (entries_of header.size task.0 past)
+    (passed (is_none (host_of task.0 past)) code.NoSuchName _ accepted).0
 has_head header past (command.Exit task) accepted = refl
 has_head header past (command.Deallocate task address bytes) accepted = refl
 has_head header past (command.Protect task address bytes prot) accepted = refl
 has_head header past (command.Inherit task address bytes inherit) accepted = refl
 has_head header past (command.Take channel) accepted =
-    taken channel (queue channel past) (passed (is_empty (queue channel past)) code.EmptyPort _ (passed (not (is_made channel past)) code.NoSuchName _ accepted).1).0
+    taken channel (queue channel past) (passed (is_empty (queue channel past)) code.EmptyPort _
+    (passed (not (is_made channel past)) code.NoSuchName _ accepted).1).0
 has_head header past (command.Settle count) accepted = refl
 has_head header past (command.Wire host count) accepted = refl
 has_head header past (command.Unwire host count) accepted = refl
@@ -100,7 +108,8 @@ has_head header past (command.Say host object m) accepted =
 has_head header past (command.Map task address bytes object offset) accepted =
     mapped header task address bytes object offset past (host_of task.0 past) (passed (is_none (host_of task.0 past)) code.NoSuchName _ accepted).0
 has_head header past (command.Copy task address bytes target to) accepted =
-    copied header (next_region header past) (next_object header past) task address bytes target to past (entry_at address (entries_of header.size task.0 past)) (copy_passed header past task address bytes target to accepted).found
+    copied header (next_region header past) (next_object header past) task address bytes target to past (entry_at address (entries_of header.size task.0 past))
+    (copy_passed header past task address bytes target to accepted).found
 has_head header past (command.Clean object page count flush) accepted = refl
 
 -- an accepted copy of a declared object's region is to the task itself, and the object isn't wild
@@ -111,8 +120,10 @@ own false false same is below = absurd (let bad : false ≡ true = below in cc)
 own false true true is below = (refl, refl)
 own false true false is below = absurd (let bad : true ≡ false = is in cc)
 
-pub to_itself : (header : Header) (past : List Event) (task : TaskId) (address bytes : ℕ) (target : TaskId) (to : ℕ) (row : Entry) → refusal header past (command.Copy task address bytes target to) ≡ None
-    → entry_at address (entries_of header.size task.0 past) ≡ Some row → nat_lt row.region.0 (named header) ≡ true → (is_wild header row.region.0 ≡ false) × ((task.0 == target.0) ≡ true)
+pub to_itself : (header : Header) (past : List Event) (task : TaskId) (address bytes : ℕ) (target : TaskId) (to : ℕ) (row : Entry)
+    → refusal header past (command.Copy task address bytes target to) ≡ None
+    → entry_at address (entries_of header.size task.0 past) ≡ Some row → nat_lt row.region.0 (named header) ≡ true → (is_wild header row.region.0 ≡ false)
+    × ((task.0 == target.0) ≡ true)
 to_itself header past task address bytes target to row accepted there declared =
     own (is_wild header row.region.0) (nat_lt row.region.0 (named header)) (task.0 == target.0)
     (ap (is_uncopied header (task.0 == target.0)) (sym there) ∙ (copy_passed header past task address bytes target to accepted).copied) declared

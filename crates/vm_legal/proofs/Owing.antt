@@ -24,16 +24,22 @@ pub behind_none : (e : Event) (past : List Event) → owed past ≡ None → IsB
 behind_none e past none = subst (λ (x : Option Owed). MatchOption x (Unit {0}) (λ due. Pays due e)) (sym none) tt
 
 -- the end of a slow copy owes its entry
-pub owes_entry : (task : TaskId) (address bytes to : ℕ) (target : Target) (past : List Event) → waiting task.0 past ≡ Some (Copying address bytes to) → copy_target task.0 past ≡ Some target
+pub owes_entry : (task : TaskId) (address bytes to : ℕ) (target : Target) (past : List Event) → waiting task.0 past ≡ Some (Copying address bytes to)
+    → copy_target task.0 past ≡ Some target
     → owed (event.CopyEnded task ∷ past) ≡ Some (EntryOf (record { task = task; address = to; bytes = bytes; region = target.region }))
-owes_entry task address bytes to target past waits filled = ap (λ (x : Option Access). entry_of task x (copy_target task.0 past)) waits ∙ ap (λ (x : Option Target). entry_of task (Some (Copying address bytes to)) x) filled
+owes_entry task address bytes to target past waits filled =
+    ap (λ (x : Option Access). entry_of task x (copy_target task.0 past)) waits
+    ∙ ap (λ (x : Option Target). entry_of task (Some (Copying address bytes to)) x) filled
 
-pub behind : (header : Header) (outside : Outside) (doing : Command) (task : TaskId) (address bytes to : ℕ) (target : Target) (e : Event) (past : List Event) → waiting task.0 past ≡ Some (Copying address bytes to) → copy_target task.0 past ≡ Some target
-    → Licensed header outside doing e (event.CopyEnded task ∷ past) → e ≡ event.Entered task to bytes (record { 0 = target.region }) 0 (record { read = true; write = true }) Copy
+pub behind : (header : Header) (outside : Outside) (doing : Command) (task : TaskId) (address bytes to : ℕ) (target : Target) (e : Event) (past : List Event)
+    → waiting task.0 past ≡ Some (Copying address bytes to) → copy_target task.0 past ≡ Some target
+    → Licensed header outside doing e (event.CopyEnded task ∷ past)
+    → e ≡ event.Entered task to bytes (record { 0 = target.region }) 0 (record { read = true; write = true }) Copy
 behind header outside doing task address bytes to target e past waits filled licensed =
     subst (λ (x : Option Owed). MatchOption x (Unit {0}) (λ due. Pays due e)) (owes_entry task address bytes to target past waits filled) licensed.1
 
-pub unpaid : (header : Header) (task : TaskId) (address bytes to : ℕ) (target : Target) (past : List Event) → waiting task.0 past ≡ Some (Copying address bytes to) → copy_target task.0 past ≡ Some target
+pub unpaid : (header : Header) (task : TaskId) (address bytes to : ℕ) (target : Target) (past : List Event)
+    → waiting task.0 past ≡ Some (Copying address bytes to) → copy_target task.0 past ≡ Some target
     → IsPaid header (event.CopyEnded task ∷ past) → ⊥
 unpaid header task address bytes to target past waits filled paid = none-some _ (sym paid.none_owed ∙ owes_entry task address bytes to target past waits filled)
 
@@ -45,10 +51,13 @@ in_middle P (x ∷ more) before past e each = in_middle P more before past e eac
 unowed : (e : Event) (past : List Event) → owed past ≡ None → IsOwed e past → ⊥
 unowed e past none is = subst (λ (x : Option Owed). MatchOption x ⊥ (λ due. Pays due e)) none is
 
-pub alone : (header : Header) (outside : Outside) (past : List Event) (numbered : Numbered) (first more before : List Event) (task : TaskId) (address bytes : ℕ) (region : RegionId) (offset : ℕ) (prot : Prot) (inherit : Inherit)
-    → owed (before ++ (reverse first ++ event.Line numbered.line ∷ past)) ≡ None → IsRun header outside past numbered first ((more ++ event.Entered task address bytes region offset prot inherit ∷ before) ++ reverse first) → ⊥
+pub alone : (header : Header) (outside : Outside) (past : List Event) (numbered : Numbered) (first more before : List Event) (task : TaskId) (address bytes : ℕ)
+    (region : RegionId) (offset : ℕ) (prot : Prot) (inherit : Inherit)
+    → owed (before ++ (reverse first ++ event.Line numbered.line ∷ past)) ≡ None
+    → IsRun header outside past numbered first ((more ++ event.Entered task address bytes region offset prot inherit ∷ before) ++ reverse first) → ⊥
 alone header outside past numbered first more before task address bytes region offset prot inherit none run =
     let e : Event = event.Entered task address bytes region offset prot inherit in
     let same : more ++ e ∷ before ≡ run.more = append_cancel_right (more ++ e ∷ before) run.more (reverse first) run.is in
     unowed e (before ++ (reverse first ++ event.Line numbered.line ∷ past)) none
-    (in_middle IsConsequence more before (reverse first ++ event.Line numbered.line ∷ past) e (subst (λ (z : List Event). EachIn IsConsequence z (reverse first ++ event.Line numbered.line ∷ past)) (sym same) run.follows))
+    (in_middle IsConsequence more before (reverse first ++ event.Line numbered.line ∷ past) e
+    (subst (λ (z : List Event). EachIn IsConsequence z (reverse first ++ event.Line numbered.line ∷ past)) (sym same) run.follows))

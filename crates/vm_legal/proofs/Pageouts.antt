@@ -28,10 +28,12 @@ of_newer host [] first each = tt
 of_newer host (x ∷ more) first each = (each.0, of_newer host more first each.1)
 
 -- reclaims with which a group begins stand in front of an event that is none
-in_front : (host : ℕ) (later front more first : List Event) (e : Event) → later ++ e ∷ front ≡ more ++ first → EachOf (IsReclaim host) first → (IsReclaim host e → ⊥) → (rest : List Event) × (front ≡ rest ++ first)
+in_front : (host : ℕ) (later front more first : List Event) (e : Event) → later ++ e ∷ front ≡ more ++ first → EachOf (IsReclaim host) first
+    → (IsReclaim host e → ⊥) → (rest : List Event) × (front ≡ rest ++ first)
 in_front host later front [] first e is each other = absurd (other (in_middle host later front e (subst (EachOf (IsReclaim host)) (sym is) each)))
 in_front host [] front (x ∷ more) first e is each other = (more, let same : front ≡ more ++ first = cc in same)
-in_front host (y ∷ later) front (x ∷ more) first e is each other = let same : later ++ e ∷ front ≡ more ++ first = cc in in_front host later front more first e same each other
+in_front host (y ∷ later) front (x ∷ more) first e is each other =
+    let same : later ++ e ∷ front ≡ more ++ first = cc in in_front host later front more first e same each other
 
 -- no page that went comes back
 
@@ -39,7 +41,8 @@ more_if : (b : Bool) (n : ℕ) → n ≤ (if b then n + 1 else n)
 more_if true n = omega arith
 more_if false n = omega arith
 
-up_gone : (host : ℕ) (at : HostId) (object : ObjectId) (m : Message) (past : List Event) → departures host past ≤ departures host (event.Sent (Up at object) m ∷ past)
+up_gone : (host : ℕ) (at : HostId) (object : ObjectId) (m : Message) (past : List Event)
+    → departures host past ≤ departures host (event.Sent (Up at object) m ∷ past)
 up_gone host at object (message.Return control page dirty keep bytes) past = more_if (at.0 == host && not keep) (departures host past)
 up_gone host at object other past = omega arith
 
@@ -53,23 +56,29 @@ reclaim_gone host other past is = omega arith
 
 reclaims_gone : (host : ℕ) (more past : List Event) → EachOf (IsReclaim host) more → departures host past ≤ departures host (more ++ past)
 reclaims_gone host [] past each = omega arith
-reclaims_gone host (e ∷ more) past each = let later = reclaims_gone host more past each.1 in let one = reclaim_gone host e (more ++ past) each.0 in omega (arith, later, one)
+reclaims_gone host (e ∷ more) past each =
+    let later = reclaims_gone host more past each.1 in let one = reclaim_gone host e (more ++ past) each.0 in omega (arith, later, one)
 
-pub cut_short : (header : Header) (at : HostId) (count : ℕ) (later front past : List Event) (e : Event) → EachOf (IsReclaim at.0) front → (IsReclaim at.0 e → ⊥) → departures at.0 (front ++ past) < count
-    → ((more first : List Event) → front ≡ more ++ first → IsExhausted header at.0 past (first ++ past) → ⊥) → IsDone header (command.Pageout at count) (later ++ e ∷ front) past → ⊥
+pub cut_short : (header : Header) (at : HostId) (count : ℕ) (later front past : List Event) (e : Event) → EachOf (IsReclaim at.0) front → (IsReclaim at.0 e → ⊥)
+    → departures at.0 (front ++ past) < count
+    → ((more first : List Event) → front ≡ more ++ first → IsExhausted header at.0 past (first ++ past) → ⊥)
+    → IsDone header (command.Pageout at count) (later ++ e ∷ front) past → ⊥
 cut_short header at count later front past e reclaims other few left done =
     let split = in_front at.0 later front done.later done.front e done.is done.reclaims other in
     elim done.enough [
       | inl all ↦
           let each : EachOf (IsReclaim at.0) split.0 = of_newer at.0 split.0 done.front (subst (EachOf (IsReclaim at.0)) split.1 reclaims) in
-          let low : departures at.0 (done.front ++ past) ≤ departures at.0 (split.0 ++ (done.front ++ past)) = reclaims_gone at.0 split.0 (done.front ++ past) each in
-          let same : departures at.0 (front ++ past) ≡ departures at.0 (split.0 ++ (done.front ++ past)) = ap (λ z. departures at.0 (z ++ past)) split.1 ∙ ap (departures at.0) (append_assoc split.0 done.front past) in
+          let low : departures at.0 (done.front ++ past) ≤ departures at.0 (split.0 ++ (done.front ++ past)) = reclaims_gone at.0 split.0 (done.front ++ past)
+          each in
+          let same : departures at.0 (front ++ past) ≡ departures at.0 (split.0 ++ (done.front ++ past)) = ap (λ z. departures at.0 (z ++ past)) split.1
+          ∙ ap (departures at.0) (append_assoc split.0 done.front past) in
           absurd (omega (arith, low, same, all, few))
       | inr empty ↦ left split.0 done.front split.1 empty
     ]
 
 -- a page of another host that goes
-pub of_another : (header : Header) (at other : HostId) (object : ObjectId) (page : PageNo) (count : ℕ) (past : List Event) → other.0 ≢ at.0 → departures at.0 past < count → (IsExhausted header at.0 past past → ⊥)
+pub of_another : (header : Header) (at other : HostId) (object : ObjectId) (page : PageNo) (count : ℕ) (past : List Event) → other.0 ≢ at.0
+    → departures at.0 past < count → (IsExhausted header at.0 past past → ⊥)
     → IsDone header (command.Pageout at count) (event.Dropped other object page ∷ []) past → ⊥
 of_another header at other object page count past differs few left = cut_short header at count [] [] past (event.Dropped other object page) tt differs few empty
   where

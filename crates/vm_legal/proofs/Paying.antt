@@ -14,14 +14,17 @@ use Rattle.vm_legal.specs.Walks.{page_on}
 use Rattle.vm_legal.specs.Stretches.{AllInner, IsInner}
 
 -- those who waited for the page of an error have ended still
-waiters_more : (header : Header) (host object page : ℕ) (events past : List Event) → AllInner events → EndsWaiters header host object page past → EndsWaiters header host object page (events ++ past)
+waiters_more : (header : Header) (host object page : ℕ) (events past : List Event) → AllInner events → EndsWaiters header host object page past
+    → EndsWaiters header host object page (events ++ past)
 waiters_more header host object page events past inner was = λ task stops frees.
     let same = before_more events past inner in
     since_more (fails_task task object page) events past inner
-    (was task (subst (λ (z : List Event). WaitsAt header host task object page z) same stops) (subst (λ (z : List Event). frames_free header host z ≡ 0 → ⊥) same frees))
+    (was task (subst (λ (z : List Event). WaitsAt header host task object page z) same stops)
+    (subst (λ (z : List Event). frames_free header host z ≡ 0 → ⊥) same frees))
 
 pub ends_more : (header : Header) (events past : List Event) → AllInner events → EndsAll header past → EndsAll header (events ++ past)
-ends_more header events past inner ends host object page is = waiters_more header host object page events past inner (ends host object page (sym (error_more header.size events past inner) ∙ is))
+ends_more header events past inner ends host object page is =
+    waiters_more header host object page events past inner (ends host object page (sym (error_more header.size events past inner) ∙ is))
 
 lock_inner : (e : Event) (past : List Event) → IsInner e → lock_taken (e ∷ past) ≡ lock_taken past
 lock_inner (event.Line line) past inner = absurd inner
@@ -33,7 +36,8 @@ lock_more [] past inner = refl
 lock_more (e ∷ events) past inner = lock_inner e (events ++ past) inner.0 ∙ lock_more events past inner.1
 
 -- a lock_request that was obeyed has been still
-pub locked_more : (header : Header) (request : LockRequest) (events past : List Event) → AllInner events → HasLocked header request past → HasLocked header request (events ++ past)
+pub locked_more : (header : Header) (request : LockRequest) (events past : List Event) → AllInner events → HasLocked header request past
+    → HasLocked header request (events ++ past)
 locked_more header request events past inner had =
     let same = before_more events past inner in
     record {
@@ -42,26 +46,36 @@ locked_more header request events past inner had =
           record {
             back = λ due.
                 since_more (returns_page request.host request.object page (not request.flush)) events past inner
-                (was.back (subst (λ (z : List Event). gives_back request.returns (page_on header request.host request.object page z).dirty (page_on header request.host request.object page z).precious ≡ true) same due));
+                (was.back (subst (λ (z : List Event). gives_back request.returns (page_on header request.host request.object page z).dirty
+                (page_on header request.host request.object page z).precious ≡ true) same due));
             dropped = λ kept flushes.
                 since_more (drops_page request.host request.object page) events past inner
-                (was.dropped (subst (λ (z : List Event). gives_back request.returns (page_on header request.host request.object page z).dirty (page_on header request.host request.object page z).precious ≡ false) same kept) flushes);
+                (was.dropped (subst (λ (z : List Event). gives_back request.returns (page_on header request.host request.object page z).dirty
+                (page_on header request.host request.object page z).precious ≡ false) same kept) flushes);
           };
       reply = λ wanted. since_more (completes request.host request.object) events past inner (had.reply wanted);
     }
 
-pub paid_more : (header : Header) (events past : List Event) → AllInner events → IsPaid header past → owed (events ++ past) ≡ None → IsPaid header (events ++ past)
+pub paid_more : (header : Header) (events past : List Event) → AllInner events → IsPaid header past → owed (events ++ past) ≡ None
+    → IsPaid header (events ++ past)
 paid_more header events past inner paid none =
     let same = taken_more events past inner in
     record {
       none_owed = none;
       init = λ host object control size paged is. since_more (readies object) events past inner (paid.init host object control size paged (sym same ∙ is));
       create = λ host object control size paged is. since_more (readies object) events past inner (paid.create host object control size paged (sym same ∙ is));
-      request = λ host object control page access paged is. since_more (answers object page) events past inner (paid.request host object control page access paged (sym same ∙ is));
-      error = λ host object page is. since_more (fails_access object page) events past inner (paid.error host object page (sym (error_more header.size events past inner) ∙ is));
-      absence = λ host object page declared is. since_more (zeroes object page) events past inner (paid.absence host object page declared (sym (absence_more header.size events past inner) ∙ is));
+      request =
+          λ host object control page access paged is. since_more (answers object page) events past inner
+          (paid.request host object control page access paged (sym same ∙ is));
+      error =
+          λ host object page is. since_more (fails_access object page) events past inner
+          (paid.error host object page (sym (error_more header.size events past inner) ∙ is));
+      absence =
+          λ host object page declared is. since_more (zeroes object page) events past inner
+          (paid.absence host object page declared (sym (absence_more header.size events past inner) ∙ is));
       lock = λ request is. locked_more header request events past inner (paid.lock request (sym (lock_more events past inner) ∙ is));
       slot = λ host object control page dirty keep bytes temporary is lacks.
           since_more (lacks_slot object page) events past inner
-          (paid.slot host object control page dirty keep bytes temporary (sym same ∙ is) (subst (λ (z : List Event). LacksSlot header host object page z) (before_more events past inner) lacks));
+          (paid.slot host object control page dirty keep bytes temporary (sym same ∙ is)
+          (subst (λ (z : List Event). LacksSlot header host object page z) (before_more events past inner) lacks));
     }

@@ -39,27 +39,33 @@ paged_serves header o is = by (nat_lt o (named header)) is
 
 -- what is sent down of a temporary object or a file
 
-served_sends : (kind : ObjectKind) (header : Header) (outside : Outside) (why : Command) (host object control : ℕ) (m : Message) (past : List Event) → serves kind ≡ true
+served_sends : (kind : ObjectKind) (header : Header) (outside : Outside) (why : Command) (host object control : ℕ) (m : Message) (past : List Event)
+    → serves kind ≡ true
     → PagerSends kind header outside why host object control m past → MaySendDown header outside why host object control m past
 served_sends Temp header outside why host object control m past is sends = sends
 served_sends File header outside why host object control m past is sends = sends
 served_sends Shared header outside why host object control m past is sends = absurd (let bad : false ≡ true = is in cc)
 served_sends Wild header outside why host object control m past is sends = absurd (let bad : false ≡ true = is in cc)
 
-sends_served : (kind : ObjectKind) (header : Header) (outside : Outside) (why : Command) (host object control : ℕ) (m : Message) (past : List Event) → serves kind ≡ true
+sends_served : (kind : ObjectKind) (header : Header) (outside : Outside) (why : Command) (host object control : ℕ) (m : Message) (past : List Event)
+    → serves kind ≡ true
     → MaySendDown header outside why host object control m past → PagerSends kind header outside why host object control m past
 sends_served Temp header outside why host object control m past is may = may
 sends_served File header outside why host object control m past is may = may
 sends_served Shared header outside why host object control m past is may = absurd (let bad : false ≡ true = is in cc)
 sends_served Wild header outside why host object control m past is may = absurd (let bad : false ≡ true = is in cc)
 
-pub paged_may : (header : Header) (outside : Outside) (why : Command) (host object control : ℕ) (m : Message) (past : List Event) → is_paged header object ≡ true
+pub paged_may : (header : Header) (outside : Outside) (why : Command) (host object control : ℕ) (m : Message) (past : List Event)
+    → is_paged header object ≡ true
     → PagerSends (kind_of header object) header outside why host object control m past → MaySendDown header outside why host object control m past
-paged_may header outside why host object control m past is sends = served_sends (kind_of header object) header outside why host object control m past (paged_serves header object is) sends
+paged_may header outside why host object control m past is sends =
+    served_sends (kind_of header object) header outside why host object control m past (paged_serves header object is) sends
 
-pub paged_sends : (header : Header) (outside : Outside) (why : Command) (host object control : ℕ) (m : Message) (past : List Event) → is_paged header object ≡ true
+pub paged_sends : (header : Header) (outside : Outside) (why : Command) (host object control : ℕ) (m : Message) (past : List Event)
+    → is_paged header object ≡ true
     → MaySendDown header outside why host object control m past → PagerSends (kind_of header object) header outside why host object control m past
-paged_sends header outside why host object control m past is may = sends_served (kind_of header object) header outside why host object control m past (paged_serves header object is) may
+paged_sends header outside why host object control m past is may =
+    sends_served (kind_of header object) header outside why host object control m past (paged_serves header object is) may
 
 -- the script speaks for none of these
 pub paged_supplied : (header : Header) (object : ℕ) → is_paged header object ≡ true → is_wild header object ≡ false

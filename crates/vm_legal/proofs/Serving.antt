@@ -12,7 +12,8 @@ none_serves header past zero = NoneServed
 none_serves header past (suc n) = NextServes n [] [] (none_serves header past n) tt
 
 -- all that was done was of one host, or nobody's
-pub one_served : (header : Header) (host : ℕ) (events past : List Event) → BeginsStep past → IsStepOf header host past → AllInner events → EachIn (IsOnlyOfHost header host) events past → HostsServed header (events ++ past)
+pub one_served : (header : Header) (host : ℕ) (events past : List Event) → BeginsStep past → IsStepOf header host past → AllInner events
+    → EachIn (IsOnlyOfHost header host) events past → HostsServed header (events ++ past)
 one_served header host events past begins acts inner own = record {
   before = past;
   events = events;

@@ -9,28 +9,37 @@ use Rattle.vm_legal.specs.InTurn.{AllInTurn, LicensedInTurn}
 use Rattle.vm_legal.specs.Outside.{Outside}
 use Rattle.vm_legal.specs.Stretches.{AllInner, EachIn, EachOf, IsInner, MomentsIn}
 
-pub each_both : (P : Event → List Event → Type 0) (later front past : List Event) → EachIn P later (front ++ past) → EachIn P front past → EachIn P (later ++ front) past
+pub each_both : (P : Event → List Event → Type 0) (later front past : List Event) → EachIn P later (front ++ past) → EachIn P front past
+    → EachIn P (later ++ front) past
 each_both P [] front past all before = before
-each_both P (e ∷ later) front past all before = (subst (λ (z : List Event). P e z) (sym (append_assoc later front past)) all.0, each_both P later front past all.1 before)
+each_both P (e ∷ later) front past all before =
+    (subst (λ (z : List Event). P e z) (sym (append_assoc later front past)) all.0, each_both P later front past all.1 before)
 
-pub moments_both : (P : List Event → Type 0) (later front past : List Event) → MomentsIn P later (front ++ past) → MomentsIn P front past → MomentsIn P (later ++ front) past
+pub moments_both : (P : List Event → Type 0) (later front past : List Event) → MomentsIn P later (front ++ past) → MomentsIn P front past
+    → MomentsIn P (later ++ front) past
 moments_both P [] front past all before = before
-moments_both P (e ∷ later) front past all before = (subst (λ (z : List Event). P (e ∷ z)) (sym (append_assoc later front past)) all.0, moments_both P later front past all.1 before)
+moments_both P (e ∷ later) front past all before =
+    (subst (λ (z : List Event). P (e ∷ z)) (sym (append_assoc later front past)) all.0, moments_both P later front past all.1 before)
 
 pub of_both : (P : Event → Type 0) (later front : List Event) → EachOf P later → EachOf P front → EachOf P (later ++ front)
 of_both P [] front all before = before
 of_both P (e ∷ later) front all before = (all.0, of_both P later front all.1 before)
 
-pub licensed_both : (header : Header) (outside : Outside) (doing : Command) (later front past : List Event) → AllInTurn header outside doing later (front ++ past) → AllInTurn header outside doing front past → AllInTurn header outside doing (later ++ front) past
+pub licensed_both : (header : Header) (outside : Outside) (doing : Command) (later front past : List Event)
+    → AllInTurn header outside doing later (front ++ past) → AllInTurn header outside doing front past → AllInTurn header outside doing (later ++ front) past
 licensed_both header outside doing [] front past all before = before
-licensed_both header outside doing (e ∷ later) front past all before = (subst (λ (z : List Event). LicensedInTurn header outside doing e z) (sym (append_assoc later front past)) all.0, licensed_both header outside doing later front past all.1 before)
+licensed_both header outside doing (e ∷ later) front past all before = (
+  subst (λ (z : List Event). LicensedInTurn header outside doing e z) (sym (append_assoc later front past)) all.0,
+  licensed_both header outside doing later front past all.1 before,
+)
 
 pub inner_both : (later front : List Event) → AllInner later → AllInner front → AllInner (later ++ front)
 inner_both [] front all before = before
 inner_both (e ∷ later) front all before = (all.0, inner_both later front all.1 before)
 
 -- the oldest event of a stretch has its cause
-pub licensed_front : (header : Header) (outside : Outside) (doing : Command) (more : List Event) (e : Event) (past : List Event) → AllInTurn header outside doing (more ++ e ∷ []) past → LicensedInTurn header outside doing e past
+pub licensed_front : (header : Header) (outside : Outside) (doing : Command) (more : List Event) (e : Event) (past : List Event)
+    → AllInTurn header outside doing (more ++ e ∷ []) past → LicensedInTurn header outside doing e past
 licensed_front header outside doing [] e past all = all.0
 licensed_front header outside doing (later ∷ more) e past all = licensed_front header outside doing more e past all.1
 

@@ -17,7 +17,8 @@ abbrev pub NoneIsShared : Header → Type 0
 NoneIsShared header = (o : ℕ) → is_shared header o ≡ false
 
 unshared : (header : Header) (outside : Outside) (e : Event) (past : List Event) → NoneIsShared header → LoadsCurrent header outside e past
-unshared header outside (event.Loaded task object page value) past none = λ address bytes waits shared. absurd (let bad : true ≡ false = sym shared ∙ none waits.at.entry.region.0 in cc)
+unshared header outside (event.Loaded task object page value) past none =
+    λ address bytes waits shared. absurd (let bad : true ≡ false = sym shared ∙ none waits.at.entry.region.0 in cc)
 unshared header outside other past none = tt
 
 pub loads_unshared : (header : Header) (outside : Outside) (past : List Event) → NoneIsShared header → EachEvent (LoadsCurrent header outside) past

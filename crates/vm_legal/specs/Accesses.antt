@@ -96,7 +96,8 @@ pub data WantsFrame (header : Header) (host task : ℕ) (access : Access) (regio
       → Sinks (λ k q. sight header host k q past) (λ k. backing_of header k past) steps top top_page → WantsFrame header host task access region page past
   -- its walk stops at a page that isn't asked yet, and whose pager is ready
   Elsewhere : (object object_page : ℕ) → Comes header host region page object object_page past → (page_on header host object object_page past).here ≡ false
-      → (page_on header host object object_page past).asked ≡ false → (sight header host object object_page past).may_have ≡ true → is_ready host object past ≡ true
+      → (page_on header host object object_page past).asked ≡ false → (sight header host object object_page past).may_have ≡ true
+      → is_ready host object past ≡ true
       → WantsFrame header host task access region page past
   -- it is a slow copy, whose page is here
   Copies : (object object_page : ℕ) → Comes header host region page object object_page past → (page_on header host object object_page past).here ≡ true
@@ -118,8 +119,11 @@ pub record Wants (header : Header) (host : ℕ) (past : List Event) : Type 0 whe
 -- its region has no copy mark
 pub data FindsPage (header : Header) (task : ℕ) (past : List Event) : Type 0 where
   ToRead : (address bytes object page : ℕ) → (waits : Waits header task (Loading address bytes) past)
-      → Comes header waits.at.host waits.at.entry.region.0 (page_at header.size address waits.at.entry) object page past → (page_on header waits.at.host object page past).here ≡ true
+      → Comes header waits.at.host waits.at.entry.region.0 (page_at header.size address waits.at.entry) object page past
+      → (page_on header waits.at.host object page past).here ≡ true
       → names (page_on header waits.at.host object page past).lock false ≡ false → FindsPage header task past
   ToWrite : (address bytes value object page : ℕ) → (waits : Waits header task (Storing address bytes value) past)
-      → IsTop (region_of header waits.at.entry.region.0 past) (page_at header.size address waits.at.entry) object page → (region_of header waits.at.entry.region.0 past).mark ≡ false
-      → (page_on header waits.at.host object page past).here ≡ true → names (page_on header waits.at.host object page past).lock true ≡ false → FindsPage header task past
+      → IsTop (region_of header waits.at.entry.region.0 past) (page_at header.size address waits.at.entry) object page
+      → (region_of header waits.at.entry.region.0 past).mark ≡ false
+      → (page_on header waits.at.host object page past).here ≡ true → names (page_on header waits.at.host object page past).lock true ≡ false
+      → FindsPage header task past

@@ -33,7 +33,8 @@ abbrev pub OwnBytes : Header → Event → List Event → Type 0
 OwnBytes header (event.Loaded task object page value) past = AnswersOwn header task.0 object.0 page.0 value past
 OwnBytes header (event.Stored task object page at size value) past = PutsOwn header task.0 object.0 page.0 at size value past
 OwnBytes header (event.Raised host lower lower_page upper upper_page) past = CanRead (page_on header host.0 lower.0 lower_page.0 past)
-OwnBytes header (event.CopiedPage task page object object_page target) past = (host : ℕ) → lives_on host task.0 past ≡ true → CanRead (page_on header host object.0 object_page.0 past)
+OwnBytes header (event.CopiedPage task page object object_page target) past =
+    (host : ℕ) → lives_on host task.0 past ≡ true → CanRead (page_on header host object.0 object_page.0 past)
 OwnBytes header (event.Line line) past = Unit {0}
 OwnBytes header (event.Refused code) past = Unit {0}
 OwnBytes header (event.TaskMade task host) past = Unit {0}
@@ -99,7 +100,8 @@ FlatBytes header outside (event.Wired host count) past = Unit {0}
 -- a slow copy of another object's page takes the flat map's bytes: this is for the laws of those objects to say
 abbrev pub CopiesCurrent : Header → Outside → Event → List Event → Type 0
 CopiesCurrent header outside (event.CopiedPage task page object object_page target) past =
-    is_private header outside object.0 ≡ false → (host : ℕ) → lives_on host task.0 past ≡ true → (page_on header host object.0 object_page.0 past).bytes ≡ flat_page header outside object.0 object_page.0 past
+    is_private header outside object.0 ≡ false → (host : ℕ) → lives_on host task.0 past ≡ true
+    → (page_on header host object.0 object_page.0 past).bytes ≡ flat_page header outside object.0 object_page.0 past
 CopiesCurrent header outside (event.Line line) past = Unit {0}
 CopiesCurrent header outside (event.Refused code) past = Unit {0}
 CopiesCurrent header outside (event.TaskMade task host) past = Unit {0}

@@ -22,7 +22,8 @@ pub record StoreChange : Type 0 where
 
 abbrev pub change_in : ℕ → ℕ → ℕ → ℕ → Option Entry → Option StoreChange
 change_in size address bytes value None = None
-change_in size address bytes value (Some entry) = Some (record { region = entry.region.0; page = page_at size address entry; at = address % size; bytes = little_endian_bytes bytes value })
+change_in size address bytes value (Some entry) =
+    Some (record { region = entry.region.0; page = page_at size address entry; at = address % size; bytes = little_endian_bytes bytes value })
 
 abbrev pub change_by : ℕ → List Entry → Option Access → Option StoreChange
 change_by size entries (Some (Storing address bytes value)) = change_in size address bytes value (entry_at address entries)
@@ -48,18 +49,23 @@ is_number n (Some m) = n == m
 
 -- where files are not told, an answer about an object's page gives that page of the object's region its bytes
 abbrev pub bytes_after_answer : Header → Bool → ℕ → ℕ → ℕ → Message → List ℕ → List ℕ
-bytes_after_answer header says region page object (message.Supply at lock precious bytes) was = if says && (region == object && page == at.0) then bytes else was
+bytes_after_answer header says region page object (message.Supply at lock precious bytes) was =
+    if says && (region == object && page == at.0) then bytes else was
 bytes_after_answer header says region page object (message.Unavailable at) was = if says && (region == object && page == at.0) then zeros header else was
 bytes_after_answer header says region page object other was = was
 
 -- the bytes of a page of a region
 abbrev pub flat_page : Header → Outside → ℕ → ℕ → List Event → List ℕ
 flat_page header outside region page [] = if is_file header region then start_page header outside region page else zeros header
-flat_page header outside region page (event.RegionMade made object pages ∷ past) = if region == made.0 then zeros header else flat_page header outside region page past
+flat_page header outside region page (event.RegionMade made object pages ∷ past) =
+    if region == made.0 then zeros header else flat_page header outside region page past
 flat_page header outside region page (event.RegionCopied made source offset pages ∷ past) =
     if region == made.0 then flat_page header outside source.0 (offset + page) past else flat_page header outside region page past
-flat_page header outside region page (event.Stored task object in_object at size value ∷ past) = bytes_after_store region page (change_of header.size task.0 past) (flat_page header outside region page past)
+flat_page header outside region page (event.Stored task object in_object at size value ∷ past) =
+    bytes_after_store region page (change_of header.size task.0 past) (flat_page header outside region page past)
 flat_page header outside region page (event.CopiedPage task index object object_page target ∷ past) =
-    if is_number region (made_over target.0 past) && page == index.0 then flat_page header outside object.0 object_page.0 past else flat_page header outside region page past
-flat_page header outside region page (event.Sent (Down host object control) m ∷ past) = bytes_after_answer header (is_said header outside object.0) region page object.0 m (flat_page header outside region page past)
+    if is_number region (made_over target.0 past) && page == index.0 then flat_page header outside object.0 object_page.0 past else flat_page header outside
+    region page past
+flat_page header outside region page (event.Sent (Down host object control) m ∷ past) =
+    bytes_after_answer header (is_said header outside object.0) region page object.0 m (flat_page header outside region page past)
 flat_page header outside region page (e ∷ past) = flat_page header outside region page past

@@ -1,5 +1,6 @@
 -- What the commands make of a history: a group of events for each. Commands too have the newest first.
-use Rattle.std.specs.Prelude.{ℕ, ◌+◌, ◌-◌, ◌/◌, ◌≡◌, ◌⊎◌, Bool, true, List, [], ◌∷◌, ◌++◌, length, reverse, if◌then◌else◌, nat_lt, Option, Some, None, MatchOption, IfNone}
+use Rattle.std.specs.Prelude.{ℕ, ◌+◌, ◌-◌, ◌/◌, ◌≡◌, ◌⊎◌, Bool, true, List, [], ◌∷◌, ◌++◌, length, reverse, if◌then◌else◌, nat_lt, Option, Some, None}
+use Rattle.std.specs.Prelude.{MatchOption, IfNone}
 use Rattle.vm_base.specs.declared.entry.Entry.{Entry}
 use Rattle.vm_base.specs.declared.ids.Inherit.{Inherit}
 use Rattle.vm_base.specs.declared.ids.Inherit.TheVariants.{Share, Copy, Never}
@@ -125,7 +126,8 @@ head header past (command.FailPaging count) = Some []
 head header past (command.Say host object m) = say_head host object m (live_control host.0 object.0 past)
 head header past (command.Map task address bytes object offset) = map_head header task address bytes object offset past (host_of task.0 past)
 head header past (command.Copy task address bytes target to) =
-    copy_head (named header) header.size (next_region header past) (next_object header past) task address bytes target to (entry_at address (entries_of header.size task.0 past))
+    copy_head (named header) header.size (next_region header past) (next_object header past) task address bytes target to
+    (entry_at address (entries_of header.size task.0 past))
 head header past (command.Clean object page count flush) = Some (clean_head object page count flush (known_below (length header.frames.items) object.0 past))
 
 -- the event is no part of a head, nor a line; an entry is none where it is owed
@@ -159,7 +161,8 @@ IsConsequence (event.DeviceFailed who way object page) past = Unit {0}
 IsConsequence (event.NoSlot object page) past = Unit {0}
 
 -- behind its line a group is the head of its command and what follows from it; its events are such as `all` wants them
-pub record IsRunBy (all : Command → List Event → List Event → Type 0) (header : Header) (past : List Event) (numbered : Numbered) (first group : List Event) : Type 0 where
+pub record IsRunBy (all : Command → List Event → List Event → Type 0) (header : Header) (past : List Event) (numbered : Numbered) (first group : List Event) :
+    Type 0 where
   pub more : List Event
   pub is : group ≡ more ++ reverse first
   pub follows : EachIn IsConsequence more (reverse first ++ event.Line numbered.line ∷ past)
@@ -264,7 +267,8 @@ abbrev pub IsCutGroup : Header → Outside → List Event → Numbered → List 
 IsCutGroup header outside past numbered group =
     MatchOption (refusal header past numbered.command)
     (MatchOption (head header past numbered.command) ⊥
-    (λ first. IsRun header outside past numbered first group ⊎ (IsBegun first group × AllLicensed header outside numbered.command group (event.Line numbered.line ∷ past))))
+    (λ first. IsRun header outside past numbered first group
+    ⊎ (IsBegun first group × AllLicensed header outside numbered.command group (event.Line numbered.line ∷ past))))
     (λ code. (group ≡ []) ⊎ (group ≡ event.Refused code ∷ []))
 
 -- the same, but that the history may end behind any event

@@ -43,7 +43,8 @@ change size host (event.Dropped at object page) past = change_where (at.0 == hos
 change size host (event.Sent (Up at object) m) past = sent_up_change (at.0 == host) m
 change size host (event.Taken (Up at object) m) past = taken_up_change (at.0 == host) m
 change size host (event.Taken (Down at object control) m) past =
-    taken_down_change (λ page. at.0 == host && (is_control control (live_control host object.0 past) && (local size host (record { object = object.0; page = page }) past).asked)) m
+    taken_down_change (λ page. at.0 == host && (is_control control (live_control host object.0 past) &&
+    (local size host (record { object = object.0; page = page }) past).asked)) m
 change size host e past = Keeps
 
 abbrev pub frames_after : FrameChange → ℕ → ℕ
@@ -82,6 +83,8 @@ frames_free header host past = frames_of header host - frames_used header.size h
 -- the returns without a copy that the host sent and whose pagers did not take them yet
 abbrev pub returns_out : ℕ → List Event → ℕ
 returns_out host [] = 0
-returns_out host (event.Sent (Up at object) (message.Return control page dirty keep bytes) ∷ past) = if at.0 == host && not keep then returns_out host past + 1 else returns_out host past
-returns_out host (event.Taken (Up at object) (message.Return control page dirty keep bytes) ∷ past) = if at.0 == host && not keep then returns_out host past - 1 else returns_out host past
+returns_out host (event.Sent (Up at object) (message.Return control page dirty keep bytes) ∷ past) =
+    if at.0 == host && not keep then returns_out host past + 1 else returns_out host past
+returns_out host (event.Taken (Up at object) (message.Return control page dirty keep bytes) ∷ past) =
+    if at.0 == host && not keep then returns_out host past - 1 else returns_out host past
 returns_out host (e ∷ past) = returns_out host past

@@ -20,7 +20,8 @@ use Rattle.vm_model.specs.Waiting.{Access, is_store}
 use Rattle.vm_legal.specs.Accesses.{Comes, FindsPage, HasPlace, Waits, begun_at, names, page_of}
 use Rattle.vm_legal.specs.Follows.{FollowsBy, FollowsSoFarBy, IsDone, IsGroupBy, IsRunBy, IsWholeBy, SoFarBy}
 use Rattle.vm_legal.specs.Frames.{frames_free}
-use Rattle.vm_legal.specs.Licences.{Caused, DeviceFails, DropCause, Drops, Ended, Fails, GivesBack, HasSlot, IsBackingOf, IsBehind, MaySendUp, ReturnCause, TakesReturn, Unreached}
+use Rattle.vm_legal.specs.Licences.{Caused, DeviceFails, DropCause, Drops, Ended, Fails, GivesBack, HasSlot, IsBackingOf, IsBehind, MaySendUp, ReturnCause}
+use Rattle.vm_legal.specs.Licences.{TakesReturn, Unreached}
 use Rattle.vm_legal.specs.Outside.{Outside, is_shared}
 use Rattle.vm_legal.specs.Prompt.{Awaits}
 use Rattle.vm_legal.specs.Serving.{HostsServed}
@@ -36,19 +37,22 @@ abbrev pub IsFirstHere : Header → ℕ → ℕ → ℕ → List Event → Type 
 IsFirstHere header host object page past = (q : ℕ) → q < page → (page_on header host object q past).here ≡ false
 
 -- of an object that ends the pages go by rising number
-abbrev pub DropsInTurn : (header : Header) (doing : Command) (host object page : ℕ) (seen : Local) (past : List Event) → DropCause header doing host object page seen past → Type 0
+abbrev pub DropsInTurn : (header : Header) (doing : Command) (host object page : ℕ) (seen : Local) (past : List Event)
+    → DropCause header doing host object page seen past → Type 0
 DropsInTurn header doing host object page seen past (Unreached temporary unreached) = IsFirstHere header host object page past
 DropsInTurn header doing host object page seen past (Ended clean plain declared unheld) = IsFirstHere header host object page past
 DropsInTurn header doing host object page seen past other = Unit {0}
 
-abbrev pub ReturnsInTurn : (header : Header) (doing : Command) (host object page : ℕ) (keep : Bool) (past : List Event) → ReturnCause header doing host object page keep past → Type 0
+abbrev pub ReturnsInTurn : (header : Header) (doing : Command) (host object page : ℕ) (keep : Bool) (past : List Event)
+    → ReturnCause header doing host object page keep past → Type 0
 ReturnsInTurn header doing host object page keep past (Ended gone declared unheld) = IsFirstHere header host object page past
 ReturnsInTurn header doing host object page keep past other = Unit {0}
 
 -- the paging area is written only where the page has a slot
 abbrev pub DeviceFailsInTurn : Header → Device → Way → ℕ → ℕ → List Event → Type 0
 DeviceFailsInTurn header who way.Read object page past = DeviceFails header who way.Read object page past
-DeviceFailsInTurn header who way.Write object page past = IsBackingOf header who object × ((host : ℕ) × TakesReturn host object page past × HasSlot header who host object page past)
+DeviceFailsInTurn header who way.Write object page past =
+    IsBackingOf header who object × ((host : ℕ) × TakesReturn host object page past × HasSlot header who host object page past)
 
 abbrev pub SendsInTurn : Header → Command → ℕ → ℕ → Message → List Event → Type 0
 SendsInTurn header why host object (message.Return control page dirty keep bytes) past =
@@ -59,7 +63,8 @@ SendsInTurn header why host object other past = MaySendUp header why host object
 abbrev pub CausedInTurn : Header → Outside → Command → Event → List Event → Type 0
 CausedInTurn header outside why (event.Failed task object page) past = Fails header task.0 object.0 page.0 past × FailsInTurn task.0 object.0 page.0 past
 CausedInTurn header outside why (event.Dropped host object page) past =
-    (drops : Drops header why host.0 object.0 page.0 past) × DropsInTurn header why host.0 object.0 page.0 (page_on header host.0 object.0 page.0 past) past drops.why
+    (drops : Drops header why host.0 object.0 page.0 past)
+    × DropsInTurn header why host.0 object.0 page.0 (page_on header host.0 object.0 page.0 past) past drops.why
 CausedInTurn header outside why (event.Sent (Up host object) m) past = SendsInTurn header why host.0 object.0 m past
 CausedInTurn header outside why (event.DeviceFailed who way object page) past = DeviceFailsInTurn header who way object.0 page.0 past
 CausedInTurn header outside why other past = Caused header outside why other past
@@ -84,11 +89,14 @@ pub record WaitsAt (header : Header) (host task object page : ℕ) (past : List 
 -- an error has ended each access that waited for its page when the step began; on a host without a free frame some may have waited for a frame
 abbrev pub EndsWaiters : Header → ℕ → ℕ → ℕ → List Event → Type 0
 EndsWaiters header host object page past =
-    (task : ℕ) → WaitsAt header host task object page (before_step past) → (frames_free header host (before_step past) ≡ 0 → ⊥) → since (fails_task task object page) past ≡ true
+    (task : ℕ) → WaitsAt header host task object page (before_step past) → (frames_free header host (before_step past) ≡ 0 → ⊥)
+    → since (fails_task task object page) past ≡ true
 
 -- whichever error the step took
 abbrev pub EndsAll : Header → List Event → Type 0
-EndsAll header past = (host object page : ℕ) → error_taken header.size past ≡ Some (record { host = host; object = object; page = page }) → EndsWaiters header host object page past
+EndsAll header past =
+    (host object page : ℕ) → error_taken header.size past ≡ Some (record { host = host; object = object; page = page })
+    → EndsWaiters header host object page past
 
 -- a task of the host waits whose walk comes to a page that is here, and whose lock lets it in
 pub record ComesToPage (header : Header) (host task : ℕ) (past : List Event) : Type 0 where
@@ -108,8 +116,8 @@ NoneSleepsOn header host past = (task : ℕ) → ComesToPage header host task pa
 abbrev pub NoneSleeps : Header → List Event → Type 0
 NoneSleeps header past = (host : ℕ) → host < length header.frames.items → NoneSleepsOn header host past
 
--- a step that has ended has ended each access that waited for the page of its error, its hosts have served by rising number, and nobody sleeps beside its page while a
--- frame is free
+-- a step that has ended has ended each access that waited for the page of its error, its hosts have served by rising number, and nobody sleeps beside its page
+-- while a frame is free
 pub record StepIsInTurn (header : Header) (past : List Event) : Type 0 where
   pub ended : EndsAll header past
   pub served : HostsServed header past

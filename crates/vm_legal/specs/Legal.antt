@@ -20,7 +20,8 @@ use Rattle.vm_legal.specs.Walks.{page_on}
 -- while a host can write a page of a shared object, no other host can read it
 abbrev pub HasOneWriter : Header → List Event → Type 0
 HasOneWriter header past =
-    (writer reader object page : ℕ) → is_shared header object ≡ true → writer ≢ reader → CanWrite (page_on header writer object page past) → CanRead (page_on header reader object page past) → ⊥
+    (writer reader object page : ℕ) → is_shared header object ≡ true → writer ≢ reader → CanWrite (page_on header writer object page past)
+    → CanRead (page_on header reader object page past) → ⊥
 
 -- what holds throughout a history, whatever its commands, but inside its last step
 pub record Holds (header : Header) (outside : Outside) (history : List Event) : Type 0 where

@@ -1,5 +1,6 @@
 -- Why an event stands where it does: its cause, in the events in front of it.
-use Rattle.std.specs.Prelude.{ℕ, zero, suc, ◌+◌, ◌*◌, ◌/◌, ◌%◌, ◌<◌, ◌≤◌, ◌≡◌, ◌⊎◌, List, [], ◌∷◌, ◌++◌, Bool, true, false, not, Option, Some, None, MatchOption, if◌then◌else◌, ◌==◌, ◌&&◌, ◌||◌, nat_lt}
+use Rattle.std.specs.Prelude.{ℕ, zero, suc, ◌+◌, ◌*◌, ◌/◌, ◌%◌, ◌<◌, ◌≤◌, ◌≡◌, ◌⊎◌, List, [], ◌∷◌, ◌++◌, Bool, true, false, not, Option, Some, None}
+use Rattle.std.specs.Prelude.{MatchOption, if◌then◌else◌, ◌==◌, ◌&&◌, ◌||◌, nat_lt}
 use Rattle.vm_base.specs.Entries.{page_at}
 use Rattle.vm_base.specs.declared.ids.Inherit.TheVariants.{Copy}
 use Rattle.vm_base.specs.declared.ids.TaskId.{TaskId}
@@ -34,7 +35,8 @@ use Rattle.vm_legal.specs.Living.{lives_on, tasks}
 use Rattle.vm_legal.specs.Outside.{Outside, is_file, is_said, is_wild, kind_of, start_page, zeros}
 use Rattle.vm_legal.specs.Pagers.{LacksSlot, is_lost, known_control, last_return, newer, slot_at}
 use Rattle.vm_legal.specs.Reclaims.{Reclaims}
-use Rattle.vm_legal.specs.Steps.{Letter, absence_taken, answers, completes, error_taken, fails_reading, gives_page, just_begun, readies, since, taken_letter, takings}
+use Rattle.vm_legal.specs.Steps.{Letter, absence_taken, answers, completes, error_taken, fails_reading, gives_page, just_begun, readies, since, taken_letter}
+use Rattle.vm_legal.specs.Steps.{takings}
 use Rattle.vm_legal.specs.Undelivered.{oldest_channel}
 use Rattle.vm_legal.specs.Used.{in_use, is_filled}
 use Rattle.vm_legal.specs.Walks.{IsTop, Reach, Sinks, Walks, page_on, sight}
@@ -107,7 +109,8 @@ pub record CopiesPage (header : Header) (task index object page target : ℕ) (p
   pub next : index ≡ next_page task past
   pub declared : waits.at.entry.region.0 < named header
   pub supplied : is_wild header waits.at.entry.region.0 ≡ false
-  pub is_top : IsTop (region_of header waits.at.entry.region.0 past) (page_at header.size (address + next_page task past * header.size) waits.at.entry) object page
+  pub is_top : IsTop (region_of header waits.at.entry.region.0 past) (page_at header.size (address + next_page task past * header.size) waits.at.entry) object
+      page
   pub here : (page_on header waits.at.host object page past).here ≡ true
   pub region : ℕ
   pub filled : copy_target task past ≡ Some (record { region = region; object = target })
@@ -176,7 +179,17 @@ lock_taken [] = None
 lock_taken (event.Line line ∷ past) = None
 lock_taken (event.Taken (Down host object control) (message.Lock page count returns flush lock reply) ∷ past) =
     if is_control control (live_control host.0 object.0 past)
-    then Some (record { host = host.0; object = object.0; control = control; page = page.0; count = count; returns = returns; flush = flush; lock = lock; reply = reply })
+    then Some (record {
+      host = host.0;
+      object = object.0;
+      control = control;
+      page = page.0;
+      count = count;
+      returns = returns;
+      flush = flush;
+      lock = lock;
+      reply = reply;
+    })
     else None
 lock_taken (event.Taken channel other ∷ past) = None
 lock_taken (e ∷ past) = lock_taken past
@@ -192,7 +205,17 @@ pub record IsLocked (host object page returns : ℕ) (flush : Bool) (past : List
   pub count : ℕ
   pub lock : ℕ
   pub reply : Bool
-  pub taken : lock_taken past ≡ Some (record { host = host; object = object; control = control; page = first; count = count; returns = returns; flush = flush; lock = lock; reply = reply })
+  pub taken : lock_taken past ≡ Some (record {
+    host = host;
+    object = object;
+    control = control;
+    page = first;
+    count = count;
+    returns = returns;
+    flush = flush;
+    lock = lock;
+    reply = reply;
+  })
   pub from : first ≤ page
   pub below : page < first + count
   pub undone : since (completes host object) past ≡ false
@@ -201,7 +224,8 @@ pub record IsLocked (host object page returns : ℕ) (flush : Bool) (past : List
 -- the lock_request has a reply, and is over the page
 abbrev pub is_answered_over : ℕ → ℕ → ℕ → Option LockRequest → Bool
 is_answered_over host object page None = false
-is_answered_over host object page (Some request) = request.reply && (request.host == host && (request.object == object && in_range page request.page request.count))
+is_answered_over host object page (Some request) =
+    request.reply && (request.host == host && (request.object == object && in_range page request.page request.count))
 
 -- what a lock_request of this kind leaves of a page that is here: a flush none, and others none that it gives back
 abbrev pub IsDoneAt : ℕ → Bool → Local → Type 0
@@ -213,7 +237,17 @@ pub record Completes (header : Header) (host control object first count : ℕ) (
   pub returns : ℕ
   pub flush : Bool
   pub lock : ℕ
-  pub taken : lock_taken past ≡ Some (record { host = host; object = object; control = control; page = first; count = count; returns = returns; flush = flush; lock = lock; reply = true })
+  pub taken : lock_taken past ≡ Some (record {
+    host = host;
+    object = object;
+    control = control;
+    page = first;
+    count = count;
+    returns = returns;
+    flush = flush;
+    lock = lock;
+    reply = true;
+  })
   pub once : since (completes host object) past ≡ false
   pub done : (page : ℕ) → first ≤ page → page < first + count → IsDoneAt returns flush (page_on header host object page past)
 
@@ -240,19 +274,21 @@ pub data ReturnCause (header : Header) (doing : Command) (host object page : ℕ
   Created : (control size : ℕ) (rest : List Event) → past ≡ event.Sent (up host object) (message.Create control size) ∷ rest
       → keep ≡ false → Reclaims header doing host object page rest → ReturnCause header doing host object page keep past
   -- its pager wants it
-  Wanted : (returns : ℕ) (flush : Bool) → IsLocked host object page returns flush past → gives_back returns (page_on header host object page past).dirty (page_on header host object page past).precious ≡ true
+  Wanted : (returns : ℕ) (flush : Bool) → IsLocked host object page returns flush past
+      → gives_back returns (page_on header host object page past).dirty (page_on header host object page past).precious ≡ true
       → keep ≡ not flush → ReturnCause header doing host object page keep past
   -- its object ends on the host
   Ended : keep ≡ false → object < named header → IsUnheld header host object past → ReturnCause header doing host object page keep past
 
 -- a changed or precious page goes back to its pager, as it is
-pub record GivesBack (header : Header) (doing : Command) (host control object page : ℕ) (changed keep : Bool) (bytes : List ℕ) (past : List Event) : Type 0 where
-  pub live : live_control host object past ≡ Some control
-  pub here : (page_on header host object page past).here ≡ true
-  pub due : ((page_on header host object page past).dirty || (page_on header host object page past).precious) ≡ true
-  pub same : bytes ≡ (page_on header host object page past).bytes
-  pub flag : changed ≡ (page_on header host object page past).dirty
-  pub why : ReturnCause header doing host object page keep past
+pub record GivesBack (header : Header) (doing : Command) (host control object page : ℕ) (changed keep : Bool) (bytes : List ℕ) (past : List Event) : Type 0
+  where
+    pub live : live_control host object past ≡ Some control
+    pub here : (page_on header host object page past).here ≡ true
+    pub due : ((page_on header host object page past).dirty || (page_on header host object page past).precious) ≡ true
+    pub same : bytes ≡ (page_on header host object page past).bytes
+    pub flag : changed ≡ (page_on header host object page past).dirty
+    pub why : ReturnCause header doing host object page keep past
 
 -- an object's first control is made: a page of it, which is here, goes to the default pager next
 pub record Creates (header : Header) (host control object size : ℕ) (past : List Event) : Type 0 where
@@ -335,8 +371,10 @@ MaySendDown header outside why host object control (message.Supply page lock pre
     OwesAnswer host object control page.0 past × Reads object page.0 past × (lock ≡ 0) × (precious ≡ false)
     × (is_file header object ≡ false → (was : List ℕ) × (last_return host object page.0 past ≡ Some was))
     × (tells header outside object ≡ true → pager_has header outside host object page.0 past ≡ Some bytes)
-MaySendDown header outside why host object control (message.Unavailable page) past = OwesAnswer host object control page.0 past × Reads object page.0 past × MayLack header outside host object page.0 past
-MaySendDown header outside why host object control (message.Error page reason) past = OwesAnswer host object control page.0 past × (reason ≡ 10) × IsFault object page.0 past
+MaySendDown header outside why host object control (message.Unavailable page) past =
+    OwesAnswer host object control page.0 past × Reads object page.0 past × MayLack header outside host object page.0 past
+MaySendDown header outside why host object control (message.Error page reason) past =
+    OwesAnswer host object control page.0 past × (reason ≡ 10) × IsFault object page.0 past
 MaySendDown header outside why host object control (message.Ready cache strategy) past =
     (size : ℕ) × (cache ≡ false) × (since (readies object) past ≡ false)
     × (((taken_letter past ≡ Some (record { channel = up host object; message = message.Create control size })) × (strategy ≡ 3))
@@ -412,9 +450,11 @@ pub data DropCause (header : Header) (doing : Command) (host object page : ℕ) 
   -- no region leads to its temporary object
   Unreached : named header ≤ object → (Reach header host object past → ⊥) → DropCause header doing host object page seen past
   -- its pager flushes it, and doesn't want it back
-  Flushed : (returns : ℕ) → IsLocked host object page returns true past → gives_back returns seen.dirty seen.precious ≡ false → DropCause header doing host object page seen past
+  Flushed : (returns : ℕ) → IsLocked host object page returns true past → gives_back returns seen.dirty seen.precious ≡ false
+      → DropCause header doing host object page seen past
   -- it is clean, and its object ends on the host
-  Ended : seen.dirty ≡ false → seen.precious ≡ false → object < named header → IsUnheld header host object past → DropCause header doing host object page seen past
+  Ended : seen.dirty ≡ false → seen.precious ≡ false → object < named header → IsUnheld header host object past
+      → DropCause header doing host object page seen past
 
 pub record Drops (header : Header) (doing : Command) (host object page : ℕ) (past : List Event) : Type 0 where
   pub here : (page_on header host object page past).here ≡ true
@@ -461,7 +501,8 @@ HasSlot header device.Files host object page past = Unit {0}
 
 -- a backing fails right behind the request, or the return, for which it was called
 abbrev pub DeviceFails : Header → Device → Way → ℕ → ℕ → List Event → Type 0
-DeviceFails header who way.Read object page past = IsBackingOf header who object × ((host : ℕ) × TakesRequest host object page past × HasSlot header who host object page past)
+DeviceFails header who way.Read object page past =
+    IsBackingOf header who object × ((host : ℕ) × TakesRequest host object page past × HasSlot header who host object page past)
 DeviceFails header who way.Write object page past = IsBackingOf header who object × ((host : ℕ) × TakesReturn host object page past)
 
 -- there was no slot for a page whose return the step just took
@@ -529,7 +570,8 @@ Caused header outside why (event.Zeroed host object page) past = Fills header ho
 Caused header outside why (event.Raised host lower lower_page upper upper_page) past = Raises header host.0 lower.0 lower_page.0 upper.0 upper_page.0 past
 Caused header outside why (event.Dropped host object page) past = Drops header why host.0 object.0 page.0 past
 Caused header outside why (event.Sent (Up host object) m) past = MaySendUp header why host.0 object.0 m past
-Caused header outside why (event.Sent (Down host object control) m) past = PagerSends (kind_of header object.0) header outside why host.0 object.0 control m past
+Caused header outside why (event.Sent (Down host object control) m) past =
+    PagerSends (kind_of header object.0) header outside why host.0 object.0 control m past
 Caused header outside why (event.Taken channel m) past = (first (queue channel past) ≡ Some m) × MayTake why channel past
 Caused header outside why (event.DeviceFailed who way object page) past = DeviceFails header who way object.0 page.0 past
 Caused header outside why (event.NoSlot object page) past = NoSlotFor header object.0 page.0 past

@@ -84,7 +84,8 @@ start_page header outside object page = start_in header outside.files object pag
 
 -- A file's object or region; or a temporary one, where the paging area tells. For shared objects their server answers, for wild ones the script.
 abbrev pub is_private : Header → Outside → ℕ → Bool
-is_private header outside object = (not (nat_lt object (named header)) && outside.paging) || (nat_lt object (named header) && is_file_kept (declared header object))
+is_private header outside object =
+    (not (nat_lt object (named header)) && outside.paging) || (nat_lt object (named header) && is_file_kept (declared header object))
 
 -- of these regions a load answers the flat map: of all but wild ones, and temporary ones only where the paging area tells
 abbrev pub is_flat : Header → Outside → ℕ → Bool

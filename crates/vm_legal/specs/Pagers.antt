@@ -22,13 +22,15 @@ newer (Some bytes) was = Some bytes
 -- what the pager took last of a page that the host returned
 abbrev pub last_return : ℕ → ℕ → ℕ → List Event → Option (List ℕ)
 last_return host o p [] = None
-last_return host o p (event.Taken (Up at object) m ∷ past) = if at.0 == host && object.0 == o then newer (returned_in p m) (last_return host o p past) else last_return host o p past
+last_return host o p (event.Taken (Up at object) m ∷ past) =
+    if at.0 == host && object.0 == o then newer (returned_in p m) (last_return host o p past) else last_return host o p past
 last_return host o p (e ∷ past) = last_return host o p past
 
 -- the page's last return was not stored: its slot was lacking, or writing it failed
 abbrev pub is_lost : ℕ → ℕ → List Event → Bool
 is_lost o p [] = false
-is_lost o p (event.Taken (Up at object) (message.Return control page dirty keep bytes) ∷ past) = if object.0 == o && page.0 == p then false else is_lost o p past
+is_lost o p (event.Taken (Up at object) (message.Return control page dirty keep bytes) ∷ past) =
+    if object.0 == o && page.0 == p then false else is_lost o p past
 is_lost o p (event.DeviceFailed who way object page ∷ past) = fails_writing o p (event.DeviceFailed who way object page) || is_lost o p past
 is_lost o p (event.NoSlot object page ∷ past) = lacks_slot o p (event.NoSlot object page) || is_lost o p past
 is_lost o p (e ∷ past) = is_lost o p past
@@ -42,7 +44,8 @@ known_after other was = was
 -- the control of the object on the host that its pager knows: it took its init or create, and not its terminate
 abbrev pub known_control : ℕ → ℕ → List Event → Option ℕ
 known_control host o [] = None
-known_control host o (event.Taken (Up at object) m ∷ past) = if at.0 == host && object.0 == o then known_after m (known_control host o past) else known_control host o past
+known_control host o (event.Taken (Up at object) m ∷ past) =
+    if at.0 == host && object.0 == o then known_after m (known_control host o past) else known_control host o past
 known_control host o (e ∷ past) = known_control host o past
 
 -- a control of an object, and its host

@@ -56,7 +56,9 @@ pub record HostIsFull (header : Header) (host : ℕ) (past : List Event) : Type 
 
 -- no access of the host waits in vain
 abbrev pub NoneInVain : Header → ℕ → List Event → Type 0
-NoneInVain header host past = (task : ℕ) (access : Access) → (waits : Waits header task access past) → waits.at.host ≡ host → WaitsForPager header host task access past ⊎ HostIsFull header host past
+NoneInVain header host past =
+    (task : ℕ) (access : Access) → (waits : Waits header task access past) → waits.at.host ≡ host → WaitsForPager header host task access past
+    ⊎ HostIsFull header host past
 
 -- whoever waits on the host is somebody: it has a page left, and an entry leads to that
 abbrev pub EachLeads : Header → ℕ → List Event → Type 0

@@ -1,7 +1,9 @@
 -- Why a command is refused: the first test that holds.
-use Rattle.std.specs.Prelude.{ℕ, ◌+◌, ◌/◌, ◌%◌, Bool, true, false, not, ◌&&◌, ◌||◌, List, [], ◌∷◌, length, if◌then◌else◌, ◌==◌, nat_lt, nat_le, is_some, is_none, Option, Some, None}
+use Rattle.std.specs.Prelude.{ℕ, ◌+◌, ◌/◌, ◌%◌, Bool, true, false, not, ◌&&◌, ◌||◌, List, [], ◌∷◌, length, if◌then◌else◌, ◌==◌, nat_lt, nat_le, is_some}
+use Rattle.std.specs.Prelude.{is_none, Option, Some, None}
 use Rattle.vm_base.specs.declared.code.Code.{Code}
-use Rattle.vm_base.specs.declared.code.Code.TheVariants.{NoSuchName, NameTaken, Blocked, InvalidArgument, WrongHost, InvalidAddress, ProtectionFailure, NoSpace, ResourceShortage, EmptyPort, TableFull}
+use Rattle.vm_base.specs.declared.code.Code.TheVariants.{NoSuchName, NameTaken, Blocked, InvalidArgument, WrongHost, InvalidAddress, ProtectionFailure, NoSpace}
+use Rattle.vm_base.specs.declared.code.Code.TheVariants.{ResourceShortage, EmptyPort, TableFull}
 use Rattle.vm_base.specs.declared.entry.Entry.{Entry}
 use Rattle.vm_base.specs.declared.ids.Access.{Access}
 use Rattle.vm_base.specs.declared.ids.Access.TheVariants as need
@@ -34,7 +36,9 @@ acting past task later = code_where (is_none (host_of task past)) NoSuchName (co
 
 -- one entry, region and object more is too much
 abbrev pub is_full : Header → ℕ → List Event → Bool
-is_full header task past = nat_lt most_entries (length (entries_of header.size task past) + 1) || (nat_le most_regions (next_region header past) || nat_le most_objects (next_object header past + marked_regions header past))
+is_full header task past =
+    nat_lt most_entries (length (entries_of header.size task past) + 1) || (nat_le most_regions (next_region header past) || nat_le most_objects
+    (next_object header past + marked_regions header past))
 
 -- more entries than a task may have
 abbrev pub are_too_many : List Entry → Bool
@@ -47,12 +51,14 @@ has_copy_mark header past region = (region_of header region past).mark
 -- so many regions and marks of regions more, by a fork, are too much
 abbrev pub is_fork_full : Header → List Entry → List Event → Bool
 is_fork_full header rows past =
-    nat_lt most_regions (next_region header past + copies rows) || nat_lt most_objects (next_object header past + marked_regions header past + copies rows + new_marks (has_copy_mark header past) rows)
+    nat_lt most_regions (next_region header past + copies rows) || nat_lt most_objects
+    (next_object header past + marked_regions header past + copies rows + new_marks (has_copy_mark header past) rows)
 
 -- one region more is too much, with its object, or with its mark and the one of the region that it copies
 abbrev pub is_copy_full : Header → ℕ → List Event → Bool
 is_copy_full header source past =
-    nat_le most_regions (next_region header past) || nat_lt most_objects (next_object header past + marked_regions header past + copy_cost (nat_lt source (named header)) (has_copy_mark header past source))
+    nat_le most_regions (next_region header past) || nat_lt most_objects (next_object header past + marked_regions header past + copy_cost
+    (nat_lt source (named header)) (has_copy_mark header past source))
   where
     copy_cost : Bool → Bool → ℕ
     copy_cost true marked = 1
@@ -129,7 +135,8 @@ refusal header past (command.Protect task address bytes prot) =
     (code_where (are_too_many (protected header.size address bytes prot (entries_of header.size task.0 past))) TableFull None)))
 refusal header past (command.Inherit task address bytes inherit) =
     acting past task.0
-    (code_where (not (is_range header.size address bytes) || (is_copied inherit && meets_declared (length header.objects.items) address bytes (entries_of header.size task.0 past))) InvalidArgument
+    (code_where (not (is_range header.size address bytes) || (is_copied inherit && meets_declared (length header.objects.items) address bytes
+    (entries_of header.size task.0 past))) InvalidArgument
     (code_where (not (is_mapped header.size address bytes (entries_of header.size task.0 past))) InvalidAddress
     (code_where (are_too_many (inherited header.size address bytes inherit (entries_of header.size task.0 past))) TableFull None)))
 refusal header past (command.Wire host count) = code_where (nat_lt (frames_free header host.0 past) count) ResourceShortage None
@@ -144,7 +151,8 @@ refusal header past (command.Map task address bytes object offset) =
 refusal header past (command.Copy task address bytes target to) =
     code_where (is_none (host_of task.0 past) || is_none (host_of target.0 past)) NoSuchName
     (code_where (is_some (waiting task.0 past) || is_some (waiting target.0 past)) Blocked
-    (code_where (not (is_range header.size address bytes && is_range header.size to bytes) || (nat_lt most_pages (bytes / header.size) || (not (same_host (host_of task.0 past) (host_of target.0 past))
+    (code_where (not (is_range header.size address bytes && is_range header.size to bytes) ||
+    (nat_lt most_pages (bytes / header.size) || (not (same_host (host_of task.0 past) (host_of target.0 past))
     || is_uncopied header (task.0 == target.0) (entry_at address (entries_of header.size task.0 past))))) InvalidArgument
     (copy_refusal header address bytes target.0 to past (entry_at address (entries_of header.size task.0 past)))))
 refusal header past (command.Clean object page count flush) =

@@ -13,8 +13,8 @@ was_returned h o p (event.Sent (Up host object) (message.Return control page dir
     (host.0 == h && (object.0 == o && page.0 == p)) || was_returned h o p past
 was_returned h o p (e ∷ past) = was_returned h o p past
 
--- The pagers of temporary memory, whose objects are numbered from a number on, give the host only what it had returned, and lock nothing. Controls are numbered from one,
--- and a page is returned to a control.
+-- The pagers of temporary memory, whose objects are numbered from a number on, give the host only what it had returned, and lock nothing. Controls are numbered
+-- from one, and a page is returned to a control.
 abbrev pub OnlyReturned : ℕ → ℕ → List Event → Type 0
 OnlyReturned least h [] = Unit {0}
 OnlyReturned least h (event.Taken (Down host object control) (message.Supply page lock precious bytes) ∷ past) =

@@ -11,7 +11,8 @@ use Rattle.vm_legal.specs.Stretches.{AllInner, EachIn}
 -- hosts below it.
 pub data ServeInTurn (header : Header) (past : List Event) : ℕ → List Event → Type 0 where
   NoneServed : ServeInTurn header past 0 []
-  NextServes : (h : ℕ) → (events more : List Event) → ServeInTurn header past h events → EachIn (IsOnlyOfHost header h) more (events ++ past) → ServeInTurn header past (suc h) (more ++ events)
+  NextServes : (h : ℕ) → (events more : List Event) → ServeInTurn header past h events → EachIn (IsOnlyOfHost header h) more (events ++ past)
+      → ServeInTurn header past (suc h) (more ++ events)
 
 -- what one host did, and then all hosts served their queues by rising number
 pub record EndsInTurn (header : Header) (host : ℕ) (past events : List Event) : Type 0 where

@@ -45,7 +45,8 @@ departures host [] = 0
 departures host (event.Line line ∷ past) = 0
 departures host (event.Taken channel m ∷ past) = 0
 departures host (event.Dropped at object page ∷ past) = if at.0 == host then departures host past + 1 else departures host past
-departures host (event.Sent (Up at object) (message.Return control page dirty keep bytes) ∷ past) = if at.0 == host && not keep then departures host past + 1 else departures host past
+departures host (event.Sent (Up at object) (message.Return control page dirty keep bytes) ∷ past) =
+    if at.0 == host && not keep then departures host past + 1 else departures host past
 departures host (e ∷ past) = departures host past
 
 -- nothing stands behind the line of the present command yet
@@ -158,7 +159,8 @@ abbrev pub error_taken : ℕ → List Event → Option Asked
 error_taken size [] = None
 error_taken size (event.Line line ∷ past) = None
 error_taken size (event.Taken (Down host object control) m ∷ past) =
-    error_of host.0 object.0 (λ page. is_control control (live_control host.0 object.0 past) && (local size host.0 (record { object = object.0; page = page }) past).asked) m
+    error_of host.0 object.0 (λ page. is_control control (live_control host.0 object.0 past) &&
+    (local size host.0 (record { object = object.0; page = page }) past).asked) m
 error_taken size (event.Taken channel m ∷ past) = None
 error_taken size (e ∷ past) = error_taken size past
 
@@ -171,7 +173,8 @@ abbrev pub absence_taken : ℕ → List Event → Option Asked
 absence_taken size [] = None
 absence_taken size (event.Line line ∷ past) = None
 absence_taken size (event.Taken (Down host object control) m ∷ past) =
-    absence_of host.0 object.0 (λ page. is_control control (live_control host.0 object.0 past) && (local size host.0 (record { object = object.0; page = page }) past).asked) m
+    absence_of host.0 object.0 (λ page. is_control control (live_control host.0 object.0 past) &&
+    (local size host.0 (record { object = object.0; page = page }) past).asked) m
 absence_taken size (event.Taken channel m ∷ past) = None
 absence_taken size (e ∷ past) = absence_taken size past
 

@@ -35,7 +35,8 @@ pub record Passes (seen : Sight) : Type 0 where
 -- (l, lp) is the n-th place of the chain from (o, p), and the walk passes over all before it
 abbrev pub Walks : (ℕ → ℕ → Sight) → (ℕ → Backing) → ℕ → ℕ → ℕ → ℕ → ℕ → Type 0
 Walks sights backings zero o p l lp = (o ≡ l) × (p ≡ lp)
-Walks sights backings (suc n) o p l lp = Passes (sights o p) × ((backings o).backed ≡ true) × Walks sights backings n (backings o).under ((backings o).shift + p) l lp
+Walks sights backings (suc n) o p l lp =
+    Passes (sights o p) × ((backings o).backed ≡ true) × Walks sights backings n (backings o).under ((backings o).shift + p) l lp
 
 -- the walk from (o, p) passes over n places more and then over the last: it finds the page nowhere
 abbrev pub Sinks : (ℕ → ℕ → Sight) → (ℕ → Backing) → ℕ → ℕ → ℕ → Type 0
@@ -54,7 +55,11 @@ page_on header host o p past = local header.size host (record { object = o; page
 -- what a walk sees of it: a pager may have a page that is not known absent, where the host has a live control
 abbrev pub sight : Header → ℕ → ℕ → ℕ → List Event → Sight
 sight header host o p past =
-    record { page = page_on header host o p past; may_have = is_some (live_control host o past) && not (is_known_absent header (record { object = o; page = p }) (page_on header host o p past)) }
+    record {
+      page = page_on header host o p past;
+      may_have = is_some (live_control host o past) && not
+          (is_known_absent header (record { object = o; page = p }) (page_on header host o p past));
+    }
 
 -- in the chain of a region that is in use on the host
 abbrev pub Reach : Header → ℕ → ℕ → List Event → Type 0

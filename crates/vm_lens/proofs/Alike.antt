@@ -15,7 +15,8 @@ use Rattle.vm_model.specs.declared.message.Message.TheVariants as message
 use Rattle.vm_model.specs.declared.script.Declared.{Declared}
 use Rattle.vm_model.specs.declared.script.Header.{Header}
 use Rattle.vm_legal.specs.Flat.{made_over}
-use Rattle.vm_legal.specs.Outside.{FilesAtStart, Outside, Told, are_untold, is_file, is_file_kept, is_flat, is_said, is_shared_kind, kind_in, start_in, start_page, zeros}
+use Rattle.vm_legal.specs.Outside.{FilesAtStart, Outside, Told, are_untold, is_file, is_file_kept, is_flat, is_said, is_shared_kind, kind_in, start_in}
+use Rattle.vm_legal.specs.Outside.{start_page, zeros}
 use Rattle.vm_order.specs.OneMemory.{EndsAccess, IsOneAtATime, IsOneMemory, LoadsRead}
 use Rattle.vm_order.specs.Operations.{Copy, CopyPage, Load, Make, Operation, Say, Store, load_ends, memory, operations, page_copied, said, store_ends}
 use Rattle.vm_outside.specs.Areas.{read_at}
@@ -38,7 +39,8 @@ nothing_said header file other = refl
 unsaid : (header : Header) (says : Bool) (file : ℕ) (m : Message) (past : List Operation) → says ≡ false → said header says file m ++ past ≡ past
 unsaid header says file m past told = ap (λ z. said header z file m ++ past) told ∙ ap (λ z. z ++ past) (nothing_said header file m)
 
-operations_alike : (a b : Header) (there here : Outside) → AreAlike a b there here → (history : List Event) → operations a there history ≡ operations b here history
+operations_alike : (a b : Header) (there here : Outside) → AreAlike a b there here → (history : List Event)
+    → operations a there history ≡ operations b here history
 operations_alike a b there here same [] = refl
 operations_alike a b there here same (event.Loaded task object page value ∷ past) =
     ap (λ z. load_ends z task.0 value (entries_of z task.0 past) (waiting task.0 past) ++ operations a there past) same.size
@@ -64,12 +66,15 @@ start_alike a b there here same region page =
     ∙ (ap (λ z. if is_file b region then z else zeros a) (same.start region page)
     ∙ ap (λ z. if is_file b region then start_page b here region page else replicate z 0) same.size)
 
-memory_alike : (a b : Header) (there here : Outside) → AreAlike a b there here → (done : List Operation) (region page : ℕ) → memory a there done region page ≡ memory b here done region page
+memory_alike : (a b : Header) (there here : Outside) → AreAlike a b there here → (done : List Operation) (region page : ℕ)
+    → memory a there done region page ≡ memory b here done region page
 memory_alike a b there here same [] region page = start_alike a b there here same region page
 memory_alike a b there here same (Load task r p address bytes value ∷ past) region page = memory_alike a b there here same past region page
 memory_alike a b there here same (Store task r p address bytes value ∷ past) region page =
-    ap (λ z. if region == r && page == p then with_bytes (address % z) (little_endian_bytes bytes value) (memory a there past region page) else memory a there past region page) same.size
-    ∙ ap (λ z. if region == r && page == p then with_bytes (address % b.size) (little_endian_bytes bytes value) z else z) (memory_alike a b there here same past region page)
+    ap (λ z. if region == r && page == p then with_bytes (address % z) (little_endian_bytes bytes value) (memory a there past region page) else memory a there
+    past region page) same.size
+    ∙ ap (λ z. if region == r && page == p then with_bytes (address % b.size) (little_endian_bytes bytes value) z else z)
+    (memory_alike a b there here same past region page)
 memory_alike a b there here same (Make r ∷ past) region page =
     ap (λ z. if region == r then replicate z 0 else memory a there past region page) same.size
     ∙ ap (λ z. if region == r then zeros b else z) (memory_alike a b there here same past region page)
@@ -92,7 +97,8 @@ reads_alike a b there here same (Load task region page address bytes value ∷ p
 )
 reads_alike a b there here same (other ∷ past) reads = reads_alike a b there here same past reads
 
-ends_alike : (a b : Header) (task address : ℕ) (access : Access) (past : List Event) → a.size ≡ b.size → EndsAccess a task address access past → EndsAccess b task address access past
+ends_alike : (a b : Header) (task address : ℕ) (access : Access) (past : List Event) → a.size ≡ b.size → EndsAccess a task address access past
+    → EndsAccess b task address access past
 ends_alike a b task address access past size ends = record {
   waits = ends.waits;
   entry = ends.entry;
@@ -104,7 +110,8 @@ turn_alike a b size (event.BegunLoad task address bytes) past turn = turn
 turn_alike a b size (event.BegunStore task address bytes value) past turn = turn
 turn_alike a b size (event.BegunCopy task address bytes to) past turn = turn
 turn_alike a b size (event.Loaded task object page value) past turn = (turn.0, turn.1, ends_alike a b task.0 turn.0 (Loading turn.0 turn.1) past size turn.2)
-turn_alike a b size (event.Stored task object page at bytes value) past turn = (turn.0, ends_alike a b task.0 turn.0 (Storing turn.0 bytes value) past size turn.1)
+turn_alike a b size (event.Stored task object page at bytes value) past turn =
+    (turn.0, ends_alike a b task.0 turn.0 (Storing turn.0 bytes value) past size turn.1)
 turn_alike a b size other past turn = tt
 
 turns_alike : (a b : Header) → a.size ≡ b.size → (history : List Event) → EachEvent (IsOneAtATime a) history → EachEvent (IsOneAtATime b) history
@@ -128,10 +135,12 @@ flat_among objects paging region =
     ((not (nat_lt region (length objects)) && paging) || (nat_lt region (length objects) && is_file_kept (slice_get (reverse objects) region)))
     || is_shared_kind (if nat_lt region (length objects) then kind_in (slice_get (reverse objects) region) else kind_in None)
 
-told_says_nothing : (header : Header) (files : FilesAtStart) (pages : ℕ → ℕ → List ℕ) (object : ℕ) → files ≡ Told pages → (are_untold files && is_file header object) ≡ false
+told_says_nothing : (header : Header) (files : FilesAtStart) (pages : ℕ → ℕ → List ℕ) (object : ℕ) → files ≡ Told pages
+    → (are_untold files && is_file header object) ≡ false
 told_says_nothing header files pages object told = ap (λ z. are_untold z && is_file header object) told
 
-are_alike : (a b : Header) (there here : Outside) → a.size ≡ b.size → a.objects.items ≡ b.objects.items → IsFresh a there → IsFresh b here → AreAlike a b there here
+are_alike : (a b : Header) (there here : Outside) → a.size ≡ b.size → a.objects.items ≡ b.objects.items → IsFresh a there → IsFresh b here
+    → AreAlike a b there here
 are_alike a b there here size objects told told_too = record {
   size = size;
   file = λ region. ap (λ z. file_among z region) objects;
@@ -149,6 +158,8 @@ pub fresh_is_fresh : (header : Header) → IsFresh header (fresh header)
 fresh_is_fresh header = record { pages = λ object page. read_at [] (page * header.size) header.size; files = refl; empty = λ object page. refl; paging = refl }
 
 -- where two headers have the same page size and the same objects, and all is told and empty, memory is one under both or neither
-pub one_memory_alike : (a b : Header) (there here : Outside) → a.size ≡ b.size → a.objects.items ≡ b.objects.items → IsFresh a there → IsFresh b here → (history : List Event)
+pub one_memory_alike : (a b : Header) (there here : Outside) → a.size ≡ b.size → a.objects.items ≡ b.objects.items → IsFresh a there → IsFresh b here
+    → (history : List Event)
     → IsOneMemory a there history → IsOneMemory b here history
-one_memory_alike a b there here size objects told told_too history one = one_alike a b there here (are_alike a b there here size objects told told_too) history one
+one_memory_alike a b there here size objects told told_too history one =
+    one_alike a b there here (are_alike a b there here size objects told told_too) history one

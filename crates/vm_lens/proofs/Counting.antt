@@ -12,16 +12,19 @@ use Rattle.vm_litmus.specs.Parts.{accesses_in, loads_of, tasks_of}
 use Rattle.vm_lens.specs.Exploring.{Gives, IsShown, free_of, fresh, values_in}
 
 -- what is told of fewer runs is told of more
-pub weakened : (script : Script) (setup : ℕ) (start : List Event) (a b : Bool) (line : Line) → (b ≡ true → a ≡ true) → IsShown script setup start a line → IsShown script setup start b line
+pub weakened : (script : Script) (setup : ℕ) (start : List Event) (a b : Bool) (line : Line) → (b ≡ true → a ≡ true) → IsShown script setup start a line
+    → IsShown script setup start b line
 weakened script setup start a b line less it = record { later = it.later; ran = it.ran; shows = it.shows; on_shared = λ is. it.on_shared (less is) }
 
 -- a line with the same values and the same order is shown by the same run
-retold : (script : Script) (setup : ℕ) (start : List Event) (shared : Bool) (old new : Line) → IsKept old new → IsShown script setup start shared old → IsShown script setup start shared new
+retold : (script : Script) (setup : ℕ) (start : List Event) (shared : Bool) (old new : Line) → IsKept old new → IsShown script setup start shared old
+    → IsShown script setup start shared new
 retold script setup start shared old new kept it =
     let free = free_of script setup in
     let tasks = tasks_of (loads_of (reverse (accesses_in free))) in
     let P : List ℕ → Type 0 = λ order. Shows script.header (fresh script.header) free start (reverse order) (values_in free old) it.later in
-    let Q : List ℕ → Type 0 = λ values. Shows script.header (fresh script.header) free start (reverse new.order) (λ t. reverse (values_of t tasks values)) it.later in
+    let Q : List ℕ → Type 0 = λ values. Shows script.header (fresh script.header) free start (reverse new.order) (λ t. reverse (values_of t tasks values))
+    it.later in
     record { later = it.later; ran = it.ran; shows = subst Q (sym kept.values) (subst P (sym kept.order) it.shows); on_shared = it.on_shared }
 
 and_left : (a b : Bool) → (a && b) ≡ true → a ≡ true
@@ -44,7 +47,8 @@ shown_more script setup start before on line old new seen only all k d less = el
 ]
 
 -- a line of the same values gives the same order's outcome
-given_by : (script : Script) (setup : ℕ) (start : List Event) (order : List ℕ) (old new : Line) → new.values ≡ old.values → Gives script setup start order old → Gives script setup start order new
+given_by : (script : Script) (setup : ℕ) (start : List Event) (order : List ℕ) (old new : Line) → new.values ≡ old.values → Gives script setup start order old
+    → Gives script setup start order new
 given_by script setup start order old new same gives =
     let free = free_of script setup in
     let tasks = tasks_of (loads_of (reverse (accesses_in free))) in

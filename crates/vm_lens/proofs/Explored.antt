@@ -49,7 +49,9 @@ explored script found lines all shared made rows parts start accesses shown ever
       shown =
           subst (All (IsShown script found.setup found.start.items found.whole)) (sym rows)
           (λ k d less. weakened script found.setup found.start.items shared found.whole _ on_shared (shown k d less));
-      all = subst (λ z. AllShown script.header (fresh script.header) (free_of script found.setup) found.start.items (outcomes_of script found.setup z)) (sym rows) each;
+      all =
+          subst (λ z. AllShown script.header (fresh script.header) (free_of script found.setup) found.start.items (outcomes_of script found.setup z)) (sym rows)
+          each;
       counted = count ∙ (sym times ∙ sym (ap times_of rows));
       whole = λ is. subst (AreWhole script found.setup found.start.items) (sym rows)
           (are_whole script found.setup found.start.items lines start.nobody made (tame is) each);

@@ -20,7 +20,8 @@ use Rattle.vm_lens.specs.Exploring.{fresh}
 all_reversed : {A : Type 0} (P : A → Type 0) (xs : List A) → All P xs → All P (reverse xs)
 all_reversed P [] all = All-nil P
 all_reversed P (x ∷ xs) all =
-    subst (All P) (sym (reverse-append (x ∷ []) xs)) (All-append P (reverse xs) (x ∷ []) (all_reversed P xs (All-tail P x xs all)) (All-cons P x [] (All-head P x xs all) (All-nil P)))
+    subst (All P) (sym (reverse-append (x ∷ []) xs)) (All-append P (reverse xs) (x ∷ []) (all_reversed P xs (All-tail P x xs all))
+    (All-cons P x [] (All-head P x xs all) (All-nil P)))
 
 kept_kind : (kind : ObjectKind) → kind ≢ Temp → is_wild_kind kind ≡ false → (is_file_kind kind || is_shared_kind kind) ≡ true
 kept_kind Temp made tame = absurd (made refl)
@@ -28,7 +29,8 @@ kept_kind File made tame = refl
 kept_kind Shared made tame = refl
 kept_kind Wild made tame = absurd (let bad : true ≡ false = tame in cc)
 
-kept : (row : Option Declared) (object : Declared) → row ≡ Some object → object.kind ≢ Temp → is_wild_kind (kind_in row) ≡ false → (is_file_kept row || is_shared_kind (kind_in row)) ≡ true
+kept : (row : Option Declared) (object : Declared) → row ≡ Some object → object.kind ≢ Temp → is_wild_kind (kind_in row) ≡ false
+    → (is_file_kept row || is_shared_kind (kind_in row)) ≡ true
 kept None object is made tame = absurd (let bad : None ≡ Some object = is in cc)
 kept (Some found) object is made tame =
     let same : found ≡ object = cc in
@@ -46,13 +48,17 @@ declared_is_flat : (header : Header) (region : ℕ) → DeclaresNoTemporary head
     → (is_file_kept (declared header region) || is_shared_kind (kind_in (declared header region))) ≡ true
 declared_is_flat header region made tame below = elim ((slice_get_cases (reverse header.objects.items) region).1) [
   | inl some ↦
-      let here : is_wild_kind (kind_in (declared header region)) ≡ false = sym (ap (λ b. is_wild_kind (if b then kind_in (declared header region) else Temp)) below) ∙ tame in
-      let kind = subst (λ (z : Declared). z.kind ≢ Temp) some.3 (all_reversed (λ (object : Declared). object.kind ≢ Temp) header.objects.items made region some.0 some.1) in
+      let here : is_wild_kind (kind_in (declared header region)) ≡ false = sym (ap (λ b. is_wild_kind (if b then kind_in (declared header region) else Temp))
+      below) ∙ tame in
+      let kind = subst (λ (z : Declared). z.kind ≢ Temp) some.3 (all_reversed (λ (object : Declared). object.kind ≢ Temp) header.objects.items made region
+      some.0 some.1) in
       kept (declared header region) some.0 some.2 kind here
-  | inr none ↦ let past = none.0 in let many = length-reverse header.objects.items in let less = below_is region (named header) below in absurd (omega (arith, less, past, many))
+  | inr none ↦ let past =
+      none.0 in let many = length-reverse header.objects.items in let less = below_is region (named header) below in absurd (omega (arith, less, past, many))
 ]
 
-pub all_flat : (header : Header) (start : List Event) → DeclaresNoTemporary header → ((object : ℕ) → is_wild header object ≡ false) → AllFlat header (fresh header) start
+pub all_flat : (header : Header) (start : List Event) → DeclaresNoTemporary header → ((object : ℕ) → is_wild header object ≡ false)
+    → AllFlat header (fresh header) start
 all_flat header start made tame t address entry found =
     flat_at (nat_lt entry.region.0 (named header)) (declared header entry.region.0) (declared_is_flat header entry.region.0 made (tame entry.region.0))
 

@@ -27,7 +27,8 @@ each_told areas none zero = refl
 each_told areas none (suc host) = ap (λ z. z && is_some (areas (area_name host))) (each_told areas none host) ∙ ap is_some (none (area_name host))
 
 -- what is told of files and areas that hold nothing
-pub told_empty : (files paging : List ℕ → Told) (header : Header) → ((name : List ℕ) → files name ≡ Some None) → ((name : List ℕ) → paging name ≡ Some None) → IsFresh header (outside_of files paging header)
+pub told_empty : (files paging : List ℕ → Told) (header : Header) → ((name : List ℕ) → files name ≡ Some None) → ((name : List ℕ) → paging name ≡ Some None)
+    → IsFresh header (outside_of files paging header)
 told_empty files paging header none no_area =
     let pages : ℕ → ℕ → List ℕ = λ object page. read_at (unwrap_or (told_of (files (name_of header object))) []) (page * header.size) header.size in
     record {

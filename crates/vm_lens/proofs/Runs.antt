@@ -24,7 +24,8 @@ use Rattle.vm_lens.specs.Exploring.{AreLoaded, IsFresh, IsLegalRun, IsOnShared, 
 use Rattle.vm_lens.proofs.Alike.{fresh_is_fresh, one_memory_alike}
 
 -- a header that says the same, with files and areas that hold nothing at the start, gives memory the same history
-one_under : (a b : Header) (outside : Outside) (history : List Event) → SayTheSame a b → IsFresh a outside → IsOneMemory a outside history → IsOneMemory b (fresh b) history
+one_under : (a b : Header) (outside : Outside) (history : List Event) → SayTheSame a b → IsFresh a outside → IsOneMemory a outside history
+    → IsOneMemory b (fresh b) history
 one_under a b outside history same told one = one_memory_alike a b outside (fresh b) same.size same.objects told (fresh_is_fresh b) history one
 
 -- in a legal run memory is one
@@ -32,10 +33,12 @@ pub one_of_run : (header : Header) (history : List Event) → IsLegalRun header 
 one_of_run header history ran =
     let legal = ran.whole.legal in
     let causes = whole ran.run.header ran.outside ran.run.commands.items history legal.follows in
-    one_under ran.run.header header ran.outside history ran.same ran.told (memory_is_one ran.run.header ran.outside history causes legal.holds.own_bytes legal.holds.flat_bytes)
+    one_under ran.run.header header ran.outside history ran.same ran.told (memory_is_one ran.run.header ran.outside history causes legal.holds.own_bytes
+    legal.holds.flat_bytes)
 
 -- and in one that is legal so far
-pub one_so_far : (header : Header) (run : Script) (outside : Outside) (history : List Event) → SayTheSame run.header header → IsFresh run.header outside → LegalSoFar run outside history
+pub one_so_far : (header : Header) (run : Script) (outside : Outside) (history : List Event) → SayTheSame run.header header → IsFresh run.header outside
+    → LegalSoFar run outside history
     → IsOneMemory header (fresh header) history
 one_so_far header run outside history same told legal =
     let causes = so_far run.header outside legal.run history legal.follows in

@@ -40,8 +40,10 @@ one_counts t task access tasks accesses same = elim (eqb_tells task t) [ inl is 
 
 each_counts : (t line : ℕ) (c : Command) (older : List Numbered) → occurrences t (tasks_of (accesses_in older)) ≡ length (accesses_of t older)
     → occurrences t (tasks_of (accesses_in (record { line = line; command = c } ∷ older))) ≡ length (made_to_begin t c ++ accesses_of t older)
-each_counts t line (command.Load task address bytes) older same = one_counts t task.0 (Loading address bytes) (tasks_of (accesses_in older)) (accesses_of t older) same
-each_counts t line (command.Store task address bytes value) older same = one_counts t task.0 (Storing address bytes value) (tasks_of (accesses_in older)) (accesses_of t older) same
+each_counts t line (command.Load task address bytes) older same =
+    one_counts t task.0 (Loading address bytes) (tasks_of (accesses_in older)) (accesses_of t older) same
+each_counts t line (command.Store task address bytes value) older same =
+    one_counts t task.0 (Storing address bytes value) (tasks_of (accesses_in older)) (accesses_of t older) same
 each_counts t line other older same = same
 
 -- each task stands among the tasks of the accesses as often as it has accesses
@@ -54,16 +56,19 @@ any_map f P xs some =
     let many = length-map xs f in
     (some.0, f some.1, omega (arith, many, some.2), get_or-map f xs some.0 some.1 (f some.1) some.2 ∙ ap f some.3, some.4)
 
-shown_for : (header : Header) (outside : Outside) (free : List Numbered) (start : List Event) (values : Line → Values) (lines : List Line) (tasks : List ℕ) (all : List (Vec ℕ))
+shown_for : (header : Header) (outside : Outside) (free : List Numbered) (start : List Event) (values : Line → Values) (lines : List Line) (tasks : List ℕ)
+    (all : List (Vec ℕ))
     → ((t : ℕ) → occurrences t tasks ≡ length (accesses_of t free))
     → ((order : List ℕ) → IsOrderOf tasks order → Any (λ it. it.items ≡ order) all)
     → All (λ it. Any (λ line. AreShown header outside free start (reverse it.items) (values line)) lines) all
     → AllShown header outside free start (map values lines)
 shown_for header outside free start values lines tasks all counts every given order is =
     let found = every (reverse order) (λ t. occurrences-reverse t order ∙ (is t ∙ sym (counts t))) in
-    let shown = subst (λ (z : Vec ℕ). Any (λ line. AreShown header outside free start (reverse z.items) (values line)) lines) found.3 (given found.0 found.1 found.2) in
+    let shown = subst (λ (z : Vec ℕ). Any (λ line. AreShown header outside free start (reverse z.items) (values line)) lines) found.3
+    (given found.0 found.1 found.2) in
     let turned : reverse found.1.items ≡ order = ap reverse found.4 ∙ reverse-reverse order in
-    any_map values (AreShown header outside free start order) lines (subst (λ z. Any (λ line. AreShown header outside free start z (values line)) lines) turned shown)
+    any_map values (AreShown header outside free start order) lines (subst (λ z. Any (λ line. AreShown header outside free start z (values line)) lines) turned
+    shown)
 
 -- where each order that there is gives a line, each was shown
 pub all_shown : (script : Script) (setup : ℕ) (start : List Event) (lines : List Line) (tasks : List ℕ) (all : List (Vec ℕ))
@@ -73,5 +78,6 @@ pub all_shown : (script : Script) (setup : ℕ) (start : List Event) (lines : Li
     → AllShown script.header (fresh script.header) (free_of script setup) start (outcomes_of script setup lines)
 all_shown script setup start lines tasks all is every given =
     let free = free_of script setup in
-    let counts : (t : ℕ) → occurrences t tasks ≡ length (accesses_of t free) = λ t. ap (occurrences t) is ∙ (tasks_turned t (accesses_in free) ∙ tasks_count t free) in
+    let counts : (t : ℕ) → occurrences t tasks ≡ length (accesses_of t free) = λ t. ap (occurrences t) is
+    ∙ (tasks_turned t (accesses_in free) ∙ tasks_count t free) in
     shown_for script.header (fresh script.header) free start (values_in free) lines tasks all counts every given

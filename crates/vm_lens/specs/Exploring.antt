@@ -91,7 +91,8 @@ outcomes_of script setup lines = map (values_in (free_of script setup)) lines
 -- between them: its loads that ended have the values of a line.
 abbrev pub AreWhole : Script → ℕ → List Event → List Line → Type 0
 AreWhole script setup start lines =
-    (run : Script) → SayTheSame run.header script.header → (outside : Outside) → IsFresh run.header outside → (later : List Event) → LegalSoFar run outside (later ++ start)
+    (run : Script) → SayTheSame run.header script.header → (outside : Outside) → IsFresh run.header outside → (later : List Event)
+    → LegalSoFar run outside (later ++ start)
     → GoesOn (free_of script setup) later → Any (λ values. Agrees values later) (outcomes_of script setup lines)
 
 -- what was explored of a script
@@ -101,6 +102,7 @@ pub record IsExplored (script : Script) (found : Explored) : Type 0 where
   pub accesses : found.accesses.items ≡ reverse (accesses_in (free_of script found.setup))
   -- each line was shown, and each order gives one of them
   pub shown : All (IsShown script found.setup found.start.items found.whole) (map line_of found.rows.items)
-  pub all : AllShown script.header (fresh script.header) (free_of script found.setup) found.start.items (outcomes_of script found.setup (map line_of found.rows.items))
+  pub all : AllShown script.header (fresh script.header) (free_of script found.setup) found.start.items
+      (outcomes_of script found.setup (map line_of found.rows.items))
   pub counted : found.interleavings ≡ times_of (map line_of found.rows.items)
   pub whole : found.whole ≡ true → AreWhole script found.setup found.start.items (map line_of found.rows.items)

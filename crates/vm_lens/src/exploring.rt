@@ -1,5 +1,6 @@
 // Every order of the loads and stores behind a set-up.
-ghost use Rattle.std.specs.Prelude.{Any, ◌≡◌, ◌≢◌, ◌≤◌, ◌<◌, ◌+◌, ◌-◌, ◌^◌, ◌&&◌, length, reverse, IfOk, IfSome, OnOk, IsTrue, Some, true, false, [], Bool, List, ℕ};
+ghost use Rattle.std.specs.Prelude.{Any, ◌≡◌, ◌≢◌, ◌≤◌, ◌<◌, ◌+◌, ◌-◌, ◌^◌, ◌&&◌, length, reverse, IfOk, IfSome, OnOk, IsTrue, Some, true, false, [], Bool};
+ghost use Rattle.std.specs.Prelude.{List, ℕ};
 ghost use Rattle.std.specs.List.{All};
 ghost use Rattle.vm_explore.specs.Levels.{IsOrderOf};
 ghost use Rattle.vm_explore.specs.Tables.{Line, times_of};
@@ -173,7 +174,8 @@ fn values_behind(
     start: &History,
     accesses: &[FreeAccess],
 ) -> Result<Option<Vec<u64>>, Stop>
-    ensures { IfOk result (λ found. IfSome found (λ values. AreLoaded (tasks_of (loads_of accesses.now)) (later_of (length start.now.items) history.now.items) values.items)) }
+    ensures { IfOk result (λ found. IfSome found (λ values. AreLoaded (tasks_of (loads_of accesses.now)) (later_of (length start.now.items) history.now.items)
+        values.items)) }
 {
     let loads = tasks_of(alloc, &loads_of(alloc, accesses)?)?;
     let loaded = loaded_behind(alloc, history, start.len())?;
@@ -225,8 +227,10 @@ fn explore_order(
     requires within { setup ≤ length script.now.commands.items }
     requires accesses { accesses.now ≡ reverse (accesses_in (free_of script.now setup)) }
     requires room { times_of table.old < 2 ^ 32 - 1 }
-    ensures shown { IfOk result (λ on. (before : Bool) → All (IsShown script.now setup start.now.items before) table.old → All (IsShown script.now setup start.now.items (before && on)) table.new) }
-    ensures kept { OnOk result ((given : List ℕ) → Any (Gives script.now setup start.now.items given) table.old → Any (Gives script.now setup start.now.items given) table.new) }
+    ensures shown { IfOk result (λ on. (before : Bool) → All (IsShown script.now setup start.now.items before) table.old
+        → All (IsShown script.now setup start.now.items (before && on)) table.new) }
+    ensures kept { OnOk result ((given : List ℕ) → Any (Gives script.now setup start.now.items given) table.old
+        → Any (Gives script.now setup start.now.items given) table.new) }
     ensures gives { OnOk result (Any (Gives script.now setup start.now.items order.now) table.new) }
     ensures times { OnOk result (times_of table.new ≡ times_of table.old + 1) }
 {

@@ -101,9 +101,12 @@ fn tell<K: Sink>(text: &[u8], status: Status, out: &mut K) -> Status
 // Explores a script, and writes what comes of it.
 fn explore_read<K: Sink>(alloc: Global, bytes: &[u8], script: &Script, out: &mut K) -> Outcome
     requires { DeclaresNoTemporary script.now.header }
-    ensures done { result.status ≡ Status.Done → (found : Explored) × (result.explored ≡ Some found) × IsExplored script.now found × Appends (K.written out.old) (K.written out.new) (explored_text found) }
-    ensures hindered { result.status ≡ Status.NotExplored → (hindrance : Hindrance) × Appends (K.written out.old) (K.written out.new) (hindrance_text hindrance) }
-    ensures others { (result.status ≡ Status.Done) ⊎ ((result.status ≡ Status.NotExplored) ⊎ ((result.status ≡ Status.OutputFault) ⊎ (result.status ≡ Status.NoMemory))) }
+    ensures done { result.status ≡ Status.Done → (found : Explored) × (result.explored ≡ Some found) × IsExplored script.now found
+        × Appends (K.written out.old) (K.written out.new) (explored_text found) }
+    ensures hindered { result.status ≡ Status.NotExplored → (hindrance : Hindrance)
+        × Appends (K.written out.old) (K.written out.new) (hindrance_text hindrance) }
+    ensures others { (result.status ≡ Status.Done) ⊎ ((result.status ≡ Status.NotExplored)
+        ⊎ ((result.status ≡ Status.OutputFault) ⊎ (result.status ≡ Status.NoMemory))) }
     ensures cause { result.status ≡ Status.OutputFault → CountRises (K.faults out.old) (K.faults out.new) }
     ensures later { K.faults out.old ≤ K.faults out.new }
 {
@@ -144,7 +147,8 @@ fn tell_hindrance<K: Sink>(alloc: Global, hindrance: Hindrance, out: &mut K) -> 
 }
 
 fn tell_bad<K: Sink>(alloc: Global, line: u32, kind: ScriptFault, out: &mut K) -> Outcome
-    ensures told { (result.status ≡ Status.BadScript line kind) × Appends (K.written out.old) (K.written out.new) (bad_text line kind) ⊎ ((result.status ≡ Status.OutputFault) ⊎ (result.status ≡ Status.NoMemory)) }
+    ensures told { (result.status ≡ Status.BadScript line kind) × Appends (K.written out.old) (K.written out.new) (bad_text line kind)
+        ⊎ ((result.status ≡ Status.OutputFault) ⊎ (result.status ≡ Status.NoMemory)) }
     ensures cause { result.status ≡ Status.OutputFault → CountRises (K.faults out.old) (K.faults out.new) }
     ensures later { K.faults out.old ≤ K.faults out.new }
 {
@@ -167,17 +171,21 @@ pub fn lens_main<S: Source, K: Sink>(
 ) -> Outcome
     // The script of the source was explored, and what was found was written and nothing else: each outcome is that of a legal run of its
     // order, and where `whole` was found, no legal history that goes on from the set-up's with these accesses has another.
-    ensures done { result.status ≡ Status.Done → (asks_explore words.now ≡ true) × IsDone (S.left script.old) result.explored (K.written out.old) (K.written out.new) }
+    ensures done { result.status ≡ Status.Done → (asks_explore words.now ≡ true)
+        × IsDone (S.left script.old) result.explored (K.written out.old) (K.written out.new) }
 
     // It isn't explored: what hinders that was written.
-    ensures not_explored { result.status ≡ Status.NotExplored → (asks_explore words.now ≡ true) × (hindrance : Hindrance) × Appends (K.written out.old) (K.written out.new) (hindrance_text hindrance) }
+    ensures not_explored { result.status ≡ Status.NotExplored → (asks_explore words.now ≡ true) × (hindrance : Hindrance)
+        × Appends (K.written out.old) (K.written out.new) (hindrance_text hindrance) }
 
     // The source's bytes are no script: their first fault was written.
-    ensures bad { (line : ℕ) → (kind : ScriptFault) → result.status ≡ Status.BadScript line kind → (asks_explore words.now ≡ true) × IsBadFrom (S.left script.old) line kind × Appends (K.written out.old) (K.written out.new) (bad_text line kind) }
+    ensures bad { (line : ℕ) → (kind : ScriptFault) → result.status ≡ Status.BadScript line kind → (asks_explore words.now ≡ true)
+        × IsBadFrom (S.left script.old) line kind × Appends (K.written out.old) (K.written out.new) (bad_text line kind) }
 
     // The words are no command, and then nothing else can come of them but a fault of the sink or want of memory.
     ensures usage { result.status ≡ Status.Usage → (asks_explore words.now ≡ false) × Appends (K.written out.old) (K.written out.new) usage_text }
-    ensures no_command { asks_explore words.now ≡ false → (result.status ≡ Status.Usage) ⊎ ((result.status ≡ Status.OutputFault) ⊎ (result.status ≡ Status.NoMemory)) }
+    ensures no_command { asks_explore words.now ≡ false → (result.status ≡ Status.Usage)
+        ⊎ ((result.status ≡ Status.OutputFault) ⊎ (result.status ≡ Status.NoMemory)) }
 
     // The source failed, or the sink. Counts of faults never fall.
     ensures read_cause { result.status ≡ Status.ReadFault → CountRises (S.faults script.old) (S.faults script.new) }

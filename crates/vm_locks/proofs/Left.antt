@@ -23,7 +23,8 @@ abbrev pub left_behind : (object from page : ℕ) (parts : HostParts) → from �
 left_behind object from page parts low left = record { lists = left.lists; queued = λ p row above is here. left.queued p row (omega arith) is here }
 
 -- a page that is here has changed or gone, and needs no room any more
-abbrev pub left_less : (object from page : ℕ) (row : PageRow) (now : Option PageRow) (old new : HostParts) → Fit old → from ≤ page → row_at old.resident object page ≡ Some row → PutsRow object page now old.resident new.resident
+abbrev pub left_less : (object from page : ℕ) (row : PageRow) (now : Option PageRow) (old new : HostParts) → Fit old → from ≤ page
+    → row_at old.resident object page ≡ Some row → PutsRow object page now old.resident new.resident
     → AreLeft object from old → AreLeft object (page + 1) new
 left_less object from page row now old new fit low found put left =
     record {
@@ -40,6 +41,8 @@ left_less object from page row now old new fit low found put left =
     }
 
 -- the page that is looked at
-pub one_left : (object from page : ℕ) (row : PageRow) (parts : HostParts) (left : AreLeft object from parts) → from ≤ page → row_at parts.resident object page ≡ Some row → row.here ≡ true
+pub one_left : (object from page : ℕ) (row : PageRow) (parts : HostParts) (left : AreLeft object from parts) → from ≤ page
+    → row_at parts.resident object page ≡ Some row → row.here ≡ true
     → listed_pages (queues_except row.frame.0 left.lists) + 1 ≤ listed_pages left.lists
-one_left object from page row parts left low found here = listed_less row.frame.0 left.lists (queues_except row.frame.0 left.lists) (left.queued page row low found here) refl
+one_left object from page row parts left low found here =
+    listed_less row.frame.0 left.lists (queues_except row.frame.0 left.lists) (left.queued page row low found here) refl

@@ -50,16 +50,22 @@ act_on request row = act_of (record { returns = request.returns; flush = request
 -- A page that is here obeys, as the table says. One that isn't given back is dropped, or it stays and is locked; one that is given back goes, and its frame is
 -- held, or a copy stays, which is locked and neither dirty nor precious.
 pub data PageObeys (host : HostId) (key : PageKey) (control : ℕ) (request : LockRequest) (row : PageRow) (old new : LockState) : Type 0 where
-  IsDropped : act_on request row ≡ record { give_back = false; remove = true } → Discards key row old.parts new.parts → new.parts.objects ≡ old.parts.objects → new.held ≡ old.held → new.room ≡ old.room
+  IsDropped : act_on request row ≡ record { give_back = false; remove = true } → Discards key row old.parts new.parts → new.parts.objects ≡ old.parts.objects
+      → new.held ≡ old.held → new.room ≡ old.room
       → new.events ≡ event.Dropped host key.object key.page ∷ old.events → PageObeys host key control request row old new
-  Stays : act_on request row ≡ record { give_back = false; remove = false } → Relocks key row request.lock false old.parts new.parts → new.parts.objects ≡ old.parts.objects → new.held ≡ old.held → new.room ≡ old.room
+  Stays : act_on request row ≡ record { give_back = false; remove = false } → Relocks key row request.lock false old.parts new.parts
+      → new.parts.objects ≡ old.parts.objects → new.held ≡ old.held → new.room ≡ old.room
       → new.events ≡ old.events → PageObeys host key control request row old new
-  GoesBack : act_on request row ≡ record { give_back = true; remove = true } → Removes key row old.parts new.parts → SameObjects old.parts.objects new.parts.objects
+  GoesBack : act_on request row ≡ record { give_back = true; remove = true } → Removes key row old.parts new.parts
+      → SameObjects old.parts.objects new.parts.objects
       → PutsAbsent key.object.0 key.page.0 false old.parts.objects new.parts.objects → new.held ≡ old.held ++ row.frame ∷ [] → new.room + 1 ≡ old.room
-      → new.events ≡ event.Sent (Up host key.object) (message.Return control key.page row.dirty false (page_in old.parts.frames row.frame.0)) ∷ old.events → PageObeys host key control request row old new
-  IsSaved : act_on request row ≡ record { give_back = true; remove = false } → Relocks key row request.lock true old.parts new.parts → SameObjects old.parts.objects new.parts.objects
+      → new.events ≡ event.Sent (Up host key.object) (message.Return control key.page row.dirty false (page_in old.parts.frames row.frame.0)) ∷ old.events
+      → PageObeys host key control request row old new
+  IsSaved : act_on request row ≡ record { give_back = true; remove = false } → Relocks key row request.lock true old.parts new.parts
+      → SameObjects old.parts.objects new.parts.objects
       → PutsAbsent key.object.0 key.page.0 false old.parts.objects new.parts.objects → new.held ≡ old.held → new.room ≡ old.room
-      → new.events ≡ event.Sent (Up host key.object) (message.Return control key.page row.dirty true (page_in old.parts.frames row.frame.0)) ∷ old.events → PageObeys host key control request row old new
+      → new.events ≡ event.Sent (Up host key.object) (message.Return control key.page row.dirty true (page_in old.parts.frames row.frame.0)) ∷ old.events
+      → PageObeys host key control request row old new
 
 -- the next page in the range that is here or asked, from one on
 pub record IsNextInRange (object : ObjectId) (request : LockRequest) (from : ℕ) (page : PageNo) (row : PageRow) (s : LockState) : Type 0 where
@@ -69,11 +75,13 @@ pub record IsNextInRange (object : ObjectId) (request : LockRequest) (from : ℕ
 
 -- the pages of the range obey from one on, by rising number, until none is left; one that is asked is left alone
 pub data PagesObey (host : HostId) (object : ObjectId) (control : ℕ) (request : LockRequest) : ℕ → LockState → LockState → Type 0 where
-  NoMore : (from : ℕ) → (s : LockState) → ((p : ℕ) → from ≤ p → p < request.page.0 + request.count → row_at s.parts.resident object.0 p ≡ None) → PagesObey host object control request from s s
+  NoMore : (from : ℕ) → (s : LockState) → ((p : ℕ) → from ≤ p → p < request.page.0 + request.count → row_at s.parts.resident object.0 p ≡ None)
+      → PagesObey host object control request from s s
   IsAsked : (from : ℕ) → (page : PageNo) → (row : PageRow) → (old new : LockState) → IsNextInRange object request from page row old → row.here ≡ false
       → PagesObey host object control request (suc page.0) old new → PagesObey host object control request from old new
   Next : (from : ℕ) → (page : PageNo) → (row : PageRow) → (old mid new : LockState) → IsNextInRange object request from page row old → row.here ≡ true
-      → PageObeys host (record { object = object; page = page }) control request row old mid → PagesObey host object control request (suc page.0) mid new → PagesObey host object control request from old new
+      → PageObeys host (record { object = object; page = page }) control request row old mid → PagesObey host object control request (suc page.0) mid new
+      → PagesObey host object control request from old new
 
 -- the pager is told that all is done, where it asked for that
 pub data Replies (host : HostId) (object : ObjectId) (control : ℕ) (request : LockRequest) (old new : LockState) : Type 0 where

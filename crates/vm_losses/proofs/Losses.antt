@@ -67,12 +67,14 @@ fault_unslotted o p past none (inl lost) = lost_unslotted o p past none lost
 fault_unslotted o p past none (inr reading) = never (sym none ∙ reading_failed o p past reading)
 
 -- a page without a slot is of temporary memory
-slotless_temporary : (header : Header) (outside : Outside) (o p : ℕ) (past : List Event) → EachEvent (HasCause header outside) past → ever (lacks_slot o p) past ≡ true → named header ≤ o
+slotless_temporary : (header : Header) (outside : Outside) (o p : ℕ) (past : List Event) → EachEvent (HasCause header outside) past
+    → ever (lacks_slot o p) past ≡ true → named header ≤ o
 slotless_temporary header outside o p [] causes is = never is
 slotless_temporary header outside o p (event.NoSlot object page ∷ past) causes is =
     one (object.0 == o && page.0 == p) refl is (slotless_temporary header outside o p past causes.1)
   where
-    one : (b : Bool) → (object.0 == o && page.0 == p) ≡ b → b || ever (lacks_slot o p) past ≡ true → (ever (lacks_slot o p) past ≡ true → named header ≤ o) → named header ≤ o
+    one : (b : Bool) → (object.0 == o && page.0 == p) ≡ b → b || ever (lacks_slot o p) past ≡ true → (ever (lacks_slot o p) past ≡ true → named header ≤ o)
+        → named header ≤ o
     one true same is more = let here : named header ≤ object.0 = causes.0.1.temporary in grind (arith, nat_tests, here, same)
     one false same is more = more is
 slotless_temporary header outside o p (e ∷ past) causes is = slotless_temporary header outside o p past causes.1 is
@@ -92,8 +94,10 @@ abbrev AllFit : Header → Channel → List Event → List Message → Type 0
 AllFit header c past [] = Unit {0}
 AllFit header c past (m ∷ q) = FitsOn header c past m × AllFit header c past q
 
-error_later : (header : Header) (object : ℕ) (e : Event) (past : List Event) (m : Message) → FitsError header object past m → FitsError header object (e ∷ past) m
-error_later header object e past (message.Error page reason) fits = λ tame. or_right (lacks_slot object page.0 e) (ever (lacks_slot object page.0) past) (fits tame)
+error_later : (header : Header) (object : ℕ) (e : Event) (past : List Event) (m : Message) → FitsError header object past m
+    → FitsError header object (e ∷ past) m
+error_later header object e past (message.Error page reason) fits =
+    λ tame. or_right (lacks_slot object page.0 e) (ever (lacks_slot object page.0) past) (fits tame)
 error_later header object e past m fits = tt
 
 fits_later : (header : Header) (c : Channel) (e : Event) (past : List Event) (m : Message) → FitsOn header c past m → FitsOn header c (e ∷ past) m
@@ -104,7 +108,8 @@ all_later : (header : Header) (c : Channel) (e : Event) (past : List Event) (q :
 all_later header c e past [] all = tt
 all_later header c e past (m ∷ q) all = (fits_later header c e past m all.0, all_later header c e past q all.1)
 
-all_behind : (header : Header) (c : Channel) (past : List Event) (m : Message) (q : List Message) → AllFit header c past q → FitsOn header c past m → AllFit header c past (q ++ m ∷ [])
+all_behind : (header : Header) (c : Channel) (past : List Event) (m : Message) (q : List Message) → AllFit header c past q → FitsOn header c past m
+    → AllFit header c past (q ++ m ∷ [])
 all_behind header c past m [] all fits = (fits, tt)
 all_behind header c past m (x ∷ q) all fits = (all.0, all_behind header c past m q all.1 fits)
 
@@ -112,7 +117,8 @@ all_rest : (header : Header) (c : Channel) (past : List Event) (q : List Message
 all_rest header c past [] all = tt
 all_rest header c past (m ∷ q) all = all.1
 
-first_fits : (header : Header) (c : Channel) (past : List Event) (q : List Message) (m : Message) → AllFit header c past q → first q ≡ Some m → FitsOn header c past m
+first_fits : (header : Header) (c : Channel) (past : List Event) (q : List Message) (m : Message) → AllFit header c past q → first q ≡ Some m
+    → FitsOn header c past m
 first_fits header c past [] m all is = absurd (let bad : None ≡ Some m = is in cc)
 first_fits header c past (x ∷ q) m all is = let same : x ≡ m = cc in subst (λ (y : Message). FitsOn header c past y) same all.0
 
@@ -124,26 +130,32 @@ kind_fits kinds.File header outside why host object control page reason past tam
 kind_fits kinds.Shared header outside why host object control page reason past tame sends = absurd sends
 kind_fits kinds.Wild header outside why host object control page reason past tame sends = never (sym tame)
 
-sent_fits : (header : Header) (outside : Outside) (c : Channel) (m : Message) (past : List Event) → ever is_device_event past ≡ false → HasCause header outside (event.Sent c m) past → FitsOn header c past m
+sent_fits : (header : Header) (outside : Outside) (c : Channel) (m : Message) (past : List Event) → ever is_device_event past ≡ false
+    → HasCause header outside (event.Sent c m) past → FitsOn header c past m
 sent_fits header outside (Up host object) m past none cause = tt
 sent_fits header outside (Down host object control) (message.Error page reason) past none cause =
-    λ tame. fault_unslotted object.0 page.0 past none (kind_fits (kind_of header object.0) header outside cause.0 host.0 object.0 control page reason past tame cause.1)
+    λ tame. fault_unslotted object.0 page.0 past none (kind_fits (kind_of header object.0) header outside cause.0 host.0 object.0 control page reason past tame
+    cause.1)
 sent_fits header outside (Down host object control) m past none cause = tt
 
-queue_fits : (header : Header) (outside : Outside) (c : Channel) (past : List Event) → EachEvent (HasCause header outside) past → ever is_device_event past ≡ false → AllFit header c past (queue c past)
+queue_fits : (header : Header) (outside : Outside) (c : Channel) (past : List Event) → EachEvent (HasCause header outside) past
+    → ever is_device_event past ≡ false → AllFit header c past (queue c past)
 queue_fits header outside c [] causes none = tt
 queue_fits header outside c (event.Sent d m ∷ past) causes none =
     by (is_channel c d) refl (all_later header c (event.Sent d m) past (queue c past) (queue_fits header outside c past causes.1 none))
   where
-    by : (b : Bool) → is_channel c d ≡ b → AllFit header c (event.Sent d m ∷ past) (queue c past) → AllFit header c (event.Sent d m ∷ past) (if b then queue c past ++ m ∷ [] else queue c past)
+    by : (b : Bool) → is_channel c d ≡ b → AllFit header c (event.Sent d m ∷ past) (queue c past)
+        → AllFit header c (event.Sent d m ∷ past) (if b then queue c past ++ m ∷ [] else queue c past)
     by false other before = before
     by true same before =
-        let fits : FitsOn header c past m = subst (λ (k : Channel). FitsOn header k past m) (same_channel c d same) (sent_fits header outside d m past none causes.0) in
+        let fits : FitsOn header c past m = subst (λ (k : Channel). FitsOn header k past m) (same_channel c d same)
+        (sent_fits header outside d m past none causes.0) in
         all_behind header c (event.Sent d m ∷ past) m (queue c past) before (fits_later header c (event.Sent d m) past m fits)
 queue_fits header outside c (event.Taken d m ∷ past) causes none =
     by (is_channel c d) (all_later header c (event.Taken d m) past (queue c past) (queue_fits header outside c past causes.1 none))
   where
-    by : (b : Bool) → AllFit header c (event.Taken d m ∷ past) (queue c past) → AllFit header c (event.Taken d m ∷ past) (if b then rest (queue c past) else queue c past)
+    by : (b : Bool) → AllFit header c (event.Taken d m ∷ past) (queue c past)
+        → AllFit header c (event.Taken d m ∷ past) (if b then rest (queue c past) else queue c past)
     by false before = before
     by true before = all_rest header c (event.Taken d m ∷ past) (queue c past) before
 queue_fits header outside c (event.DeviceFailed who way object page ∷ past) causes none = never (sym none)
@@ -153,29 +165,35 @@ queue_fits header outside c (e ∷ past) causes none = all_later header c e past
 
 -- the page of the error that the step took
 taken_place : (header : Header) (h o : ℕ) (asked : ℕ → Bool) (m : Message) (past : List Event) (place : Asked)
-    → FitsError header o past m → error_of h o asked m ≡ Some place → is_wild header place.object ≡ false → ever (lacks_slot place.object place.page) past ≡ true
+    → FitsError header o past m → error_of h o asked m ≡ Some place → is_wild header place.object ≡ false
+    → ever (lacks_slot place.object place.page) past ≡ true
 taken_place header h o asked (message.Error page reason) past place fits is tame = by (asked page.0) is
   where
-    by : (b : Bool) → (if b then Some (record { host = h; object = o; page = page.0 }) else None) ≡ Some place → ever (lacks_slot place.object place.page) past ≡ true
+    by : (b : Bool) → (if b then Some (record { host = h; object = o; page = page.0 }) else None) ≡ Some place
+        → ever (lacks_slot place.object place.page) past ≡ true
     by true found =
         let same : record { host = h; object = o; page = page.0 } ≡ place = cc in
         subst (λ (z : Asked). is_wild header z.object ≡ false → ever (lacks_slot z.object z.page) past ≡ true) same fits tame
     by false found = absurd (let bad : None ≡ Some place = found in cc)
 taken_place header h o asked m past place fits is tame = absurd (let bad : None ≡ Some place = is in cc)
 
-error_fits : (header : Header) (outside : Outside) (size : ℕ) (past : List Event) (place : Asked) → EachEvent (HasCause header outside) past → ever is_device_event past ≡ false
+error_fits : (header : Header) (outside : Outside) (size : ℕ) (past : List Event) (place : Asked) → EachEvent (HasCause header outside) past
+    → ever is_device_event past ≡ false
     → error_taken size past ≡ Some place → is_wild header place.object ≡ false → ever (lacks_slot place.object place.page) past ≡ true
 error_fits header outside size [] place causes none is tame = absurd (let bad : None ≡ Some place = is in cc)
 error_fits header outside size (event.Line line ∷ past) place causes none is tame = absurd (let bad : None ≡ Some place = is in cc)
 error_fits header outside size (event.Taken (Up host object) m ∷ past) place causes none is tame = absurd (let bad : None ≡ Some place = is in cc)
 error_fits header outside size (event.Taken (Down host object control) m ∷ past) place causes none is tame =
-    let fits : FitsError header object.0 past m = first_fits header (Down host object control) past (queue (Down host object control) past) m (queue_fits header outside (Down host object control) past causes.1 none) causes.0.1.0 in
+    let fits : FitsError header object.0 past m = first_fits header (Down host object control) past (queue (Down host object control) past) m
+    (queue_fits header outside (Down host object control) past causes.1 none) causes.0.1.0 in
     taken_place header host.0 object.0 _ m past place fits is tame
 error_fits header outside size (event.DeviceFailed who way object page ∷ past) place causes none is tame = never (sym none)
 error_fits header outside size (e ∷ past) place causes none is tame =
-    or_right (lacks_slot place.object place.page e) (ever (lacks_slot place.object place.page) past) (error_fits header outside size past place causes.1 none is tame)
+    or_right (lacks_slot place.object place.page e) (ever (lacks_slot place.object place.page) past)
+    (error_fits header outside size past place causes.1 none is tame)
 
-pub fails_unslotted : (header : Header) (outside : Outside) (history : List Event) → EachEvent (HasCause header outside) history → ever is_device_event history ≡ false → EachEvent (FailsUnslotted header) history
+pub fails_unslotted : (header : Header) (outside : Outside) (history : List Event) → EachEvent (HasCause header outside) history
+    → ever is_device_event history ≡ false → EachEvent (FailsUnslotted header) history
 fails_unslotted header outside [] causes none = tt
 fails_unslotted header outside (event.Failed task object page ∷ past) causes none = (now, fails_unslotted header outside past causes.1 none)
   where

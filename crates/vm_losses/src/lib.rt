@@ -17,5 +17,6 @@ ghost use Rattle.vm_losses.specs.Losses.{FailsUnslotted, ever, is_device_event};
 /// to shared memory fails.
 #[tactic(auto, using(crate::proofs::Losses::fails_unslotted))]
 pub fn without_device_failures_only_unslotted_pages_fail()
-    ensures { (header : Header) (outside : Outside) (history : List Event) → EachEvent (HasCause header outside) history → ever is_device_event history ≡ false → EachEvent (FailsUnslotted header) history }
+    ensures { (header : Header) (outside : Outside) (history : List Event) → EachEvent (HasCause header outside) history → ever is_device_event history ≡ false
+        → EachEvent (FailsUnslotted header) history }
 {}

@@ -19,7 +19,8 @@ record NoTest (a b c d : Bool) : Type 0 where
   pub third : c ≡ false
   pub fourth : d ≡ false
 
-no_test : (a b c d : Bool) (w x y z : Code) → (if not a then Some w else (if b then Some x else (if c then Some y else (if d then Some z else None)))) ≡ None → NoTest a b c d
+no_test : (a b c d : Bool) (w x y z : Code) → (if not a then Some w else (if b then Some x else (if c then Some y else (if d then Some z else None)))) ≡ None
+    → NoTest a b c d
 no_test a b c d w x y z none = record { first = grind arith; second = grind arith; third = grind arith; fourth = grind arith }
 
 -- a new entry is allowed
@@ -30,7 +31,9 @@ pub record IsFree (size : ℕ) (change : MapChange) (rows : List Entry) : Type 0
 
 pub enter_allowed : (size : ℕ) (change : MapChange) (rows : List Entry) → change.kind ≡ kind.Enter → judged size change rows ≡ None → IsFree size change rows
 enter_allowed size change rows enter none =
-    let tests = no_test (is_range size change.address change.bytes) (is_unmapped change.kind size change.address change.bytes rows) (is_occupied change.kind change.address change.bytes rows) (nat_lt most_entries (count_after change.kind size change rows)) code.InvalidArgument code.InvalidAddress code.NoSpace code.TableFull none in
+    let tests = no_test (is_range size change.address change.bytes) (is_unmapped change.kind size change.address change.bytes rows)
+    (is_occupied change.kind change.address change.bytes rows) (nat_lt most_entries (count_after change.kind size change rows)) code.InvalidArgument
+    code.InvalidAddress code.NoSpace code.TableFull none in
     let few : nat_lt most_entries (length rows + 1) ≡ false = rw enter at tests.fourth in
     record {
       range = range_is size change.address change.bytes tests.first;
@@ -42,5 +45,6 @@ is_and : (o : Option Entry) (row : Entry) (P : Entry → Type 0) → o ≡ Some 
 is_and None row P is holds = absurd holds
 is_and (Some x) row P is holds = subst P (same_Some x row is) holds
 
-pub new_entry : (bytes size : ℕ) (change : MapChange) (row : Entry) → bytes ≡ size → change.entry ≡ Some row → IsSomeAnd change.entry (IsNewEntry bytes change) → IsNewEntry size change row
+pub new_entry : (bytes size : ℕ) (change : MapChange) (row : Entry) → bytes ≡ size → change.entry ≡ Some row → IsSomeAnd change.entry (IsNewEntry bytes change)
+    → IsNewEntry size change row
 new_entry bytes size change row same is new = subst (λ (n : ℕ). IsNewEntry n change row) same (is_and change.entry row (IsNewEntry bytes change) is new)

@@ -28,23 +28,37 @@ length_none : (rows : List Entry) → length (flat_map {X = Entry} {A = Entry} (
 length_none [] = refl
 length_none (row ∷ rows) = length_none rows
 
-length_four : (first second third fourth : List Entry) → length (first ++ (second ++ (third ++ fourth))) ≡ length first + (length second + (length third + length fourth))
-length_four first second third fourth = omega (arith, length-append first (second ++ (third ++ fourth)), length-append second (third ++ fourth), length-append third fourth)
+length_four : (first second third fourth : List Entry)
+    → length (first ++ (second ++ (third ++ fourth))) ≡ length first + (length second + (length third + length fourth))
+length_four first second third fourth =
+    omega (arith, length-append first (second ++ (third ++ fourth)), length-append second (third ++ fourth), length-append third fourth)
 
-pub length_rewritten : (becomes : Entry → List Entry) → ((row : Entry) → length (becomes row) ≡ 1) → (size start bytes from to : ℕ) (rows : List Entry) → 0 < bytes → start + bytes ≤ to → InOrder from to rows → to ≤ 2 ^ 32
+pub length_rewritten : (becomes : Entry → List Entry) → ((row : Entry) → length (becomes row) ≡ 1) → (size start bytes from to : ℕ) (rows : List Entry)
+    → 0 < bytes → start + bytes ≤ to → InOrder from to rows → to ≤ 2 ^ 32
     → length (rewritten becomes size start bytes rows) ≡ length rows + (cuts_at start rows + cuts_at (start + bytes) rows)
 length_rewritten becomes each size start bytes from to [] some below order top = refl
 length_rewritten becomes each size start bytes from to (row ∷ rows) some below order top =
     let rest = length_rewritten becomes each size start bytes (row.address + row.bytes) to rows some below order.1.1 top in
     let end : row.address + row.bytes ≤ 2 ^ 32 = omega (arith, ends_rise (row.address + row.bytes) to rows order.1.1) in
     let parts = three_parts row.address (row.address + row.bytes) start (start + bytes) (2 ^ 32) (omega (arith, order.1.0)) (omega arith) (omega arith) end in
-    let four = length_four (cut size 0 start row) (flat_map becomes (cut size start (start + bytes) row)) (cut size (start + bytes) (2 ^ 32) row) (rewritten becomes size start bytes rows) in
+    let four = length_four (cut size 0 start row) (flat_map becomes (cut size start (start + bytes) row)) (cut size (start + bytes) (2 ^ 32) row)
+    (rewritten becomes size start bytes rows) in
     let middle = length_each becomes each (cut size start (start + bytes) row) in
-    omega (arith, rest, parts, four, middle, length_cut size 0 start row, length_cut size start (start + bytes) row, length_cut size (start + bytes) (2 ^ 32) row)
+    omega (
+      arith,
+      rest,
+      parts,
+      four,
+      middle,
+      length_cut size 0 start row,
+      length_cut size start (start + bytes) row,
+      length_cut size (start + bytes) (2 ^ 32) row,
+    )
 
 passed_none : (address from to : ℕ) (rows : List Entry) → InOrder from to rows → address ≤ from → passed address rows ≡ 0
 passed_none address from to [] order less = refl
-passed_none address from to (row ∷ rows) order less = let high : address < row.address + row.bytes = omega (arith, order.0, order.1.0) in grind (arith, nat_tests)
+passed_none address from to (row ∷ rows) order less =
+    let high : address < row.address + row.bytes = omega (arith, order.0, order.1.0) in grind (arith, nat_tests)
 
 -- what a range in an entry leaves of it
 left_of : (low high start end top : ℕ) → low < high → start < end → end ≤ top → high ≤ top
@@ -52,7 +66,8 @@ left_of : (low high start end top : ℕ) → low < high → start < end → end 
     ≡ one_if (nat_le high start) + (one_if (nat_lt low start && nat_lt start high) + 1)
 left_of low high start end top some range below inside = grind (arith, nat_tests)
 
-passed_one : (address from to : ℕ) (row : Entry) (rows : List Entry) → InOrder from to (row ∷ rows) → passed address (row ∷ rows) ≡ one_if (nat_le (row.address + row.bytes) address) + passed address rows
+passed_one : (address from to : ℕ) (row : Entry) (rows : List Entry) → InOrder from to (row ∷ rows)
+    → passed address (row ∷ rows) ≡ one_if (nat_le (row.address + row.bytes) address) + passed address rows
 passed_one address from to row rows order =
     let none = passed_none address (row.address + row.bytes) to rows order.1.1 in
     grind (arith, nat_tests, none)
@@ -64,6 +79,17 @@ length_removed size start bytes from to (row ∷ rows) some below order top =
     let rest = length_removed size start bytes (row.address + row.bytes) to rows some below order.1.1 top in
     let end : row.address + row.bytes ≤ 2 ^ 32 = omega (arith, ends_rise (row.address + row.bytes) to rows order.1.1) in
     let parts = left_of row.address (row.address + row.bytes) start (start + bytes) (2 ^ 32) (omega (arith, order.1.0)) (omega arith) (omega arith) end in
-    let four = length_four (cut size 0 start row) (flat_map {A = Entry} (λ row. []) (cut size start (start + bytes) row)) (cut size (start + bytes) (2 ^ 32) row) (removed size start bytes rows) in
+    let four = length_four (cut size 0 start row) (flat_map {A = Entry} (λ row. []) (cut size start (start + bytes) row))
+    (cut size (start + bytes) (2 ^ 32) row) (removed size start bytes rows) in
     let middle = length_none (cut size start (start + bytes) row) in
-    omega (arith, rest, parts, four, middle, length_cut size 0 start row, length_cut size (start + bytes) (2 ^ 32) row, passed_one start from to row rows order, passed_one (start + bytes) from to row rows order)
+    omega (
+      arith,
+      rest,
+      parts,
+      four,
+      middle,
+      length_cut size 0 start row,
+      length_cut size (start + bytes) (2 ^ 32) row,
+      passed_one start from to row rows order,
+      passed_one (start + bytes) from to row rows order,
+    )

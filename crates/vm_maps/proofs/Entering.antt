@@ -16,7 +16,8 @@ pub record Clear (new row : Entry) (rows : List Entry) : Type 0 where
 pub clear : (new row : Entry) (rows : List Entry) → meets_range new.address new.bytes (row ∷ rows) ≡ false → Clear new row rows
 clear new row rows free = record { behind = λ less. grind (arith, nat_tests); rest = grind (arith, nat_tests) }
 
-pub entered_at : (from to : ℕ) (new : Entry) (rows : List Entry) → InOrder from to rows → 0 < new.bytes → meets_range new.address new.bytes rows ≡ false → entered new rows ≡ insert rows (passed new.address rows) new
+pub entered_at : (from to : ℕ) (new : Entry) (rows : List Entry) → InOrder from to rows → 0 < new.bytes → meets_range new.address new.bytes rows ≡ false
+    → entered new rows ≡ insert rows (passed new.address rows) new
 entered_at from to new [] order some free = refl
 entered_at from to new (row ∷ rows) order some free =
     let open_range = clear new row rows free in
@@ -34,7 +35,8 @@ entered_at from to new (row ∷ rows) order some free =
     rw (yes, no) (ap (λ z. row ∷ z) (entered_at (row.address + row.bytes) to new rows order.1.1 some open_range.rest)) in
     ⊎_elim front later (cases_lt new.address (row.address + row.bytes))
 
-pub order_entered : (from to : ℕ) (new : Entry) (rows : List Entry) → InOrder from to rows → from ≤ new.address → new.address + new.bytes ≤ to → 0 < new.bytes → meets_range new.address new.bytes rows ≡ false → InOrder from to (entered new rows)
+pub order_entered : (from to : ℕ) (new : Entry) (rows : List Entry) → InOrder from to rows → from ≤ new.address → new.address + new.bytes ≤ to → 0 < new.bytes
+    → meets_range new.address new.bytes rows ≡ false → InOrder from to (entered new rows)
 order_entered from to new [] order low high some free = (low, (some, high))
 order_entered from to new (row ∷ rows) order low high some free =
     let open_range = clear new row rows free in

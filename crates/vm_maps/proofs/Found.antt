@@ -35,7 +35,8 @@ abbrev pub begins_below : ℕ → Option Entry → Bool
 begins_below address None = false
 begins_below address (Some row) = nat_lt row.address address
 
-pub range_found : (address bytes from to : ℕ) (rows : List Entry) → InOrder from to rows → 0 < bytes → meets_range address bytes rows ≡ begins_below (address + bytes) (slice_get rows (passed address rows))
+pub range_found : (address bytes from to : ℕ) (rows : List Entry) → InOrder from to rows → 0 < bytes
+    → meets_range address bytes rows ≡ begins_below (address + bytes) (slice_get rows (passed address rows))
 range_found address bytes from to [] order some = refl
 range_found address bytes from to (row ∷ rows) order some =
     let rest = range_found address bytes (row.address + row.bytes) to rows order.1.1 some in
@@ -50,7 +51,8 @@ none_cut address from to (row ∷ rows) order less =
     let low : address ≤ row.address = omega (arith, order.0) in
     grind (arith, nat_tests)
 
-pub cut_found : (address from to : ℕ) (rows : List Entry) → InOrder from to rows → cuts_at address rows ≡ (if begins_below address (slice_get rows (passed address rows)) then 1 else 0)
+pub cut_found : (address from to : ℕ) (rows : List Entry) → InOrder from to rows
+    → cuts_at address rows ≡ (if begins_below address (slice_get rows (passed address rows)) then 1 else 0)
 cut_found address from to [] order = refl
 cut_found address from to (row ∷ rows) order =
     let rest = cut_found address (row.address + row.bytes) to rows order.1.1 in
@@ -61,10 +63,12 @@ cut_found address from to (row ∷ rows) order =
 pub entry_of : (address : ℕ) (rows : List Entry) → InOrder 0 (2 ^ 32) rows → entry_at address rows ≡ held address (slice_get rows (passed address rows))
 entry_of address rows order = entry_found address 0 (2 ^ 32) rows order
 
-pub cut_of : (address : ℕ) (rows : List Entry) → InOrder 0 (2 ^ 32) rows → cuts_at address rows ≡ (if begins_below address (slice_get rows (passed address rows)) then 1 else 0)
+pub cut_of : (address : ℕ) (rows : List Entry) → InOrder 0 (2 ^ 32) rows
+    → cuts_at address rows ≡ (if begins_below address (slice_get rows (passed address rows)) then 1 else 0)
 cut_of address rows order = cut_found address 0 (2 ^ 32) rows order
 
-pub range_of : (address bytes : ℕ) (rows : List Entry) → InOrder 0 (2 ^ 32) rows → 0 < bytes → meets_range address bytes rows ≡ begins_below (address + bytes) (slice_get rows (passed address rows))
+pub range_of : (address bytes : ℕ) (rows : List Entry) → InOrder 0 (2 ^ 32) rows → 0 < bytes
+    → meets_range address bytes rows ≡ begins_below (address + bytes) (slice_get rows (passed address rows))
 range_of address bytes rows order some = range_found address bytes 0 (2 ^ 32) rows order some
 
 pub ruleset found = (entry_of, cut_of, range_of, nat_tests)

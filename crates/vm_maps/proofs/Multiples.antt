@@ -31,4 +31,5 @@ div_grows (suc size) a b le = le-div (a / suc size) b (suc size) (omega arith) (
 
 pub div_sum : (size a b : ℕ) → a / size + b / size ≤ (a + b) / size
 div_sum zero a b = rw (div-zero a, div-zero b, div-zero (a + b)) (omega arith)
-div_sum (suc size) a b = le-div (a / suc size + b / suc size) (a + b) (suc size) (omega arith) (omega (arith, div-mul-le_self a (suc size), div-mul-le_self b (suc size)))
+div_sum (suc size) a b =
+    le-div (a / suc size + b / suc size) (a + b) (suc size) (omega arith) (omega (arith, div-mul-le_self a (suc size), div-mul-le_self b (suc size)))

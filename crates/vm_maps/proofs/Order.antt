@@ -19,7 +19,8 @@ ends_rise from to (row ∷ rows) order = omega (arith, ends_rise (row.address + 
 
 pub lies_in : (k from to : ℕ) (rows : List Entry) (row : Entry) → InOrder from to rows → slice_get rows k ≡ Some row → LiesIn from to row
 lies_in k from to [] row order is = absurd (none-some row is)
-lies_in zero from to (x ∷ rows) row order is = subst (LiesIn from to) (same_Some x row is) (record { low = order.0; some = order.1.0; high = ends_rise (x.address + x.bytes) to rows order.1.1 })
+lies_in zero from to (x ∷ rows) row order is =
+    subst (LiesIn from to) (same_Some x row is) (record { low = order.0; some = order.1.0; high = ends_rise (x.address + x.bytes) to rows order.1.1 })
 lies_in (suc k) from to (x ∷ rows) row order is =
     let h = lies_in k (x.address + x.bytes) to rows row order.1.1 is in
     record { low = omega (arith, h.low, order.0); some = h.some; high = h.high }
@@ -29,7 +30,8 @@ passed_within address [] = omega arith
 passed_within address (row ∷ rows) = grind (arith, nat_tests, passed_within address rows)
 
 -- an entry that ends at or in front of the address is counted
-pub passed_above : (k address from to : ℕ) (rows : List Entry) (row : Entry) → InOrder from to rows → slice_get rows k ≡ Some row → row.address + row.bytes ≤ address → k < passed address rows
+pub passed_above : (k address from to : ℕ) (rows : List Entry) (row : Entry) → InOrder from to rows → slice_get rows k ≡ Some row
+    → row.address + row.bytes ≤ address → k < passed address rows
 passed_above k address from to [] row order is ends = absurd (none-some row is)
 passed_above zero address from to (x ∷ rows) row order is ends = let same = same_Some x row is in grind (arith, nat_tests)
 passed_above (suc k) address from to (x ∷ rows) row order is ends =

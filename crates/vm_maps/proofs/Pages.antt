@@ -24,7 +24,8 @@ holds size address (x ∷ rows) row all is =
     let yes : (nat_le x.address address && nat_lt address (x.address + x.bytes)) ≡ true = grind (arith, nat_tests) in
     let same : Some x ≡ Some row = rw yes at is in
     subst (Holds size address) (same_Some x row same) (record { low = low; high = high; whole = all.0 }) in
-    ⊎_elim (λ less. out (grind (arith, nat_tests))) (λ low. ⊎_elim (λ high. found low high) (λ le. out (grind (arith, nat_tests))) (cases_lt address (x.address + x.bytes))) (cases_lt address x.address)
+    ⊎_elim (λ less. out (grind (arith, nat_tests))) (λ low. ⊎_elim (λ high. found low high) (λ le. out (grind (arith, nat_tests)))
+    (cases_lt address (x.address + x.bytes))) (cases_lt address x.address)
 
 -- its page at the address is one of its region's
 pub page_fits : (size address : ℕ) (row : Entry) → Holds size address row → page_at size address row < 2 ^ 32

@@ -18,7 +18,8 @@ rows_of_table : (task : ℕ) (tables : List (TaskId × Listed Entry)) → entrie
 rows_of_table task [] = refl
 rows_of_table task (table ∷ tables) = let rest = rows_of_table task tables in grind (arith, nat_tests, rest)
 
-pub has_table : (size : ℕ) (tables : List (TaskId × Listed Entry)) (maps : Mapped) (task : ℕ) → seen size tables ≡ maps → is_some (table_of task tables) ≡ is_some (entries_in task maps)
+pub has_table : (size : ℕ) (tables : List (TaskId × Listed Entry)) (maps : Mapped) (task : ℕ) → seen size tables ≡ maps
+    → is_some (table_of task tables) ≡ is_some (entries_in task maps)
 has_table size tables maps task view = rw (← view, rows_of_table task tables) (known (table_of task tables))
   where
     known : (o : Option (Listed Entry)) → is_some o ≡ is_some (option_map by_address o)
@@ -47,21 +48,24 @@ pub record IsTableOf (bytes : ℕ) (maps : Mapped) (task : ℕ) (table : Listed 
   pub rows : rows_in task maps ≡ by_address table
   pub sound : AreEntries maps.size (rows_in task maps)
 
-pub table_read : (size : ℕ) (tables : List (TaskId × Listed Entry)) (maps : Mapped) (task : ℕ) (table : Listed Entry) → seen size tables ≡ maps → AreTables size tables → table_of task tables ≡ Some table → IsTableOf size maps task table
+pub table_read : (size : ℕ) (tables : List (TaskId × Listed Entry)) (maps : Mapped) (task : ℕ) (table : Listed Entry) → seen size tables ≡ maps
+    → AreTables size tables → table_of task tables ≡ Some table → IsTableOf size maps task table
 table_read size tables maps task table view kept is =
     let one = kept task table is in
     let found : entries_among task (task_rows tables) ≡ Some (by_address table) = rows_of_table task tables ∙ ap (option_map by_address) is in
     let rows : unwrap_or (entries_among task (task_rows tables)) [] ≡ by_address table = ap (λ z. unwrap_or z []) found in
     rw (← view) record { size = refl; kept = one; is = found; rows = rows; sound = rw rows one.entries }
 
-changes_only : (old new : Mapped) (task : ℕ) (rows : Option (List Entry)) → new.size ≡ old.size → ((other : ℕ) → entries_in other new ≡ (if task == other then rows else entries_in other old)) → ChangesOnly old new task rows
+changes_only : (old new : Mapped) (task : ℕ) (rows : Option (List Entry)) → new.size ≡ old.size
+    → ((other : ℕ) → entries_in other new ≡ (if task == other then rows else entries_in other old)) → ChangesOnly old new task rows
 changes_only old new task rows size each = record {
   size = size;
   changed = let yes : (task == task) ≡ true = grind (arith, nat_tests) in rw yes at (each task);
   others = λ other apart. let no : (task == other) ≡ false = grind (arith, nat_tests) in rw no at (each other);
 }
 
-kept_one : (size : ℕ) (named : Bool) (now was table : Option (Listed Entry)) (found : Listed Entry) → now ≡ (if named then table else was) → now ≡ Some found → IfSome table (IsTable size) → (was ≡ Some found → IsTable size found) → IsTable size found
+kept_one : (size : ℕ) (named : Bool) (now was table : Option (Listed Entry)) (found : Listed Entry) → now ≡ (if named then table else was) → now ≡ Some found
+    → IfSome table (IsTable size) → (was ≡ Some found → IsTable size found) → IsTable size found
 kept_one size true now was table found at is one other = let there : table ≡ Some found = sym at ∙ is in rw there at one
 kept_one size false now was table found at is one other = other (sym at ∙ is)
 
@@ -70,7 +74,8 @@ pub record Edited (size : ℕ) (tables : List (TaskId × Listed Entry)) (maps : 
   pub kept : AreTables size tables
   pub changes : ChangesOnly maps (seen size tables) task (option_map by_address table)
 
-pub edited : (size : ℕ) (old new : List (TaskId × Listed Entry)) (maps : Mapped) (task : ℕ) (table : Option (Listed Entry)) → seen size old ≡ maps → AreTables size old → IfSome table (IsTable size)
+pub edited : (size : ℕ) (old new : List (TaskId × Listed Entry)) (maps : Mapped) (task : ℕ) (table : Option (Listed Entry)) → seen size old ≡ maps
+    → AreTables size old → IfSome table (IsTable size)
     → ((other : ℕ) → table_of other new ≡ (if task == other then table else table_of other old)) → Edited size new maps task table
 edited size old new maps task table view kept one each =
     let rows : (other : ℕ) → entries_among other (task_rows new) ≡ (if task == other then option_map by_address table else entries_among other (task_rows old))

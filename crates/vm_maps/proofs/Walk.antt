@@ -23,8 +23,10 @@ reaches_done from to (row ∷ rows) done = grind (arith, nat_tests)
 pub reaches_past : (i from to : ℕ) (rows : List Entry) → from < to → length rows ≤ i → is_without_gap from to (drop i rows) ≡ false
 reaches_past i from to rows less past = rw (drop_all i rows past) (grind (arith, nat_tests))
 
-pub reaches_gap : (i from to : ℕ) (rows : List Entry) (row : Entry) → slice_get rows i ≡ Some row → from < to → from < row.address → is_without_gap from to (drop i rows) ≡ false
+pub reaches_gap : (i from to : ℕ) (rows : List Entry) (row : Entry) → slice_get rows i ≡ Some row → from < to → from < row.address
+    → is_without_gap from to (drop i rows) ≡ false
 reaches_gap i from to rows row is less gap = rw (drop_one i rows row is) (grind (arith, nat_tests))
 
-pub reaches_one : (i from to : ℕ) (rows : List Entry) (row : Entry) → slice_get rows i ≡ Some row → from < to → row.address ≤ from → is_without_gap from to (drop i rows) ≡ is_without_gap (row.address + row.bytes) to (drop (i + 1) rows)
+pub reaches_one : (i from to : ℕ) (rows : List Entry) (row : Entry) → slice_get rows i ≡ Some row → from < to → row.address ≤ from
+    → is_without_gap from to (drop i rows) ≡ is_without_gap (row.address + row.bytes) to (drop (i + 1) rows)
 reaches_one i from to rows row is less near = rw (drop_one i rows row is) (grind (arith, nat_tests))

@@ -1,7 +1,8 @@
 // The maps of all tasks.
 ghost use Rattle.std.specs.Prelude.{◌≡◌, ◌≤◌, [], Some, None, IfOk, IfSome, IsOk, IsSome, IsSomeAnd, IsTrue, OnErr, OnOk, is_some, length, reverse};
 ghost use Rattle.std.specs.Option.{option_map};
-ghost use Rattle.vm_base.specs.Entries.{AreEntries, by_address, entered, entry_at, inherited, is_range, mapping, most_entries, parts_in, protected, removed, rewritten};
+ghost use Rattle.vm_base.specs.Entries.{AreEntries, by_address, entered, entry_at, inherited, is_range, mapping, most_entries, parts_in, protected, removed};
+ghost use Rattle.vm_base.specs.Entries.{rewritten};
 ghost use Rattle.vm_maps.specs.Judge.{judged, looked_up};
 ghost use Rattle.vm_maps.specs.Maps.{ChangesOnly, IsNewEntry, Remaps, entries_in, parts_for, rows_in, with_inherit, with_prot};
 ghost use Rattle.vm_maps.specs.Rows.{becomes, changed_by};

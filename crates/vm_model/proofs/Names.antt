@@ -16,7 +16,8 @@ place header o = named header - 1 - o
 
 stands_at : (header : Header) (o : ℕ) (d : Declared) → o < named header → declared header o ≡ Some (get_or header.objects.items (place header o) d)
 stands_at header o d less =
-    slice_get-get_or (reverse header.objects.items) o d (omega (arith, less, length-reverse header.objects.items)) ∙ ap Some (get_or-reverse header.objects.items o d less)
+    slice_get-get_or (reverse header.objects.items) o d (omega (arith, less, length-reverse header.objects.items))
+    ∙ ap Some (get_or-reverse header.objects.items o d less)
 
 some_declared : (header : Header) (o : ℕ) → o < named header → Declared
 some_declared header o less = elim (slice_get_cases (reverse header.objects.items) o).1 [
@@ -25,13 +26,15 @@ some_declared header o less = elim (slice_get_cases (reverse header.objects.item
 ]
 
 -- what holds of all declarations holds of the object that has a number
-pub each_declared : (P : Declared → Type 0) (header : Header) (o : ℕ) → All P header.objects.items → o < named header → (object : Declared) × (declared header o ≡ Some object) × P object
+pub each_declared : (P : Declared → Type 0) (header : Header) (o : ℕ) → All P header.objects.items → o < named header → (object : Declared)
+    × (declared header o ≡ Some object) × P object
 each_declared P header o all less =
     let some = some_declared header o less in
     (get_or header.objects.items (place header o) some, stands_at header o some less, all (place header o) some (omega (arith, less)))
 
 -- two objects that have one name are one, by whichever function gives an object's name
-pub named_once : (header : Header) (name : Option Declared → List ℕ) → ((object : Declared) → name (Some object) ≡ object.name) → AreNamedOnce header.objects.items
+pub named_once : (header : Header) (name : Option Declared → List ℕ) → ((object : Declared) → name (Some object) ≡ object.name)
+    → AreNamedOnce header.objects.items
     → (one other : ℕ) → one < named header → other < named header → name (declared header one) ≡ name (declared header other) → one ≡ other
 named_once header name gives once one other less below same = by_order (cases_lt one other) (cases_lt other one)
   where

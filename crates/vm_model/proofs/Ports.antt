@@ -17,5 +17,6 @@ down_port_is at object n h o k e f g = ap (λ x. down_port x object.0 n) e ∙ a
 number_is : (a b : ℕ) → (a == b) ≡ true → a ≡ b
 number_is a b is = grind (arith, nat_tests)
 
-pub same_control : (host k o number : ℕ) (past : List Event) → (k == o) ≡ true → is_control number (live_control host o past) ≡ is_control number (live_control host k past)
+pub same_control : (host k o number : ℕ) (past : List Event) → (k == o) ≡ true
+    → is_control number (live_control host o past) ≡ is_control number (live_control host k past)
 same_control host k o number past its = ap (λ (j : ℕ). is_control number (live_control host j past)) (sym (number_is k o its))

@@ -1,7 +1,9 @@
 -- What holds of a shared page: one writer, the same bytes everywhere, and nobody waits in vain.
 use Rattle.std.specs.Prelude.{◌≡◌, ◌≢◌, ◌⊎◌, ◌+◌, ℕ, ◌<◌, List, [], ◌∷◌, Bool, true, false, Option, Some, None, slice_range}
 use Rattle.vm_base.specs.Pages.{little_endian}
-use Rattle.vm_model.specs.Words.{UpWord, Asking, Unlocking, Returning, Doing, Ending, OtherUp, DownWord, Supplying, Locking, Lacking, Failing, Readying, OtherDown, ActEffect, Opens, SendsUp, TakenUp, SentDown, TakesDown, Puts, Drops, Begins, Loads, Stores, Fails, BeginsCopy, Copies, EndsCopy, StepBegins, Nothing, Act}
+use Rattle.vm_model.specs.Words.{UpWord, Asking, Unlocking, Returning, Doing, Ending, OtherUp, DownWord, Supplying, Locking, Lacking, Failing, Readying}
+use Rattle.vm_model.specs.Words.{OtherDown, ActEffect, Opens, SendsUp, TakenUp, SentDown, TakesDown, Puts, Drops, Begins, Loads, Stores, Fails, BeginsCopy}
+use Rattle.vm_model.specs.Words.{Copies, EndsCopy, StepBegins, Nothing, Act}
 use Rattle.vm_model.specs.Side.{Side, side, can_read, can_write}
 use Rattle.vm_model.specs.Waiters.{Waiter, waiters, waiter_of}
 use Rattle.vm_model.specs.Server.{line, current}
@@ -106,7 +108,8 @@ StepsDone (a ∷ past) = (begins_step a.effect ≡ true → Done past) × StepsD
 -- an access that waits has asked, has an unlock outstanding, or waits for the control to be ready
 abbrev pub WaitersHaveAsked : List Act → Type 0
 WaitersHaveAsked past = (h : ℕ) → waiters h past ≢ [] →
-    ((side h past).asked ≡ true) ⊎ (((0 < (side h past).right) × ((side h past).unlocking ≡ true)) ⊎ (((side h past).live ≡ true) × ((side h past).ready ≡ false)))
+    ((side h past).asked ≡ true) ⊎ (((0 < (side h past).right) × ((side h past).unlocking ≡ true))
+    ⊎ (((side h past).live ≡ true) × ((side h past).ready ≡ false)))
 
 -- where the server's line is not empty, a host is awaited
 abbrev pub SomebodyIsAwaited : List Act → Type 0

@@ -5,7 +5,9 @@ use Rattle.vm_model.specs.declared.message.Channel.TheVariants.{Up, Down}
 use Rattle.vm_model.specs.declared.message.Message.{Message}
 use Rattle.vm_model.specs.declared.message.Message.TheVariants as message
 use Rattle.vm_model.specs.declared.event.Event.{Event}
-use Rattle.vm_model.specs.declared.event.Event.TheVariants.{Line, Refused, TaskMade, TaskEnded, RegionMade, RegionCopied, Entered, Removed, Protected, Inherited, BegunLoad, BegunStore, BegunCopy, Loaded, Stored, CopiedPage, CopyEnded, Failed, Sent, Taken, Dropped, Zeroed, Raised, Shadowed, DeviceFailed, NoSlot, Wired}
+use Rattle.vm_model.specs.declared.event.Event.TheVariants.{Line, Refused, TaskMade, TaskEnded, RegionMade, RegionCopied, Entered, Removed, Protected}
+use Rattle.vm_model.specs.declared.event.Event.TheVariants.{Inherited, BegunLoad, BegunStore, BegunCopy, Loaded, Stored, CopiedPage, CopyEnded, Failed, Sent}
+use Rattle.vm_model.specs.declared.event.Event.TheVariants.{Taken, Dropped, Zeroed, Raised, Shadowed, DeviceFailed, NoSlot, Wired}
 use Rattle.vm_model.specs.declared.script.Header.{Header}
 use Rattle.vm_model.specs.Controls.{is_control, live_control}
 use Rattle.vm_model.specs.Named.{named}
@@ -114,7 +116,8 @@ effect host place others (Zeroed at object page) past =
 effect host place others (Raised at lower lower_page upper upper_page) past =
     if at.0 == host && is_place place upper.0 upper_page.0 then Raises (others (record { object = lower.0; page = lower_page.0 })).bytes else Elsewhere
 effect host place others (CopiedPage task page object object_page target) past =
-    if is_on host (host_of task.0 past) && is_place place target.0 page.0 then Raises (others (record { object = object.0; page = object_page.0 })).bytes else Elsewhere
+    if is_on host (host_of task.0 past) && is_place place target.0 page.0 then Raises (others (record { object = object.0; page = object_page.0 })).bytes else
+    Elsewhere
 effect host place others (Stored task object page at size value) past =
     if is_on host (host_of task.0 past) && is_place place object.0 page.0 then Stores at (little_endian_bytes size value) else Elsewhere
 effect host place others (Dropped at object page) past =

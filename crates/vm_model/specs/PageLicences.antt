@@ -1,7 +1,9 @@
 -- Why each event of a page of a shared object may happen.
 use Rattle.std.specs.Prelude.{◌≡◌, ◌≢◌, ◌+◌, ◌==◌, ◌&&◌, ◌||◌, if◌then◌else◌, ℕ, ◌<◌, ◌≤◌, List, [], ◌∷◌, Bool, true, false, Option, Some, None, slice_range}
 use Rattle.vm_base.specs.Pages.{little_endian}
-use Rattle.vm_model.specs.Words.{UpWord, Asking, Unlocking, Returning, Doing, Ending, OtherUp, DownWord, Supplying, Locking, Lacking, Failing, Readying, OtherDown, ActEffect, Opens, SendsUp, TakenUp, SentDown, TakesDown, Puts, Drops, Begins, Loads, Stores, Fails, BeginsCopy, Copies, EndsCopy, StepBegins, Nothing, Act}
+use Rattle.vm_model.specs.Words.{UpWord, Asking, Unlocking, Returning, Doing, Ending, OtherUp, DownWord, Supplying, Locking, Lacking, Failing, Readying}
+use Rattle.vm_model.specs.Words.{OtherDown, ActEffect, Opens, SendsUp, TakenUp, SentDown, TakesDown, Puts, Drops, Begins, Loads, Stores, Fails, BeginsCopy}
+use Rattle.vm_model.specs.Words.{Copies, EndsCopy, StepBegins, Nothing, Act}
 use Rattle.vm_model.specs.Side.{Side, side, has_alone, can_read, can_write}
 use Rattle.vm_model.specs.Waiters.{Waiter, waiters, waiter_of, any_store, any_load, readers, any_reader}
 use Rattle.vm_model.specs.Server.{first, Wanting, wants_write, line, kept}

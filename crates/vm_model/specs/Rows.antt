@@ -1,5 +1,6 @@
 -- What holds of all entries of a list, and is kept when they are cut.
-use Rattle.std.proofs.Common.{ℕ, zero, suc, ◌≡◌, ◌+◌, ◌-◌, ◌*◌, ◌/◌, ◌%◌, ◌<◌, ◌≤◌, ◌^◌, Bool, true, false, List, [], ◌∷◌, ◌++◌, refl, subst, ⊎_elim, arith, Some, if◌then◌else◌}
+use Rattle.std.proofs.Common.{ℕ, zero, suc, ◌≡◌, ◌+◌, ◌-◌, ◌*◌, ◌/◌, ◌%◌, ◌<◌, ◌≤◌, ◌^◌, Bool, true, false, List, [], ◌∷◌, ◌++◌, refl, subst, ⊎_elim, arith}
+use Rattle.std.proofs.Common.{Some, if◌then◌else◌}
 use Rattle.std.proofs.lemmas.Bool.{cases_lt}
 use Rattle.std.proofs.lemmas.Bool.Decides.{nat_tests}
 use Rattle.std.proofs.Math.Nat.{div-zero, div-mul-le_self, div-add-mod'}
@@ -55,9 +56,11 @@ pub rows_rewritten : (size : ℕ) (P : Entry → Type 0) (becomes : Entry → Li
     → AllRows P (rewritten becomes size address bytes rows)
 rows_rewritten size P becomes parts each address bytes [] all = tt
 rows_rewritten size P becomes parts each address bytes (row ∷ rows) all =
-    rows_append P (cut size 0 address row) (flat_map becomes (cut size address (address + bytes) row) ++ (cut size (address + bytes) (2 ^ 32) row ++ rewritten becomes size address bytes rows))
+    rows_append P (cut size 0 address row) (flat_map becomes (cut size address (address + bytes) row) ++
+    (cut size (address + bytes) (2 ^ 32) row ++ rewritten becomes size address bytes rows))
     (rows_cut size P parts 0 address row all.0)
-    (rows_append P (flat_map becomes (cut size address (address + bytes) row)) (cut size (address + bytes) (2 ^ 32) row ++ rewritten becomes size address bytes rows)
+    (rows_append P (flat_map becomes (cut size address (address + bytes) row)) (cut size (address + bytes) (2 ^ 32) row ++ rewritten becomes size address bytes
+    rows)
     (rows_flat P becomes each (cut size address (address + bytes) row) (rows_cut size P parts address (address + bytes) row all.0))
     (rows_append P (cut size (address + bytes) (2 ^ 32) row) (rewritten becomes size address bytes rows)
     (rows_cut size P parts (address + bytes) (2 ^ 32) row all.0)
@@ -82,7 +85,8 @@ pub record FoundRow (P : Entry → Type 0) (address : ℕ) (row : Entry) : Type 
 pub found_row : (P : Entry → Type 0) (address : ℕ) (rows : List Entry) (entry : Entry) → AllRows P rows
     → entry_at address rows ≡ Some entry → FoundRow P address entry
 found_row P address [] entry all found = absurd (cc)
-found_row P address (row ∷ rows) entry all found = by_test (λ e. found_row P address rows entry all.1 e) (nat_le row.address address && nat_lt address (row.address + row.bytes)) refl found
+found_row P address (row ∷ rows) entry all found =
+    by_test (λ e. found_row P address rows entry all.1 e) (nat_le row.address address && nat_lt address (row.address + row.bytes)) refl found
   where
     by_test : (entry_at address rows ≡ Some entry → FoundRow P address entry) → (b : Bool)
         → (nat_le row.address address && nat_lt address (row.address + row.bytes)) ≡ b
@@ -95,8 +99,11 @@ found_row P address (row ∷ rows) entry all found = by_test (λ e. found_row P 
 -- each has its region among those of the list
 pub rows_known : (P : Entry → Type 0) (rows : List Entry) → AllRows P rows → AllRows (λ row. P row × (has_entry row.region.0 rows ≡ true)) rows
 rows_known P [] all = tt
-rows_known P (row ∷ rows) all =
-    ((all.0, grind (arith, nat_tests)), rows_map (λ r. P r × (has_entry r.region.0 rows ≡ true)) (λ r. P r × (has_entry r.region.0 (row ∷ rows) ≡ true)) (λ r is. (is.0, more (row.region.0 == r.region.0) (has_entry r.region.0 rows) is.1)) rows (rows_known P rows all.1))
+rows_known P (row ∷ rows) all = (
+  (all.0, grind (arith, nat_tests)),
+  rows_map (λ r. P r × (has_entry r.region.0 rows ≡ true)) (λ r. P r × (has_entry r.region.0 (row ∷ rows) ≡ true))
+      (λ r is. (is.0, more (row.region.0 == r.region.0) (has_entry r.region.0 rows) is.1)) rows (rows_known P rows all.1),
+)
   where
     more : (a b : Bool) → b ≡ true → (a || b) ≡ true
     more true b is = refl
@@ -110,13 +117,15 @@ div_grows (suc size) a b le = le-div (a / suc size) b (suc size) (omega arith) (
 
 pub div_sum : (size a b : ℕ) → a / size + b / size ≤ (a + b) / size
 div_sum zero a b = rw (div-zero a, div-zero b, div-zero (a + b)) (omega arith)
-div_sum (suc size) a b = le-div (a / suc size + b / suc size) (a + b) (suc size) (omega arith) (omega (arith, div-mul-le_self a (suc size), div-mul-le_self b (suc size)))
+div_sum (suc size) a b =
+    le-div (a / suc size + b / suc size) (a + b) (suc size) (omega arith) (omega (arith, div-mul-le_self a (suc size), div-mul-le_self b (suc size)))
 
 -- an address of an entry has a page among its pages
 pub page_below : (size x bytes : ℕ) → x < bytes → bytes % size ≡ 0 → x / size < bytes / size
 page_below size x bytes less whole =
     ⊎_elim (λ low. low)
-    (λ high. let large : bytes / size * size ≤ x = omega (arith, times (bytes / size) (x / size) size high, div-mul-le_self x size) in absurd (omega (arith, div-add-mod' bytes size)))
+    (λ high. let large : bytes / size * size ≤ x = omega (arith, times (bytes / size) (x / size) size high, div-mul-le_self x size) in absurd
+    (omega (arith, div-add-mod' bytes size)))
     (cases_lt (x / size) (bytes / size))
   where
     times : (a b c : ℕ) → a ≤ b → a * c ≤ b * c
@@ -132,11 +141,18 @@ pub inside_part : (size pages : ℕ) (row : Entry) (start end : ℕ) → Inside 
     → start < end → end ≤ row.address + row.bytes → Inside size pages (part size row start end)
 inside_part size pages row start end is low less high =
     record {
-      whole = omega (arith, div_sum size (start - row.address) (end - start), div_grows size (start - row.address + (end - start)) row.bytes (omega arith), is.whole);
+      whole =
+          omega (
+            arith,
+            div_sum size (start - row.address) (end - start),
+            div_grows size (start - row.address + (end - start)) row.bytes (omega arith),
+            is.whole,
+          );
       each = λ address from to.
           let sum = div_sum size (start - row.address) (address - start) in
           let same : start - row.address + (address - start) ≡ address - row.address = omega arith in
           let is : row.offset + (address - row.address) / size < pages = is.each address (omega arith) (omega arith) in
-          let all : (start - row.address) / size + (address - start) / size ≤ (address - row.address) / size = subst (λ (k : ℕ). (start - row.address) / size + (address - start) / size ≤ k / size) same sum in
+          let all : (start - row.address) / size + (address - start) / size ≤ (address - row.address) / size = subst
+          (λ (k : ℕ). (start - row.address) / size + (address - start) / size ≤ k / size) same sum in
           omega (arith, all, is);
     }

@@ -1,7 +1,9 @@
 -- One host and one place: what the host has of it, what is on the way, and what the server says of the host.
 use Rattle.std.specs.Prelude.{nat_lt, ℕ, zero, suc, ◌+◌, ◌-◌, ◌==◌, List, [], ◌∷◌, ◌++◌, Bool, true, false, if◌then◌else◌, ◌&&◌, ◌||◌}
 use Rattle.vm_base.specs.Pages.{little_endian_bytes, with_bytes}
-use Rattle.vm_model.specs.Words.{UpWord, Asking, Unlocking, Returning, Doing, Ending, OtherUp, DownWord, Supplying, Locking, Lacking, Failing, Readying, OtherDown, ActEffect, Opens, SendsUp, TakenUp, SentDown, TakesDown, Puts, Drops, Begins, Loads, Stores, Fails, BeginsCopy, Copies, EndsCopy, StepBegins, Nothing, Act, effect_on}
+use Rattle.vm_model.specs.Words.{UpWord, Asking, Unlocking, Returning, Doing, Ending, OtherUp, DownWord, Supplying, Locking, Lacking, Failing, Readying}
+use Rattle.vm_model.specs.Words.{OtherDown, ActEffect, Opens, SendsUp, TakenUp, SentDown, TakesDown, Puts, Drops, Begins, Loads, Stores, Fails, BeginsCopy}
+use Rattle.vm_model.specs.Words.{Copies, EndsCopy, StepBegins, Nothing, Act, effect_on}
 
 pub record Side : Type 0 where
   -- what is on the way, oldest first; downwards to the live control alone

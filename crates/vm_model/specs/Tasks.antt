@@ -20,7 +20,8 @@ entries_of size task [] = []
 entries_of size task (TaskMade made host ∷ past) = if made.0 == task then [] else entries_of size task past
 entries_of size task (TaskEnded gone ∷ past) = if gone.0 == task then [] else entries_of size task past
 entries_of size task (Entered owner address bytes region offset prot inherit ∷ past) =
-    if owner.0 == task then entered (record { address = address; bytes = bytes; region = region; offset = offset; prot = prot; inherit = inherit }) (entries_of size task past) else entries_of size task past
+    if owner.0 == task then entered (record { address = address; bytes = bytes; region = region; offset = offset; prot = prot; inherit = inherit })
+    (entries_of size task past) else entries_of size task past
 entries_of size task (Removed owner address bytes ∷ past) =
     if owner.0 == task then removed size address bytes (entries_of size task past) else entries_of size task past
 entries_of size task (Protected owner address bytes prot ∷ past) =

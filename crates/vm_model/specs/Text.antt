@@ -104,7 +104,8 @@ line_of (event.RegionMade region object pages) =
 line_of (event.RegionCopied region source offset pages) =
     codes "cow" ++ field region.0 ++ field source.0 ++ field offset ++ field pages ++ newline
 line_of (event.Entered task address bytes region offset prot inherit) =
-    codes "entered" ++ field task.0 ++ field address ++ field bytes ++ field region.0 ++ field offset ++ field (prot_number prot) ++ field (inherit_number inherit) ++ newline
+    codes "entered" ++ field task.0 ++ field address ++ field bytes ++ field region.0 ++ field offset ++ field (prot_number prot) ++ field
+    (inherit_number inherit) ++ newline
 line_of (event.Removed task address bytes) = codes "removed" ++ field task.0 ++ field address ++ field bytes ++ newline
 line_of (event.Protected task address bytes prot) =
     codes "protected" ++ field task.0 ++ field address ++ field bytes ++ field (prot_number prot) ++ newline

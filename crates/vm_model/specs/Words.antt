@@ -117,11 +117,14 @@ act_of size o p host_of means held (event.Zeroed host object page) =
     act_if (object.0 == o && page.0 == p) host.0 (Puts (replicate size 0) false)
 act_of size o p host_of means held (event.Raised host lower lower_page upper upper_page) =
     act_if (upper.0 == o && upper_page.0 == p) host.0 (Puts (held host.0 lower.0 lower_page.0) true)
-act_of size o p host_of means held (event.BegunCopy task address bytes to) = record { host = host_of task.0; effect = BeginsCopy task.0 (times_meant size (means task.0) address (bytes / size)) }
+act_of size o p host_of means held (event.BegunCopy task address bytes to) =
+    record { host = host_of task.0; effect = BeginsCopy task.0 (times_meant size (means task.0) address (bytes / size)) }
 act_of size o p host_of means held (event.CopiedPage task page object object_page target) =
     record {
       host = host_of task.0;
-      effect = if target.0 == o && page.0 == p then Puts (held (host_of task.0) object.0 object_page.0) true else (if object.0 == o && object_page.0 == p then Copies task.0 else Nothing);
+      effect =
+          if target.0 == o && page.0 == p then Puts (held (host_of task.0) object.0 object_page.0) true else
+          (if object.0 == o && object_page.0 == p then Copies task.0 else Nothing);
     }
 act_of size o p host_of means held (event.CopyEnded task) = record { host = host_of task.0; effect = EndsCopy task.0 }
 act_of size o p host_of means held (event.BegunLoad task address bytes) =

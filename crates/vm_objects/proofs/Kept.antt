@@ -35,7 +35,8 @@ abbrev pub table_of : List (ObjectId × ObjectRow) → List PageKey → ℕ → 
 table_of entries absent rows marks = record { entries = entries; absent = absent; rows = rows; marks = marks }
 
 -- of an object that is not there no page is marked
-pub none_absent : (o p : ℕ) (entries : List (ObjectId × ObjectRow)) (absent : List PageKey) (spare promised : ℕ) → AreMarks entries absent spare promised → object_among o entries ≡ None → absent_among o p absent ≡ false
+pub none_absent : (o p : ℕ) (entries : List (ObjectId × ObjectRow)) (absent : List PageKey) (spare promised : ℕ) → AreMarks entries absent spare promised
+    → object_among o entries ≡ None → absent_among o p absent ≡ false
 none_absent o p entries absent spare promised are none = by (absent_among o p absent) refl
   where
     by : (b : Bool) → absent_among o p absent ≡ b → b ≡ false
@@ -60,17 +61,21 @@ abbrev pub WritesRow : ℕ → ObjectRow → List (ObjectId × ObjectRow) → Li
 WritesRow id row old new = (o : ObjectId) → row_of new o.0 ≡ (if id == o.0 then Some row else row_of old o.0)
 
 -- what an object's new row leaves
-pub record Changed (edited : List (ObjectId × ObjectRow)) (absent : List PageKey) (spare promised : ℕ) (id : ℕ) (row : ObjectRow) (old new : ObjectTable) : Type 0 where
+pub record Changed (edited : List (ObjectId × ObjectRow)) (absent : List PageKey) (spare promised : ℕ) (id : ℕ) (row : ObjectRow) (old new : ObjectTable) : Type
+    0 where
   pub kept : AreMarks edited absent spare promised
   pub object : PutsObject id (Some row) old new
   pub marks : SameMarks old new
 
-written : (entries edited : List (ObjectId × ObjectRow)) (id : ℕ) (row : ObjectRow) → WritesRow id row entries edited → (o : ℕ) → object_among o edited ≡ (if id == o then Some row else object_among o entries)
+written : (entries edited : List (ObjectId × ObjectRow)) (id : ℕ) (row : ObjectRow) → WritesRow id row entries edited → (o : ℕ)
+    → object_among o edited ≡ (if id == o then Some row else object_among o entries)
 written entries edited id row writes o = object_is o edited ∙ writes (record { 0 = o }) ∙ ap (λ z. if id == o then Some row else z) (sym (object_is o entries))
 
 -- an object is put whose marks, if it has any, lie below its pages
-pub put : (entries edited : List (ObjectId × ObjectRow)) (absent : List PageKey) (spare promised rows marks rows2 marks2 id : ℕ) (row : ObjectRow) → AreMarks entries absent spare promised → WritesRow id row entries edited
-    → ((p : ℕ) → absent_among id p absent ≡ true → p < row.pages) → Changed edited absent spare promised id row (table_of entries absent rows marks) (table_of edited absent rows2 marks2)
+pub put : (entries edited : List (ObjectId × ObjectRow)) (absent : List PageKey) (spare promised rows marks rows2 marks2 id : ℕ) (row : ObjectRow)
+    → AreMarks entries absent spare promised → WritesRow id row entries edited
+    → ((p : ℕ) → absent_among id p absent ≡ true → p < row.pages)
+    → Changed edited absent spare promised id row (table_of entries absent rows marks) (table_of edited absent rows2 marks2)
 put entries edited absent spare promised rows marks rows2 marks2 id row are writes below = record {
   kept = record { inside = λ o p marked. by o p marked (id == o) refl; room = are.room };
   object = record { at = written entries edited id row writes };
@@ -82,12 +87,15 @@ put entries edited absent spare promised rows marks rows2 marks2 id row are writ
     by o p marked false apart = rw (written entries edited id row writes o, apart) (are.inside o p marked)
 
 -- a new object, of which no page is marked
-pub made : (entries edited : List (ObjectId × ObjectRow)) (absent : List PageKey) (spare promised rows marks rows2 marks2 id : ℕ) (row : ObjectRow) → AreMarks entries absent spare promised → object_among id entries ≡ None → WritesRow id row entries edited
+pub made : (entries edited : List (ObjectId × ObjectRow)) (absent : List PageKey) (spare promised rows marks rows2 marks2 id : ℕ) (row : ObjectRow)
+    → AreMarks entries absent spare promised → object_among id entries ≡ None → WritesRow id row entries edited
     → Changed edited absent spare promised id row (table_of entries absent rows marks) (table_of edited absent rows2 marks2)
 made entries edited absent spare promised rows marks rows2 marks2 id row are none writes =
-    put entries edited absent spare promised rows marks rows2 marks2 id row are writes (λ p marked. absurd (false≢true (sym (none_absent id p entries absent spare promised are none) ∙ marked)))
+    put entries edited absent spare promised rows marks rows2 marks2 id row are writes
+    (λ p marked. absurd (false≢true (sym (none_absent id p entries absent spare promised are none) ∙ marked)))
 
-module _ (entries : List (ObjectId × ObjectRow)) (absent : List PageKey) (rows marks : ℕ) (table : ObjectTable) (view : table_of entries absent rows marks ≡ table) where
+module _ (entries : List (ObjectId × ObjectRow)) (absent : List PageKey) (rows marks : ℕ) (table : ObjectTable)
+    (view : table_of entries absent rows marks ≡ table) where
   pub found : (o : ℕ) → object_at table o ≡ row_of entries o
   found o = rw (← view) (object_is o entries)
 
@@ -95,34 +103,44 @@ module _ (entries : List (ObjectId × ObjectRow)) (absent : List PageKey) (rows 
   there o some = rw (found o) at some
 
   -- of an object that was lent
-  pub told : (o : ℕ) (lent : Option (MutBor ObjectRow)) (row : MutBor ObjectRow) → option_copied_mut lent ≡ row_of entries o → lent ≡ Some row → object_at table o ≡ Some row.now
+  pub told : (o : ℕ) (lent : Option (MutBor ObjectRow)) (row : MutBor ObjectRow) → option_copied_mut lent ≡ row_of entries o → lent ≡ Some row
+      → object_at table o ≡ Some row.now
   told o lent row value is = found o ∙ sym value ∙ ap option_copied_mut is
 
   -- an object that is there gets another row of as many pages
-  pub changed : (edited : List (ObjectId × ObjectRow)) (spare promised rows2 marks2 id : ℕ) (lent : Option (MutBor ObjectRow)) (was : MutBor ObjectRow) (row : ObjectRow)
+  pub changed : (edited : List (ObjectId × ObjectRow)) (spare promised rows2 marks2 id : ℕ) (lent : Option (MutBor ObjectRow)) (was : MutBor ObjectRow)
+      (row : ObjectRow)
       → AreMarks entries absent spare promised → option_copied_mut lent ≡ row_of entries id → lent ≡ Some was → row.pages ≡ was.now.pages
       → (IsSome (row_of entries id) → WritesRow id row entries edited) → Changed edited absent spare promised id row table (table_of edited absent rows2 marks2)
   changed edited spare promised rows2 marks2 id lent was row are value is size writes =
       let stood : row_of entries id ≡ Some was.now = sym value ∙ ap option_copied_mut is in
-      let below : (p : ℕ) → absent_among id p absent ≡ true → p < row.pages = (λ p marked. let less = rw (object_is id entries, stood) at (are.inside id p marked) in omega (arith, less, size)) in
+      let below : (p : ℕ) → absent_among id p absent ≡ true
+      → p < row.pages = (λ p marked. let less = rw (object_is id entries, stood) at (are.inside id p marked) in omega (arith, less, size)) in
       rw (← view) (put entries edited absent spare promised rows marks rows2 marks2 id row are (writes (rw stood refl)) below)
 
 -- the set has this page or not now, and each other as it did
 abbrev pub WritesMark : PageKey → Bool → List PageKey → List PageKey → Type 0
-WritesMark key b old new = (q : PageKey) → mark_of new q.object.0 q.page.0 ≡ (if key.object.0 == q.object.0 && key.page.0 == q.page.0 then b else mark_of old q.object.0 q.page.0)
+WritesMark key b old new =
+    (q : PageKey) → mark_of new q.object.0 q.page.0 ≡ (if key.object.0 == q.object.0 && key.page.0 == q.page.0 then b else mark_of old q.object.0 q.page.0)
 
-pub marked : (entries entries2 : List (ObjectId × ObjectRow)) (absent edited : List PageKey) (rows marks rows2 marks2 : ℕ) (key : PageKey) (b : Bool) → WritesMark key b absent edited
+pub marked : (entries entries2 : List (ObjectId × ObjectRow)) (absent edited : List PageKey) (rows marks rows2 marks2 : ℕ) (key : PageKey) (b : Bool)
+    → WritesMark key b absent edited
     → PutsAbsent key.object.0 key.page.0 b (table_of entries absent rows marks) (table_of entries2 edited rows2 marks2)
 marked entries entries2 absent edited rows marks rows2 marks2 key b writes = record {
-  at = λ o p. mark_is o p edited ∙ writes (record { object = record { 0 = o }; page = record { 0 = p } }) ∙ ap (λ z. if is_page key o p then b else z) (sym (mark_is o p absent));
+  at =
+      λ o p. mark_is o p edited ∙ writes (record { object = record { 0 = o }; page = record { 0 = p } })
+      ∙ ap (λ z. if is_page key o p then b else z) (sym (mark_is o p absent));
 }
 
 -- a mark that is put lies below the pages of its object
-pub marks_put : (entries : List (ObjectId × ObjectRow)) (absent edited : List PageKey) (spare promised spare2 promised2 : ℕ) (key : PageKey) (b : Bool) → AreMarks entries absent spare promised → WritesMark key b absent edited
+pub marks_put : (entries : List (ObjectId × ObjectRow)) (absent edited : List PageKey) (spare promised spare2 promised2 : ℕ) (key : PageKey) (b : Bool)
+    → AreMarks entries absent spare promised → WritesMark key b absent edited
     → (b ≡ true → IsSomeAnd (object_among key.object.0 entries) (λ row. key.page.0 < row.pages)) → promised2 ≤ spare2 → AreMarks entries edited spare2 promised2
-marks_put entries absent edited spare promised spare2 promised2 key b are writes inside room = record { inside = λ o p is. by o p (is_page key o p) refl (sym ((marked entries entries absent edited 0 0 0 0 key b writes).at o p) ∙ is); room = room }
+marks_put entries absent edited spare promised spare2 promised2 key b are writes inside room =
+    record { inside = λ o p is. by o p (is_page key o p) refl (sym ((marked entries entries absent edited 0 0 0 0 key b writes).at o p) ∙ is); room = room }
   where
-    by : (o p : ℕ) (same : Bool) → is_page key o p ≡ same → (if is_page key o p then b else absent_among o p absent) ≡ true → IsSomeAnd (object_among o entries) (λ row. p < row.pages)
+    by : (o p : ℕ) (same : Bool) → is_page key o p ≡ same → (if is_page key o p then b else absent_among o p absent) ≡ true
+        → IsSomeAnd (object_among o entries) (λ row. p < row.pages)
     by o p true same is =
         let one : key.object.0 ≡ o = grind (arith, nat_tests, same) in
         let two : key.page.0 ≡ p = grind (arith, nat_tests, same) in

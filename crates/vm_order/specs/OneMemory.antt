@@ -16,7 +16,8 @@ use Rattle.vm_order.specs.Operations.{Load, Operation, memory, operations}
 abbrev pub LoadsRead : Header → Outside → List Operation → Type 0
 LoadsRead header outside [] = Unit {0}
 LoadsRead header outside (Load task region page address bytes value ∷ past) =
-    (is_flat header outside region ≡ true → value ≡ number_at (memory header outside past region page) header.size address bytes) × LoadsRead header outside past
+    (is_flat header outside region ≡ true → value ≡ number_at (memory header outside past region page) header.size address bytes)
+    × LoadsRead header outside past
 LoadsRead header outside (other ∷ past) = LoadsRead header outside past
 
 -- what ends is the access with which a task waits: it has begun, and hasn't ended; and an entry of the task has its address

@@ -71,7 +71,8 @@ operations header outside (event.RegionMade region object pages ∷ past) = Make
 operations header outside (event.RegionCopied region source offset pages ∷ past) = Copy region.0 source.0 offset ∷ operations header outside past
 operations header outside (event.CopiedPage task page object object_page target ∷ past) =
     page_copied (made_over target.0 past) page.0 object.0 object_page.0 ++ operations header outside past
-operations header outside (event.Sent (Down host object control) m ∷ past) = said header (is_said header outside object.0) object.0 m ++ operations header outside past
+operations header outside (event.Sent (Down host object control) m ∷ past) =
+    said header (is_said header outside object.0) object.0 m ++ operations header outside past
 operations header outside (e ∷ past) = operations header outside past
 
 -- The page of a region in a memory to which this was done.
@@ -79,9 +80,11 @@ abbrev pub memory : Header → Outside → List Operation → ℕ → ℕ → Li
 memory header outside [] region page = if is_file header region then start_page header outside region page else zeros header
 memory header outside (Load task r p address bytes value ∷ past) region page = memory header outside past region page
 memory header outside (Store task r p address bytes value ∷ past) region page =
-    if region == r && page == p then with_bytes (address % header.size) (little_endian_bytes bytes value) (memory header outside past region page) else memory header outside past region page
+    if region == r && page == p then with_bytes (address % header.size) (little_endian_bytes bytes value) (memory header outside past region page) else memory
+    header outside past region page
 memory header outside (Make r ∷ past) region page = if region == r then zeros header else memory header outside past region page
-memory header outside (Copy r source offset ∷ past) region page = if region == r then memory header outside past source (offset + page) else memory header outside past region page
+memory header outside (Copy r source offset ∷ past) region page =
+    if region == r then memory header outside past source (offset + page) else memory header outside past region page
 memory header outside (CopyPage r p source source_page ∷ past) region page =
     if region == r && page == p then memory header outside past source source_page else memory header outside past region page
 memory header outside (Say r p bytes ∷ past) region page = if region == r && page == p then bytes else memory header outside past region page

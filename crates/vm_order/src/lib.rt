@@ -23,6 +23,8 @@ ghost use Rattle.vm_order.specs.Operations.{memory, operations};
 /// file is that isn't told, its pager's answers say.
 #[tactic(auto, using(crate::proofs::Flat::memory_is_flat, crate::proofs::Ordered::memory_is_one))]
 pub fn memory_is_one()
-    ensures flat { (header : Header) (outside : Outside) (history : List Event) (region page : ℕ) → memory header outside (operations header outside history) region page ≡ flat_page header outside region page history }
-    ensures one { (header : Header) (outside : Outside) (history : List Event) → EachEvent (HasCause header outside) history → EachEvent (OwnBytes header) history → EachEvent (FlatBytes header outside) history → IsOneMemory header outside history }
+    ensures flat { (header : Header) (outside : Outside) (history : List Event) (region page : ℕ)
+        → memory header outside (operations header outside history) region page ≡ flat_page header outside region page history }
+    ensures one { (header : Header) (outside : Outside) (history : List Event) → EachEvent (HasCause header outside) history
+        → EachEvent (OwnBytes header) history → EachEvent (FlatBytes header outside) history → IsOneMemory header outside history }
 {}

@@ -1,5 +1,6 @@
 -- Named areas of bytes.
-use Rattle.std.specs.Prelude.{ℕ, ◌≡◌, ◌≢◌, ◌+◌, ◌-◌, ◌<◌, ◌≤◌, ◌⊎◌, max, List, [], ◌++◌, length, take, drop, replicate, slice_index, Option, Some, None, unwrap_or, Result, IfOk, OnOk, IsErrOf, MatchOption}
+use Rattle.std.specs.Prelude.{ℕ, ◌≡◌, ◌≢◌, ◌+◌, ◌-◌, ◌<◌, ◌≤◌, ◌⊎◌, max, List, [], ◌++◌, length, take, drop, replicate, slice_index, Option, Some, None}
+use Rattle.std.specs.Prelude.{unwrap_or, Result, IfOk, OnOk, IsErrOf, MatchOption}
 use Rattle.std.specs.Option.{option_map}
 use Rattle.vm_base.specs.Pages.{with_bytes}
 use Rattle.vm_base.specs.declared.failure.Failed.{Failed}

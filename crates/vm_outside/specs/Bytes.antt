@@ -1,5 +1,6 @@
 -- What is read from an area after a write.
-use Rattle.std.proofs.Common.{ℕ, zero, suc, ◌≡◌, ◌+◌, ◌-◌, ◌<◌, ◌≤◌, ◌⊎◌, inl, inr, max, List, [], ◌∷◌, ◌++◌, length, take, drop, replicate, slice_index, refl, sym, ap, ◌∙◌, arith, length-append}
+use Rattle.std.proofs.Common.{ℕ, zero, suc, ◌≡◌, ◌+◌, ◌-◌, ◌<◌, ◌≤◌, ◌⊎◌, inl, inr, max, List, [], ◌∷◌, ◌++◌, length, take, drop, replicate, slice_index, refl}
+use Rattle.std.proofs.Common.{sym, ap, ◌∙◌, arith, length-append}
 use Rattle.std.proofs.Math.ListN.{get_or-append}
 use Rattle.std.proofs.lemmas.List.{get_or-take, get_or-drop, get_or-append_right, length-take, length-drop, length-replicate}
 use Rattle.std.proofs.lemmas.Grind.{same_number_lists}
@@ -17,7 +18,8 @@ padded_byte (b ∷ bytes) n zero = refl
 padded_byte (b ∷ bytes) n (suc i) = padded_byte bytes n i
 
 pub length-read_at : (bytes : List ℕ) (at n : ℕ) → length (read_at bytes at n) ≡ n
-length-read_at bytes at n = omega (arith, length-take n (drop at bytes ++ replicate n 0), length-append (drop at bytes) (replicate n 0), length-replicate {A = ℕ} n 0)
+length-read_at bytes at n =
+    omega (arith, length-take n (drop at bytes ++ replicate n 0), length-append (drop at bytes) (replicate n 0), length-replicate {A = ℕ} n 0)
 
 pub read_at-byte : (bytes : List ℕ) (at n i : ℕ) → i < n
     → slice_index (read_at bytes at n) i ≡ slice_index bytes (at + i)
@@ -28,7 +30,8 @@ pub read_at-same : (xs ys : List ℕ) (at n : ℕ) → ((i : ℕ) → i < n → 
     → read_at xs at n ≡ read_at ys at n
 read_at-same xs ys at n same =
     same_number_lists (read_at xs at n) (read_at ys at n) (length-read_at xs at n ∙ sym (length-read_at ys at n))
-    (λ i less. let inside : i < n = omega (arith, length-read_at xs at n) in read_at-byte xs at n i inside ∙ (same i inside ∙ sym (read_at-byte ys at n i inside)))
+    (λ i less. let inside : i < n = omega (arith, length-read_at xs at n) in read_at-byte xs at n i inside
+    ∙ (same i inside ∙ sym (read_at-byte ys at n i inside)))
 
 -- a write that failed leaves what is read elsewhere
 pub read_at-torn : (old : List ℕ) (at n : ℕ) (new : List ℕ) → Torn old at n new → (from m : ℕ)
@@ -71,7 +74,8 @@ byte_behind old at bytes i past =
     let long = lengthened old (at + length bytes) in
     let sum : at + length bytes + (i - (at + length bytes)) ≡ i = omega arith in
     get_or-append_right (take at long ++ bytes) (drop (at + length bytes) long) (at + length bytes) i 0 (length-through old at bytes) past
-    ∙ (get_or-drop (at + length bytes) long (i - (at + length bytes)) 0 ∙ (ap (λ z. slice_index long z) sum ∙ padded_byte old (at + length bytes - length old) i))
+    ∙ (get_or-drop (at + length bytes) long (i - (at + length bytes)) 0
+    ∙ (ap (λ z. slice_index long z) sum ∙ padded_byte old (at + length bytes - length old) i))
 
 byte_within : (old : List ℕ) (at : ℕ) (bytes : List ℕ) (i : ℕ) → i < length bytes
     → slice_index (write_at old at bytes) (at + i) ≡ slice_index bytes i

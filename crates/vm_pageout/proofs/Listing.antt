@@ -1,10 +1,12 @@
 -- How many pages are listed once a victim was looked for, and once it has gone.
-use Rattle.std.proofs.Common.{◌≡◌, ◌∙◌, ℕ, ◌+◌, ◌||◌, ◌==◌, Bool, true, false, List, [], ◌∷◌, ◌++◌, length, map, take, if◌then◌else◌, inl, inr, refl, sym, ap, arith}
+use Rattle.std.proofs.Common.{◌≡◌, ◌∙◌, ℕ, ◌+◌, ◌||◌, ◌==◌, Bool, true, false, List, [], ◌∷◌, ◌++◌, length, map, take, if◌then◌else◌, inl, inr, refl, sym, ap}
+use Rattle.std.proofs.Common.{arith}
 use Rattle.std.proofs.lemmas.Bool.Decides.{eqb_tells, nat_tests}
 use Rattle.std.proofs.lemmas.List.{length-append, length-drop, length-map, length-take-le}
 use Rattle.vm_pageout.specs.Reclaims.{queues_after_search}
 use Rattle.vm_parts.specs.Listed.{listed_pages}
-use Rattle.vm_queues.specs.Queues.{EachOnce, Page, Queues, balanced, cleared, from_unreferenced, has_page, is_queued, pages_except, queues_except, referenced_front, shortage, spared}
+use Rattle.vm_queues.specs.Queues.{EachOnce, Page, Queues, balanced, cleared, from_unreferenced, has_page, is_queued, pages_except, queues_except}
+use Rattle.vm_queues.specs.Queues.{referenced_front, shortage, spared}
 
 listed_balanced : (q : Queues) → listed_pages (balanced q) ≡ listed_pages q
 listed_balanced q =
@@ -59,12 +61,14 @@ except_append f [] ys = refl
 except_append f (x ∷ xs) ys = at (x.frame == f) (except_append f xs ys)
   where
     at : (is : Bool) → pages_except f (xs ++ ys) ≡ pages_except f xs ++ pages_except f ys
-        → (if is then pages_except f (xs ++ ys) else x ∷ pages_except f (xs ++ ys)) ≡ (if is then pages_except f xs else x ∷ pages_except f xs) ++ pages_except f ys
+        → (if is then pages_except f (xs ++ ys) else x ∷ pages_except f (xs ++ ys)) ≡ (if is then pages_except f xs else x ∷ pages_except f xs) ++ pages_except
+        f ys
     at true rest = rest
     at false rest = ap (λ z. x ∷ z) rest
 
 -- one page less is listed
-pub listed_gone : (f : ℕ) (old new : Queues) → EachOnce (old.inactive ++ old.active) → is_queued old f ≡ true → new ≡ queues_except f old → listed_pages new + 1 ≡ listed_pages old
+pub listed_gone : (f : ℕ) (old new : Queues) → EachOnce (old.inactive ++ old.active) → is_queued old f ≡ true → new ≡ queues_except f old
+    → listed_pages new + 1 ≡ listed_pages old
 listed_gone f old new once is out =
     let gone = one_gone f (old.inactive ++ old.active) once is in
     let parts = ap length (except_append f old.inactive old.active) in

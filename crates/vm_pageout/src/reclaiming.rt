@@ -107,7 +107,8 @@ fn return_page(host: HostId, key: PageKey, row: PageRow, parts: &mut HostParts, 
     requires buffers { 0 < parts.old.buffers.count }
     requires room { 2 ≤ log.old.room }
     ensures rest { parts.new ≡ record parts.old { objects = parts.new.objects; buffers = parts.new.buffers } }
-    ensures objects { IfSome (object_at parts.old.objects key.object.0) (λ object. PutsObject key.object.0 (Some (controlled object)) parts.old.objects parts.new.objects) }
+    ensures objects { IfSome (object_at parts.old.objects key.object.0) (λ object. PutsObject key.object.0 (Some (controlled object)) parts.old.objects
+        parts.new.objects) }
     ensures present { PutsAbsent key.object.0 key.page.0 false parts.old.objects parts.new.objects }
     ensures rooms { SameRooms parts.old.objects parts.new.objects }
     ensures log { IfSome (object_at parts.old.objects key.object.0) (λ object. log.new.items ≡

@@ -1,5 +1,6 @@
 -- A page and its frame change, as the calls of the parts change them.
-use Rattle.std.proofs.Common.{◌≡◌, ℕ, zero, suc, ◌+◌, ◌/◌, ◌<◌, ◌≤◌, ◌==◌, Bool, true, false, List, [], ◌++◌, get_or, length, set, take, drop, length-append, refl, ap, sym, ◌∙◌, arith, Some, None, Option, ◌&&◌}
+use Rattle.std.proofs.Common.{◌≡◌, ℕ, zero, suc, ◌+◌, ◌/◌, ◌<◌, ◌≤◌, ◌==◌, Bool, true, false, List, [], ◌++◌, get_or, length, set, take, drop, length-append}
+use Rattle.std.proofs.Common.{refl, ap, sym, ◌∙◌, arith, Some, None, Option, ◌&&◌}
 use Rattle.std.proofs.lemmas.List.{length-drop, length-take, set-get_or}
 use Rattle.std.specs.Prelude.{if◌then◌else◌}
 use Rattle.vm_base.specs.Pages.{little_endian_bytes, with_bytes}
@@ -37,12 +38,16 @@ set_same xs i x d is = ap (set xs i) (sym is) ∙ set-get_or xs i d
 
 -- a frame that is claimed has other bytes
 filled_frame : (fs : FrameTable) (f : ℕ) (bytes : List ℕ) → is_claimed fs f ≡ true → with_page fs f bytes ≡ with_frame f true bytes fs
-filled_frame fs f bytes held = ap (λ (z : List Bool). record { pages = set fs.pages f bytes; claims = z; wired = fs.wired }) (sym (set_same fs.claims f true false held))
+filled_frame fs f bytes held =
+    ap (λ (z : List Bool). record { pages = set fs.pages f bytes; claims = z; wired = fs.wired }) (sym (set_same fs.claims f true false held))
 
 -- the row of a page has changed, and the bytes of its frame
-pub rows_changed : (key : PageKey) (was now : PageRow) (bytes : List ℕ) (lists : Queues) (old new : HostParts) → Fit old → row_at old.resident key.object.0 key.page.0 ≡ Some was → now.frame ≡ was.frame
-    → PutsRow key.object.0 key.page.0 (Some now) old.resident new.resident → ((f : ℕ) → owner_of new.resident f ≡ owner_of old.resident f) → new.frames ≡ with_page old.frames was.frame.0 bytes
-    → new.queues ≡ lists → ((g : ℕ) → is_queued new.queues g ≡ (if was.frame.0 == g then now.here else is_queued old.queues g)) → Changes key was.frame (Some was) (Some now) true bytes lists old new
+pub rows_changed : (key : PageKey) (was now : PageRow) (bytes : List ℕ) (lists : Queues) (old new : HostParts) → Fit old
+    → row_at old.resident key.object.0 key.page.0 ≡ Some was → now.frame ≡ was.frame
+    → PutsRow key.object.0 key.page.0 (Some now) old.resident new.resident → ((f : ℕ) → owner_of new.resident f ≡ owner_of old.resident f)
+    → new.frames ≡ with_page old.frames was.frame.0 bytes
+    → new.queues ≡ lists → ((g : ℕ) → is_queued new.queues g ≡ (if was.frame.0 == g then now.here else is_queued old.queues g))
+    → Changes key was.frame (Some was) (Some now) true bytes lists old new
 rows_changed key was now bytes lists old new fit found same row owners frames queues lists_are =
     let f = was.frame.0 in
     let has = holds old key.object.0 key.page.0 was fit found in
@@ -67,10 +72,12 @@ rows_changed key was now bytes lists old new fit found same row owners frames qu
     }
 
 -- a page that had no row has one, in a frame that was free
-pub claimed_for : (key : PageKey) (frame : FrameNo) (now : PageRow) (bytes : List ℕ) (lists : Queues) (old new : HostParts) (mid : FrameTable) → Fit old → row_at old.resident key.object.0 key.page.0 ≡ None → now.frame ≡ frame
+pub claimed_for : (key : PageKey) (frame : FrameNo) (now : PageRow) (bytes : List ℕ) (lists : Queues) (old new : HostParts) (mid : FrameTable) → Fit old
+    → row_at old.resident key.object.0 key.page.0 ≡ None → now.frame ≡ frame
     → Claims frame.0 old.frames mid → new.frames ≡ with_page mid frame.0 bytes
     → PutsRow key.object.0 key.page.0 (Some now) old.resident new.resident → PutsOwner frame.0 (Some key) old.resident new.resident
-    → new.queues ≡ lists → ((g : ℕ) → is_queued new.queues g ≡ (if frame.0 == g then now.here else is_queued old.queues g)) → Changes key frame None (Some now) true bytes lists old new
+    → new.queues ≡ lists → ((g : ℕ) → is_queued new.queues g ≡ (if frame.0 == g then now.here else is_queued old.queues g))
+    → Changes key frame None (Some now) true bytes lists old new
 claimed_for key frame now bytes lists old new mid fit absent same claims frames row owner queues lists_are =
     let f = frame.0 in
     let none = fit.unowned f claims.fresh in
@@ -97,7 +104,8 @@ claimed_for key frame now bytes lists old new mid fit absent same claims frames 
 
 -- a page has gone, and its frame stays claimed
 pub removes : (key : PageKey) (row : PageRow) (old new : HostParts) → Fit old → row_at old.resident key.object.0 key.page.0 ≡ Some row → new.frames ≡ old.frames
-    → PutsRow key.object.0 key.page.0 None old.resident new.resident → PutsOwner row.frame.0 None old.resident new.resident → new.queues ≡ queues_except row.frame.0 old.queues → LosesPage row.frame.0 old.queues new.queues → Removes key row old new
+    → PutsRow key.object.0 key.page.0 None old.resident new.resident → PutsOwner row.frame.0 None old.resident new.resident
+    → new.queues ≡ queues_except row.frame.0 old.queues → LosesPage row.frame.0 old.queues new.queues → Removes key row old new
 removes key row old new fit found frames put owner queues loses =
     let f = row.frame.0 in
     let has = holds old key.object.0 key.page.0 row fit found in
@@ -112,7 +120,8 @@ removes key row old new fit found frames put owner queues loses =
       row = put;
       now_in = tt;
       owner = owner;
-      frames = frames ∙ (ap (λ z. record old.frames { pages = z }) (sym (set_same old.frames.pages f page [] refl)) ∙ filled_frame old.frames f page has.claimed);
+      frames =
+          frames ∙ (ap (λ z. record old.frames { pages = z }) (sym (set_same old.frames.pages f page [] refl)) ∙ filled_frame old.frames f page has.claimed);
       page = record { at = same_case (page_in new.frames) (page_in old.frames) page f (λ g. ap (λ z. page_in z g) frames) refl };
       claim = record { at = same_case (is_claimed new.frames) (is_claimed old.frames) true f (λ g. ap (λ z. is_claimed z g) frames) has.claimed };
       claims = rw frames refl;
@@ -138,7 +147,8 @@ length_with at n value page fits =
     first ∙ whole
 
 -- a page changes the same where more rows have room
-pub changes_roomier : (key : PageKey) (frame : FrameNo) (was now : Option PageRow) (held : Bool) (bytes : List ℕ) (lists : Queues) (old new : HostParts) (rs : ResidentTable) → rs.rows ≡ old.resident.rows
+pub changes_roomier : (key : PageKey) (frame : FrameNo) (was now : Option PageRow) (held : Bool) (bytes : List ℕ) (lists : Queues) (old new : HostParts)
+    (rs : ResidentTable) → rs.rows ≡ old.resident.rows
     → Changes key frame was now held bytes lists (record old { resident = rs }) new → Changes key frame was now held bytes lists old new
 changes_roomier key frame was now held bytes lists old new rs rows c =
     record {

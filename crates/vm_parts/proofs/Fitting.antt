@@ -22,7 +22,8 @@ in_frame frame now row is same = ap (λ z. z.0) (subst (λ (z : Option PageRow).
 -- a frame that a page had leads to no other page
 led_apart : (key : PageKey) (was : Option PageRow) (o p : ℕ) → (key.object.0 ≡ o → key.page.0 ≡ p → ⊥) → led key was ≡ Some (page_key o p) → ⊥
 led_apart key None o p apart is = let bad : None ≡ Some (page_key o p) = is in cc
-led_apart key (Some row) o p apart is = let same : key ≡ page_key o p = some_is key (page_key o p) is in apart (ap (λ z. z.object.0) same) (ap (λ z. z.page.0) same)
+led_apart key (Some row) o p apart is =
+    let same : key ≡ page_key o p = some_is key (page_key o p) is in apart (ap (λ z. z.object.0) same) (ap (λ z. z.page.0) same)
 
 led_none : (key : PageKey) (now : Option PageRow) → led key now ≡ None → now ≡ None
 led_none key None none = refl
@@ -33,13 +34,17 @@ unheld_none None held kept none = refl
 unheld_none (Some row) held kept none = absurd (let bad : true ≡ false = sym (kept refl) ∙ none in cc)
 
 -- the frame of another page is another
-pub frame_apart : (key : PageKey) (frame : FrameNo) (was now : Option PageRow) (held : Bool) (bytes : List ℕ) (lists : Queues) (old new : HostParts) → Fit old → Changes key frame was now held bytes lists old new
+pub frame_apart : (key : PageKey) (frame : FrameNo) (was now : Option PageRow) (held : Bool) (bytes : List ℕ) (lists : Queues) (old new : HostParts) → Fit old
+    → Changes key frame was now held bytes lists old new
     → (o p : ℕ) (row : PageRow) → (key.object.0 ≡ o → key.page.0 ≡ p → ⊥) → row_at old.resident o p ≡ Some row → frame.0 ≡ row.frame.0 → ⊥
-frame_apart key frame was now held bytes lists old new fit c o p row apart found same = led_apart key was o p apart (sym c.owned ∙ (ap (owner_of old.resident) same ∙ fit.owned.at o p row found))
+frame_apart key frame was now held bytes lists old new fit c o p row apart found same =
+    led_apart key was o p apart (sym c.owned ∙ (ap (owner_of old.resident) same ∙ fit.owned.at o p row found))
 
 -- a page and its frame have changed
-pub fit_changed : (key : PageKey) (frame : FrameNo) (was now : Option PageRow) (held : Bool) (bytes : List ℕ) (lists : Queues) (old new : HostParts) → Fit old → Changes key frame was now held bytes lists old new
-    → (is_some now ≡ true → held ≡ true) → (is_some now ≡ true → key.page.0 < object_pages old.objects key.object.0) → length bytes ≡ old.buffers.size → lists.frames ≡ old.queues.frames
+pub fit_changed : (key : PageKey) (frame : FrameNo) (was now : Option PageRow) (held : Bool) (bytes : List ℕ) (lists : Queues) (old new : HostParts) → Fit old
+    → Changes key frame was now held bytes lists old new
+    → (is_some now ≡ true → held ≡ true) → (is_some now ≡ true → key.page.0 < object_pages old.objects key.object.0) → length bytes ≡ old.buffers.size
+    → lists.frames ≡ old.queues.frames
     → new.objects ≡ old.objects → new.buffers ≡ old.buffers → Fit new
 fit_changed key frame was now held bytes lists old new fit c kept inside whole frames objects buffers =
     record {
@@ -47,11 +52,13 @@ fit_changed key frame was now held bytes lists old new fit c kept inside whole f
         at = λ o p r is. elim (cases o p) [
           | inl put ↦
               let its : led key now ≡ Some key = ap (led key) (sym put.is ∙ is) in
-              ap (owner_of new.resident) (mine o p r put is) ∙ (owner_here ∙ (its ∙ ap Some (ap (λ z. page_key z key.page.0) put.object ∙ ap (page_key o) put.page)))
-          | inr that ↦ elim (one_case frame.0 r.frame.0 (led key now) (owner_of old.resident r.frame.0) (owner_of new.resident r.frame.0) (c.owner.at r.frame.0)) [
-            | inl same ↦ absurd (apart o p r that is same.0)
-            | inr other ↦ other.1 ∙ fit.owned.at o p r (sym that.is ∙ is)
-          ]
+              ap (owner_of new.resident) (mine o p r put is)
+              ∙ (owner_here ∙ (its ∙ ap Some (ap (λ z. page_key z key.page.0) put.object ∙ ap (page_key o) put.page)))
+          | inr that ↦ elim (one_case frame.0 r.frame.0 (led key now) (owner_of old.resident r.frame.0) (owner_of new.resident r.frame.0)
+              (c.owner.at r.frame.0)) [
+                | inl same ↦ absurd (apart o p r that is same.0)
+                | inr other ↦ other.1 ∙ fit.owned.at o p r (sym that.is ∙ is)
+              ]
         ];
       };
       held = λ o p r is. elim (one_case frame.0 r.frame.0 held (is_claimed old.frames r.frame.0) (is_claimed new.frames r.frame.0) (c.claim.at r.frame.0)) [
@@ -64,16 +71,17 @@ fit_changed key frame was now held bytes lists old new fit c kept inside whole f
           | inr that ↦ other.1 ∙ fit.held o p r (sym that.is ∙ is)
         ]
       ];
-      listed = λ o p r is. elim (one_case frame.0 r.frame.0 (is_here now) (is_queued old.queues r.frame.0) (is_queued new.queues r.frame.0) (c.lists_are r.frame.0)) [
-        | inl same ↦ elim (cases o p) [
-          | inl put ↦ same.1 ∙ ap is_here (sym put.is ∙ is)
-          | inr that ↦ absurd (apart o p r that is same.0)
-        ]
-        | inr other ↦ elim (cases o p) [
-          | inl put ↦ absurd (other.0 (sym (mine o p r put is)))
-          | inr that ↦ other.1 ∙ fit.listed o p r (sym that.is ∙ is)
-        ]
-      ];
+      listed =
+          λ o p r is. elim (one_case frame.0 r.frame.0 (is_here now) (is_queued old.queues r.frame.0) (is_queued new.queues r.frame.0) (c.lists_are r.frame.0)) [
+            | inl same ↦ elim (cases o p) [
+              | inl put ↦ same.1 ∙ ap is_here (sym put.is ∙ is)
+              | inr that ↦ absurd (apart o p r that is same.0)
+            ]
+            | inr other ↦ elim (cases o p) [
+              | inl put ↦ absurd (other.0 (sym (mine o p r put is)))
+              | inr that ↦ other.1 ∙ fit.listed o p r (sym that.is ∙ is)
+            ]
+          ];
       unlisted = λ g none. elim (one_case frame.0 g (led key now) (owner_of old.resident g) (owner_of new.resident g) (c.owner.at g)) [
         | inl same ↦ elim (one_case frame.0 g (is_here now) (is_queued old.queues g) (is_queued new.queues g) (c.lists_are g)) [
           | inl also ↦ also.1 ∙ ap is_here (led_none key now (sym same.1 ∙ none))
@@ -92,7 +100,8 @@ fit_changed key frame was now held bytes lists old new fit c kept inside whole f
         ]
       ];
       inside = λ o p r is. subst (λ (z : ObjectTable). p < object_pages z o) (sym objects) (elim (cases o p) [
-        | inl put ↦ subst (λ (z : ℕ). p < object_pages old.objects z) put.object (subst (λ (z : ℕ). z < object_pages old.objects key.object.0) put.page (inside (ap is_some (sym put.is ∙ is))))
+        | inl put ↦ subst (λ (z : ℕ). p < object_pages old.objects z) put.object (subst (λ (z : ℕ). z < object_pages old.objects key.object.0) put.page
+            (inside (ap is_some (sym put.is ∙ is))))
         | inr that ↦ fit.inside o p r (sym that.is ∙ is)
       ]);
       all_sized = λ g below. elim (one_case frame.0 g bytes (page_in old.frames g) (page_in new.frames g) (c.page.at g)) [
@@ -103,17 +112,21 @@ fit_changed key frame was now held bytes lists old new fit c kept inside whole f
       pages = ap (λ z. length z.pages) c.frames ∙ (length-set old.frames.pages frame.0 bytes ∙ (fit.pages ∙ sym count));
     }
   where
-    cases : (o p : ℕ) → IsPut key.object.0 key.page.0 now o p (row_at new.resident o p) ⊎ IsOther key.object.0 key.page.0 (row_at old.resident o p) o p (row_at new.resident o p)
+    cases : (o p : ℕ) → IsPut key.object.0 key.page.0 now o p (row_at new.resident o p)
+        ⊎ IsOther key.object.0 key.page.0 (row_at old.resident o p) o p (row_at new.resident o p)
     cases o p = row_cases key.object.0 key.page.0 now old.resident new.resident c.row o p
 
     mine : (o p : ℕ) (r : PageRow) → IsPut key.object.0 key.page.0 now o p (row_at new.resident o p) → row_at new.resident o p ≡ Some r → r.frame.0 ≡ frame.0
     mine o p r put is = in_frame frame now r c.now_in (sym put.is ∙ is)
 
-    apart : (o p : ℕ) (r : PageRow) → IsOther key.object.0 key.page.0 (row_at old.resident o p) o p (row_at new.resident o p) → row_at new.resident o p ≡ Some r → frame.0 ≡ r.frame.0 → ⊥
+    apart : (o p : ℕ) (r : PageRow) → IsOther key.object.0 key.page.0 (row_at old.resident o p) o p (row_at new.resident o p) → row_at new.resident o p ≡ Some r
+        → frame.0 ≡ r.frame.0 → ⊥
     apart o p r that is same = frame_apart key frame was now held bytes lists old new fit c o p r that.apart (sym that.is ∙ is) same
 
     owner_here : owner_of new.resident frame.0 ≡ led key now
-    owner_here = elim (one_case frame.0 frame.0 (led key now) (owner_of old.resident frame.0) (owner_of new.resident frame.0) (c.owner.at frame.0)) [ inl same ↦ same.1 | inr other ↦ absurd (other.0 refl) ]
+    owner_here =
+        elim (one_case frame.0 frame.0 (led key now) (owner_of old.resident frame.0) (owner_of new.resident frame.0) (c.owner.at frame.0))
+        [ inl same ↦ same.1 | inr other ↦ absurd (other.0 refl) ]
 
     count : frame_count new.frames ≡ frame_count old.frames
     count = ap (λ z. length z.claims) c.frames ∙ length-set old.frames.claims frame.0 held
@@ -122,7 +135,8 @@ fit_changed key frame was now held bytes lists old new fit c kept inside whole f
     size = ap (λ z. z.size) buffers
 
 -- a frame is claimed no more that no page has
-pub fit_released : (parts : HostParts) (fs : FrameTable) (f : ℕ) → Fit parts → is_claimed parts.frames f ≡ true → owner_of parts.resident f ≡ None → Releases f parts.frames fs → Fit (record parts { frames = fs })
+pub fit_released : (parts : HostParts) (fs : FrameTable) (f : ℕ) → Fit parts → is_claimed parts.frames f ≡ true → owner_of parts.resident f ≡ None
+    → Releases f parts.frames fs → Fit (record parts { frames = fs })
 fit_released parts fs f fit mine none releases =
     record {
       owned = fit.owned;
@@ -149,7 +163,8 @@ fit_released parts fs f fit mine none releases =
     count = ap frame_count releases.is ∙ length-set parts.frames.claims f false
 
 -- the lists hold the same pages
-pub fit_touched : (parts : HostParts) (qs : Queues) → Fit parts → KeepsPages parts.queues qs → qs.frames ≡ parts.queues.frames → Fit (record parts { queues = qs })
+pub fit_touched : (parts : HostParts) (qs : Queues) → Fit parts → KeepsPages parts.queues qs → qs.frames ≡ parts.queues.frames
+    → Fit (record parts { queues = qs })
 fit_touched parts qs fit keeps count =
     record {
       owned = fit.owned;
@@ -164,7 +179,8 @@ fit_touched parts qs fit keeps count =
     }
 
 -- the pages that are here are within their objects
-pub fit_within : (parts : HostParts) (os : ObjectTable) → Fit parts → ((o p : ℕ) (row : PageRow) → row_at parts.resident o p ≡ Some row → p < object_pages os o) → Fit (record parts { objects = os })
+pub fit_within : (parts : HostParts) (os : ObjectTable) → Fit parts → ((o p : ℕ) (row : PageRow) → row_at parts.resident o p ≡ Some row → p < object_pages os o)
+    → Fit (record parts { objects = os })
 fit_within parts os fit inside =
     record {
       owned = fit.owned;
@@ -179,7 +195,8 @@ fit_within parts os fit inside =
     }
 
 -- each object has as many pages
-pub fit_objects : (parts : HostParts) (os : ObjectTable) → Fit parts → ((o : ℕ) → object_pages os o ≡ object_pages parts.objects o) → Fit (record parts { objects = os })
+pub fit_objects : (parts : HostParts) (os : ObjectTable) → Fit parts → ((o : ℕ) → object_pages os o ≡ object_pages parts.objects o)
+    → Fit (record parts { objects = os })
 fit_objects parts os fit same = fit_within parts os fit (λ o p r is. subst (λ (z : ℕ). p < z) (sym (same o)) (fit.inside o p r is))
 
 -- an object's row has changed, but not its number of pages
@@ -212,7 +229,8 @@ fit_reserved parts rs fit same =
     owners f = ap (owner_among f) same
 
 -- other buffers of that size are kept
-pub fit_buffers : (parts : HostParts) (size count : ℕ) → Fit parts → size ≡ parts.buffers.size → Fit (record parts { buffers = record { size = size; count = count } })
+pub fit_buffers : (parts : HostParts) (size count : ℕ) → Fit parts → size ≡ parts.buffers.size
+    → Fit (record parts { buffers = record { size = size; count = count } })
 fit_buffers parts size count fit same =
     record {
       owned = fit.owned;

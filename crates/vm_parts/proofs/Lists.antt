@@ -11,7 +11,8 @@ no_more : (f : ℕ) (pages : List Page) → length (pages_except f pages) ≤ le
 no_more f [] = omega arith
 no_more f (page ∷ pages) =
     let rest = no_more f pages in
-    elim (page.frame == f) as (λ b. length (if b then pages_except f pages else page ∷ pages_except f pages) ≤ length (page ∷ pages)) [ true ↦ omega arith | false ↦ omega arith ]
+    elim (page.frame == f) as (λ b. length (if b then pages_except f pages else page ∷ pages_except f pages) ≤ length (page ∷ pages))
+    [ true ↦ omega arith | false ↦ omega arith ]
 
 one_less : (f : ℕ) (pages : List Page) → has_page pages f ≡ true → length (pages_except f pages) + 1 ≤ length pages
 one_less f [] has = absurd (let bad : false ≡ true = has in cc)
@@ -27,7 +28,8 @@ on_other : (inactive active : List Page) (f : ℕ) → has_page inactive f ≡ f
 on_other [] active f none = refl
 on_other (page ∷ inactive) active f none = by (page.frame == f) (λ rest. on_other inactive active f rest) none
   where
-    by : (b : Bool) → (has_page inactive f ≡ false → has_page (inactive ++ active) f ≡ has_page active f) → (b || has_page inactive f) ≡ false → (b || has_page (inactive ++ active) f) ≡ has_page active f
+    by : (b : Bool) → (has_page inactive f ≡ false → has_page (inactive ++ active) f ≡ has_page active f) → (b || has_page inactive f) ≡ false
+        → (b || has_page (inactive ++ active) f) ≡ has_page active f
     by true rest none = absurd (let bad : true ≡ false = none in cc)
     by false rest none = rest none
 
@@ -51,5 +53,6 @@ pub some_listed : (f : ℕ) (queues : Queues) → is_queued queues f ≡ true �
 some_listed f queues is = let less = listed_less f queues (queues_except f queues) is refl in omega arith
 
 -- a page that is here is on a list
-pub some_here : (parts : HostParts) (o p : ℕ) (row : PageRow) → Fit parts → row_at parts.resident o p ≡ Some row → row.here ≡ true → 0 < listed_pages parts.queues
+pub some_here : (parts : HostParts) (o p : ℕ) (row : PageRow) → Fit parts → row_at parts.resident o p ≡ Some row → row.here ≡ true
+    → 0 < listed_pages parts.queues
 some_here parts o p row fit found here = some_listed row.frame.0 parts.queues (fit.listed o p row found ∙ here)

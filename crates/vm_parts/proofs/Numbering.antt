@@ -13,7 +13,8 @@ live_none os none = record { at = λ o row is told. absurd (let bad : None ≡ S
 pub numbers_none : (os : ObjectTable) → os.entries ≡ [] → HasNumbers os
 numbers_none os none = record { at = λ o row is. absurd (let bad : None ≡ Some row = sym (ap (object_among o) none) ∙ is in cc) }
 
-pub live_put : (os os2 : ObjectTable) (id : ℕ) (row : ObjectRow) → AllLive os → (row.state ≢ state.Without → row.live ≡ true) → PutsObject id (Some row) os os2 → AllLive os2
+pub live_put : (os os2 : ObjectTable) (id : ℕ) (row : ObjectRow) → AllLive os → (row.state ≢ state.Without → row.live ≡ true) → PutsObject id (Some row) os os2
+    → AllLive os2
 live_put os os2 id row live is_live put =
     record {
       at = λ o r is told. elim (one_case id o (Some row) (object_at os o) (object_at os2 o) (put.at o)) [
@@ -24,7 +25,8 @@ live_put os os2 id row live is_live put =
       ];
     }
 
-pub numbers_put : (os os2 : ObjectTable) (id : ℕ) (row : ObjectRow) → HasNumbers os → row.control < 2 ^ 32 - 1 → PutsObject id (Some row) os os2 → HasNumbers os2
+pub numbers_put : (os os2 : ObjectTable) (id : ℕ) (row : ObjectRow) → HasNumbers os → row.control < 2 ^ 32 - 1 → PutsObject id (Some row) os os2
+    → HasNumbers os2
 numbers_put os os2 id row numbers few put =
     record {
       at = λ o r is. elim (one_case id o (Some row) (object_at os o) (object_at os2 o) (put.at o)) [

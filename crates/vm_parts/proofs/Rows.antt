@@ -72,9 +72,11 @@ set_cases xs f x d inside g = elim (eqb_tells f g) [
 ]
 
 -- two pages don't share a frame
-pub not_shared : (rs : ResidentTable) (o p o2 p2 : ℕ) (r r2 : PageRow) → IsOwned rs → row_at rs o p ≡ Some r → row_at rs o2 p2 ≡ Some r2 → (o ≡ o2 → p ≡ p2 → ⊥) → r.frame.0 ≡ r2.frame.0 → ⊥
+pub not_shared : (rs : ResidentTable) (o p o2 p2 : ℕ) (r r2 : PageRow) → IsOwned rs → row_at rs o p ≡ Some r → row_at rs o2 p2 ≡ Some r2 → (o ≡ o2 → p ≡ p2 → ⊥)
+    → r.frame.0 ≡ r2.frame.0 → ⊥
 not_shared rs o p o2 p2 r r2 owned is is2 apart same =
-    let both : page_key o p ≡ page_key o2 p2 = some_is (page_key o p) (page_key o2 p2) (sym (owned.at o p r is) ∙ (ap (owner_of rs) same ∙ owned.at o2 p2 r2 is2)) in
+    let both : page_key o p ≡ page_key o2 p2 = some_is (page_key o p) (page_key o2 p2)
+    (sym (owned.at o p r is) ∙ (ap (owner_of rs) same ∙ owned.at o2 p2 r2 is2)) in
     apart (ap (λ z. z.object.0) both) (ap (λ z. z.page.0) both)
 
 asked_where : (here : Bool) (row was : PageRow) → (if here then None else Some row) ≡ Some was → (row ≡ was) × (here ≡ false)

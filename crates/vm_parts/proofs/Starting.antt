@@ -21,7 +21,9 @@ fit_new size n parts frames sized rows owners empty queues =
       unlisted = λ f none. empty f;
       unowned = λ f none. owners f;
       inside = λ o p row is. none_of (row_at parts.resident o p) row (rows o p) is;
-      all_sized = λ f below. ap (λ z. length (get_or z f [])) pages ∙ (ap length (get_or-replicate n f (replicate size 0) [] (subst (λ (z : ℕ). f < z) count below)) ∙ (length-replicate size 0 ∙ sym sized));
+      all_sized =
+          λ f below. ap (λ z. length (get_or z f [])) pages
+          ∙ (ap length (get_or-replicate n f (replicate size 0) [] (subst (λ (z : ℕ). f < z) count below)) ∙ (length-replicate size 0 ∙ sym sized));
       count = queues ∙ sym count;
       pages = ap length pages ∙ (length-replicate n (replicate size 0) ∙ sym count);
     }

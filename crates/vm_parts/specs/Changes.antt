@@ -1,5 +1,6 @@
 -- What becomes of one page of a host, and of its frame.
-use Rattle.std.specs.Prelude.{ℕ, ◌+◌, ◌-◌, ◌<◌, ◌≡◌, ◌==◌, ◌&&◌, Bool, true, false, List, ◌++◌, Option, Some, None, IfSome, if◌then◌else◌, is_some, length, not, replicate, set}
+use Rattle.std.specs.Prelude.{ℕ, ◌+◌, ◌-◌, ◌<◌, ◌≡◌, ◌==◌, ◌&&◌, Bool, true, false, List, ◌++◌, Option, Some, None, IfSome, if◌then◌else◌, is_some, length, not}
+use Rattle.std.specs.Prelude.{replicate, set}
 use Rattle.vm_base.specs.declared.ids.FrameNo.{FrameNo}
 use Rattle.vm_base.specs.declared.ids.Lock.{Lock}
 use Rattle.vm_base.specs.declared.ids.PageKey.{PageKey}
@@ -61,23 +62,24 @@ with_frame f held bytes table = record { pages = set table.pages f bytes; claims
 
 -- A page and a frame change. The page had this row in the frame, or had none, and then the frame was free; it was on a list exactly where it was here.
 -- Now it has that row, or none; the frame is claimed or not, and has these bytes; the lists are these. No other page or frame has changed.
-pub record Changes (key : PageKey) (frame : FrameNo) (was now : Option PageRow) (held : Bool) (bytes : List ℕ) (lists : Queues) (old new : HostParts) : Type 0 where
-  pub found : row_at old.resident key.object.0 key.page.0 ≡ was
-  pub was_in : IsIn frame was
-  pub inside : frame.0 < frame_count old.frames
-  pub had : is_claimed old.frames frame.0 ≡ is_some was
-  pub owned : owner_of old.resident frame.0 ≡ led key was
-  pub listed : is_queued old.queues frame.0 ≡ is_here was
-  pub row : PutsRow key.object.0 key.page.0 now old.resident new.resident
-  pub now_in : IsIn frame now
-  pub owner : PutsOwner frame.0 (led key now) old.resident new.resident
-  pub frames : new.frames ≡ with_frame frame.0 held bytes old.frames
-  pub page : PutsPage frame.0 bytes old.frames new.frames
-  pub claim : PutsClaim frame.0 held old.frames new.frames
-  pub claims : claimed new.frames + one (is_some was) ≡ claimed old.frames + one held
-  pub left : free new.frames + one held ≡ free old.frames + one (is_some was)
-  pub queues : new.queues ≡ lists
-  pub lists_are : (g : ℕ) → is_queued new.queues g ≡ (if frame.0 == g then is_here now else is_queued old.queues g)
+pub record Changes (key : PageKey) (frame : FrameNo) (was now : Option PageRow) (held : Bool) (bytes : List ℕ) (lists : Queues) (old new : HostParts) : Type 0
+  where
+    pub found : row_at old.resident key.object.0 key.page.0 ≡ was
+    pub was_in : IsIn frame was
+    pub inside : frame.0 < frame_count old.frames
+    pub had : is_claimed old.frames frame.0 ≡ is_some was
+    pub owned : owner_of old.resident frame.0 ≡ led key was
+    pub listed : is_queued old.queues frame.0 ≡ is_here was
+    pub row : PutsRow key.object.0 key.page.0 now old.resident new.resident
+    pub now_in : IsIn frame now
+    pub owner : PutsOwner frame.0 (led key now) old.resident new.resident
+    pub frames : new.frames ≡ with_frame frame.0 held bytes old.frames
+    pub page : PutsPage frame.0 bytes old.frames new.frames
+    pub claim : PutsClaim frame.0 held old.frames new.frames
+    pub claims : claimed new.frames + one (is_some was) ≡ claimed old.frames + one held
+    pub left : free new.frames + one held ≡ free old.frames + one (is_some was)
+    pub queues : new.queues ≡ lists
+    pub lists_are : (g : ℕ) → is_queued new.queues g ≡ (if frame.0 == g then is_here now else is_queued old.queues g)
 
 -- a page that isn't here is asked, and holds a frame that was free
 abbrev pub AsksPage : PageKey → FrameNo → HostParts → HostParts → Type 0
@@ -89,11 +91,13 @@ Brings key frame old new = Changes key frame None (Some (clean_row frame unlocke
 
 -- a copy of another page, with these bytes, has come into a frame that was free; it is dirty
 abbrev pub RaisesPage : PageKey → FrameNo → List ℕ → HostParts → HostParts → Type 0
-RaisesPage key frame bytes old new = Changes key frame None (Some (record (clean_row frame unlocked false) { dirty = true })) true bytes (added frame.0 old.queues) old new
+RaisesPage key frame bytes old new =
+    Changes key frame None (Some (record (clean_row frame unlocked false) { dirty = true })) true bytes (added frame.0 old.queues) old new
 
 -- a page that was asked has come into the frame that it held, with these bytes
 abbrev pub FillsPage : PageKey → PageRow → Lock → Bool → List ℕ → HostParts → HostParts → Type 0
-FillsPage key was lock precious bytes old new = Changes key was.frame (Some was) (Some (clean_row was.frame lock precious)) true bytes (added was.frame.0 old.queues) old new
+FillsPage key was lock precious bytes old new =
+    Changes key was.frame (Some was) (Some (clean_row was.frame lock precious)) true bytes (added was.frame.0 old.queues) old new
 
 -- a page that is here has these bytes, and is dirty
 abbrev pub Writes : PageKey → PageRow → List ℕ → HostParts → HostParts → Type 0
@@ -101,11 +105,13 @@ Writes key row bytes old new = Changes key row.frame (Some row) (Some (record ro
 
 -- an unlock of a page that is here is outstanding
 abbrev pub NotesUnlock : PageKey → PageRow → HostParts → HostParts → Type 0
-NotesUnlock key row old new = Changes key row.frame (Some row) (Some (record row { unlock_sent = true })) true (page_in old.frames row.frame.0) old.queues old new
+NotesUnlock key row old new =
+    Changes key row.frame (Some row) (Some (record row { unlock_sent = true })) true (page_in old.frames row.frame.0) old.queues old new
 
 -- the row of a page that is given a lock, or keeps its own, and is clean and not precious where its pager has been sent it
 abbrev pub relocked : Option Lock → Bool → PageRow → PageRow
-relocked lock saved row = record row { lock = lock_after lock row.lock; dirty = not saved && row.dirty; precious = not saved && row.precious; unlock_sent = false }
+relocked lock saved row =
+    record row { lock = lock_after lock row.lock; dirty = not saved && row.dirty; precious = not saved && row.precious; unlock_sent = false }
 
 -- a page that is here is locked so, and no unlock of it is outstanding any more
 abbrev pub Relocks : PageKey → PageRow → Option Lock → Bool → HostParts → HostParts → Type 0

@@ -125,7 +125,8 @@ impl HostParts {
         requires asked { IsSomeAnd (row_at self.old.resident key.object.0 key.page.0) (λ was. was.here ≡ false) }
         requires bytes { length bytes.now ≤ self.old.buffers.size }
         ensures fit { Fit self.new }
-        ensures fills { IfSome (row_at self.old.resident key.object.0 key.page.0) (λ was. FillsPage key was lock precious (filled self.old.buffers.size bytes.now) self.old self.new) }
+        ensures fills { IfSome (row_at self.old.resident key.object.0 key.page.0)
+            (λ was. FillsPage key was lock precious (filled self.old.buffers.size bytes.now) self.old self.new) }
         ensures objects { self.new.objects ≡ self.old.objects }
         ensures buffers { self.new.buffers ≡ self.old.buffers }
         ensures room { self.new.resident.spare ≡ self.old.resident.spare }

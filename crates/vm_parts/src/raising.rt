@@ -21,7 +21,8 @@ impl HostParts {
         requires free { 0 < free self.old.frames }
         requires room { 0 < self.old.resident.spare }
         ensures fit { Fit self.new }
-        ensures raises { IfSome (row_at self.old.resident from.object.0 from.page.0) (λ row. RaisesPage key result (page_in self.old.frames row.frame.0) self.old self.new) }
+        ensures raises { IfSome (row_at self.old.resident from.object.0 from.page.0)
+            (λ row. RaisesPage key result (page_in self.old.frames row.frame.0) self.old self.new) }
         ensures objects { self.new.objects ≡ self.old.objects }
         ensures buffers { self.new.buffers ≡ self.old.buffers }
         ensures room { self.old.resident.spare ≡ self.new.resident.spare + 1 }

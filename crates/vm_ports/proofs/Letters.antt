@@ -6,11 +6,13 @@ use Rattle.vm_ports.specs.Ports.{AllAdded, queue, without_first}
 
 module _ {M : Type 0} where
   -- a letter at the end
-  pub queue_push : (ch : ℕ) (letters : List (Letter M)) (letter : Letter M) → letter.channel.0 ≡ ch → queue ch (letters ++ letter ∷ []) ≡ queue ch letters ++ letter.message ∷ []
+  pub queue_push : (ch : ℕ) (letters : List (Letter M)) (letter : Letter M) → letter.channel.0 ≡ ch
+      → queue ch (letters ++ letter ∷ []) ≡ queue ch letters ++ letter.message ∷ []
   queue_push ch [] letter is = grind (arith, nat_tests)
   queue_push ch (first ∷ letters) letter is = let rest = queue_push ch letters letter is in grind (arith, nat_tests)
 
-  pub others_push : (letters : List (Letter M)) (letter : Letter M) (other : ℕ) → other ≢ letter.channel.0 → queue other (letters ++ letter ∷ []) ≡ queue other letters
+  pub others_push : (letters : List (Letter M)) (letter : Letter M) (other : ℕ) → other ≢ letter.channel.0
+      → queue other (letters ++ letter ∷ []) ≡ queue other letters
   others_push [] letter other apart = grind (arith, nat_tests)
   others_push (first ∷ letters) letter other apart = let rest = others_push letters letter other apart in grind (arith, nat_tests)
 
@@ -35,7 +37,8 @@ module _ {M : Type 0} where
   others_without ch [] other apart = refl
   others_without ch (first ∷ letters) other apart = let rest = others_without ch letters other apart in grind (arith, nat_tests)
 
-  without_step : (test : Bool) (n ch : ℕ) (first : Letter M) (letters : List (Letter M)) → (first.channel.0 == ch) ≡ test → AllAdded n (first ∷ letters) → AllAdded n (without_first ch letters) → AllAdded n (without_first ch (first ∷ letters))
+  without_step : (test : Bool) (n ch : ℕ) (first : Letter M) (letters : List (Letter M)) → (first.channel.0 == ch) ≡ test → AllAdded n (first ∷ letters)
+      → AllAdded n (without_first ch letters) → AllAdded n (without_first ch (first ∷ letters))
   without_step true n ch first letters is all rest = rw is all.1
   without_step false n ch first letters is all rest = rw is (all.0, rest)
 

@@ -1,5 +1,6 @@
 -- The nodes of letters, and what a further letter changes in them.
-use Rattle.std.proofs.Common.{ℕ, ◌≡◌, ◌+◌, ◌==◌, ◌&&◌, Bool, true, false, List, [], ◌∷◌, ◌++◌, length, Option, Some, None, refl, sym, ◌∙◌, subst, ap, arith, length-append}
+use Rattle.std.proofs.Common.{ℕ, ◌≡◌, ◌+◌, ◌==◌, ◌&&◌, Bool, true, false, List, [], ◌∷◌, ◌++◌, length, Option, Some, None, refl, sym, ◌∙◌, subst, ap, arith}
+use Rattle.std.proofs.Common.{length-append}
 use Rattle.std.proofs.lemmas.Bool.Decides.{nat_tests}
 use Rattle.std.specs.Prelude.{if◌then◌else◌}
 use Rattle.vm_ports.specs.declared.links.Ends.{Ends}
@@ -41,7 +42,8 @@ first_of_from None first = refl
 first_of_from (Some ends) first = refl
 
 -- the last of the ends, where the first letter of the channel has this key
-last_none : (ends : Option Ends) (first k : ℕ) → (first == k) ≡ true → is_key (last_of ends) k ≡ false → is_key (Some (ends_from first ends).last) k ≡ is_none_key (first_of ends)
+last_none : (ends : Option Ends) (first k : ℕ) → (first == k) ≡ true → is_key (last_of ends) k ≡ false
+    → is_key (Some (ends_from first ends).last) k ≡ is_none_key (first_of ends)
 last_none None first k is apart = is
 last_none (Some ends) first k is apart = apart
 
@@ -53,7 +55,11 @@ last_more (Some ends) first k b apart is = is
 abbrev pub ends_grown : ℕ → ℕ → ℕ → Option Ends → Option Ends
 ends_grown ch key c ends = if ch == c then Some (record { first = first_or ends key; last = key }) else ends
 
-from_grown : (ends : Option Ends) (first key : ℕ) → ends_from first (Some (record { first = first_or ends key; last = key })) ≡ record { first = first_or (Some (ends_from first ends)) key; last = key }
+from_grown : (ends : Option Ends) (first key : ℕ) → ends_from first (Some (record { first = first_or ends key; last = key })) ≡ record {
+  first = first_or
+      (Some (ends_from first ends)) key;
+  last = key;
+}
 from_grown None first key = refl
 from_grown (Some ends) first key = refl
 
@@ -85,8 +91,10 @@ module _ {M : Type 0} where
 
   has_step : (test : Bool) (older : Option ℕ) (p : Place M) (ps : List (Place M)) (k : ℕ) → (p.key == k) ≡ test
       → ((o : Option ℕ) → has_key ps k ≡ true → IsNode (node_behind o ps k)) → has_key (p ∷ ps) k ≡ true → IsNode (node_behind older (p ∷ ps) k)
-  has_step true older p ps k is rest has =
-      (record { channel = p.letter.channel; message = p.letter.message; next = first_on p.letter.channel.0 ps; older = older; newer = first_key ps }, rw is refl)
+  has_step true older p ps k is rest has = (
+    record { channel = p.letter.channel; message = p.letter.message; next = first_on p.letter.channel.0 ps; older = older; newer = first_key ps },
+    rw is refl,
+  )
   has_step false older p ps k is rest has = let other = rw is at has in rw is (rest (Some p.key) other)
 
   pub has_node : (older : Option ℕ) (ps : List (Place M)) (k : ℕ) → has_key ps k ≡ true → IsNode (node_behind older ps k)
@@ -128,7 +136,8 @@ module _ {M : Type 0} where
   push_step true older p ps e k is rest = rw (is, push_next p.letter.channel.0 ps e, push_first ps e) refl
   push_step false older p ps e k is rest = rw is rest
 
-  pub push_node : (older : Option ℕ) (ps : List (Place M)) (e : Place M) (k : ℕ) → node_behind older (ps ++ e ∷ []) k ≡ pushed e (last_behind older ps) k (node_behind older ps k)
+  pub push_node : (older : Option ℕ) (ps : List (Place M)) (e : Place M) (k : ℕ)
+      → node_behind older (ps ++ e ∷ []) k ≡ pushed e (last_behind older ps) k (node_behind older ps k)
   push_node older [] e k = refl
   push_node older (p ∷ ps) e k = push_step (p.key == k) older p ps e k refl (push_node (Some p.key) ps e k)
 
@@ -137,7 +146,8 @@ module _ {M : Type 0} where
   last_apart j [] k lacks apart = apart
   last_apart j (p ∷ ps) k lacks apart = last_apart p.key ps k (grind (arith, nat_tests, lacks)) (grind (arith, nat_tests, lacks))
 
-  last_here : (older : Option ℕ) (p : Place M) (ps : List (Place M)) (k : ℕ) → (p.key == k) ≡ true → has_key ps p.key ≡ false → is_key (last_behind older (p ∷ ps)) k ≡ is_none_key (first_key ps)
+  last_here : (older : Option ℕ) (p : Place M) (ps : List (Place M)) (k : ℕ) → (p.key == k) ≡ true → has_key ps p.key ≡ false
+      → is_key (last_behind older (p ∷ ps)) k ≡ is_none_key (first_key ps)
   last_here older p [] k is apart = is
   last_here older p (q ∷ ps) k is apart =
       let same : p.key ≡ k = grind (arith, nat_tests, is) in
@@ -157,9 +167,11 @@ module _ {M : Type 0} where
       rw (← newer) (last_here from p ps k is apart.0)
   last_step false older from p ps k node is apart rest there = let other = rw is at there in rest other
 
-  pub last_is : (older from : Option ℕ) (ps : List (Place M)) (k : ℕ) (node : Node M) → KeysApart ps → node_behind older ps k ≡ Some node → is_key (last_behind from ps) k ≡ is_none_key node.newer
+  pub last_is : (older from : Option ℕ) (ps : List (Place M)) (k : ℕ) (node : Node M) → KeysApart ps → node_behind older ps k ≡ Some node
+      → is_key (last_behind from ps) k ≡ is_none_key node.newer
   last_is older from [] k node apart there = absurd (cc)
-  last_is older from (p ∷ ps) k node apart there = last_step (p.key == k) older from p ps k node refl apart (last_is (Some p.key) (Some p.key) ps k node apart.1) there
+  last_is older from (p ∷ ps) k node apart there =
+      last_step (p.key == k) older from p ps k node refl apart (last_is (Some p.key) (Some p.key) ps k node apart.1) there
 
   last_on_step : (test : Bool) (ch : ℕ) (p : Place M) (ps : List (Place M)) (k : ℕ) → (p.letter.channel.0 == ch) ≡ test → (p.key == k) ≡ false
       → is_key (last_of (ends_on ch ps)) k ≡ false → is_key (last_of (ends_on ch (p ∷ ps))) k ≡ false
@@ -180,11 +192,13 @@ module _ {M : Type 0} where
   first_is ch [] = refl
   first_is ch (p ∷ ps) = first_is_step (p.letter.channel.0 == ch) ch p ps refl (first_is ch ps)
 
-  last_on_here : (test : Bool) (ch : ℕ) (p : Place M) (ps : List (Place M)) (k : ℕ) → (p.letter.channel.0 == ch) ≡ test → (p.key == k) ≡ true → has_key ps k ≡ false
+  last_on_here : (test : Bool) (ch : ℕ) (p : Place M) (ps : List (Place M)) (k : ℕ) → (p.letter.channel.0 == ch) ≡ test → (p.key == k) ≡ true
+      → has_key ps k ≡ false
       → is_key (last_of (ends_on ch (p ∷ ps))) k ≡ (is_none_key (first_on p.letter.channel.0 ps) && (p.letter.channel.0 == ch))
   last_on_here true ch p ps k is here lacks =
       let same : p.letter.channel.0 ≡ ch = grind (arith, nat_tests, is) in
-      rw (is, same, ← first_is ch ps) (last_none (ends_on ch ps) p.key k here (last_on_apart ch ps k lacks) ∙ sym (and_true (is_none_key (first_of (ends_on ch ps)))))
+      rw (is, same, ← first_is ch ps) (last_none (ends_on ch ps) p.key k here (last_on_apart ch ps k lacks)
+      ∙ sym (and_true (is_none_key (first_of (ends_on ch ps)))))
   last_on_here false ch p ps k is here lacks = rw is (last_on_apart ch ps k lacks ∙ sym (and_false (is_none_key (first_on p.letter.channel.0 ps))))
 
   last_on_more : (test : Bool) (ch : ℕ) (p : Place M) (ps : List (Place M)) (k : ℕ) (b : Bool) → (p.letter.channel.0 == ch) ≡ test → (p.key == k) ≡ false
@@ -210,7 +224,8 @@ module _ {M : Type 0} where
   last_on_is older ch [] k node apart there = absurd (cc)
   last_on_is older ch (p ∷ ps) k node apart there = last_on_by (p.key == k) older ch p ps k node refl apart (last_on_is (Some p.key) ch ps k node apart.1) there
 
-  push_ends_step : (test grows : Bool) (c : ℕ) (p : Place M) (ps : List (Place M)) (e : Place M) → (p.letter.channel.0 == c) ≡ test → (e.letter.channel.0 == c) ≡ grows
+  push_ends_step : (test grows : Bool) (c : ℕ) (p : Place M) (ps : List (Place M)) (e : Place M) → (p.letter.channel.0 == c) ≡ test
+      → (e.letter.channel.0 == c) ≡ grows
       → ends_on c (ps ++ e ∷ []) ≡ ends_grown e.letter.channel.0 e.key c (ends_on c ps)
       → ends_on c ((p ∷ ps) ++ e ∷ []) ≡ ends_grown e.letter.channel.0 e.key c (ends_on c (p ∷ ps))
   push_ends_step true true c p ps e is more rest = rw (is, rest, more) (ap (λ z. Some z) (from_grown (ends_on c ps) p.key e.key))
@@ -255,13 +270,16 @@ module _ {M : Type 0} where
   none_next true at next nodes k is none = rw (is, none) refl
   none_next false at next nodes k is none = rw (is, none) refl
 
-  newer_by : (newer at : Option ℕ) (key : ℕ) (nodes : ℕ → Option (Node M)) (k : ℕ) (node : Node M) → node.newer ≡ newer → nodes k ≡ Some node → is_key at k ≡ is_none_key newer
+  newer_by : (newer at : Option ℕ) (key : ℕ) (nodes : ℕ → Option (Node M)) (k : ℕ) (node : Node M) → node.newer ≡ newer → nodes k ≡ Some node
+      → is_key at k ≡ is_none_key newer
       → with_newer at (Some key) nodes k ≡ Some (record node { newer = Some (key_or newer key) })
   newer_by None at key nodes k node is there told = rw (told, there) refl
   newer_by (Some j) at key nodes k node is there told = rw (told, there, ← is) refl
 
-  next_by : (next at : Option ℕ) (ch key : ℕ) (nodes : ℕ → Option (Node M)) (k : ℕ) (node : Node M) (test : Bool) → node.next ≡ next → nodes k ≡ Some node → (node.channel.0 == ch) ≡ test
-      → is_key at k ≡ (is_none_key next && (node.channel.0 == ch)) → with_next at (Some key) nodes k ≡ Some (record node { next = grown_next ch key node.channel.0 next })
+  next_by : (next at : Option ℕ) (ch key : ℕ) (nodes : ℕ → Option (Node M)) (k : ℕ) (node : Node M) (test : Bool) → node.next ≡ next → nodes k ≡ Some node
+      → (node.channel.0 == ch) ≡ test
+      → is_key at k ≡ (is_none_key next && (node.channel.0 == ch))
+      → with_next at (Some key) nodes k ≡ Some (record node { next = grown_next ch key node.channel.0 next })
   next_by None at ch key nodes k node true is there same told = rw (told, same, there) refl
   next_by None at ch key nodes k node false is there same told = rw (told, same, there, ← is) refl
   next_by (Some j) at ch key nodes k node test is there same told = rw (told, there, ← is) refl
@@ -278,7 +296,8 @@ module _ {M : Type 0} where
     written_none true k is none =
         let same : e.key ≡ k = grind (arith, nat_tests, is) in
         let other : has_key ps k ≡ false = subst (λ z. has_key ps z ≡ false) same lacks in
-        next_other (last_of (ends_on e.letter.channel.0 ps)) (Some e.key) (with_newer (last_behind None ps) (Some e.key) mid) k (last_on_apart e.letter.channel.0 ps k other)
+        next_other (last_of (ends_on e.letter.channel.0 ps)) (Some e.key) (with_newer (last_behind None ps) (Some e.key) mid) k
+        (last_on_apart e.letter.channel.0 ps k other)
         ∙ newer_other (last_behind None ps) (Some e.key) mid k (last_lacks ps k other)
         ∙ put k ∙ rw (is, push_node None ps e k, none, is) refl
     written_none false k is none =

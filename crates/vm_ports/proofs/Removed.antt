@@ -17,7 +17,13 @@ module _ {M : Type 0} where
   -- where the letter in front is taken, and where it is another
   pub record IsHead (older : Option ℕ) (ch : ℕ) (p : Place M) (ps : List (Place M)) (r : ℕ) (node : Node M) : Type 0 where
     pub key : r ≡ p.key
-    pub is : node ≡ record { channel = p.letter.channel; message = p.letter.message; next = first_on p.letter.channel.0 ps; older = older; newer = first_key ps }
+    pub is : node ≡ record {
+      channel = p.letter.channel;
+      message = p.letter.message;
+      next = first_on p.letter.channel.0 ps;
+      older = older;
+      newer = first_key ps;
+    }
 
   pub record IsLater (older : Option ℕ) (ch : ℕ) (p : Place M) (ps : List (Place M)) (r : ℕ) (node : Node M) : Type 0 where
     pub first : first_on ch ps ≡ Some r
@@ -55,8 +61,10 @@ module _ {M : Type 0} where
       record { first = later; there = rw other at there; apart = other }
 
   -- the messages of the channel
-  queue_step : (test : Bool) (older : Option ℕ) (ch : ℕ) (p : Place M) (ps : List (Place M)) (r : ℕ) (node : Node M) → (p.letter.channel.0 == ch) ≡ test → KeysApart (p ∷ ps)
-      → (first_on ch ps ≡ Some r → node_behind (Some p.key) ps r ≡ Some node → queue ch (letters_of ps) ≡ node.message ∷ queue ch (letters_of (places_without ch ps)))
+  queue_step : (test : Bool) (older : Option ℕ) (ch : ℕ) (p : Place M) (ps : List (Place M)) (r : ℕ) (node : Node M) → (p.letter.channel.0 == ch) ≡ test
+      → KeysApart (p ∷ ps)
+      → (first_on ch ps ≡ Some r → node_behind (Some p.key) ps r ≡ Some node
+      → queue ch (letters_of ps) ≡ node.message ∷ queue ch (letters_of (places_without ch ps)))
       → first_on ch (p ∷ ps) ≡ Some r → node_behind older (p ∷ ps) r ≡ Some node
       → queue ch (letters_of (p ∷ ps)) ≡ node.message ∷ queue ch (letters_of (places_without ch (p ∷ ps)))
   queue_step true older ch p ps r node is apart rest first there =
@@ -64,7 +72,8 @@ module _ {M : Type 0} where
   queue_step false older ch p ps r node is apart rest first there =
       let later = later_of older ch p ps r node is apart first there in rw (is, is) (rest later.first later.there)
 
-  pub queue_first : (older : Option ℕ) (ch : ℕ) (ps : List (Place M)) (r : ℕ) (node : Node M) → KeysApart ps → first_on ch ps ≡ Some r → node_behind older ps r ≡ Some node
+  pub queue_first : (older : Option ℕ) (ch : ℕ) (ps : List (Place M)) (r : ℕ) (node : Node M) → KeysApart ps → first_on ch ps ≡ Some r
+      → node_behind older ps r ≡ Some node
       → queue ch (letters_of ps) ≡ node.message ∷ queue ch (letters_of (places_without ch ps))
   queue_first older ch [] r node apart first there = absurd (cc)
   queue_first older ch (p ∷ ps) r node apart first there =
@@ -105,7 +114,8 @@ module _ {M : Type 0} where
   lacks_without ch [] k lacks = refl
   lacks_without ch (p ∷ ps) k lacks = lacks_step (p.letter.channel.0 == ch) ch p ps k refl (lacks_without ch ps k) lacks
 
-  apart_step : (test : Bool) (ch : ℕ) (p : Place M) (ps : List (Place M)) → (p.letter.channel.0 == ch) ≡ test → KeysApart (p ∷ ps) → KeysApart (places_without ch ps)
+  apart_step : (test : Bool) (ch : ℕ) (p : Place M) (ps : List (Place M)) → (p.letter.channel.0 == ch) ≡ test → KeysApart (p ∷ ps)
+      → KeysApart (places_without ch ps)
       → KeysApart (places_without ch (p ∷ ps))
   apart_step true ch p ps is apart rest = rw is apart.1
   apart_step false ch p ps is apart rest = rw is (lacks_without ch ps p.key apart.0, rest)
@@ -115,7 +125,8 @@ module _ {M : Type 0} where
   apart_without ch (p ∷ ps) apart = apart_step (p.letter.channel.0 == ch) ch p ps refl apart (apart_without ch ps apart.1)
 
   count_step : (test : Bool) (ch : ℕ) (p : Place M) (ps : List (Place M)) (r : ℕ) → (p.letter.channel.0 == ch) ≡ test
-      → (first_on ch ps ≡ Some r → length (places_without ch ps) + 1 ≡ length ps) → first_on ch (p ∷ ps) ≡ Some r → length (places_without ch (p ∷ ps)) + 1 ≡ length (p ∷ ps)
+      → (first_on ch ps ≡ Some r → length (places_without ch ps) + 1 ≡ length ps) → first_on ch (p ∷ ps) ≡ Some r
+      → length (places_without ch (p ∷ ps)) + 1 ≡ length (p ∷ ps)
   count_step true ch p ps r is rest first = rw is (omega arith)
   count_step false ch p ps r is rest first = let more = rest (rw is at first) in rw is (omega (arith, more))
 
@@ -124,9 +135,11 @@ module _ {M : Type 0} where
   count_without ch (p ∷ ps) r first = count_step (p.letter.channel.0 == ch) ch p ps r refl (count_without ch ps r) first
 
   -- the ends of each channel
-  ends_step : (test here : Bool) (older : Option ℕ) (ch c : ℕ) (p : Place M) (ps : List (Place M)) (r : ℕ) (node : Node M) → (p.letter.channel.0 == ch) ≡ test → (ch == c) ≡ here
+  ends_step : (test here : Bool) (older : Option ℕ) (ch c : ℕ) (p : Place M) (ps : List (Place M)) (r : ℕ) (node : Node M) → (p.letter.channel.0 == ch) ≡ test
+      → (ch == c) ≡ here
       → KeysApart (p ∷ ps)
-      → (first_on ch ps ≡ Some r → node_behind (Some p.key) ps r ≡ Some node → ends_on c (places_without ch ps) ≡ (if ch == c then ends_after node.next (ends_on c ps) else ends_on c ps))
+      → (first_on ch ps ≡ Some r → node_behind (Some p.key) ps r ≡ Some node
+      → ends_on c (places_without ch ps) ≡ (if ch == c then ends_after node.next (ends_on c ps) else ends_on c ps))
       → first_on ch (p ∷ ps) ≡ Some r → node_behind older (p ∷ ps) r ≡ Some node
       → ends_on c (places_without ch (p ∷ ps)) ≡ (if ch == c then ends_after node.next (ends_on c (p ∷ ps)) else ends_on c (p ∷ ps))
   ends_step true true older ch c p ps r node is this apart rest first there =
@@ -150,7 +163,8 @@ module _ {M : Type 0} where
       let more = rw this at (rest later.first later.there) in
       rw (is, this, more) refl
 
-  pub ends_without : (older : Option ℕ) (ch c : ℕ) (ps : List (Place M)) (r : ℕ) (node : Node M) → KeysApart ps → first_on ch ps ≡ Some r → node_behind older ps r ≡ Some node
+  pub ends_without : (older : Option ℕ) (ch c : ℕ) (ps : List (Place M)) (r : ℕ) (node : Node M) → KeysApart ps → first_on ch ps ≡ Some r
+      → node_behind older ps r ≡ Some node
       → ends_on c (places_without ch ps) ≡ (if ch == c then ends_after node.next (ends_on c ps) else ends_on c ps)
   ends_without older ch c [] r node apart first there = absurd (cc)
   ends_without older ch c (p ∷ ps) r node apart first there =
@@ -158,38 +172,44 @@ module _ {M : Type 0} where
 
   -- the first and the last of all
   older_step : (test : Bool) (j : ℕ) (p : Place M) (ps : List (Place M)) (r : ℕ) (node : Node M) (k : ℕ) → (p.key == r) ≡ test
-      → (node_behind (Some p.key) ps r ≡ Some node → is_key node.older k ≡ false) → node_behind (Some j) (p ∷ ps) r ≡ Some node → (j == k) ≡ false → is_key node.older k ≡ false
+      → (node_behind (Some p.key) ps r ≡ Some node → is_key node.older k ≡ false) → node_behind (Some j) (p ∷ ps) r ≡ Some node → (j == k) ≡ false
+      → is_key node.older k ≡ false
   older_step true j p ps r node k is rest there apart =
       let found = rw is at there in
       let older : node.older ≡ Some j = cc in
       rw older apart
   older_step false j p ps r node k is rest there apart = rest (rw is at there)
 
-  older_in : (j : ℕ) (ps : List (Place M)) (r : ℕ) (node : Node M) (k : ℕ) → node_behind (Some j) ps r ≡ Some node → (j == k) ≡ false → has_key ps k ≡ false → is_key node.older k ≡ false
+  older_in : (j : ℕ) (ps : List (Place M)) (r : ℕ) (node : Node M) (k : ℕ) → node_behind (Some j) ps r ≡ Some node → (j == k) ≡ false → has_key ps k ≡ false
+      → is_key node.older k ≡ false
   older_in j [] r node k there apart lacks = absurd (cc)
   older_in j (p ∷ ps) r node k there apart lacks =
-      older_step (p.key == r) j p ps r node k refl (λ more. older_in p.key ps r node k more (grind (arith, nat_tests, lacks)) (grind (arith, nat_tests, lacks))) there apart
+      older_step (p.key == r) j p ps r node k refl (λ more. older_in p.key ps r node k more (grind (arith, nat_tests, lacks)) (grind (arith, nat_tests, lacks)))
+      there apart
 
   first_lacks : (ps : List (Place M)) (k : ℕ) → has_key ps k ≡ false → is_key (first_key ps) k ≡ false
   first_lacks [] k lacks = refl
   first_lacks (p ∷ ps) k lacks = grind (arith, nat_tests, lacks)
 
   newer_step : (test : Bool) (older : Option ℕ) (p : Place M) (ps : List (Place M)) (r : ℕ) (node : Node M) (k : ℕ) → (p.key == r) ≡ test
-      → (node_behind (Some p.key) ps r ≡ Some node → is_key node.newer k ≡ false) → node_behind older (p ∷ ps) r ≡ Some node → has_key ps k ≡ false → is_key node.newer k ≡ false
+      → (node_behind (Some p.key) ps r ≡ Some node → is_key node.newer k ≡ false) → node_behind older (p ∷ ps) r ≡ Some node → has_key ps k ≡ false
+      → is_key node.newer k ≡ false
   newer_step true older p ps r node k is rest there lacks =
       let found = rw is at there in
       let newer : node.newer ≡ first_key ps = cc in
       rw newer (first_lacks ps k lacks)
   newer_step false older p ps r node k is rest there lacks = rest (rw is at there)
 
-  newer_in : (older : Option ℕ) (ps : List (Place M)) (r : ℕ) (node : Node M) (k : ℕ) → node_behind older ps r ≡ Some node → has_key ps k ≡ false → is_key node.newer k ≡ false
+  newer_in : (older : Option ℕ) (ps : List (Place M)) (r : ℕ) (node : Node M) (k : ℕ) → node_behind older ps r ≡ Some node → has_key ps k ≡ false
+      → is_key node.newer k ≡ false
   newer_in older [] r node k there lacks = absurd (cc)
   newer_in older (p ∷ ps) r node k there lacks =
       let less : has_key ps k ≡ false = grind (arith, nat_tests, lacks) in
       newer_step (p.key == r) older p ps r node k refl (λ more. newer_in (Some p.key) ps r node k more less) there less
 
   some_step : (test : Bool) (j : ℕ) (p : Place M) (ps : List (Place M)) (r : ℕ) (node : Node M) → (p.key == r) ≡ test
-      → (node_behind (Some p.key) ps r ≡ Some node → is_none_key node.older ≡ false) → node_behind (Some j) (p ∷ ps) r ≡ Some node → is_none_key node.older ≡ false
+      → (node_behind (Some p.key) ps r ≡ Some node → is_none_key node.older ≡ false) → node_behind (Some j) (p ∷ ps) r ≡ Some node
+      → is_none_key node.older ≡ false
   some_step true j p ps r node is rest there =
       let found = rw is at there in
       let older : node.older ≡ Some j = cc in
@@ -218,7 +238,8 @@ module _ {M : Type 0} where
   last_left older j [] = refl
   last_left older j (p ∷ ps) = refl
 
-  last_step : (test : Bool) (older : Option ℕ) (ch : ℕ) (p : Place M) (ps : List (Place M)) (r : ℕ) (node : Node M) → (p.letter.channel.0 == ch) ≡ test → KeysApart (p ∷ ps)
+  last_step : (test : Bool) (older : Option ℕ) (ch : ℕ) (p : Place M) (ps : List (Place M)) (r : ℕ) (node : Node M) → (p.letter.channel.0 == ch) ≡ test
+      → KeysApart (p ∷ ps)
       → (first_on ch ps ≡ Some r → node_behind (Some p.key) ps r ≡ Some node
       → last_behind (Some p.key) (places_without ch ps) ≡ (if is_none_key node.newer then node.older else last_behind (Some p.key) ps))
       → first_on ch (p ∷ ps) ≡ Some r → node_behind older (p ∷ ps) r ≡ Some node
@@ -228,7 +249,8 @@ module _ {M : Type 0} where
   last_step false older ch p ps r node is apart rest first there =
       let later = later_of older ch p ps r node is apart first there in rw is (rest later.first later.there)
 
-  pub last_without : (older : Option ℕ) (ch : ℕ) (ps : List (Place M)) (r : ℕ) (node : Node M) → KeysApart ps → first_on ch ps ≡ Some r → node_behind older ps r ≡ Some node
+  pub last_without : (older : Option ℕ) (ch : ℕ) (ps : List (Place M)) (r : ℕ) (node : Node M) → KeysApart ps → first_on ch ps ≡ Some r
+      → node_behind older ps r ≡ Some node
       → last_behind older (places_without ch ps) ≡ (if is_none_key node.newer then node.older else last_behind older ps)
   last_without older ch [] r node apart first there = absurd (cc)
   last_without older ch (p ∷ ps) r node apart first there =
@@ -269,11 +291,13 @@ module _ {M : Type 0} where
       rw is (sym (no_node (Some p.key) ps k lacks))
   inner_head false older p ps k is apart = rw is refl
 
-  head_goes : (older : Option ℕ) (ch : ℕ) (p : Place M) (ps : List (Place M)) (r : ℕ) (node : Node M) (k : ℕ) → IsHead older ch p ps r node → KeysApart (p ∷ ps) → IsOutside older (p ∷ ps)
+  head_goes : (older : Option ℕ) (ch : ℕ) (p : Place M) (ps : List (Place M)) (r : ℕ) (node : Node M) (k : ℕ) → IsHead older ch p ps r node → KeysApart (p ∷ ps)
+      → IsOutside older (p ∷ ps)
       → node_behind older ps k ≡ relinked node k (if r == k then None else node_behind older (p ∷ ps) k)
   head_goes older ch p ps r node k head apart outside =
       let less : IsOutside older ps = λ o is. let lacks = outside o is in grind (arith, nat_tests, lacks) in
-      rw (head.is, head.key, inner_head (p.key == k) older p ps k refl apart, newer_none (is_key older k) older (first_key ps) k ps (Some p.key) refl less) (sym (rehead older p.key ps k))
+      rw (head.is, head.key, inner_head (p.key == k) older p ps k refl apart, newer_none (is_key older k) older (first_key ps) k ps (Some p.key) refl less)
+      (sym (rehead older p.key ps k))
 
   -- the letter in front stays
   other_first : (test : Bool) (ch c : ℕ) (p : Place M) (ps : List (Place M)) → (p.letter.channel.0 == ch) ≡ test → (c == ch) ≡ false
@@ -289,7 +313,8 @@ module _ {M : Type 0} where
   first_other ch c (p ∷ ps) apart = other_first (p.letter.channel.0 == ch) ch c p ps refl apart (first_other ch c ps apart)
 
   -- the one behind the front
-  behind_step : (test : Bool) (ch j : ℕ) (p : Place M) (ps : List (Place M)) (r : ℕ) (node : Node M) → (p.letter.channel.0 == ch) ≡ test → KeysApart (p ∷ ps) → has_key (p ∷ ps) j ≡ false
+  behind_step : (test : Bool) (ch j : ℕ) (p : Place M) (ps : List (Place M)) (r : ℕ) (node : Node M) → (p.letter.channel.0 == ch) ≡ test → KeysApart (p ∷ ps)
+      → has_key (p ∷ ps) j ≡ false
       → first_on ch (p ∷ ps) ≡ Some r → node_behind (Some j) (p ∷ ps) r ≡ Some node
       → first_key (places_without ch (p ∷ ps)) ≡ (if is_key node.older j then node.newer else first_key (p ∷ ps))
   behind_step true ch j p ps r node is apart lacks first there =
@@ -300,7 +325,8 @@ module _ {M : Type 0} where
       let other : (p.key == j) ≡ false = grind (arith, nat_tests, lacks) in
       rw (is, older_in p.key ps r node j later.there other less) refl
 
-  behind : (ch j : ℕ) (ps : List (Place M)) (r : ℕ) (node : Node M) → KeysApart ps → has_key ps j ≡ false → first_on ch ps ≡ Some r → node_behind (Some j) ps r ≡ Some node
+  behind : (ch j : ℕ) (ps : List (Place M)) (r : ℕ) (node : Node M) → KeysApart ps → has_key ps j ≡ false → first_on ch ps ≡ Some r
+      → node_behind (Some j) ps r ≡ Some node
       → first_key (places_without ch ps) ≡ (if is_key node.older j then node.newer else first_key ps)
   behind ch j [] r node apart lacks first there = absurd (cc)
   behind ch j (p ∷ ps) r node apart lacks first there = behind_step (p.letter.channel.0 == ch) ch j p ps r node refl apart lacks first there
@@ -310,7 +336,8 @@ module _ {M : Type 0} where
   put_if true newer node = refl
   put_if false newer node = refl
 
-  front_stays : (older : Option ℕ) (ch : ℕ) (p : Place M) (ps : List (Place M)) (r : ℕ) (node : Node M) → (p.letter.channel.0 == ch) ≡ false → IsLater older ch p ps r node → KeysApart (p ∷ ps)
+  front_stays : (older : Option ℕ) (ch : ℕ) (p : Place M) (ps : List (Place M)) (r : ℕ) (node : Node M) → (p.letter.channel.0 == ch) ≡ false
+      → IsLater older ch p ps r node → KeysApart (p ∷ ps)
       → node_behind older (p ∷ places_without ch ps) p.key ≡ relinked node p.key (if r == p.key then None else node_behind older (p ∷ ps) p.key)
   front_stays older ch p ps r node is later apart =
       let turned : (r == p.key) ≡ false = grind (arith, nat_tests, later.apart) in
@@ -351,14 +378,16 @@ module _ {M : Type 0} where
       let later = later_of older ch p ps r node is apart first there in
       rw is (stays_step (p.key == k) older ch p ps r node k refl is later apart (rest later.first later.there))
 
-  pub nodes_without : (older : Option ℕ) (ch : ℕ) (ps : List (Place M)) (r : ℕ) (node : Node M) (k : ℕ) → KeysApart ps → IsOutside older ps → first_on ch ps ≡ Some r → node_behind older ps r ≡ Some node
+  pub nodes_without : (older : Option ℕ) (ch : ℕ) (ps : List (Place M)) (r : ℕ) (node : Node M) (k : ℕ) → KeysApart ps → IsOutside older ps
+      → first_on ch ps ≡ Some r → node_behind older ps r ≡ Some node
       → node_behind older (places_without ch ps) k ≡ relinked node k (if r == k then None else node_behind older ps k)
   nodes_without older ch [] r node k apart outside first there = absurd (cc)
   nodes_without older ch (p ∷ ps) r node k apart outside first there =
       nodes_step (p.letter.channel.0 == ch) older ch p ps r node k refl apart outside
       (nodes_without (Some p.key) ch ps r node k apart.1 (outside_behind p ps apart)) first there
 
-  pub oldest_is : (ps : List (Place M)) (r : ℕ) (node : Node M) → first_key ps ≡ Some r → node_behind None ps r ≡ Some node → oldest (letters_of ps) ≡ Some node.channel
+  pub oldest_is : (ps : List (Place M)) (r : ℕ) (node : Node M) → first_key ps ≡ Some r → node_behind None ps r ≡ Some node
+      → oldest (letters_of ps) ≡ Some node.channel
   oldest_is [] r node first there = absurd (cc)
   oldest_is (p ∷ ps) r node first there =
       let same : p.key ≡ r = cc in

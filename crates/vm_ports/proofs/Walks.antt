@@ -1,5 +1,6 @@
 -- The walk along the nodes gives the letters that stand there.
-use Rattle.std.proofs.Common.{ℕ, zero, suc, ◌≡◌, ◌≢◌, ◌+◌, ◌==◌, Bool, true, false, List, [], ◌∷◌, ◌++◌, length, Option, Some, None, refl, sym, ◌∙◌, subst, ap, arith}
+use Rattle.std.proofs.Common.{ℕ, zero, suc, ◌≡◌, ◌≢◌, ◌+◌, ◌==◌, Bool, true, false, List, [], ◌∷◌, ◌++◌, length, Option, Some, None, refl, sym, ◌∙◌, subst, ap}
+use Rattle.std.proofs.Common.{arith}
 use Rattle.std.proofs.lemmas.Bool.Decides.{nat_tests}
 use Rattle.std.specs.Map.{lookup}
 use Rattle.std.specs.Prelude.{if◌then◌else◌}
@@ -7,9 +8,11 @@ use Rattle.slab.specs.Slab.{get, slab_len}
 use Rattle.vm_ports.specs.declared.links.Ends.{Ends}
 use Rattle.vm_ports.specs.declared.links.Links.{Links}
 use Rattle.vm_ports.specs.declared.node.Node.{Node}
-use Rattle.vm_ports.specs.Kept.{AreLinked, Linked, ends_after, ends_on, first_or, is_none_key, key_or, last_behind, last_of, places, places_without, with_newer, with_next, with_older}
+use Rattle.vm_ports.specs.Kept.{AreLinked, Linked, ends_after, ends_on, first_or, is_none_key, key_or, last_behind, last_of, places, places_without, with_newer}
+use Rattle.vm_ports.specs.Kept.{with_next, with_older}
 use Rattle.vm_ports.specs.Nodes.{KeysApart, Place, along, first_key, first_on, has_key, node_at, node_behind, place_of}
-use Rattle.vm_ports.proofs.Places.{appended_node, differs, first_is, first_of, fresh, has_node, push_apart, push_count, push_ends, push_first, push_last, same_number}
+use Rattle.vm_ports.proofs.Places.{appended_node, differs, first_is, first_of, fresh, has_node, push_apart, push_count, push_ends, push_first, push_last}
+use Rattle.vm_ports.proofs.Places.{same_number}
 use Rattle.vm_ports.proofs.Removed.{HasNone, apart_without, count_without, ends_without, first_has, first_without, has_none, last_without, nodes_without}
 
 module _ {M : Type 0} where
@@ -27,7 +30,13 @@ module _ {M : Type 0} where
       → ((k : ℕ) → has_key ps k ≡ true → nodes k ≡ node_behind older ps k) → along nodes (length ps) (first_key ps) ≡ ps
   along_is nodes older [] apart there = along_none nodes None
   along_is nodes older (p ∷ ps) apart there =
-      let here : nodes p.key ≡ Some (record { channel = p.letter.channel; message = p.letter.message; next = first_on p.letter.channel.0 ps; older = older; newer = first_key ps })
+      let here : nodes p.key ≡ Some (record {
+        channel = p.letter.channel;
+        message = p.letter.message;
+        next = first_on p.letter.channel.0 ps;
+        older = older;
+        newer = first_key ps;
+      })
       = there p.key (rw (same_number p.key) refl) ∙ rw (same_number p.key) refl in
       let rest : along nodes (length ps) (first_key ps) ≡ ps = along_is nodes (Some p.key) ps apart.1 (λ k has.
       let other : (p.key == k) ≡ false = differs ps p.key k apart.0 has in
@@ -52,7 +61,8 @@ module _ {M : Type 0} where
     pub first : new.first ≡ Some (key_or old.first e.key)
     pub last : new.last ≡ Some e.key
     pub ends : (c : ℕ) → lookup (λ id. c == id.0) new.ends.entries
-        ≡ (if e.letter.channel.0 == c then Some (record { first = first_or (ends_on e.letter.channel.0 ps) e.key; last = e.key }) else lookup (λ id. c == id.0) old.ends.entries)
+        ≡ (if e.letter.channel.0 == c then Some (record { first = first_or (ends_on e.letter.channel.0 ps) e.key; last = e.key }) else lookup (λ id. c == id.0)
+        old.ends.entries)
 
   absent_key : (ps : List (Place M)) (test : Bool) (k : ℕ) → has_key ps k ≡ test → node_at ps k ≡ None → has_key ps k ≡ false
   absent_key ps true k is none = let there = has_node None ps k is in let both : Some there.0 ≡ None = sym there.1 ∙ none in absurd (cc)
@@ -67,7 +77,8 @@ module _ {M : Type 0} where
       let apart : o ≢ e.key = λ same. grind (arith, nat_tests, is, same) in
       rw is (a.others o apart ∙ linked.nodes o)
 
-  ends_by : (test : Bool) (ps : List (Place M)) (e : Place M) (old new : Links M) → Appends ps e old new → Linked old ps → (c : ℕ) → (e.letter.channel.0 == c) ≡ test
+  ends_by : (test : Bool) (ps : List (Place M)) (e : Place M) (old new : Links M) → Appends ps e old new → Linked old ps → (c : ℕ)
+      → (e.letter.channel.0 == c) ≡ test
       → lookup (λ id. c == id.0) new.ends.entries ≡ ends_on c (ps ++ e ∷ [])
   ends_by true ps e old new a linked c is =
       let same : e.letter.channel.0 ≡ c = grind (arith, nat_tests, is) in
@@ -90,14 +101,16 @@ module _ {M : Type 0} where
   pub record Takes (ps : List (Place M)) (ch r : ℕ) (node : Node M) (old new : Links M) : Type 0 where
     pub first_is : first_on ch ps ≡ Some r
     pub there : get old.nodes r ≡ Some node
-    pub nodes : (k : ℕ) → get new.nodes k ≡ with_older node.newer node.older (with_newer node.older node.newer (λ o. if r == o then None else get old.nodes o)) k
+    pub nodes : (k : ℕ) → get new.nodes k ≡ with_older node.newer node.older (with_newer node.older node.newer (λ o. if r == o then None else get old.nodes o))
+        k
     pub count : slab_len new.nodes + 1 ≡ slab_len old.nodes
     pub first : new.first ≡ (if is_none_key node.older then node.newer else old.first)
     pub last : new.last ≡ (if is_none_key node.newer then node.older else old.last)
     pub ends : (c : ℕ) → lookup (λ id. c == id.0) new.ends.entries
         ≡ (if ch == c then ends_after node.next (lookup (λ id. c == id.0) old.ends.entries) else lookup (λ id. c == id.0) old.ends.entries)
 
-  pub taken : (ps : List (Place M)) (ch r : ℕ) (node : Node M) (old new : Links M) → Linked old ps → Takes ps ch r node old new → Linked new (places_without ch ps)
+  pub taken : (ps : List (Place M)) (ch r : ℕ) (node : Node M) (old new : Links M) → Linked old ps → Takes ps ch r node old new
+      → Linked new (places_without ch ps)
   taken ps ch r node old new linked t =
       let there : node_at ps r ≡ Some node = sym (linked.nodes r) ∙ t.there in
       record {
@@ -110,7 +123,8 @@ module _ {M : Type 0} where
       }
 
   -- the first node of a channel that has ends
-  pub first_node : (ps : List (Place M)) (links : Links M) (ch : ℕ) (ends : Ends) → Linked links ps → ends_on ch ps ≡ Some ends → (node : Node M) × (get links.nodes ends.first ≡ Some node)
+  pub first_node : (ps : List (Place M)) (links : Links M) (ch : ℕ) (ends : Ends) → Linked links ps → ends_on ch ps ≡ Some ends → (node : Node M)
+      × (get links.nodes ends.first ≡ Some node)
   first_node ps links ch ends linked is =
       let found = has_node None ps ends.first (first_has ch ps ends.first (sym (first_is ch ps) ∙ ap first_of is)) in
       (found.0, linked.nodes ends.first ∙ found.1)

@@ -3,7 +3,8 @@ ghost use Rattle.std.specs.Map.{lookup};
 ghost use Rattle.std.specs.Prelude.{ℕ, ◌≡◌, ◌+◌, ◌==◌, ◌≤◌, ◌<◌, ◌∷◌, [], ◌++◌, None, Some, IfNone, MatchOption, slice_get, OnOk, IsOk, if◌then◌else◌};
 ghost use Rattle.indexmap.specs.IndexMap.{spare};
 ghost use Rattle.slab.specs.Slab.{ContainsKey, get, slab_len};
-ghost use Rattle.vm_ports.specs.Kept.{AreLinked, ends_after, ends_on, first_or, is_none_key, key_or, last_of, places, places_without, room_of, with_newer, with_next, with_older};
+ghost use Rattle.vm_ports.specs.Kept.{AreLinked, ends_after, ends_on, first_or, is_none_key, key_or, last_of, places, places_without, room_of, with_newer};
+ghost use Rattle.vm_ports.specs.Kept.{with_next, with_older};
 ghost use Rattle.vm_ports.specs.Nodes.{letters_of};
 ghost use Rattle.vm_ports.specs.Ports.{oldest, queue};
 

@@ -1,5 +1,6 @@
 -- Frames that stand on a list once each, and the pages in them.
-use Rattle.std.proofs.Common.{ℕ, zero, suc, ◌≡◌, ◌≢◌, ◌<◌, ◌≤◌, ◌==◌, ◌||◌, Bool, true, false, List, [], ◌∷◌, ◌++◌, length, get_or, set, map, refl, ap, arith, ◌∙◌}
+use Rattle.std.proofs.Common.{ℕ, zero, suc, ◌≡◌, ◌≢◌, ◌<◌, ◌≤◌, ◌==◌, ◌||◌, Bool, true, false, List, [], ◌∷◌, ◌++◌, length, get_or, set, map, refl, ap, arith}
+use Rattle.std.proofs.Common.{◌∙◌}
 use Rattle.std.proofs.lemmas.Bool.Decides.{nat_tests}
 use Rattle.std.proofs.lemmas.List.{get_or-set_other}
 use Rattle.vm_base.specs.declared.ids.FrameNo.{FrameNo}
@@ -80,7 +81,8 @@ still_none f g (x ∷ fs) none =
     let rest = still_none f g fs others in
     grind (arith, nat_tests)
 
-apart_cons : (test : Bool) (n f : ℕ) (g : FrameNo) (fs : List FrameNo) → (g.0 == f) ≡ test → g.0 < n → is_skipped fs g.0 ≡ false → FramesAreApart n (without_frame f fs) → FramesAreApart n (without_frame f (g ∷ fs))
+apart_cons : (test : Bool) (n f : ℕ) (g : FrameNo) (fs : List FrameNo) → (g.0 == f) ≡ test → g.0 < n → is_skipped fs g.0 ≡ false
+    → FramesAreApart n (without_frame f fs) → FramesAreApart n (without_frame f (g ∷ fs))
 apart_cons true n f g fs is less once rest = rw is rest
 apart_cons false n f g fs is less once rest = rw is (less, still_none f g.0 fs once, rest)
 
@@ -88,7 +90,8 @@ pub apart_without : (n f : ℕ) (fs : List FrameNo) → FramesAreApart n fs → 
 apart_without n f [] apart = tt
 apart_without n f (g ∷ fs) apart = apart_cons (g.0 == f) n f g fs refl apart.0 apart.1 (apart_without n f fs apart.2)
 
-below_cons : (test : Bool) (n : ℕ) (g : FrameNo) (fs : List FrameNo) → (g.0 == n) ≡ test → g.0 < suc n → is_skipped fs g.0 ≡ false → FramesAreApart n (without_frame n fs) → FramesAreApart n (without_frame n (g ∷ fs))
+below_cons : (test : Bool) (n : ℕ) (g : FrameNo) (fs : List FrameNo) → (g.0 == n) ≡ test → g.0 < suc n → is_skipped fs g.0 ≡ false
+    → FramesAreApart n (without_frame n fs) → FramesAreApart n (without_frame n (g ∷ fs))
 below_cons true n g fs is less once rest = rw is rest
 below_cons false n g fs is less once rest =
     let lower : g.0 < n = grind (arith, nat_tests) in
@@ -98,7 +101,8 @@ below_without : (n : ℕ) (fs : List FrameNo) → FramesAreApart (suc n) fs → 
 below_without n [] apart = tt
 below_without n (g ∷ fs) apart = below_cons (g.0 == n) n g fs refl apart.0 apart.1 (below_without n fs apart.2)
 
-length_cons : (test : Bool) (n f : ℕ) (g : FrameNo) (fs : List FrameNo) → (g.0 == f) ≡ test → is_skipped fs g.0 ≡ false → length fs ≤ suc (length (without_frame f fs)) → length (g ∷ fs) ≤ suc (length (without_frame f (g ∷ fs)))
+length_cons : (test : Bool) (n f : ℕ) (g : FrameNo) (fs : List FrameNo) → (g.0 == f) ≡ test → is_skipped fs g.0 ≡ false
+    → length fs ≤ suc (length (without_frame f fs)) → length (g ∷ fs) ≤ suc (length (without_frame f (g ∷ fs)))
 length_cons true n f g fs is once rest =
     let same : g.0 ≡ f = grind (arith, nat_tests) in
     let all = ap length (without_none f fs (rw same at once)) in
@@ -128,7 +132,8 @@ pub record Split (f : FrameNo) (fs : List FrameNo) : Type 0 where
   pub right : List FrameNo
   pub is : fs ≡ left ++ f ∷ right
 
-split_cons : (test : Bool) (f g : FrameNo) (fs : List FrameNo) → (g.0 == f.0) ≡ test → is_skipped (g ∷ fs) f.0 ≡ true → (is_skipped fs f.0 ≡ true → Split f fs) → Split f (g ∷ fs)
+split_cons : (test : Bool) (f g : FrameNo) (fs : List FrameNo) → (g.0 == f.0) ≡ test → is_skipped (g ∷ fs) f.0 ≡ true → (is_skipped fs f.0 ≡ true → Split f fs)
+    → Split f (g ∷ fs)
 split_cons true f g fs is there rest =
     let same : g.0 ≡ f.0 = grind (arith, nat_tests, is) in
     record { left = []; right = fs; is = ap (λ (n : ℕ). record { 0 = n } ∷ fs) same }
@@ -149,9 +154,11 @@ without_first f fs none = rw (same_number f.0) (without_none f.0 fs none)
 pub without_one : (n : ℕ) (xs : List FrameNo) (f : FrameNo) (ys : List FrameNo) → FramesAreApart n (xs ++ f ∷ ys) → without_frame f.0 (xs ++ f ∷ ys) ≡ xs ++ ys
 without_one n xs f ys apart =
     let stand = stands n xs f ys apart in
-    without_append f.0 xs (f ∷ ys) ∙ ap (λ z. z ++ without_frame f.0 (f ∷ ys)) (without_none f.0 xs stand.front) ∙ ap (λ z. xs ++ z) (without_first f ys stand.behind)
+    without_append f.0 xs (f ∷ ys) ∙ ap (λ z. z ++ without_frame f.0 (f ∷ ys)) (without_none f.0 xs stand.front)
+    ∙ ap (λ z. xs ++ z) (without_first f ys stand.behind)
 
-none_cons : (test : Bool) (f : ℕ) (g : FrameNo) (fs : List FrameNo) → (g.0 == f) ≡ test → is_skipped (without_frame f fs) f ≡ false → is_skipped (without_frame f (g ∷ fs)) f ≡ false
+none_cons : (test : Bool) (f : ℕ) (g : FrameNo) (fs : List FrameNo) → (g.0 == f) ≡ test → is_skipped (without_frame f fs) f ≡ false
+    → is_skipped (without_frame f (g ∷ fs)) f ≡ false
 none_cons true f g fs is rest = rw is rest
 none_cons false f g fs is rest = rw (is, is) rest
 
@@ -178,7 +185,8 @@ pub pages_marked : (marks : List Bool) (f : ℕ) (fs : List FrameNo) → f < len
 pages_marked marks f [] inside = refl
 pages_marked marks f (g ∷ fs) inside = rw (mark_set marks f g.0 inside, pages_marked marks f fs inside) refl
 
-pages_cons : (test : Bool) (marks : List Bool) (f : ℕ) (g : FrameNo) (fs : List FrameNo) → (g.0 == f) ≡ test → pages marks (without_frame f fs) ≡ pages_except f (pages marks fs) → pages marks (without_frame f (g ∷ fs)) ≡ pages_except f (pages marks (g ∷ fs))
+pages_cons : (test : Bool) (marks : List Bool) (f : ℕ) (g : FrameNo) (fs : List FrameNo) → (g.0 == f) ≡ test
+    → pages marks (without_frame f fs) ≡ pages_except f (pages marks fs) → pages marks (without_frame f (g ∷ fs)) ≡ pages_except f (pages marks (g ∷ fs))
 pages_cons true marks f g fs is rest = rw is rest
 pages_cons false marks f g fs is rest = rw (is, rest) refl
 

@@ -1,11 +1,13 @@
 -- Pages go to the inactive list one by one or at once, and second chances are given one by one or at once.
 use Rattle.std.proofs.Common.{ℕ, ◌≡◌, ◌+◌, ◌<◌, ◌≤◌, Bool, true, false, List, [], ◌∷◌, ◌++◌, drop, length, map, take, refl, sym, ◌∙◌, ap, Some, None, arith}
 use Rattle.std.proofs.lemmas.Bool.Decides.{nat_tests}
-use Rattle.std.proofs.lemmas.List.{append-nil, append_assoc, drop-append-le, drop-drop, drop-take, length-append, length-drop, length-map, length-take-le, map-append, take-append-drop, take-append-le, take-take}
+use Rattle.std.proofs.lemmas.List.{append-nil, append_assoc, drop-append-le, drop-drop, drop-take, length-append, length-drop, length-map, length-take-le}
+use Rattle.std.proofs.lemmas.List.{map-append, take-append-drop, take-append-le, take-take}
 use Rattle.std.specs.Prelude.{if◌then◌else◌}
 use Rattle.vm_base.specs.declared.ids.FrameNo.{FrameNo}
 use Rattle.vm_queues.specs.Kept.{front_referenced}
-use Rattle.vm_queues.specs.Queues.{Page, Queues, balanced, cleared, first_unskipped, from_unreferenced, is_skipped, needs_none, one_spared, referenced_front, shortage, spared, with_deactivated}
+use Rattle.vm_queues.specs.Queues.{Page, Queues, balanced, cleared, first_unskipped, from_unreferenced, is_skipped, needs_none, one_spared, referenced_front}
+use Rattle.vm_queues.specs.Queues.{shortage, spared, with_deactivated}
 
 abbrev pub queues : List Page → List Page → ℕ → Queues
 queues a i n = record { active = a; inactive = i; frames = n }
@@ -20,7 +22,8 @@ take_two k n xs =
     ∙ take-append-drop k (take (k + n) xs)
 
 -- what is lacking when some pages have moved
-short_moved : (k : ℕ) (a i : List Page) (n : ℕ) → k ≤ shortage (queues a i n) → k ≤ length a → shortage (queues a i n) ≡ k + shortage (with_deactivated k (queues a i n))
+short_moved : (k : ℕ) (a i : List Page) (n : ℕ) → k ≤ shortage (queues a i n) → k ≤ length a
+    → shortage (queues a i n) ≡ k + shortage (with_deactivated k (queues a i n))
 short_moved k a i n few there =
     let left = length-drop k a in
     let more = length-append i (map cleared (take k a)) in
@@ -31,7 +34,8 @@ short_moved k a i n few there =
 pub short_fits : (a i : List Page) (n : ℕ) → shortage (queues a i n) ≤ length a
 short_fits a i n = omega arith
 
-pub balanced_moved : (k : ℕ) (a i : List Page) (n : ℕ) → k ≤ shortage (queues a i n) → k ≤ length a → balanced (with_deactivated k (queues a i n)) ≡ balanced (queues a i n)
+pub balanced_moved : (k : ℕ) (a i : List Page) (n : ℕ) → k ≤ shortage (queues a i n) → k ≤ length a
+    → balanced (with_deactivated k (queues a i n)) ≡ balanced (queues a i n)
 balanced_moved k a i n few there =
     let short = short_moved k a i n few there in
     let left = shortage (with_deactivated k (queues a i n)) in
@@ -46,7 +50,8 @@ pub balanced_one : (q : Queues) → 0 < shortage q → balanced (with_deactivate
 balanced_one q some = balanced_moved 1 q.active q.inactive q.frames (omega (arith, some)) (omega (arith, some, short_fits q.active q.inactive q.frames))
 
 pub short_one : (q : Queues) → 0 < shortage q → shortage (with_deactivated 1 q) < shortage q
-short_one q some = omega (arith, some, short_moved 1 q.active q.inactive q.frames (omega (arith, some)) (omega (arith, some, short_fits q.active q.inactive q.frames)))
+short_one q some =
+    omega (arith, some, short_moved 1 q.active q.inactive q.frames (omega (arith, some)) (omega (arith, some, short_fits q.active q.inactive q.frames)))
 
 pub balanced_done : (q : Queues) → needs_none q → balanced q ≡ q
 balanced_done q none =
@@ -60,7 +65,9 @@ front_stays [] [] = refl
 front_stays [] (y ∷ ys) = refl
 front_stays (x ∷ xs) ys = rw (front_stays xs ys) refl
 
-rest_cons : (test : Bool) (x : Page) (xs ys : List Page) → x.referenced ≡ test → from_unreferenced (xs ++ map cleared ys) ≡ from_unreferenced xs ++ map cleared ys → from_unreferenced (x ∷ xs ++ map cleared ys) ≡ from_unreferenced (x ∷ xs) ++ map cleared ys
+rest_cons : (test : Bool) (x : Page) (xs ys : List Page) → x.referenced ≡ test
+    → from_unreferenced (xs ++ map cleared ys) ≡ from_unreferenced xs ++ map cleared ys
+    → from_unreferenced (x ∷ xs ++ map cleared ys) ≡ from_unreferenced (x ∷ xs) ++ map cleared ys
 rest_cons true x xs ys is rest = rw is rest
 rest_cons false x xs ys is rest = rw is refl
 
@@ -89,7 +96,8 @@ step_pages p a i n is =
     let gone = map cleared (take k z) in
     let back : map cleared (referenced_front (i ++ gone)) ≡ front = ap (map cleared) (front_stays i (take k z)) in
     let behind : from_unreferenced (i ++ gone) ≡ rest ++ gone = rest_grows i (take k z) in
-    let split : queues (drop k z ++ map cleared (referenced_front (i ++ gone))) (from_unreferenced (i ++ gone)) n ≡ with_deactivated k (queues (z ++ front) rest n)
+    let split : queues (drop k z ++ map cleared (referenced_front (i ++ gone))) (from_unreferenced (i ++ gone)) n ≡ with_deactivated k
+    (queues (z ++ front) rest n)
     = same_queues _ _ _ _ _ _
     (ap (λ w. drop k z ++ w) back ∙ sym (drop-append-le k z front fits))
     (behind ∙ ap (λ w. rest ++ map cleared w) (sym (take-append-le k z front fits)))
@@ -105,14 +113,16 @@ step a (p ∷ i) n is = step_pages p a i n is
 pub spared_step : (q : Queues) → front_referenced q ≡ true → spared (balanced (one_spared q)) ≡ spared q
 spared_step q is = step q.active q.inactive q.frames is
 
-fewer : (a i : List Page) (n : ℕ) → front_referenced (queues a i n) ≡ true → length (referenced_front (balanced (one_spared (queues a i n))).inactive) < length (referenced_front i)
+fewer : (a i : List Page) (n : ℕ) → front_referenced (queues a i n) ≡ true
+    → length (referenced_front (balanced (one_spared (queues a i n))).inactive) < length (referenced_front i)
 fewer a [] n is = absurd (cc)
 fewer a (p ∷ i) n is =
     let z = a ++ cleared p ∷ [] in
     let same = ap length (front_stays i (take (shortage (queues z i n)) z)) in
     rw is (omega (arith, same))
 
-pub spared_fewer : (q : Queues) → front_referenced q ≡ true → length (referenced_front (balanced (one_spared q)).inactive) < length (referenced_front q.inactive)
+pub spared_fewer : (q : Queues) → front_referenced q ≡ true
+    → length (referenced_front (balanced (one_spared q)).inactive) < length (referenced_front q.inactive)
 spared_fewer q is = fewer q.active q.inactive q.frames is
 
 done : (a i : List Page) (n : ℕ) → front_referenced (queues a i n) ≡ false → needs_none (queues a i n) → spared (queues a i n) ≡ queues a i n
@@ -136,7 +146,8 @@ pub first_none : (skip : List FrameNo) (xs ys : List Page) → first_unskipped s
 first_none skip [] ys is = refl
 first_none skip (x ∷ xs) ys is = let rest = first_none skip xs ys in grind (arith, nat_tests)
 
-pub first_picked : (skip : List FrameNo) (p : Page) (ps : List Page) → is_skipped skip p.frame ≡ false → first_unskipped skip (p ∷ ps) ≡ Some (record { 0 = p.frame })
+pub first_picked : (skip : List FrameNo) (p : Page) (ps : List Page) → is_skipped skip p.frame ≡ false
+    → first_unskipped skip (p ∷ ps) ≡ Some (record { 0 = p.frame })
 first_picked skip p ps is = rw is refl
 
 pub first_passed : (skip : List FrameNo) (p : Page) (ps : List Page) → is_skipped skip p.frame ≡ true → first_unskipped skip (p ∷ ps) ≡ first_unskipped skip ps

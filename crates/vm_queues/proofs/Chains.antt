@@ -1,5 +1,6 @@
 -- A list of linked frames: what a frame at its back, and one taken out of it, change in the links.
-use Rattle.std.proofs.Common.{ℕ, zero, suc, ◌≡◌, ◌+◌, ◌-◌, ◌<◌, ◌==◌, Bool, true, false, List, [], ◌∷◌, ◌++◌, length, Option, Some, None, refl, sym, ◌∙◌, ap, arith, length-append}
+use Rattle.std.proofs.Common.{ℕ, zero, suc, ◌≡◌, ◌+◌, ◌-◌, ◌<◌, ◌==◌, Bool, true, false, List, [], ◌∷◌, ◌++◌, length, Option, Some, None, refl, sym, ◌∙◌, ap}
+use Rattle.std.proofs.Common.{arith, length-append}
 use Rattle.std.proofs.lemmas.Bool.Decides.{nat_tests}
 use Rattle.std.specs.Prelude.{if◌then◌else◌}
 use Rattle.vm_base.specs.declared.ids.FrameNo.{FrameNo}
@@ -25,7 +26,8 @@ first_or_none : (fs : List FrameNo) → first_or fs None ≡ first_frame fs
 first_or_none [] = refl
 first_or_none (f ∷ fs) = refl
 
-pub plain : (list : OnList) (before : Option FrameNo) (fs : List FrameNo) (other : Link) (f : ℕ) → link_behind list before fs other f ≡ linked list before fs None other f
+pub plain : (list : OnList) (before : Option FrameNo) (fs : List FrameNo) (other : Link) (f : ℕ)
+    → link_behind list before fs other f ≡ linked list before fs None other f
 plain list before [] other f = refl
 plain list before (g ∷ gs) other f = rw (first_or_none gs, plain list (Some g) gs other f) refl
 
@@ -38,7 +40,8 @@ joined : (list : OnList) (before : Option FrameNo) (xs ys : List FrameNo) (after
 joined list before [] ys after other f = refl
 joined list before (x ∷ xs) ys after other f = rw (first_joined xs ys after, joined list (Some x) xs ys after other f) refl
 
-pub not_there : (list : OnList) (before : Option FrameNo) (fs : List FrameNo) (after : Option FrameNo) (other : Link) (f : ℕ) → is_skipped fs f ≡ false → linked list before fs after other f ≡ other
+pub not_there : (list : OnList) (before : Option FrameNo) (fs : List FrameNo) (after : Option FrameNo) (other : Link) (f : ℕ) → is_skipped fs f ≡ false
+    → linked list before fs after other f ≡ other
 not_there list before [] after other f none = refl
 not_there list before (g ∷ gs) after other f none =
     let no : (g.0 == f) ≡ false = grind (arith, nat_tests) in
@@ -46,20 +49,24 @@ not_there list before (g ∷ gs) after other f none =
     rw no (not_there list (Some g) gs after other f others)
 
 -- a frame on a list has a link of this list
-list_step : (test : Bool) (list : OnList) (before : Option FrameNo) (g : FrameNo) (gs : List FrameNo) (after : Option FrameNo) (other : Link) (f : ℕ) → (g.0 == f) ≡ test
+list_step : (test : Bool) (list : OnList) (before : Option FrameNo) (g : FrameNo) (gs : List FrameNo) (after : Option FrameNo) (other : Link) (f : ℕ)
+    → (g.0 == f) ≡ test
     → (linked list (Some g) gs after other f).list ≡ (if is_skipped gs f then list else other.list)
     → (linked list before (g ∷ gs) after other f).list ≡ (if is_skipped (g ∷ gs) f then list else other.list)
 list_step true list before g gs after other f is rest = rw is refl
 list_step false list before g gs after other f is rest = rw is rest
 
-pub list_is : (list : OnList) (before : Option FrameNo) (fs : List FrameNo) (after : Option FrameNo) (other : Link) (f : ℕ) → (linked list before fs after other f).list ≡ (if is_skipped fs f then list else other.list)
+pub list_is : (list : OnList) (before : Option FrameNo) (fs : List FrameNo) (after : Option FrameNo) (other : Link) (f : ℕ)
+    → (linked list before fs after other f).list ≡ (if is_skipped fs f then list else other.list)
 list_is list before [] after other f = refl
 list_is list before (g ∷ gs) after other f = list_step (g.0 == f) list before g gs after other f refl (list_is list (Some g) gs after other f)
 
 -- two lists that have no frame in common can be looked at in either order
-swap_step : (test : Bool) (l m : OnList) (xs ys : List FrameNo) (other : Link) (f : ℕ) → is_skipped xs f ≡ test → (is_skipped xs f ≡ true → is_skipped ys f ≡ false)
+swap_step : (test : Bool) (l m : OnList) (xs ys : List FrameNo) (other : Link) (f : ℕ) → is_skipped xs f ≡ test
+    → (is_skipped xs f ≡ true → is_skipped ys f ≡ false)
     → linked l None xs None (linked m None ys None other f) f ≡ linked m None ys None (linked l None xs None other f) f
-swap_step true l m xs ys other f is apart = rw (not_there m None ys None other f (apart is), not_there m None ys None (linked l None xs None other f) f (apart is)) refl
+swap_step true l m xs ys other f is apart =
+    rw (not_there m None ys None other f (apart is), not_there m None ys None (linked l None xs None other f) f (apart is)) refl
 swap_step false l m xs ys other f is apart = rw (not_there l None xs None other f is) (not_there l None xs None (linked m None ys None other f) f is)
 
 pub swapped : (l m : OnList) (xs ys : List FrameNo) (other : Link) (f : ℕ) → (is_skipped xs f ≡ true → is_skipped ys f ≡ false)
@@ -80,12 +87,14 @@ first_none [] f none = refl
 first_none (x ∷ xs) f none = grind (arith, nat_tests)
 
 -- another one comes behind a list
-after_one : (test : Bool) (n : ℕ) (list : OnList) (before : Option FrameNo) (x : FrameNo) (old after : Option FrameNo) (other : Link) (f : ℕ) → (x.0 == f) ≡ test
+after_one : (test : Bool) (n : ℕ) (list : OnList) (before : Option FrameNo) (x : FrameNo) (old after : Option FrameNo) (other : Link) (f : ℕ)
+    → (x.0 == f) ≡ test
     → linked list before (x ∷ []) after other f ≡ with_after (Some x) after (λ h. linked list before (x ∷ []) old other h) f
 after_one true n list before x old after other f is = rw is refl
 after_one false n list before x old after other f is = rw is refl
 
-after_step : (test : Bool) (n : ℕ) (list : OnList) (before : Option FrameNo) (x y : FrameNo) (ys : List FrameNo) (old after : Option FrameNo) (other : Link) (f : ℕ) → (x.0 == f) ≡ test
+after_step : (test : Bool) (n : ℕ) (list : OnList) (before : Option FrameNo) (x y : FrameNo) (ys : List FrameNo) (old after : Option FrameNo) (other : Link)
+    (f : ℕ) → (x.0 == f) ≡ test
     → FramesAreApart n (x ∷ y ∷ ys)
     → linked list (Some x) (y ∷ ys) after other f ≡ with_after (last_behind None (y ∷ ys)) after (λ h. linked list (Some x) (y ∷ ys) old other h) f
     → linked list before (x ∷ y ∷ ys) after other f ≡ with_after (last_behind None (x ∷ y ∷ ys)) after (λ h. linked list before (x ∷ y ∷ ys) old other h) f
@@ -103,7 +112,8 @@ after_set n list before (x ∷ y ∷ ys) old after other f apart =
     after_step (x.0 == f) n list before x y ys old after other f refl apart (after_set n list (Some x) (y ∷ ys) old after other f apart.2)
 
 -- another one comes before a list
-before_step : (test : Bool) (list : OnList) (old before : Option FrameNo) (x : FrameNo) (xs : List FrameNo) (after : Option FrameNo) (other : Link) (f : ℕ) → (x.0 == f) ≡ test
+before_step : (test : Bool) (list : OnList) (old before : Option FrameNo) (x : FrameNo) (xs : List FrameNo) (after : Option FrameNo) (other : Link) (f : ℕ)
+    → (x.0 == f) ≡ test
     → linked list before (x ∷ xs) after other f ≡ with_before (Some x) before (λ h. linked list old (x ∷ xs) after other h) f
 before_step true list old before x xs after other f is = rw is refl
 before_step false list old before x xs after other f is = rw is refl
@@ -114,15 +124,19 @@ before_set list old before [] after other f = refl
 before_set list old before (x ∷ xs) after other f = before_step (x.0 == f) list old before x xs after other f refl
 
 -- a frame that isn't among these has the other link
-past_step : (test : Bool) (list : OnList) (xs : List FrameNo) (after at before : Option FrameNo) (other : Link) (f : ℕ) → is_frame at f ≡ test → (is_frame at f ≡ true → is_skipped xs f ≡ false)
-    → with_before at before (λ h. linked list None xs after other h) f ≡ linked list None xs after (if is_frame at f then record other { before = before } else other) f
+past_step : (test : Bool) (list : OnList) (xs : List FrameNo) (after at before : Option FrameNo) (other : Link) (f : ℕ) → is_frame at f ≡ test
+    → (is_frame at f ≡ true → is_skipped xs f ≡ false)
+    → with_before at before (λ h. linked list None xs after other h) f ≡ linked list None xs after
+    (if is_frame at f then record other { before = before } else other) f
 past_step true list xs after at before other f is apart =
     rw (is, not_there list None xs after other f (apart is)) (sym (not_there list None xs after (record other { before = before }) f (apart is)))
 past_step false list xs after at before other f is apart = rw is refl
 
 -- a frame at the back
-push_step : (test : Bool) (n : ℕ) (list : OnList) (fs : List FrameNo) (f : FrameNo) (other : Link) (g : ℕ) → (f.0 == g) ≡ test → FramesAreApart n fs → is_skipped fs f.0 ≡ false
-    → with_after (last_behind None fs) (Some f) (put_link f.0 (record { list = list; before = last_behind None fs; after = None }) (λ h. linked list None fs None other h)) g
+push_step : (test : Bool) (n : ℕ) (list : OnList) (fs : List FrameNo) (f : FrameNo) (other : Link) (g : ℕ) → (f.0 == g) ≡ test → FramesAreApart n fs
+    → is_skipped fs f.0 ≡ false
+    → with_after (last_behind None fs) (Some f) (put_link f.0 (record { list = list; before = last_behind None fs; after = None })
+    (λ h. linked list None fs None other h)) g
     ≡ linked list None fs (Some f) (if f.0 == g then record { list = list; before = last_behind None fs; after = None } else other) g
 push_step true n list fs f other g is apart none =
     let same : f.0 ≡ g = grind (arith, nat_tests, is) in
@@ -131,7 +145,8 @@ push_step true n list fs f other g is apart none =
 push_step false n list fs f other g is apart none = rw is (sym (after_set n list None fs None (Some f) other g apart))
 
 pub pushed : (n : ℕ) (list : OnList) (fs : List FrameNo) (f : FrameNo) (other : Link) (g : ℕ) → FramesAreApart n fs → is_skipped fs f.0 ≡ false
-    → with_after (last_behind None fs) (Some f) (put_link f.0 (record { list = list; before = last_behind None fs; after = None }) (λ h. linked list None fs None other h)) g
+    → with_after (last_behind None fs) (Some f) (put_link f.0 (record { list = list; before = last_behind None fs; after = None })
+    (λ h. linked list None fs None other h)) g
     ≡ linked list None (fs ++ f ∷ []) None other g
 pushed n list fs f other g apart none = push_step (f.0 == g) n list fs f other g refl apart none ∙ sym (joined list None fs (f ∷ []) None other g)
 
@@ -144,7 +159,8 @@ link_here n list xs f ys other apart =
     ∙ rw (same_number f.0, first_or_none ys) refl
 
 -- a frame taken out
-first_outside : (n : ℕ) (xs : List FrameNo) (f : FrameNo) (ys : List FrameNo) (g : ℕ) → FramesAreApart n (xs ++ f ∷ ys) → is_frame (first_frame ys) g ≡ true → is_skipped xs g ≡ false
+first_outside : (n : ℕ) (xs : List FrameNo) (f : FrameNo) (ys : List FrameNo) (g : ℕ) → FramesAreApart n (xs ++ f ∷ ys) → is_frame (first_frame ys) g ≡ true
+    → is_skipped xs g ≡ false
 first_outside n [] f ys g apart is = refl
 first_outside n (x ∷ xs) f [] g apart is = absurd (cc)
 first_outside n (x ∷ xs) f (y ∷ ys) g apart is =
@@ -155,9 +171,11 @@ first_outside n (x ∷ xs) f (y ∷ ys) g apart is =
 
 abbrev taken_out : OnList → List FrameNo → FrameNo → List FrameNo → Link → ℕ → Link
 taken_out list xs f ys other g =
-    with_before (first_frame ys) (last_behind None xs) (with_after (last_behind None xs) (first_frame ys) (put_link f.0 neither_link (λ h. linked list None (xs ++ f ∷ ys) None other h))) g
+    with_before (first_frame ys) (last_behind None xs) (with_after (last_behind None xs) (first_frame ys)
+    (put_link f.0 neither_link (λ h. linked list None (xs ++ f ∷ ys) None other h))) g
 
-taken_step : (test : Bool) (n : ℕ) (list : OnList) (xs : List FrameNo) (f : FrameNo) (ys : List FrameNo) (other : Link) (g : ℕ) → (f.0 == g) ≡ test → FramesAreApart n (xs ++ f ∷ ys)
+taken_step : (test : Bool) (n : ℕ) (list : OnList) (xs : List FrameNo) (f : FrameNo) (ys : List FrameNo) (other : Link) (g : ℕ) → (f.0 == g) ≡ test
+    → FramesAreApart n (xs ++ f ∷ ys)
     → ((f.0 == g) ≡ true → other ≡ neither_link) → taken_out list xs f ys other g ≡ linked list None (xs ++ ys) None other g
 taken_step true n list xs f ys other g is apart clear =
     let same : f.0 ≡ g = grind (arith, nat_tests, is) in
@@ -173,14 +191,16 @@ taken_step false n list xs f ys other g is apart clear =
     let old : linked list None (xs ++ f ∷ ys) None other g ≡ linked list None xs (Some f) rest g = joined list None xs (f ∷ ys) None other g ∙ rw is refl in
     let put : put_link f.0 neither_link (λ h. linked list None (xs ++ f ∷ ys) None other h) g ≡ linked list None xs (Some f) rest g = rw is old in
     let after : with_after last first (put_link f.0 neither_link (λ h. linked list None (xs ++ f ∷ ys) None other h)) g ≡ linked list None xs first rest g
-    = ap (λ (l : Link). if is_frame last g then record l { after = first } else l) put ∙ sym (after_set n list None xs (Some f) first rest g (apart_left n xs (f ∷ ys) apart)) in
+    = ap (λ (l : Link). if is_frame last g then record l { after = first } else l) put
+    ∙ sym (after_set n list None xs (Some f) first rest g (apart_left n xs (f ∷ ys) apart)) in
     ap (λ (l : Link). if is_frame first g then record l { before = last } else l) after
     ∙ past_step (is_frame first g) list xs first first last rest g refl (first_outside n xs f ys g apart)
     ∙ ap (λ (l : Link). linked list None xs first l g) (sym (before_set list (Some f) last ys None other g))
     ∙ ap (λ (a : Option FrameNo). linked list None xs a (linked list last ys None other g) g) (sym (first_or_none ys))
     ∙ sym (joined list None xs ys None other g)
 
-pub taken : (n : ℕ) (list : OnList) (xs : List FrameNo) (f : FrameNo) (ys : List FrameNo) (other : Link) (g : ℕ) → FramesAreApart n (xs ++ f ∷ ys) → ((f.0 == g) ≡ true → other ≡ neither_link)
+pub taken : (n : ℕ) (list : OnList) (xs : List FrameNo) (f : FrameNo) (ys : List FrameNo) (other : Link) (g : ℕ) → FramesAreApart n (xs ++ f ∷ ys)
+    → ((f.0 == g) ≡ true → other ≡ neither_link)
     → taken_out list xs f ys other g ≡ linked list None (xs ++ ys) None other g
 taken n list xs f ys other g apart clear = taken_step (f.0 == g) n list xs f ys other g refl apart clear
 
@@ -198,11 +218,13 @@ ends_pushed ends [] f are = record { first = rw are.first refl; last = refl; cou
 ends_pushed ends (x ∷ xs) f are =
     record { first = rw are.first refl; last = sym (last_joined (Some x) xs (f ∷ [])); count = omega (arith, are.count, length-append (x ∷ xs) (f ∷ [])) }
 
-first_taken : (xs : List FrameNo) (f : FrameNo) (ys : List FrameNo) → (if has_none (last_behind None xs) then first_frame ys else first_frame (xs ++ f ∷ ys)) ≡ first_frame (xs ++ ys)
+first_taken : (xs : List FrameNo) (f : FrameNo) (ys : List FrameNo)
+    → (if has_none (last_behind None xs) then first_frame ys else first_frame (xs ++ f ∷ ys)) ≡ first_frame (xs ++ ys)
 first_taken [] f ys = refl
 first_taken (x ∷ xs) f ys = rw (has_last x xs) refl
 
-last_taken : (xs : List FrameNo) (f : FrameNo) (ys : List FrameNo) → (if has_none (first_frame ys) then last_behind None xs else last_behind None (xs ++ f ∷ ys)) ≡ last_behind None (xs ++ ys)
+last_taken : (xs : List FrameNo) (f : FrameNo) (ys : List FrameNo)
+    → (if has_none (first_frame ys) then last_behind None xs else last_behind None (xs ++ f ∷ ys)) ≡ last_behind None (xs ++ ys)
 last_taken xs f [] = sym (last_joined None xs [])
 last_taken xs f (y ∷ ys) = last_joined None xs (f ∷ y ∷ ys) ∙ sym (last_joined None xs (y ∷ ys))
 
@@ -227,7 +249,8 @@ pub last_below : (n : ℕ) (fs : List FrameNo) → FramesAreApart n fs → IsBel
 last_below n fs apart = last_below_from n None fs tt apart
 
 -- links that have these frames on a list give them
-along_step : (links : ℕ → Link) (n : ℕ) (f : FrameNo) (fs : List FrameNo) (link : Link) → links f.0 ≡ link → along links n link.after ≡ fs → along links (suc n) (Some f) ≡ f ∷ fs
+along_step : (links : ℕ → Link) (n : ℕ) (f : FrameNo) (fs : List FrameNo) (link : Link) → links f.0 ≡ link → along links n link.after ≡ fs
+    → along links (suc n) (Some f) ≡ f ∷ fs
 unfolding along
 along_step links n f fs link is more = rw (is, more) refl
 

@@ -4,7 +4,9 @@ use Rattle.std.proofs.lemmas.Bool.Decides.{nat_tests}
 use Rattle.std.proofs.lemmas.List.{append_assoc, map-append, take-append-drop}
 use Rattle.std.specs.Prelude.{MatchOption, if◌then◌else◌}
 use Rattle.vm_base.specs.declared.ids.FrameNo.{FrameNo}
-use Rattle.vm_queues.specs.Queues.{AllSkipped, GainsPage, KeepsPages, LosesPage, Page, Queues, added, balanced, cleared, first_unskipped, from_unreferenced, has_page, is_queued, is_skipped, marked, new_page, pages_except, queues_except, referenced_front, shortage, spared, victim_frame, with_deactivated, with_reference}
+use Rattle.vm_queues.specs.Queues.{AllSkipped, GainsPage, KeepsPages, LosesPage, Page, Queues, added, balanced, cleared, first_unskipped, from_unreferenced}
+use Rattle.vm_queues.specs.Queues.{has_page, is_queued, is_skipped, marked, new_page, pages_except, queues_except, referenced_front, shortage, spared}
+use Rattle.vm_queues.specs.Queues.{victim_frame, with_deactivated, with_reference}
 use Rattle.vm_queues.proofs.Balance.{queues}
 
 has_append : (xs ys : List Page) (f : ℕ) → has_page (xs ++ ys) f ≡ (has_page xs f || has_page ys f)
@@ -33,8 +35,11 @@ or_assoc : (x y z : Bool) → (x || (y || z)) ≡ ((x || y) || z)
 or_assoc true y z = refl
 or_assoc false y z = refl
 
-front_cons : (test : Bool) (x : Page) (xs : List Page) (f : ℕ) → x.referenced ≡ test → has_page xs f ≡ (has_page (referenced_front xs) f || has_page (from_unreferenced xs) f) → has_page (x ∷ xs) f ≡ (has_page (referenced_front (x ∷ xs)) f || has_page (from_unreferenced (x ∷ xs)) f)
-front_cons true x xs f is rest = rw is (ap (λ b. (x.frame == f) || b) rest ∙ or_assoc (x.frame == f) (has_page (referenced_front xs) f) (has_page (from_unreferenced xs) f))
+front_cons : (test : Bool) (x : Page) (xs : List Page) (f : ℕ) → x.referenced ≡ test
+    → has_page xs f ≡ (has_page (referenced_front xs) f || has_page (from_unreferenced xs) f)
+    → has_page (x ∷ xs) f ≡ (has_page (referenced_front (x ∷ xs)) f || has_page (from_unreferenced (x ∷ xs)) f)
+front_cons true x xs f is rest =
+    rw is (ap (λ b. (x.frame == f) || b) rest ∙ or_assoc (x.frame == f) (has_page (referenced_front xs) f) (has_page (from_unreferenced xs) f))
 front_cons false x xs f is rest = rw is refl
 
 has_front : (xs : List Page) (f : ℕ) → has_page xs f ≡ (has_page (referenced_front xs) f || has_page (from_unreferenced xs) f)
@@ -121,13 +126,15 @@ frame_or (Some f) n = f.0
 abbrev Picked : List FrameNo → List Page → ℕ → Type 0
 Picked skip xs f = (has_page xs f ≡ true) × (is_skipped skip f ≡ false)
 
-picked_cons : (test : Bool) (skip : List FrameNo) (x : Page) (xs : List Page) (f : FrameNo) → is_skipped skip x.frame ≡ test → (first_unskipped skip xs ≡ Some f → Picked skip xs f.0) → first_unskipped skip (x ∷ xs) ≡ Some f → Picked skip (x ∷ xs) f.0
+picked_cons : (test : Bool) (skip : List FrameNo) (x : Page) (xs : List Page) (f : FrameNo) → is_skipped skip x.frame ≡ test
+    → (first_unskipped skip xs ≡ Some f → Picked skip xs f.0) → first_unskipped skip (x ∷ xs) ≡ Some f → Picked skip (x ∷ xs) f.0
 picked_cons true skip x xs f is rest some =
     let behind = rest (sym (ap (λ (b : Bool). if b then first_unskipped skip xs else Some (record { 0 = x.frame })) is) ∙ some) in
     let there = behind.0 in
     (grind (arith, nat_tests, there), behind.1)
 picked_cons false skip x xs f is rest some =
-    let found : Some (record { 0 = x.frame }) ≡ Some f = sym (ap (λ (b : Bool). if b then first_unskipped skip xs else Some (record { 0 = x.frame })) is) ∙ some in
+    let found : Some (record { 0 = x.frame }) ≡ Some f = sym (ap (λ (b : Bool). if b then first_unskipped skip xs else Some (record { 0 = x.frame })) is)
+    ∙ some in
     let same : x.frame ≡ f.0 = ap (λ (o : Option FrameNo). frame_or o x.frame) found in
     (grind (arith, nat_tests, same), ap (is_skipped skip) (sym same) ∙ is)
 
@@ -135,7 +142,8 @@ picked : (skip : List FrameNo) (xs : List Page) (f : FrameNo) → first_unskippe
 picked skip [] f some = absurd (cc)
 picked skip (x ∷ xs) f some = picked_cons (is_skipped skip x.frame) skip x xs f refl (picked skip xs f) some
 
-pub chosen_stands : (skip : List FrameNo) (q old : Queues) (o : Option FrameNo) → o ≡ victim_frame skip q → KeepsPages old q → MatchOption o (AllSkipped skip old) (λ f. (is_queued old f.0 ≡ true) × (is_skipped skip f.0 ≡ false))
+pub chosen_stands : (skip : List FrameNo) (q old : Queues) (o : Option FrameNo) → o ≡ victim_frame skip q → KeepsPages old q
+    → MatchOption o (AllSkipped skip old) (λ f. (is_queued old f.0 ≡ true) × (is_skipped skip f.0 ≡ false))
 chosen_stands skip q old None is same = λ f there. none_left skip (q.inactive ++ q.active) f (sym is) (same f ∙ there)
 chosen_stands skip q old (Some f) is same =
     let stands = picked skip (q.inactive ++ q.active) f (sym is) in

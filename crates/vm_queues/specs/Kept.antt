@@ -1,5 +1,6 @@
 -- How the queues are kept: each frame stands on the lists at most once, linked to its neighbours, with its mark aside.
-use Rattle.std.specs.Prelude.{ℕ, ◌+◌, ◌-◌, ◌<◌, ◌^◌, ◌≡◌, ◌==◌, Bool, true, false, List, [], ◌∷◌, ◌++◌, Option, Some, None, if◌then◌else◌, get_or, length, map, set}
+use Rattle.std.specs.Prelude.{ℕ, ◌+◌, ◌-◌, ◌<◌, ◌^◌, ◌≡◌, ◌==◌, Bool, true, false, List, [], ◌∷◌, ◌++◌, Option, Some, None, if◌then◌else◌, get_or, length, map}
+use Rattle.std.specs.Prelude.{set}
 use Rattle.vm_base.specs.declared.ids.FrameNo.{FrameNo}
 use Rattle.vm_queues.specs.declared.link.Link.{Link}
 use Rattle.vm_queues.specs.declared.links.Ends.{Ends}
@@ -23,7 +24,8 @@ abbrev pub frames_on : List Link → Ends → List FrameNo
 frames_on links ends = along (link_of links) ends.count ends.first
 
 abbrev pub frame_lists : Lists → FrameLists
-frame_lists lists = record { active = frames_on lists.links.items lists.active; inactive = frames_on lists.links.items lists.inactive; marks = lists.marks.items }
+frame_lists lists =
+    record { active = frames_on lists.links.items lists.active; inactive = frames_on lists.links.items lists.inactive; marks = lists.marks.items }
 
 abbrev pub pages_of : FrameLists → Queues
 pages_of lists = record { active = pages lists.marks lists.active; inactive = pages lists.marks lists.inactive; frames = length lists.marks }

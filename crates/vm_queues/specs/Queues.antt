@@ -1,5 +1,6 @@
 -- The queues of a host's pages, as contracts see them, and how a victim is chosen from them.
-use Rattle.std.specs.Prelude.{ℕ, ◌+◌, ◌-◌, ◌/◌, ◌≡◌, ◌==◌, ◌||◌, Bool, true, false, List, [], ◌∷◌, ◌++◌, Option, Some, None, if◌then◌else◌, drop, length, map, take}
+use Rattle.std.specs.Prelude.{ℕ, ◌+◌, ◌-◌, ◌/◌, ◌≡◌, ◌==◌, ◌||◌, Bool, true, false, List, [], ◌∷◌, ◌++◌, Option, Some, None, if◌then◌else◌, drop, length, map}
+use Rattle.std.specs.Prelude.{take}
 use Rattle.vm_base.specs.declared.ids.FrameNo.{FrameNo}
 
 -- a page, by its frame, and whether it was referenced
@@ -71,7 +72,8 @@ from_unreferenced (page ∷ pages) = if page.referenced then from_unreferenced p
 -- the referenced pages at the inactive front go to the active back, their marks cleared, and the lists are balanced
 -- again
 abbrev pub spared : Queues → Queues
-spared queues = balanced (record queues { active = queues.active ++ map cleared (referenced_front queues.inactive); inactive = from_unreferenced queues.inactive })
+spared queues =
+    balanced (record queues { active = queues.active ++ map cleared (referenced_front queues.inactive); inactive = from_unreferenced queues.inactive })
 
 -- the inactive front goes to the active back, its mark cleared
 abbrev pub one_spared : Queues → Queues

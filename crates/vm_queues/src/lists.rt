@@ -1,7 +1,8 @@
 // The two lists and the marks, and the moves between the lists.
 ghost use Rattle.std.specs.Prelude.{◌≡◌, ◌<◌, ℕ, [], Bool, List, true, false, IfOk, length};
 ghost use Rattle.vm_queues.specs.Queues.{balanced, first_unskipped, is_skipped, needs_none, one_spared, spared, victim_frame, with_deactivated};
-ghost use Rattle.vm_queues.specs.Kept.{ArePageLists, FramesAreApart, all_frames, frame_lists, frames_except, frames_on, front_referenced, page_lists, pages, with_active, with_inactive};
+ghost use Rattle.vm_queues.specs.Kept.{ArePageLists, FramesAreApart, all_frames, frame_lists, frames_except, frames_on, front_referenced, page_lists, pages};
+ghost use Rattle.vm_queues.specs.Kept.{with_active, with_inactive};
 
 use crate::link::{Link, OnList};
 use crate::links::{Ends, neither, no_ends, push, unlink};

@@ -1,7 +1,8 @@
 // The queues of the pages that are here.
 ghost use Rattle.std.specs.Prelude.{◌≡◌, ◌+◌, ◌<◌, ◌++◌, ℕ, [], true, false, IfOk, MatchOption, if◌then◌else◌, length};
 ghost use Rattle.vm_queues.specs.Links.{along, first_frame, frames_of, link_in, link_of};
-ghost use Rattle.vm_queues.specs.Queues.{AllSkipped, EachOnce, GainsPage, IsEmpty, KeepsPages, LosesPage, Queues, added, balanced, is_queued, is_skipped, queues_except, spared, victim_frame, with_reference};
+ghost use Rattle.vm_queues.specs.Queues.{AllSkipped, EachOnce, GainsPage, IsEmpty, KeepsPages, LosesPage, Queues, added, balanced, is_queued, is_skipped};
+ghost use Rattle.vm_queues.specs.Queues.{queues_except, spared, victim_frame, with_reference};
 
 use crate::link::Link;
 use crate::lists::{Lists, balance, choose, empty, put_active, spare, take_off};

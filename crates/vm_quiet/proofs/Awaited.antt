@@ -16,7 +16,8 @@ use Rattle.vm_model.specs.declared.message.Message.TheVariants as message
 use Rattle.vm_model.specs.declared.script.Header.{Header}
 use Rattle.vm_model.specs.Channels.{is_channel, queue, up_port, down_port}
 use Rattle.vm_model.specs.Controls.{is_control, without_control, live_control}
-use Rattle.vm_model.specs.Local.{LocalEffect, Local, Zeroes, Raises, Stores, Drops, Returns, Asks, Unlocks, TakesPage, TakesNothing, TakesError, TakesLock, Begins, Ends, Elsewhere, is_on, local_after, taken_effect}
+use Rattle.vm_model.specs.Local.{LocalEffect, Local, Zeroes, Raises, Stores, Drops, Returns, Asks, Unlocks, TakesPage, TakesNothing, TakesError, TakesLock}
+use Rattle.vm_model.specs.Local.{Begins, Ends, Elsewhere, is_on, local_after, taken_effect}
 use Rattle.vm_model.specs.Moments.{BeforeSteps, EachEvent}
 use Rattle.vm_model.specs.Server.{first}
 use Rattle.vm_model.specs.Tasks.{host_of}
@@ -33,7 +34,8 @@ use Rattle.vm_quiet.proofs.Letters.{never, passed}
 use Rattle.vm_quiet.proofs.Sane.{there_two, left, right, control_of}
 use Rattle.vm_quiet.proofs.Ways.{IsDone, OnTheWay, same_taken, some_last, way_line, way_sent, way_taken}
 
-pub done_request : (header : Header) (past : List Event) → IsPaid header past → (h o k p : ℕ) → is_paged header o ≡ true → IsDone (is_request k p) (answers o p) h o past
+pub done_request : (header : Header) (past : List Event) → IsPaid header past → (h o k p : ℕ) → is_paged header o ≡ true
+    → IsDone (is_request k p) (answers o p) h o past
 done_request header past paid h o k p ours (message.Request control page access) is test =
     subst (λ q. since (answers o q) past ≡ true) (page_is control k page.0 p test) (paid.request h o control page.0 access ours is)
   where
@@ -54,11 +56,13 @@ Asking host o p past = (k : ℕ) × (live_control host o past ≡ Some k) × OnT
 abbrev pub AllAsking : Header → ℕ → List Event → Type 0
 AllAsking header host past = (o p : ℕ) → is_paged header o ≡ true → (page_on header host o p past).asked ≡ true → Asking host o p past
 
-asked_if : (size : ℕ) (t : Bool) (e : LocalEffect) (page : Local) → (local_after size e page).asked ≡ page.asked → (local_after size (if t then e else Elsewhere) page).asked ≡ page.asked
+asked_if : (size : ℕ) (t : Bool) (e : LocalEffect) (page : Local) → (local_after size e page).asked ≡ page.asked
+    → (local_after size (if t then e else Elsewhere) page).asked ≡ page.asked
 asked_if size true e page is = is
 asked_if size false e page is = refl
 
-asked_two : (size : ℕ) (s t : Bool) (e : LocalEffect) (page : Local) → (local_after size e page).asked ≡ page.asked → (local_after size (if s then (if t then e else Elsewhere) else Elsewhere) page).asked ≡ page.asked
+asked_two : (size : ℕ) (s t : Bool) (e : LocalEffect) (page : Local) → (local_after size e page).asked ≡ page.asked
+    → (local_after size (if s then (if t then e else Elsewhere) else Elsewhere) page).asked ≡ page.asked
 asked_two size true true e page is = is
 asked_two size true false e page is = refl
 asked_two size false t e page is = refl
@@ -67,51 +71,78 @@ returned_asked : (size : ℕ) (keep : Bool) (page : Local) → (local_after size
 returned_asked size true page = refl
 returned_asked size false page = refl
 
-asking_sent : (host o p : ℕ) (at : HostId) (object : ObjectId) (m : Message) (past : List Event) → live_control host o (event.Sent (Up at object) m ∷ past) ≡ live_control host o past → Asking host o p past → Asking host o p (event.Sent (Up at object) m ∷ past)
-asking_sent host o p at object m past live a = (a.0, live ∙ a.1, way_sent (is_request a.0 p) (is_answer p) (answers o p) host o a.0 (Up at object) m past (λ e. never e) a.2)
+asking_sent : (host o p : ℕ) (at : HostId) (object : ObjectId) (m : Message) (past : List Event)
+    → live_control host o (event.Sent (Up at object) m ∷ past) ≡ live_control host o past → Asking host o p past
+    → Asking host o p (event.Sent (Up at object) m ∷ past)
+asking_sent host o p at object m past live a =
+    (a.0, live ∙ a.1, way_sent (is_request a.0 p) (is_answer p) (answers o p) host o a.0 (Up at object) m past (λ e. never e) a.2)
 
 request_is : (k p q : ℕ) → (q == p) ≡ true → (k == k && q == p) ≡ true
 request_is k p q e = grind (arith, nat_tests)
 
-up_asks : (header : Header) (host : ℕ) (at : HostId) (object : ObjectId) (m : Message) (past : List Event) → ((doing : Command) × MaySendUp header doing at.0 object.0 m past) → AllAsking header host past → AllAsking header host (event.Sent (Up at object) m ∷ past)
+up_asks : (header : Header) (host : ℕ) (at : HostId) (object : ObjectId) (m : Message) (past : List Event)
+    → ((doing : Command) × MaySendUp header doing at.0 object.0 m past) → AllAsking header host past
+    → AllAsking header host (event.Sent (Up at object) m ∷ past)
 up_asks header host at object (message.Init control size) past c all o p ours = by (at.0 == host && object.0 == o) refl
   where
-    by : (b : Bool) → (at.0 == host && object.0 == o) ≡ b → (local_after header.size (if b then Begins else Elsewhere) (page_on header host o p past)).asked ≡ true → Asking host o p (event.Sent (Up at object) (message.Init control size) ∷ past)
+    by : (b : Bool) → (at.0 == host && object.0 == o) ≡ b
+        → (local_after header.size (if b then Begins else Elsewhere) (page_on header host o p past)).asked ≡ true
+        → Asking host o p (event.Sent (Up at object) (message.Init control size) ∷ past)
     by true own is = never is
-    by false own is = asking_sent host o p at object (message.Init control size) past (passed (at.0 == host && object.0 == o) (Some control) (live_control host o past) own) (all o p ours is)
+    by false own is =
+        asking_sent host o p at object (message.Init control size) past (passed (at.0 == host && object.0 == o) (Some control) (live_control host o past) own)
+        (all o p ours is)
 up_asks header host at object (message.Create control size) past c all o p ours = by (at.0 == host && object.0 == o) refl
   where
-    by : (b : Bool) → (at.0 == host && object.0 == o) ≡ b → (local_after header.size (if b then Begins else Elsewhere) (page_on header host o p past)).asked ≡ true → Asking host o p (event.Sent (Up at object) (message.Create control size) ∷ past)
+    by : (b : Bool) → (at.0 == host && object.0 == o) ≡ b
+        → (local_after header.size (if b then Begins else Elsewhere) (page_on header host o p past)).asked ≡ true
+        → Asking host o p (event.Sent (Up at object) (message.Create control size) ∷ past)
     by true own is = never is
-    by false own is = asking_sent host o p at object (message.Create control size) past (passed (at.0 == host && object.0 == o) (Some control) (live_control host o past) own) (all o p ours is)
-up_asks header host at object (message.Terminate control) past c all o p ours = by (at.0 == host && object.0 == o) (is_control control (live_control host o past)) refl refl
+    by false own is =
+        asking_sent host o p at object (message.Create control size) past (passed (at.0 == host && object.0 == o) (Some control) (live_control host o past) own)
+        (all o p ours is)
+up_asks header host at object (message.Terminate control) past c all o p ours =
+    by (at.0 == host && object.0 == o) (is_control control (live_control host o past)) refl refl
   where
-    by : (b t : Bool) → (at.0 == host && object.0 == o) ≡ b → is_control control (live_control host o past) ≡ t → (local_after header.size (if b then (if t then Ends else Elsewhere) else Elsewhere) (page_on header host o p past)).asked ≡ true
+    by : (b t : Bool) → (at.0 == host && object.0 == o) ≡ b → is_control control (live_control host o past) ≡ t
+        → (local_after header.size (if b then (if t then Ends else Elsewhere) else Elsewhere) (page_on header host o p past)).asked ≡ true
         → Asking host o p (event.Sent (Up at object) (message.Terminate control) ∷ past)
     by true true own live is = never is
-    by true false own live is = never (sym live ∙ control_of (live_control host o past) control (there_two (λ h k. live_control h k past ≡ Some control) at.0 object.0 host o own c.1.live))
-    by false t own live is = asking_sent host o p at object (message.Terminate control) past (passed (at.0 == host && object.0 == o) (without_control control (live_control host o past)) (live_control host o past) own) (all o p ours is)
-up_asks header host at object (message.Request control page access) past c all o p ours = by (at.0 == host && object.0 == o) (page.0 == p) (is_control control (live_control host o past)) refl refl
+    by true false own live is =
+        never (sym live ∙ control_of (live_control host o past) control (there_two (λ h k. live_control h k past ≡ Some control) at.0 object.0 host o own
+        c.1.live))
+    by false t own live is =
+        asking_sent host o p at object (message.Terminate control) past (passed (at.0 == host && object.0 == o)
+        (without_control control (live_control host o past)) (live_control host o past) own) (all o p ours is)
+up_asks header host at object (message.Request control page access) past c all o p ours =
+    by (at.0 == host && object.0 == o) (page.0 == p) (is_control control (live_control host o past)) refl refl
   where
-    by : (b t l : Bool) → (at.0 == host && object.0 == o) ≡ b → (page.0 == p) ≡ t → (local_after header.size (if b then (if t && l then Asks else Elsewhere) else Elsewhere) (page_on header host o p past)).asked ≡ true
+    by : (b t l : Bool) → (at.0 == host && object.0 == o) ≡ b → (page.0 == p) ≡ t
+        → (local_after header.size (if b then (if t && l then Asks else Elsewhere) else Elsewhere) (page_on header host o p past)).asked ≡ true
         → Asking host o p (event.Sent (Up at object) (message.Request control page access) ∷ past)
     by true true true own its is = (
       control,
       there_two (λ h k. live_control h k past ≡ Some control) at.0 object.0 host o own c.1.live,
-      inl (some_last (at.0 == host && object.0 == o) (is_request control p) (queue (up_port host o) past) (message.Request control page access) own (request_is control p page.0 its)),
+      inl (some_last (at.0 == host && object.0 == o) (is_request control p) (queue (up_port host o) past) (message.Request control page access) own
+          (request_is control p page.0 its)),
     )
     by true true false own its is = asking_sent host o p at object (message.Request control page access) past refl (all o p ours is)
     by true false l own its is = asking_sent host o p at object (message.Request control page access) past refl (all o p ours is)
     by false t l own its is = asking_sent host o p at object (message.Request control page access) past refl (all o p ours is)
 up_asks header host at object (message.Return control page dirty keep bytes) past c all o p ours = λ is.
-    asking_sent host o p at object (message.Return control page dirty keep bytes) past refl (all o p ours (sym (asked_two header.size (at.0 == host && object.0 == o) (page.0 == p) (Returns keep) (page_on header host o p past) (returned_asked header.size keep (page_on header host o p past))) ∙ is))
+    asking_sent host o p at object (message.Return control page dirty keep bytes) past refl
+    (all o p ours (sym (asked_two header.size (at.0 == host && object.0 == o) (page.0 == p) (Returns keep) (page_on header host o p past)
+    (returned_asked header.size keep (page_on header host o p past))) ∙ is))
 up_asks header host at object (message.Unlock control page access) past c all o p ours = λ is.
-    asking_sent host o p at object (message.Unlock control page access) past refl (all o p ours (sym (asked_two header.size (at.0 == host && object.0 == o) (page.0 == p) Unlocks (page_on header host o p past) refl) ∙ is))
+    asking_sent host o p at object (message.Unlock control page access) past refl
+    (all o p ours (sym (asked_two header.size (at.0 == host && object.0 == o) (page.0 == p) Unlocks (page_on header host o p past) refl) ∙ is))
 up_asks header host at object (message.Completed control page count) past c all o p ours = λ is.
-    asking_sent host o p at object (message.Completed control page count) past refl (all o p ours (sym (asked_if header.size (at.0 == host && object.0 == o) Elsewhere (page_on header host o p past) refl) ∙ is))
+    asking_sent host o p at object (message.Completed control page count) past refl
+    (all o p ours (sym (asked_if header.size (at.0 == host && object.0 == o) Elsewhere (page_on header host o p past) refl) ∙ is))
 up_asks header host at object m past c all o p ours = absurd c.1
 
-answer_cause : (header : Header) (outside : Outside) (doing : Command) (h o k p : ℕ) (m : Message) (past : List Event) → MaySendDown header outside doing h o k m past → is_answer p m ≡ true → OwesAnswer h o k p past
+answer_cause : (header : Header) (outside : Outside) (doing : Command) (h o k p : ℕ) (m : Message) (past : List Event)
+    → MaySendDown header outside doing h o k m past → is_answer p m ≡ true → OwesAnswer h o k p past
 answer_cause header outside doing h o k p (message.Supply page lock precious bytes) past c is = subst (λ q. OwesAnswer h o k q past) (page_is page.0 p is) c.0
   where
     page_is : (a b : ℕ) → (a == b) ≡ true → a ≡ b
@@ -130,20 +161,32 @@ answer_cause header outside doing h o k p m past c is = never is
 port_is : (a b n h o k : ℕ) → a ≡ h → b ≡ o → (n == k) ≡ true → (a == h && (b == o && n == k)) ≡ true
 port_is a b n h o k e f g = grind (arith, nat_tests)
 
-answered_there : (header : Header) (outside : Outside) (doing : Command) (host o p k : ℕ) (at : HostId) (object : ObjectId) (n : ℕ) (m : Message) (past : List Event) → MaySendDown header outside doing at.0 object.0 n m past → (object.0 == o && is_answer p m) ≡ true
-    → (r : Message) → taken_letter past ≡ Some (record { channel = up_port host o; message = r }) → is_request k p r ≡ true → (is_channel (down_port host o k) (Down at object n) ≡ true) × (is_answer p m ≡ true)
+answered_there : (header : Header) (outside : Outside) (doing : Command) (host o p k : ℕ) (at : HostId) (object : ObjectId) (n : ℕ) (m : Message)
+    (past : List Event) → MaySendDown header outside doing at.0 object.0 n m past → (object.0 == o && is_answer p m) ≡ true
+    → (r : Message) → taken_letter past ≡ Some (record { channel = up_port host o; message = r }) → is_request k p r ≡ true
+    → (is_channel (down_port host o k) (Down at object n) ≡ true) × (is_answer p m ≡ true)
 answered_there header outside doing host o p k at object n m past c is r was test =
     let a : OwesAnswer at.0 object.0 n p past = answer_cause header outside doing at.0 object.0 n p m past c (right (object.0 == o) (is_answer p m) is) in
     let s = same_taken host o at.0 object.0 r (message.Request n (record { 0 = p }) a.access) (is_request k p) past was a.taken test in
     (port_is at.0 object.0 n host o k s.0 s.1 (left (n == k) (p == p) s.2), right (object.0 == o) (is_answer p m) is)
 
-asked_before : (size : ℕ) (s : Bool) (p : ℕ) (m : Message) (page : Local) → (local_after size (if s then taken_effect p m else Elsewhere) page).asked ≡ true → page.asked ≡ true
+asked_before : (size : ℕ) (s : Bool) (p : ℕ) (m : Message) (page : Local) → (local_after size (if s then taken_effect p m else Elsewhere) page).asked ≡ true
+    → page.asked ≡ true
 asked_before size false p m page is = is
 asked_before size true p (message.Supply at lock precious bytes) page is = by (at.0 == p) page.asked refl is
   where
     by : (t b : Bool) → page.asked ≡ b → (local_after size (if t then TakesPage lock precious bytes else Elsewhere) page).asked ≡ true → page.asked ≡ true
     by t true e is = e
-    by true false e is = subst (λ b. (if b then record page { here = true; bytes = bytes; lock = lock; dirty = false; precious = precious; unlocking = false; asked = false } else page).asked ≡ true) e is
+    by true false e is =
+        subst (λ b. (if b then record page {
+          here = true;
+          bytes = bytes;
+          lock = lock;
+          dirty = false;
+          precious = precious;
+          unlocking = false;
+          asked = false;
+        } else page).asked ≡ true) e is
     by false false e is = is
 asked_before size true p (message.Unavailable at) page is = by (at.0 == p) page.asked refl is
   where
@@ -167,11 +210,20 @@ asked_before size true p (message.Lock at count returns flush lock reply) page i
     by false b is = is
 asked_before size true p m page is = is
 
-answered_after : (size : ℕ) (s : Bool) (p : ℕ) (m : Message) (page : Local) → s ≡ true → is_answer p m ≡ true → (local_after size (if s then taken_effect p m else Elsewhere) page).asked ≡ false
+answered_after : (size : ℕ) (s : Bool) (p : ℕ) (m : Message) (page : Local) → s ≡ true → is_answer p m ≡ true
+    → (local_after size (if s then taken_effect p m else Elsewhere) page).asked ≡ false
 answered_after size false p m page e is = never e
 answered_after size true p (message.Supply at lock precious bytes) page e is = by (at.0 == p) is
   where
-    pick : (b : Bool) → page.asked ≡ b → (if b then record page { here = true; bytes = bytes; lock = lock; dirty = false; precious = precious; unlocking = false; asked = false } else page).asked ≡ false
+    pick : (b : Bool) → page.asked ≡ b → (if b then record page {
+      here = true;
+      bytes = bytes;
+      lock = lock;
+      dirty = false;
+      precious = precious;
+      unlocking = false;
+      asked = false;
+    } else page).asked ≡ false
     pick true e = refl
     pick false e = e
 
@@ -207,7 +259,8 @@ StepPaid header (event.Line line) past = IsPaid header past
 StepPaid header (event.Taken channel m) past = IsPaid header past
 StepPaid header e past = Unit {0}
 
-pub paid_before : (header : Header) (e : Event) (past : List Event) → BeforeSteps (IsPaid header) (e ∷ past) → StepPaid header e past × BeforeSteps (IsPaid header) past
+pub paid_before : (header : Header) (e : Event) (past : List Event) → BeforeSteps (IsPaid header) (e ∷ past) → StepPaid header e past
+    × BeforeSteps (IsPaid header) past
 paid_before header (event.Line line) past b = (b.0, b.1)
 paid_before header (event.Taken channel m) past b = (b.0, b.1)
 paid_before header e past b = (tt, b)
@@ -219,39 +272,53 @@ ours_there header a o more is ours = subst (λ b. is_paged header b ≡ true) (s
     same : (a b : ℕ) → (a == b) ≡ true → b ≡ a
     same a b is = grind (arith, nat_tests)
 
-asks_next : (header : Header) (outside : Outside) (host : ℕ) (e : Event) (past : List Event) → HasCause header outside e past → StepPaid header e past → AllAsking header host past → AllAsking header host (e ∷ past)
-asks_next header outside host (event.Zeroed at object page) past c paid all = λ o p ours is. all o p ours (sym (asked_if header.size (at.0 == host && (object.0 == o && page.0 == p)) Zeroes (page_on header host o p past) refl) ∙ is)
+asks_next : (header : Header) (outside : Outside) (host : ℕ) (e : Event) (past : List Event) → HasCause header outside e past → StepPaid header e past
+    → AllAsking header host past → AllAsking header host (e ∷ past)
+asks_next header outside host (event.Zeroed at object page) past c paid all =
+    λ o p ours is. all o p ours (sym (asked_if header.size (at.0 == host && (object.0 == o && page.0 == p)) Zeroes (page_on header host o p past) refl) ∙ is)
 asks_next header outside host (event.Raised at lower lower_page upper upper_page) past c paid all = λ o p ours is.
-    all o p ours (sym (asked_if header.size (at.0 == host && (upper.0 == o && upper_page.0 == p)) (Raises (page_on header host lower.0 lower_page.0 past).bytes) (page_on header host o p past) refl) ∙ is)
+    all o p ours (sym (asked_if header.size (at.0 == host && (upper.0 == o && upper_page.0 == p)) (Raises (page_on header host lower.0 lower_page.0 past).bytes)
+    (page_on header host o p past) refl) ∙ is)
 asks_next header outside host (event.CopiedPage task page object object_page target) past c paid all = λ o p ours is.
-    all o p ours (sym (asked_if header.size (is_on host (host_of task.0 past) && (target.0 == o && page.0 == p)) (Raises (page_on header host object.0 object_page.0 past).bytes) (page_on header host o p past) refl) ∙ is)
+    all o p ours (sym (asked_if header.size (is_on host (host_of task.0 past) && (target.0 == o && page.0 == p))
+    (Raises (page_on header host object.0 object_page.0 past).bytes) (page_on header host o p past) refl) ∙ is)
 asks_next header outside host (event.Stored task object page at size value) past c paid all = λ o p ours is.
-    all o p ours (sym (asked_if header.size (is_on host (host_of task.0 past) && (object.0 == o && page.0 == p)) (Stores at (little_endian_bytes size value)) (page_on header host o p past) refl) ∙ is)
-asks_next header outside host (event.Dropped at object page) past c paid all = λ o p ours is. all o p ours (sym (asked_if header.size (at.0 == host && (object.0 == o && page.0 == p)) Drops (page_on header host o p past) refl) ∙ is)
+    all o p ours (sym (asked_if header.size (is_on host (host_of task.0 past) && (object.0 == o && page.0 == p)) (Stores at (little_endian_bytes size value))
+    (page_on header host o p past) refl) ∙ is)
+asks_next header outside host (event.Dropped at object page) past c paid all =
+    λ o p ours is. all o p ours (sym (asked_if header.size (at.0 == host && (object.0 == o && page.0 == p)) Drops (page_on header host o p past) refl) ∙ is)
 asks_next header outside host (event.Sent (Up at object) m) past c paid all = up_asks header host at object m past c all
 asks_next header outside host (event.Sent (Down at object n) m) past c paid all = λ o p ours is.
     let a = all o p ours is in (
       a.0,
       a.1,
       way_sent (is_request a.0 p) (is_answer p) (answers o p) host o a.0 (Down at object n) m past
-          (λ e r was test. answered_there header outside c.0 host o p a.0 at object n m past (paged_may header outside c.0 at.0 object.0 n m past (ours_there header object.0 o (is_answer p m) e ours) c.1) e r was test) a.2,
+          (λ e r was test. answered_there header outside c.0 host o p a.0 at object n m past
+          (paged_may header outside c.0 at.0 object.0 n m past (ours_there header object.0 o (is_answer p m) e ours) c.1) e r was test) a.2,
     )
 asks_next header outside host (event.Taken (Up at object) m) past c paid all = λ o p ours is.
-    let a = all o p ours is in
-    (a.0, a.1, way_taken (is_request a.0 p) (is_answer p) (answers o p) host o a.0 (Up at object) m past c.1.0 (done_request header past paid host o a.0 p ours) (λ e. never e) a.2)
+    let a = all o p ours is in (
+      a.0,
+      a.1,
+      way_taken (is_request a.0 p) (is_answer p) (answers o p) host o a.0 (Up at object) m past c.1.0 (done_request header past paid host o a.0 p ours)
+          (λ e. never e) a.2,
+    )
 asks_next header outside host (event.Taken (Down at object n) m) past c paid all = λ o p ours is.
-    let a = all o p ours (asked_before header.size (at.0 == host && (object.0 == o && is_control n (live_control host o past))) p m (page_on header host o p past) is) in (
+    let a = all o p ours (asked_before header.size (at.0 == host && (object.0 == o && is_control n (live_control host o past))) p m
+    (page_on header host o p past) is) in (
       a.0,
       a.1,
       way_taken (is_request a.0 p) (is_answer p) (answers o p) host o a.0 (Down at object n) m past c.1.0 (done_request header past paid host o a.0 p ours)
-          (λ e test. never (sym (answered_after header.size (at.0 == host && (object.0 == o && is_control n (live_control host o past))) p m (page_on header host o p past) (live_port at.0 object.0 n host o a.0 (live_control host o past) a.1 e) test) ∙ is)) a.2,
+          (λ e test. never (sym (answered_after header.size (at.0 == host && (object.0 == o && is_control n (live_control host o past))) p m
+          (page_on header host o p past) (live_port at.0 object.0 n host o a.0 (live_control host o past) a.1 e) test) ∙ is)) a.2,
     )
 asks_next header outside host (event.Line line) past c paid all = λ o p ours is.
     let a = all o p ours is in
     (a.0, a.1, way_line (is_request a.0 p) (is_answer p) (answers o p) host o a.0 line past (done_request header past paid host o a.0 p ours) a.2)
 asks_next header outside host e past c paid all = all
 
-pub asks_of : (header : Header) (outside : Outside) (host : ℕ) (history : List Event) → EachEvent (HasCause header outside) history → BeforeSteps (IsPaid header) history → AllAsking header host history
+pub asks_of : (header : Header) (outside : Outside) (host : ℕ) (history : List Event) → EachEvent (HasCause header outside) history
+    → BeforeSteps (IsPaid header) history → AllAsking header host history
 asks_of header outside host [] c b = λ o p ours is. never is
 asks_of header outside host (e ∷ past) c b =
     let paid = paid_before header e past b in
@@ -260,9 +327,12 @@ asks_of header outside host (e ∷ past) c b =
 -- a control that is not ready
 
 abbrev pub AllOpening : Header → ℕ → List Event → Type 0
-AllOpening header host past = (o k : ℕ) → is_wild header o ≡ false → live_control host o past ≡ Some k → is_ready host o past ≡ false → OnTheWay (opens k) says_ready (readies o) host o k past
+AllOpening header host past =
+    (o k : ℕ) → is_wild header o ≡ false → live_control host o past ≡ Some k → is_ready host o past ≡ false
+    → OnTheWay (opens k) says_ready (readies o) host o k past
 
-opening_sent : (host o k : ℕ) (at : HostId) (object : ObjectId) (m : Message) (past : List Event) → OnTheWay (opens k) says_ready (readies o) host o k past → OnTheWay (opens k) says_ready (readies o) host o k (event.Sent (Up at object) m ∷ past)
+opening_sent : (host o k : ℕ) (at : HostId) (object : ObjectId) (m : Message) (past : List Event) → OnTheWay (opens k) says_ready (readies o) host o k past
+    → OnTheWay (opens k) says_ready (readies o) host o k (event.Sent (Up at object) m ∷ past)
 opening_sent host o k at object m past w = way_sent (opens k) says_ready (readies o) host o k (Up at object) m past (λ e. never e) w
 
 control_is : (control k : ℕ) → Some control ≡ Some k → (control == k) ≡ true
@@ -283,52 +353,68 @@ was_live true control k (Some n) e = by (n == control) e
     by true e = absurd (cc)
     by false e = e
 
-up_opens : (header : Header) (host : ℕ) (at : HostId) (object : ObjectId) (m : Message) (past : List Event) → AllOpening header host past → AllOpening header host (event.Sent (Up at object) m ∷ past)
+up_opens : (header : Header) (host : ℕ) (at : HostId) (object : ObjectId) (m : Message) (past : List Event) → AllOpening header host past
+    → AllOpening header host (event.Sent (Up at object) m ∷ past)
 up_opens header host at object (message.Init control size) past all o k ours = by (at.0 == host && object.0 == o) refl
   where
-    by : (b : Bool) → (at.0 == host && object.0 == o) ≡ b → (if b then Some control else live_control host o past) ≡ Some k → (if b then false else is_ready host o past) ≡ false
+    by : (b : Bool) → (at.0 == host && object.0 == o) ≡ b → (if b then Some control else live_control host o past) ≡ Some k
+        → (if b then false else is_ready host o past) ≡ false
         → OnTheWay (opens k) says_ready (readies o) host o k (event.Sent (Up at object) (message.Init control size) ∷ past)
-    by true own live is = inl (some_last (at.0 == host && object.0 == o) (opens k) (queue (up_port host o) past) (message.Init control size) own (control_is control k live))
+    by true own live is =
+        inl (some_last (at.0 == host && object.0 == o) (opens k) (queue (up_port host o) past) (message.Init control size) own (control_is control k live))
     by false own live is = opening_sent host o k at object (message.Init control size) past (all o k ours live is)
 up_opens header host at object (message.Create control size) past all o k ours = by (at.0 == host && object.0 == o) refl
   where
-    by : (b : Bool) → (at.0 == host && object.0 == o) ≡ b → (if b then Some control else live_control host o past) ≡ Some k → (if b then false else is_ready host o past) ≡ false
+    by : (b : Bool) → (at.0 == host && object.0 == o) ≡ b → (if b then Some control else live_control host o past) ≡ Some k
+        → (if b then false else is_ready host o past) ≡ false
         → OnTheWay (opens k) says_ready (readies o) host o k (event.Sent (Up at object) (message.Create control size) ∷ past)
-    by true own live is = inl (some_last (at.0 == host && object.0 == o) (opens k) (queue (up_port host o) past) (message.Create control size) own (control_is control k live))
+    by true own live is =
+        inl (some_last (at.0 == host && object.0 == o) (opens k) (queue (up_port host o) past) (message.Create control size) own (control_is control k live))
     by false own live is = opening_sent host o k at object (message.Create control size) past (all o k ours live is)
 up_opens header host at object (message.Terminate control) past all o k ours = λ live is.
-    opening_sent host o k at object (message.Terminate control) past (all o k ours (was_live (at.0 == host && object.0 == o) control k (live_control host o past) live) is)
+    opening_sent host o k at object (message.Terminate control) past (all o k ours
+    (was_live (at.0 == host && object.0 == o) control k (live_control host o past) live) is)
 up_opens header host at object m past all o k ours = λ live is. opening_sent host o k at object m past (all o k ours live is)
 
 -- a pager says that it is ready behind the message that told it of the control
 
 abbrev pub IsTold : ℕ → ℕ → ℕ → List Event → Type 0
 IsTold h o n past =
-    (size : ℕ) × ((taken_letter past ≡ Some (record { channel = up_port h o; message = message.Create n size })) ⊎ (taken_letter past ≡ Some (record { channel = up_port h o; message = message.Init n size })))
+    (size : ℕ) × ((taken_letter past ≡ Some (record { channel = up_port h o; message = message.Create n size }))
+    ⊎ (taken_letter past ≡ Some (record { channel = up_port h o; message = message.Init n size })))
 
-may_ready : (header : Header) (outside : Outside) (doing : Command) (h o n : ℕ) (cache : Bool) (strategy : ℕ) (past : List Event) → MaySendDown header outside doing h o n (message.Ready cache strategy) past → IsTold h o n past
+may_ready : (header : Header) (outside : Outside) (doing : Command) (h o n : ℕ) (cache : Bool) (strategy : ℕ) (past : List Event)
+    → MaySendDown header outside doing h o n (message.Ready cache strategy) past → IsTold h o n past
 may_ready header outside doing h o n cache strategy past c = (c.0, by c.3)
   where
-    by : ((taken_letter past ≡ Some (record { channel = up_port h o; message = message.Create n c.0 })) × (strategy ≡ 3)) ⊎ ((taken_letter past ≡ Some (record { channel = up_port h o; message = message.Init n c.0 })) × (strategy ≡ 0))
-        → (taken_letter past ≡ Some (record { channel = up_port h o; message = message.Create n c.0 })) ⊎ (taken_letter past ≡ Some (record { channel = up_port h o; message = message.Init n c.0 }))
+    by : ((taken_letter past ≡ Some (record { channel = up_port h o; message = message.Create n c.0 })) × (strategy ≡ 3))
+        ⊎ ((taken_letter past ≡ Some (record { channel = up_port h o; message = message.Init n c.0 })) × (strategy ≡ 0))
+        → (taken_letter past ≡ Some (record { channel = up_port h o; message = message.Create n c.0 }))
+        ⊎ (taken_letter past ≡ Some (record { channel = up_port h o; message = message.Init n c.0 }))
     by (inl t) = inl t.0
     by (inr t) = inr t.0
 
-ready_cause : (kind : ObjectKind) (header : Header) (outside : Outside) (doing : Command) (h o n : ℕ) (cache : Bool) (strategy : ℕ) (past : List Event) → is_wild_kind kind ≡ false → PagerSends kind header outside doing h o n (message.Ready cache strategy) past → IsTold h o n past
+ready_cause : (kind : ObjectKind) (header : Header) (outside : Outside) (doing : Command) (h o n : ℕ) (cache : Bool) (strategy : ℕ) (past : List Event)
+    → is_wild_kind kind ≡ false → PagerSends kind header outside doing h o n (message.Ready cache strategy) past → IsTold h o n past
 ready_cause Temp header outside doing h o n cache strategy past tame c = may_ready header outside doing h o n cache strategy past c
 ready_cause File header outside doing h o n cache strategy past tame c = may_ready header outside doing h o n cache strategy past c
 ready_cause Shared header outside doing h o n cache strategy past tame c = (c.0, inr c.3)
 ready_cause Wild header outside doing h o n cache strategy past tame c = never (sym tame)
 
-ready_there : (kind : ObjectKind) (header : Header) (outside : Outside) (doing : Command) (host o k : ℕ) (at : HostId) (object : ObjectId) (n : ℕ) (m : Message) (past : List Event) → is_wild_kind kind ≡ false → PagerSends kind header outside doing at.0 object.0 n m past → (object.0 == o && says_ready m) ≡ true
-    → (r : Message) → taken_letter past ≡ Some (record { channel = up_port host o; message = r }) → opens k r ≡ true → (is_channel (down_port host o k) (Down at object n) ≡ true) × (says_ready m ≡ true)
+ready_there : (kind : ObjectKind) (header : Header) (outside : Outside) (doing : Command) (host o k : ℕ) (at : HostId) (object : ObjectId) (n : ℕ) (m : Message)
+    (past : List Event) → is_wild_kind kind ≡ false → PagerSends kind header outside doing at.0 object.0 n m past → (object.0 == o && says_ready m) ≡ true
+    → (r : Message) → taken_letter past ≡ Some (record { channel = up_port host o; message = r }) → opens k r ≡ true
+    → (is_channel (down_port host o k) (Down at object n) ≡ true) × (says_ready m ≡ true)
 ready_there kind header outside doing host o k at object n (message.Ready cache strategy) past tame c is r was test =
     let t = ready_cause kind header outside doing at.0 object.0 n cache strategy past tame c in by t.0 t.1
   where
-    by : (size : ℕ) → (taken_letter past ≡ Some (record { channel = up_port at.0 object.0; message = message.Create n size })) ⊎ (taken_letter past ≡ Some (record { channel = up_port at.0 object.0; message = message.Init n size }))
+    by : (size : ℕ) → (taken_letter past ≡ Some (record { channel = up_port at.0 object.0; message = message.Create n size }))
+        ⊎ (taken_letter past ≡ Some (record { channel = up_port at.0 object.0; message = message.Init n size }))
         → (is_channel (down_port host o k) (Down at object n) ≡ true) × (true ≡ true)
-    by size (inl t) = let s = same_taken host o at.0 object.0 r (message.Create n size) (opens k) past was t test in (port_is at.0 object.0 n host o k s.0 s.1 s.2, refl)
-    by size (inr t) = let s = same_taken host o at.0 object.0 r (message.Init n size) (opens k) past was t test in (port_is at.0 object.0 n host o k s.0 s.1 s.2, refl)
+    by size (inl t) =
+        let s = same_taken host o at.0 object.0 r (message.Create n size) (opens k) past was t test in (port_is at.0 object.0 n host o k s.0 s.1 s.2, refl)
+    by size (inr t) =
+        let s = same_taken host o at.0 object.0 r (message.Init n size) (opens k) past was t test in (port_is at.0 object.0 n host o k s.0 s.1 s.2, refl)
 ready_there kind header outside doing host o k at object n m past tame c is r was test = never (right (object.0 == o) false is)
 
 tame_there : (header : Header) (a o : ℕ) (more : Bool) → (a == o && more) ≡ true → is_wild header o ≡ false → is_wild header a ≡ false
@@ -341,25 +427,34 @@ unready : (b r : Bool) → (if b then true else r) ≡ false → (b ≡ false) �
 unready true r is = never (sym is)
 unready false r is = (refl, is)
 
-down_opens : (header : Header) (outside : Outside) (host : ℕ) (at : HostId) (object : ObjectId) (n : ℕ) (m : Message) (past : List Event) → first (queue (Down at object n) past) ≡ Some m → IsPaid header past → AllOpening header host past → AllOpening header host (event.Taken (Down at object n) m ∷ past)
+down_opens : (header : Header) (outside : Outside) (host : ℕ) (at : HostId) (object : ObjectId) (n : ℕ) (m : Message) (past : List Event)
+    → first (queue (Down at object n) past) ≡ Some m → IsPaid header past → AllOpening header host past
+    → AllOpening header host (event.Taken (Down at object n) m ∷ past)
 down_opens header outside host at object n (message.Ready cache strategy) past head paid all o k ours live is =
     let not_it = unready (at.0 == host && (object.0 == o && is_control n (live_control host o past))) (is_ready host o past) is in
-    way_taken (opens k) says_ready (readies o) host o k (Down at object n) (message.Ready cache strategy) past head (done_opening header past paid host o k ours)
+    way_taken (opens k) says_ready (readies o) host o k (Down at object n) (message.Ready cache strategy) past head
+    (done_opening header past paid host o k ours)
     (λ e test. never (sym not_it.0 ∙ live_port at.0 object.0 n host o k (live_control host o past) live e)) (all o k ours live not_it.1)
 down_opens header outside host at object n m past head paid all o k ours live is =
-    way_taken (opens k) says_ready (readies o) host o k (Down at object n) m past head (done_opening header past paid host o k ours) (λ e test. never test) (all o k ours live is)
+    way_taken (opens k) says_ready (readies o) host o k (Down at object n) m past head (done_opening header past paid host o k ours) (λ e test. never test)
+    (all o k ours live is)
 
-opens_next : (header : Header) (outside : Outside) (host : ℕ) (e : Event) (past : List Event) → HasCause header outside e past → StepPaid header e past → AllOpening header host past → AllOpening header host (e ∷ past)
+opens_next : (header : Header) (outside : Outside) (host : ℕ) (e : Event) (past : List Event) → HasCause header outside e past → StepPaid header e past
+    → AllOpening header host past → AllOpening header host (e ∷ past)
 opens_next header outside host (event.Sent (Up at object) m) past c paid all = up_opens header host at object m past all
 opens_next header outside host (event.Sent (Down at object n) m) past c paid all = λ o k ours live is.
-    way_sent (opens k) says_ready (readies o) host o k (Down at object n) m past (λ e r was test. ready_there (kind_of header object.0) header outside c.0 host o k at object n m past (tame_there header object.0 o (says_ready m) e ours) c.1 e r was test) (all o k ours live is)
+    way_sent (opens k) says_ready (readies o) host o k (Down at object n) m past (λ e r was test. ready_there (kind_of header object.0) header outside c.0 host
+    o k at object n m past (tame_there header object.0 o (says_ready m) e ours) c.1 e r was test) (all o k ours live is)
 opens_next header outside host (event.Taken (Up at object) m) past c paid all = λ o k ours live is.
-    way_taken (opens k) says_ready (readies o) host o k (Up at object) m past c.1.0 (done_opening header past paid host o k ours) (λ e. never e) (all o k ours live is)
+    way_taken (opens k) says_ready (readies o) host o k (Up at object) m past c.1.0 (done_opening header past paid host o k ours) (λ e. never e)
+    (all o k ours live is)
 opens_next header outside host (event.Taken (Down at object n) m) past c paid all = down_opens header outside host at object n m past c.1.0 paid all
-opens_next header outside host (event.Line line) past c paid all = λ o k ours live is. way_line (opens k) says_ready (readies o) host o k line past (done_opening header past paid host o k ours) (all o k ours live is)
+opens_next header outside host (event.Line line) past c paid all =
+    λ o k ours live is. way_line (opens k) says_ready (readies o) host o k line past (done_opening header past paid host o k ours) (all o k ours live is)
 opens_next header outside host e past c paid all = all
 
-pub opens_of : (header : Header) (outside : Outside) (host : ℕ) (history : List Event) → EachEvent (HasCause header outside) history → BeforeSteps (IsPaid header) history → AllOpening header host history
+pub opens_of : (header : Header) (outside : Outside) (host : ℕ) (history : List Event) → EachEvent (HasCause header outside) history
+    → BeforeSteps (IsPaid header) history → AllOpening header host history
 opens_of header outside host [] c b = λ o k ours live is. absurd (cc)
 opens_of header outside host (e ∷ past) c b =
     let paid = paid_before header e past b in

@@ -31,11 +31,13 @@ carried_on up down done h o k past paid (inl q) = inl (any_of up (queue (up_port
 carried_on up down done h o k past paid (inr (inl q)) = inr (any_of down (queue (down_port h o k) past) q)
 carried_on up down done h o k past paid (inr (inr t)) = never (sym t.3 ∙ paid t.0 t.1 t.2)
 
-pub carried : (header : Header) (outside : Outside) (history : List Event) → EachEvent (HasCause header outside) history → IsPaid header history → BeforeSteps (IsPaid header) history → IsCarried header history
+pub carried : (header : Header) (outside : Outside) (history : List Event) → EachEvent (HasCause header outside) history → IsPaid header history
+    → BeforeSteps (IsPaid header) history → IsCarried header history
 carried header outside history causes paid steps = record {
   asked = λ host o p ours is.
       let a = asks_of header outside host history causes steps o p ours is in
       (a.0, a.1, carried_on (is_request a.0 p) (is_answer p) (answers o p) host o a.0 history (done_request header history paid host o a.0 p ours) a.2);
   opening = λ host o control ours live is.
-      carried_on (opens control) says_ready (readies o) host o control history (done_opening header history paid host o control ours) (opens_of header outside host history causes steps o control ours live is);
+      carried_on (opens control) says_ready (readies o) host o control history (done_opening header history paid host o control ours)
+      (opens_of header outside host history causes steps o control ours live is);
 }

@@ -14,7 +14,8 @@ use Rattle.vm_model.specs.declared.message.Message.TheVariants as message
 use Rattle.vm_model.specs.declared.script.Header.{Header}
 use Rattle.vm_model.specs.Channels.{queue}
 use Rattle.vm_model.specs.Controls.{is_control, last_control, live_control}
-use Rattle.vm_model.specs.Local.{LocalEffect, Local, Zeroes, Raises, Stores, Drops, Returns, Asks, Unlocks, TakesPage, TakesNothing, TakesError, TakesLock, Begins, Ends, Elsewhere, is_on, local_after}
+use Rattle.vm_model.specs.Local.{LocalEffect, Local, Zeroes, Raises, Stores, Drops, Returns, Asks, Unlocks, TakesPage, TakesNothing, TakesError, TakesLock}
+use Rattle.vm_model.specs.Local.{Begins, Ends, Elsewhere, is_on, local_after}
 use Rattle.vm_model.specs.Moments.{EachEvent}
 use Rattle.vm_model.specs.Server.{first}
 use Rattle.vm_model.specs.Tasks.{host_of}
@@ -52,31 +53,38 @@ asked_framed page is = by page.here page.asked is
 
 -- what an effect at one place makes of the frames
 
-used_if : (size : ℕ) (t : Bool) (e : LocalEffect) (page : Local) (v : Bool) → (t ≡ true → has_frame (local_after size e page) ≡ v) → has_frame (local_after size (if t then e else Elsewhere) page) ≡ (if t then v else has_frame page)
+used_if : (size : ℕ) (t : Bool) (e : LocalEffect) (page : Local) (v : Bool) → (t ≡ true → has_frame (local_after size e page) ≡ v)
+    → has_frame (local_after size (if t then e else Elsewhere) page) ≡ (if t then v else has_frame page)
 used_if size true e page v is = is refl
 used_if size false e page v is = refl
 
-used_two : (size : ℕ) (own object at : Bool) (e : LocalEffect) (page : Local) (v : Bool) → ((own && (object && at)) ≡ true → has_frame (local_after size e page) ≡ v)
-    → has_frame (local_after size (if own && object then (if at then e else Elsewhere) else Elsewhere) page) ≡ (if own && (object && at) then v else has_frame page)
+used_two : (size : ℕ) (own object at : Bool) (e : LocalEffect) (page : Local) (v : Bool)
+    → ((own && (object && at)) ≡ true → has_frame (local_after size e page) ≡ v)
+    → has_frame (local_after size (if own && object then (if at then e else Elsewhere) else Elsewhere) page) ≡ (if own && (object && at) then v else has_frame
+    page)
 used_two size true true true e page v is = is refl
 used_two size true true false e page v is = refl
 used_two size true false at e page v is = refl
 used_two size false object at e page v is = refl
 
-kept_if : (size : ℕ) (t : Bool) (e : LocalEffect) (page : Local) → (t ≡ true → has_frame (local_after size e page) ≡ has_frame page) → has_frame (local_after size (if t then e else Elsewhere) page) ≡ has_frame page
+kept_if : (size : ℕ) (t : Bool) (e : LocalEffect) (page : Local) → (t ≡ true → has_frame (local_after size e page) ≡ has_frame page)
+    → has_frame (local_after size (if t then e else Elsewhere) page) ≡ has_frame page
 kept_if size true e page is = is refl
 kept_if size false e page is = refl
 
-kept_two : (size : ℕ) (s t : Bool) (e : LocalEffect) (page : Local) → (s ≡ true → t ≡ true → has_frame (local_after size e page) ≡ has_frame page) → has_frame (local_after size (if s then (if t then e else Elsewhere) else Elsewhere) page) ≡ has_frame page
+kept_two : (size : ℕ) (s t : Bool) (e : LocalEffect) (page : Local) → (s ≡ true → t ≡ true → has_frame (local_after size e page) ≡ has_frame page)
+    → has_frame (local_after size (if s then (if t then e else Elsewhere) else Elsewhere) page) ≡ has_frame page
 kept_two size true true e page is = is refl refl
 kept_two size true false e page is = refl
 kept_two size false t e page is = refl
 
-more_if : (own : Bool) (U V : ℕ → ℕ → Bool) (n a b : ℕ) → (own ≡ true → U a b ≡ false) → ((o p : ℕ) → V o p ≡ (if own && (a == o && b == p) then true else U o p)) → Held U n → Held V (if own then n + 1 else n)
+more_if : (own : Bool) (U V : ℕ → ℕ → Bool) (n a b : ℕ) → (own ≡ true → U a b ≡ false)
+    → ((o p : ℕ) → V o p ≡ (if own && (a == o && b == p) then true else U o p)) → Held U n → Held V (if own then n + 1 else n)
 more_if true U V n a b free new h = held_more U V n a b (free refl) new h
 more_if false U V n a b free new h = held_same U V n new h
 
-less_if : (own : Bool) (U V : ℕ → ℕ → Bool) (n a b : ℕ) → (own ≡ true → U a b ≡ true) → ((o p : ℕ) → V o p ≡ (if own && (a == o && b == p) then false else U o p)) → Held U n → Held V (if own then n - 1 else n)
+less_if : (own : Bool) (U V : ℕ → ℕ → Bool) (n a b : ℕ) → (own ≡ true → U a b ≡ true)
+    → ((o p : ℕ) → V o p ≡ (if own && (a == o && b == p) then false else U o p)) → Held U n → Held V (if own then n - 1 else n)
 less_if true U V n a b there new h = held_less U V n a b (there refl) new h
 less_if false U V n a b there new h = held_same U V n new h
 
@@ -84,7 +92,8 @@ takes : (own : Bool) (n r f : ℕ) → n + r ≡ f → (if own then n + 1 else n
 takes true n r f e = omega (arith, e)
 takes false n r f e = e
 
-gives : (own : Bool) (U : ℕ → ℕ → Bool) (n a b r f : ℕ) → (own ≡ true → U a b ≡ true) → Held U n → n + r ≡ f → (if own then n - 1 else n) + r ≡ frames_after (change_where own Gives) f
+gives : (own : Bool) (U : ℕ → ℕ → Bool) (n a b r f : ℕ) → (own ≡ true → U a b ≡ true) → Held U n → n + r ≡ f
+    → (if own then n - 1 else n) + r ≡ frames_after (change_where own Gives) f
 gives true U n a b r f there h e = omega (arith, e, held_some U n a b (there refl) h)
 gives false U n a b r f there h e = e
 
@@ -94,23 +103,34 @@ own_host a b is = grind (arith, nat_tests)
 on_host : (P : ℕ → Type 0) (a h : ℕ) → (a == h) ≡ true → P a → P h
 on_host P a h is holds = subst P (own_host a h is) holds
 
-sent_same : (header : Header) (host : ℕ) (at : HostId) (object : ObjectId) (m : Message) (past : List Event) → ((o p : ℕ) → framed header host (event.Sent (Up at object) m ∷ past) o p ≡ framed header host past o p)
-    → returns_out host (event.Sent (Up at object) m ∷ past) ≡ returns_out host past → frames_held header.size host (event.Sent (Up at object) m ∷ past) ≡ frames_held header.size host past → Count header host past → Count header host (event.Sent (Up at object) m ∷ past)
+sent_same : (header : Header) (host : ℕ) (at : HostId) (object : ObjectId) (m : Message) (past : List Event)
+    → ((o p : ℕ) → framed header host (event.Sent (Up at object) m ∷ past) o p ≡ framed header host past o p)
+    → returns_out host (event.Sent (Up at object) m ∷ past) ≡ returns_out host past
+    → frames_held header.size host (event.Sent (Up at object) m ∷ past) ≡ frames_held header.size host past → Count header host past
+    → Count header host (event.Sent (Up at object) m ∷ past)
 sent_same header host at object m past same out frames count =
-    record { number = count.number; held = held_same (framed header host past) (framed header host (event.Sent (Up at object) m ∷ past)) count.number same count.held; sum = ap (λ r. count.number + r) out ∙ count.sum ∙ sym frames }
+    record {
+      number = count.number;
+      held = held_same (framed header host past) (framed header host (event.Sent (Up at object) m ∷ past)) count.number same
+          count.held;
+      sum = ap (λ r. count.number + r) out ∙ count.sum ∙ sym frames;
+    }
 
 -- a control begins or ends while nothing is asked
 unasked_kept : (size : ℕ) (page : Local) → page.asked ≡ false → (page.here || false) ≡ has_frame page
 unasked_kept size page is = ap (λ a. page.here || a) (sym is)
 
-unasked_dead : (header : Header) (host o p : ℕ) (past : List Event) → Base header host past → is_some (live_control host o past) ≡ false → (page_on header host o p past).asked ≡ false
+unasked_dead : (header : Header) (host o p : ℕ) (past : List Event) → Base header host past → is_some (live_control host o past) ≡ false
+    → (page_on header host o p past).asked ≡ false
 unasked_dead header host o p past base dead = not_true (page_on header host o p past).asked (λ is. never (sym dead ∙ (base.sane o p).living is))
 
 dead_none : (live : Option ℕ) → live ≡ None → is_some live ≡ false
 dead_none live e = ap (λ (l : Option ℕ). is_some l) e
 
 -- a return without a copy
-out_more : (own : Bool) (U V : ℕ → ℕ → Bool) (n a b r f : ℕ) → (own ≡ true → U a b ≡ true) → ((o p : ℕ) → V o p ≡ (if own && (a == o && b == p) then false else U o p)) → Held U n → n + r ≡ f → (k : ℕ) × Held V k × (k + (if own && true then r + 1 else r) ≡ f)
+out_more : (own : Bool) (U V : ℕ → ℕ → Bool) (n a b r f : ℕ) → (own ≡ true → U a b ≡ true)
+    → ((o p : ℕ) → V o p ≡ (if own && (a == o && b == p) then false else U o p)) → Held U n → n + r ≡ f → (k : ℕ) × Held V k
+    × (k + (if own && true then r + 1 else r) ≡ f)
 out_more true U V n a b r f there new h e = (n - 1, held_less U V n a b (there refl) new h, omega (arith, e, held_some U n a b (there refl) h))
 out_more false U V n a b r f there new h e = (n, held_same U V n new h, e)
 
@@ -125,36 +145,46 @@ asks_here true false at live is = refl
 asks_here false object at live is = refl
 
 asks_used : (size : ℕ) (own object at live : Bool) (page : Local) → ((own && object) ≡ true → live ≡ true)
-    → has_frame (local_after size (if own && object then (if at && live then Asks else Elsewhere) else Elsewhere) page) ≡ (if own && (object && at) then true else has_frame page)
+    → has_frame (local_after size (if own && object then (if at && live then Asks else Elsewhere) else Elsewhere) page) ≡ (if own && (object && at) then
+    true else has_frame page)
 asks_used size own object at live page is =
-    used_two size own object (at && live) Asks page true (λ e. either page.here) ∙ ap (λ b. if b then true else has_frame page) (asks_here own object at live is)
+    used_two size own object (at && live) Asks page true (λ e. either page.here)
+    ∙ ap (λ b. if b then true else has_frame page) (asks_here own object at live is)
   where
     either : (b : Bool) → (b || true) ≡ true
     either true = refl
     either false = refl
 
-count_up : (header : Header) (host : ℕ) (at : HostId) (object : ObjectId) (m : Message) (past : List Event) → Base header host past → ((doing : Command) × MaySendUp header doing at.0 object.0 m past) → Count header host past → Count header host (event.Sent (Up at object) m ∷ past)
+count_up : (header : Header) (host : ℕ) (at : HostId) (object : ObjectId) (m : Message) (past : List Event) → Base header host past
+    → ((doing : Command) × MaySendUp header doing at.0 object.0 m past) → Count header host past → Count header host (event.Sent (Up at object) m ∷ past)
 count_up header host at object (message.Init control size) past base c count =
     sent_same header host at object (message.Init control size) past
     (λ o p. kept_if header.size (at.0 == host && object.0 == o) Begins (page_on header host o p past)
-    (λ is. unasked_kept header.size (page_on header host o p past) (unasked_dead header host o p past base (dead_none (live_control host o past) (there_two (λ h k. live_control h k past ≡ None) at.0 object.0 host o is c.1.none)))))
+    (λ is. unasked_kept header.size (page_on header host o p past) (unasked_dead header host o p past base
+    (dead_none (live_control host o past) (there_two (λ h k. live_control h k past ≡ None) at.0 object.0 host o is c.1.none)))))
     refl refl count
 count_up header host at object (message.Create control size) past base c count =
     sent_same header host at object (message.Create control size) past
     (λ o p. kept_if header.size (at.0 == host && object.0 == o) Begins (page_on header host o p past)
-    (λ is. unasked_kept header.size (page_on header host o p past) (unasked_dead header host o p past base (base.numbered o (there_two (λ h k. last_control h k past ≡ 0) at.0 object.0 host o is c.1.never)))))
+    (λ is. unasked_kept header.size (page_on header host o p past) (unasked_dead header host o p past base
+    (base.numbered o (there_two (λ h k. last_control h k past ≡ 0) at.0 object.0 host o is c.1.never)))))
     refl refl count
 count_up header host at object (message.Terminate control) past base c count =
     sent_same header host at object (message.Terminate control) past
     (λ o p. kept_two header.size (at.0 == host && object.0 == o) (is_control control (live_control host o past)) Ends (page_on header host o p past)
-    (λ is t. unasked_kept header.size (page_on header host o p past) (there_two (λ h k. (page_on header h k p past).asked ≡ false) at.0 object.0 host o is (c.1.unasked p))))
+    (λ is t. unasked_kept header.size (page_on header host o p past) (there_two (λ h k. (page_on header h k p past).asked ≡ false) at.0 object.0 host o is
+    (c.1.unasked p))))
     refl refl count
 count_up header host at object (message.Request control page access) past base c count =
     record {
       number = if at.0 == host then count.number + 1 else count.number;
-      held = more_if (at.0 == host) (framed header host past) (framed header host (event.Sent (Up at object) (message.Request control page access) ∷ past)) count.number object.0 page.0
-          (λ is. vacant_free (page_on header host object.0 page.0 past) (on_host (λ h. IsVacant (page_on header h object.0 page.0 past)) at.0 host is (record { away = c.1.away; unasked = c.1.unasked })))
-          (λ o p. asks_used header.size (at.0 == host) (object.0 == o) (page.0 == p) (is_control control (live_control host o past)) (page_on header host o p past)
+      held =
+          more_if (at.0 == host) (framed header host past) (framed header host (event.Sent (Up at object) (message.Request control page access) ∷ past))
+          count.number object.0 page.0
+          (λ is. vacant_free (page_on header host object.0 page.0 past) (on_host (λ h. IsVacant (page_on header h object.0 page.0 past)) at.0 host is
+          (record { away = c.1.away; unasked = c.1.unasked })))
+          (λ o p. asks_used header.size (at.0 == host) (object.0 == o) (page.0 == p) (is_control control (live_control host o past))
+          (page_on header host o p past)
           (λ is. control_of (live_control host o past) control (there_two (λ h k. live_control h k past ≡ Some control) at.0 object.0 host o is c.1.live)))
           count.held;
       sum = takes (at.0 == host) count.number (returns_out host past) (frames_held header.size host past) count.sum;
@@ -164,7 +194,9 @@ count_up header host at object (message.Return control page dirty true bytes) pa
     (λ o p. kept_two header.size (at.0 == host && object.0 == o) (page.0 == p) (Returns true) (page_on header host o p past) (λ s t. refl))
     (no_out (at.0 == host) (returns_out host past)) refl count
 count_up header host at object (message.Return control page dirty false bytes) past base c count =
-    let out = out_more (at.0 == host) (framed header host past) (framed header host (event.Sent (Up at object) (message.Return control page dirty false bytes) ∷ past)) count.number object.0 page.0 (returns_out host past) (frames_held header.size host past)
+    let out = out_more (at.0 == host) (framed header host past) (framed header host
+    (event.Sent (Up at object) (message.Return control page dirty false bytes) ∷ past)) count.number object.0 page.0 (returns_out host past)
+    (frames_held header.size host past)
     (λ is. here_framed (page_on header host object.0 page.0 past) (on_host (λ h. (page_on header h object.0 page.0 past).here ≡ true) at.0 host is c.1.here))
     (λ o p. used_two header.size (at.0 == host) (object.0 == o) (page.0 == p) (Returns false) (page_on header host o p past) false
     (λ is. (base.sane o p).apart (there (λ h k q. (page_on header h k q past).here ≡ true) at.0 object.0 page.0 host o p is c.1.here)))
@@ -182,10 +214,19 @@ count_up header host at object m past base c count = absurd c.1
 
 -- what comes down
 
-page_used : (size : ℕ) (lock : ℕ) (precious : Bool) (bytes : List ℕ) (page : Local) → has_frame (local_after size (TakesPage lock precious bytes) page) ≡ has_frame page
+page_used : (size : ℕ) (lock : ℕ) (precious : Bool) (bytes : List ℕ) (page : Local)
+    → has_frame (local_after size (TakesPage lock precious bytes) page) ≡ has_frame page
 page_used size lock precious bytes page = by page.asked refl
   where
-    by : (b : Bool) → page.asked ≡ b → has_frame (if b then record page { here = true; bytes = bytes; lock = lock; dirty = false; precious = precious; unlocking = false; asked = false } else page) ≡ has_frame page
+    by : (b : Bool) → page.asked ≡ b → has_frame (if b then record page {
+      here = true;
+      bytes = bytes;
+      lock = lock;
+      dirty = false;
+      precious = precious;
+      unlocking = false;
+      asked = false;
+    } else page) ≡ has_frame page
     by true is = sym (asked_framed page is)
     by false is = refl
 
@@ -205,7 +246,8 @@ ended_used page apart = by page.here page.asked apart
     by false true apart = refl
     by false false apart = refl
 
-nothing_used : (size : ℕ) (page : Local) → (page.here ≡ true → page.asked ≡ false) → has_frame (local_after size TakesNothing page) ≡ (if page.asked then false else has_frame page)
+nothing_used : (size : ℕ) (page : Local) → (page.here ≡ true → page.asked ≡ false)
+    → has_frame (local_after size TakesNothing page) ≡ (if page.asked then false else has_frame page)
 nothing_used size page apart = by page.asked refl
   where
     by : (b : Bool) → page.asked ≡ b → has_frame (if b then record page { asked = false; absent = true } else page) ≡ (if b then false else has_frame page)
@@ -226,7 +268,8 @@ same_end u true true false live live' asked asked' e f = by live ∙ sym (passed
     by : (b : Bool) → (if b then u else u) ≡ u
     by true = refl
     by false = refl
-same_end u true true true live live' asked asked' e f = by live asked ∙ ap (λ x. if (x && asked) && true then false else u) (e refl) ∙ ap (λ x. if (live' && x) && true then false else u) (f refl)
+same_end u true true true live live' asked asked' e f =
+    by live asked ∙ ap (λ x. if (x && asked) && true then false else u) (e refl) ∙ ap (λ x. if (live' && x) && true then false else u) (f refl)
   where
     by : (x y : Bool) → (if x then (if y then false else u) else u) ≡ (if (x && y) && true then false else u)
     by true true = refl
@@ -235,7 +278,8 @@ same_end u true true true live live' asked asked' e f = by live asked ∙ ap (λ
     by false false = refl
 
 end_used : (size : ℕ) (s t : Bool) (e : LocalEffect) (page : Local) → has_frame (local_after size e page) ≡ (if page.asked then false else has_frame page)
-    → has_frame (local_after size (if s then (if t then e else Elsewhere) else Elsewhere) page) ≡ (if s then (if t then (if page.asked then false else has_frame page) else has_frame page) else has_frame page)
+    → has_frame (local_after size (if s then (if t then e else Elsewhere) else Elsewhere) page) ≡ (if s then
+    (if t then (if page.asked then false else has_frame page) else has_frame page) else has_frame page)
 end_used size true true e page is = is
 end_used size true false e page is = refl
 end_used size false t e page is = refl
@@ -244,64 +288,97 @@ object_there : (a b o p : ℕ) → (a == o && b == p) ≡ true → (a == o) ≡ 
 object_there a b o p is = left (a == o) (b == p) is
 
 count_end : (header : Header) (host : ℕ) (at : HostId) (object : ObjectId) (control page : ℕ) (past : List Event) (V : ℕ → ℕ → Bool) → Base header host past
-    → ((o p : ℕ) → V o p ≡ (if at.0 == host && (object.0 == o && is_control control (live_control host o past)) then (if page == p then (if (page_on header host o p past).asked then false else framed header host past o p) else framed header host past o p) else framed header host past o p))
-    → (count : Count header host past) → Held V (if at.0 == host && (is_control control (live_control host object.0 past) && (page_on header host object.0 page past).asked) then count.number - 1 else count.number)
-    × ((if at.0 == host && (is_control control (live_control host object.0 past) && (page_on header host object.0 page past).asked) then count.number - 1 else count.number) + returns_out host past
-    ≡ frames_after (change_where (at.0 == host && (is_control control (live_control host object.0 past) && (page_on header host object.0 page past).asked)) Gives) (frames_held header.size host past))
+    → ((o p : ℕ) → V o p ≡ (if at.0 == host && (object.0 == o && is_control control (live_control host o past)) then
+    (if page == p then (if (page_on header host o p past).asked then false else framed header host past o p) else framed header host past o p) else framed
+    header host past o p))
+    → (count : Count header host past) → Held V (if at.0 == host && (is_control control (live_control host object.0 past) &&
+    (page_on header host object.0 page past).asked) then count.number - 1 else count.number)
+    × ((if at.0 == host && (is_control control (live_control host object.0 past) && (page_on header host object.0 page past).asked) then count.number - 1 else
+    count.number) + returns_out host past
+    ≡ frames_after (change_where (at.0 == host && (is_control control (live_control host object.0 past) && (page_on header host object.0 page past).asked))
+    Gives) (frames_held header.size host past))
 count_end header host at object control page past V base new count =
     let own : Bool = at.0 == host && (is_control control (live_control host object.0 past) && (page_on header host object.0 page past).asked) in (
       less_if own (framed header host past) V count.number object.0 page there_is
-          (λ o p. new o p ∙ same_end (framed header host past o p) (at.0 == host) (object.0 == o) (page == p) (is_control control (live_control host o past)) (is_control control (live_control host object.0 past)) (page_on header host o p past).asked (page_on header host object.0 page past).asked
+          (λ o p. new o p ∙ same_end (framed header host past o p) (at.0 == host) (object.0 == o) (page == p) (is_control control (live_control host o past))
+          (is_control control (live_control host object.0 past)) (page_on header host o p past).asked (page_on header host object.0 page past).asked
           (λ is. same_control host object.0 o control past (object_there object.0 page o p is))
           (λ is. test_there (λ k q. (page_on header host k q past).asked) object.0 page o p is))
           count.held,
       gives own (framed header host past) count.number object.0 page (returns_out host past) (frames_held header.size host past) there_is count.held count.sum,
     )
   where
-    there_is : (at.0 == host && (is_control control (live_control host object.0 past) && (page_on header host object.0 page past).asked)) ≡ true → framed header host past object.0 page ≡ true
+    there_is : (at.0 == host && (is_control control (live_control host object.0 past) && (page_on header host object.0 page past).asked)) ≡ true
+        → framed header host past object.0 page ≡ true
     there_is is =
-        asked_framed (page_on header host object.0 page past) (right (is_control control (live_control host object.0 past)) (page_on header host object.0 page past).asked (right (at.0 == host) (is_control control (live_control host object.0 past) && (page_on header host object.0 page past).asked) is))
+        asked_framed (page_on header host object.0 page past) (right (is_control control (live_control host object.0 past))
+        (page_on header host object.0 page past).asked (right (at.0 == host) (is_control control (live_control host object.0 past) &&
+        (page_on header host object.0 page past).asked) is))
 
-down_same : (header : Header) (host : ℕ) (at : HostId) (object : ObjectId) (control : ℕ) (m : Message) (past : List Event) → ((o p : ℕ) → framed header host (event.Taken (Down at object control) m ∷ past) o p ≡ framed header host past o p)
-    → frames_held header.size host (event.Taken (Down at object control) m ∷ past) ≡ frames_held header.size host past → Count header host past → Count header host (event.Taken (Down at object control) m ∷ past)
+down_same : (header : Header) (host : ℕ) (at : HostId) (object : ObjectId) (control : ℕ) (m : Message) (past : List Event)
+    → ((o p : ℕ) → framed header host (event.Taken (Down at object control) m ∷ past) o p ≡ framed header host past o p)
+    → frames_held header.size host (event.Taken (Down at object control) m ∷ past) ≡ frames_held header.size host past → Count header host past
+    → Count header host (event.Taken (Down at object control) m ∷ past)
 down_same header host at object control m past same frames count =
-    record { number = count.number; held = held_same (framed header host past) (framed header host (event.Taken (Down at object control) m ∷ past)) count.number same count.held; sum = count.sum ∙ sym frames }
+    record {
+      number = count.number;
+      held = held_same (framed header host past) (framed header host (event.Taken (Down at object control) m ∷ past)) count.number
+          same count.held;
+      sum = count.sum ∙ sym frames;
+    }
 
-count_down : (header : Header) (host : ℕ) (at : HostId) (object : ObjectId) (control : ℕ) (m : Message) (past : List Event) → Base header host past → Count header host past → Count header host (event.Taken (Down at object control) m ∷ past)
+count_down : (header : Header) (host : ℕ) (at : HostId) (object : ObjectId) (control : ℕ) (m : Message) (past : List Event) → Base header host past
+    → Count header host past → Count header host (event.Taken (Down at object control) m ∷ past)
 count_down header host at object control (message.Supply page lock precious bytes) past base count =
     down_same header host at object control (message.Supply page lock precious bytes) past
-    (λ o p. kept_two header.size (at.0 == host && (object.0 == o && is_control control (live_control host o past))) (page.0 == p) (TakesPage lock precious bytes) (page_on header host o p past) (λ s t. page_used header.size lock precious bytes (page_on header host o p past)))
+    (λ o p. kept_two header.size (at.0 == host && (object.0 == o && is_control control (live_control host o past))) (page.0 == p)
+    (TakesPage lock precious bytes) (page_on header host o p past) (λ s t. page_used header.size lock precious bytes (page_on header host o p past)))
     refl count
 count_down header host at object control (message.Lock page number returns flush lock reply) past base count =
     down_same header host at object control (message.Lock page number returns flush lock reply) past
-    (λ o p. kept_two header.size (at.0 == host && (object.0 == o && is_control control (live_control host o past))) (in_range p page.0 number) (TakesLock lock flush) (page_on header host o p past) (λ s t. lock_used header.size lock flush (page_on header host o p past)))
+    (λ o p. kept_two header.size (at.0 == host && (object.0 == o && is_control control (live_control host o past))) (in_range p page.0 number)
+    (TakesLock lock flush) (page_on header host o p past) (λ s t. lock_used header.size lock flush (page_on header host o p past)))
     refl count
 count_down header host at object control (message.Unavailable page) past base count =
-    let end = count_end header host at object control page.0 past (framed header host (event.Taken (Down at object control) (message.Unavailable page) ∷ past)) base
-    (λ o p. end_used header.size (at.0 == host && (object.0 == o && is_control control (live_control host o past))) (page.0 == p) TakesNothing (page_on header host o p past) (nothing_used header.size (page_on header host o p past) (base.sane o p).apart)) count in
+    let end = count_end header host at object control page.0 past (framed header host (event.Taken (Down at object control) (message.Unavailable page) ∷ past))
+    base
+    (λ o p. end_used header.size (at.0 == host && (object.0 == o && is_control control (live_control host o past))) (page.0 == p) TakesNothing
+    (page_on header host o p past) (nothing_used header.size (page_on header host o p past) (base.sane o p).apart)) count in
     record { number = _; held = end.0; sum = end.1 }
 count_down header host at object control (message.Error page reason) past base count =
-    let end = count_end header host at object control page.0 past (framed header host (event.Taken (Down at object control) (message.Error page reason) ∷ past)) base
-    (λ o p. end_used header.size (at.0 == host && (object.0 == o && is_control control (live_control host o past))) (page.0 == p) TakesError (page_on header host o p past) (ended_used (page_on header host o p past) (base.sane o p).apart)) count in
+    let end = count_end header host at object control page.0 past (framed header host (event.Taken (Down at object control) (message.Error page reason) ∷ past))
+    base
+    (λ o p. end_used header.size (at.0 == host && (object.0 == o && is_control control (live_control host o past))) (page.0 == p) TakesError
+    (page_on header host o p past) (ended_used (page_on header host o p past) (base.sane o p).apart)) count in
     record { number = _; held = end.0; sum = end.1 }
 count_down header host at object control m past base count =
     down_same header host at object control m past
-    (λ o p. kept_if header.size (at.0 == host && (object.0 == o && is_control control (live_control host o past))) Elsewhere (page_on header host o p past) (λ is. refl))
+    (λ o p. kept_if header.size (at.0 == host && (object.0 == o && is_control control (live_control host o past))) Elsewhere (page_on header host o p past)
+    (λ is. refl))
     refl count
 
 -- what a pager takes
 
-taken_same : (header : Header) (host : ℕ) (at : HostId) (object : ObjectId) (m : Message) (past : List Event) → returns_out host (event.Taken (Up at object) m ∷ past) ≡ returns_out host past
-    → frames_held header.size host (event.Taken (Up at object) m ∷ past) ≡ frames_held header.size host past → Count header host past → Count header host (event.Taken (Up at object) m ∷ past)
+taken_same : (header : Header) (host : ℕ) (at : HostId) (object : ObjectId) (m : Message) (past : List Event)
+    → returns_out host (event.Taken (Up at object) m ∷ past) ≡ returns_out host past
+    → frames_held header.size host (event.Taken (Up at object) m ∷ past) ≡ frames_held header.size host past → Count header host past
+    → Count header host (event.Taken (Up at object) m ∷ past)
 taken_same header host at object m past out frames count =
-    record { number = count.number; held = held_same (framed header host past) (framed header host past) count.number (λ o p. refl) count.held; sum = ap (λ r. count.number + r) out ∙ count.sum ∙ sym frames }
+    record {
+      number = count.number;
+      held = held_same (framed header host past) (framed header host past) count.number (λ o p. refl) count.held;
+      sum = ap (λ r. count.number + r) out ∙ count.sum ∙ sym frames;
+    }
 
-count_taken : (header : Header) (host : ℕ) (at : HostId) (object : ObjectId) (m : Message) (past : List Event) → Base header host past → first (queue (Up at object) past) ≡ Some m → Count header host past → Count header host (event.Taken (Up at object) m ∷ past)
+count_taken : (header : Header) (host : ℕ) (at : HostId) (object : ObjectId) (m : Message) (past : List Event) → Base header host past
+    → first (queue (Up at object) past) ≡ Some m → Count header host past → Count header host (event.Taken (Up at object) m ∷ past)
 count_taken header host at object (message.Return control page dirty keep bytes) past base head count =
     record {
       number = count.number;
       held = held_same (framed header host past) (framed header host past) count.number (λ o p. refl) count.held;
-      sum = by (at.0 == host && not keep) count.number (returns_out host past) (frames_held header.size host past) (λ is. some_out host (Up at object) (message.Return control page dirty keep bytes) past head is base.returns) count.sum;
+      sum =
+          by (at.0 == host && not keep) count.number (returns_out host past) (frames_held header.size host past)
+          (λ is. some_out host (Up at object) (message.Return control page dirty keep bytes) past head is base.returns) count.sum;
     }
   where
     by : (b : Bool) (n r f : ℕ) → (b ≡ true → 0 < r) → n + r ≡ f → n + (if b then r - 1 else r) ≡ frames_after (change_where b Gives) f
@@ -309,12 +386,14 @@ count_taken header host at object (message.Return control page dirty keep bytes)
     by false n r f some e = e
 count_taken header host at object m past base head count = taken_same header host at object m past refl refl count
 
-pub count_next : (header : Header) (outside : Outside) (host : ℕ) (e : Event) (past : List Event) → Base header host past → HasCause header outside e past → Count header host past → Count header host (e ∷ past)
+pub count_next : (header : Header) (outside : Outside) (host : ℕ) (e : Event) (past : List Event) → Base header host past → HasCause header outside e past
+    → Count header host past → Count header host (e ∷ past)
 count_next header outside host (event.Zeroed at object page) past base c count =
     record {
       number = if at.0 == host then count.number + 1 else count.number;
       held = more_if (at.0 == host) (framed header host past) (framed header host (event.Zeroed at object page ∷ past)) count.number object.0 page.0
-          (λ is. vacant_free (page_on header host object.0 page.0 past) (on_host (λ h. IsVacant (page_on header h object.0 page.0 past)) at.0 host is (vacant_zeroed header at.0 object.0 page.0 past c.1)))
+          (λ is. vacant_free (page_on header host object.0 page.0 past) (on_host (λ h. IsVacant (page_on header h object.0 page.0 past)) at.0 host is
+          (vacant_zeroed header at.0 object.0 page.0 past c.1)))
           (λ o p. used_if header.size (at.0 == host && (object.0 == o && page.0 == p)) Zeroes (page_on header host o p past) true (λ is. refl))
           count.held;
       sum = takes (at.0 == host) count.number (returns_out host past) (frames_held header.size host past) count.sum;
@@ -322,18 +401,25 @@ count_next header outside host (event.Zeroed at object page) past base c count =
 count_next header outside host (event.Raised at lower lower_page upper upper_page) past base c count =
     record {
       number = if at.0 == host then count.number + 1 else count.number;
-      held = more_if (at.0 == host) (framed header host past) (framed header host (event.Raised at lower lower_page upper upper_page ∷ past)) count.number upper.0 upper_page.0
-          (λ is. vacant_free (page_on header host upper.0 upper_page.0 past) (on_host (λ h. IsVacant (page_on header h upper.0 upper_page.0 past)) at.0 host is (vacant_raised header at.0 lower.0 lower_page.0 upper.0 upper_page.0 past c.1)))
-          (λ o p. used_if header.size (at.0 == host && (upper.0 == o && upper_page.0 == p)) (Raises (page_on header host lower.0 lower_page.0 past).bytes) (page_on header host o p past) true (λ is. refl))
+      held =
+          more_if (at.0 == host) (framed header host past) (framed header host (event.Raised at lower lower_page upper upper_page ∷ past)) count.number upper.0
+          upper_page.0
+          (λ is. vacant_free (page_on header host upper.0 upper_page.0 past) (on_host (λ h. IsVacant (page_on header h upper.0 upper_page.0 past)) at.0 host is
+          (vacant_raised header at.0 lower.0 lower_page.0 upper.0 upper_page.0 past c.1)))
+          (λ o p. used_if header.size (at.0 == host && (upper.0 == o && upper_page.0 == p)) (Raises (page_on header host lower.0 lower_page.0 past).bytes)
+          (page_on header host o p past) true (λ is. refl))
           count.held;
       sum = takes (at.0 == host) count.number (returns_out host past) (frames_held header.size host past) count.sum;
     }
 count_next header outside host (event.CopiedPage task page object object_page target) past base c count =
     record {
       number = if is_on host (host_of task.0 past) then count.number + 1 else count.number;
-      held = more_if (is_on host (host_of task.0 past)) (framed header host past) (framed header host (event.CopiedPage task page object object_page target ∷ past)) count.number target.0 page.0
+      held =
+          more_if (is_on host (host_of task.0 past)) (framed header host past) (framed header host
+          (event.CopiedPage task page object object_page target ∷ past)) count.number target.0 page.0
           (λ is. vacant_free (page_on header host target.0 page.0 past) (vacant_copied header host task.0 page.0 object.0 object_page.0 target.0 past c.1 is))
-          (λ o p. used_if header.size (is_on host (host_of task.0 past) && (target.0 == o && page.0 == p)) (Raises (page_on header host object.0 object_page.0 past).bytes) (page_on header host o p past) true (λ is. refl))
+          (λ o p. used_if header.size (is_on host (host_of task.0 past) && (target.0 == o && page.0 == p))
+          (Raises (page_on header host object.0 object_page.0 past).bytes) (page_on header host o p past) true (λ is. refl))
           count.held;
       sum = takes (is_on host (host_of task.0 past)) count.number (returns_out host past) (frames_held header.size host past) count.sum;
     }
@@ -341,17 +427,22 @@ count_next header outside host (event.Stored task object page at size value) pas
     record {
       number = count.number;
       held = held_same (framed header host past) (framed header host (event.Stored task object page at size value ∷ past)) count.number
-          (λ o p. kept_if header.size (is_on host (host_of task.0 past) && (object.0 == o && page.0 == p)) (Stores at (little_endian_bytes size value)) (page_on header host o p past) (λ is. refl)) count.held;
+          (λ o p. kept_if header.size (is_on host (host_of task.0 past) && (object.0 == o && page.0 == p)) (Stores at (little_endian_bytes size value))
+          (page_on header host o p past) (λ is. refl)) count.held;
       sum = count.sum;
     }
 count_next header outside host (event.Dropped at object page) past base c count =
     record {
       number = if at.0 == host then count.number - 1 else count.number;
-      held = less_if (at.0 == host) (framed header host past) (framed header host (event.Dropped at object page ∷ past)) count.number object.0 page.0 (λ is. here_framed (page_on header host object.0 page.0 past) (own is))
+      held =
+          less_if (at.0 == host) (framed header host past) (framed header host (event.Dropped at object page ∷ past)) count.number object.0 page.0
+          (λ is. here_framed (page_on header host object.0 page.0 past) (own is))
           (λ o p. used_if header.size (at.0 == host && (object.0 == o && page.0 == p)) Drops (page_on header host o p past) false
           (λ is. (base.sane o p).apart (there (λ h k q. (page_on header h k q past).here ≡ true) at.0 object.0 page.0 host o p is c.1.here)))
           count.held;
-      sum = gives (at.0 == host) (framed header host past) count.number object.0 page.0 (returns_out host past) (frames_held header.size host past) (λ is. here_framed (page_on header host object.0 page.0 past) (own is)) count.held count.sum;
+      sum =
+          gives (at.0 == host) (framed header host past) count.number object.0 page.0 (returns_out host past) (frames_held header.size host past)
+          (λ is. here_framed (page_on header host object.0 page.0 past) (own is)) count.held count.sum;
     }
   where
     own : (at.0 == host) ≡ true → (page_on header host object.0 page.0 past).here ≡ true
@@ -359,13 +450,20 @@ count_next header outside host (event.Dropped at object page) past base c count 
 count_next header outside host (event.Sent (Up at object) m) past base c count = count_up header host at object m past base c count
 count_next header outside host (event.Taken (Up at object) m) past base c count = count_taken header host at object m past base c.1.0 count
 count_next header outside host (event.Taken (Down at object control) m) past base c count = count_down header host at object control m past base count
-count_next header outside host e past base c count = record { number = count.number; held = held_same (framed header host past) (framed header host past) count.number (λ o p. refl) count.held; sum = count.sum }
+count_next header outside host e past base c count =
+    record {
+      number = count.number;
+      held = held_same (framed header host past) (framed header host past) count.number (λ o p. refl) count.held;
+      sum = count.sum;
+    }
 
 pub count_of : (header : Header) (outside : Outside) (host : ℕ) (history : List Event) → EachEvent (HasCause header outside) history → Count header host history
 count_of header outside host [] c = record { number = 0; held = held_none (framed header host []) (λ o p. refl); sum = refl }
-count_of header outside host (e ∷ past) c = count_next header outside host e past (base_of header outside host past c.1) c.0 (count_of header outside host past c.1)
+count_of header outside host (e ∷ past) c =
+    count_next header outside host e past (base_of header outside host past c.1) c.0 (count_of header outside host past c.1)
 
-pub frames_counted : (header : Header) (outside : Outside) (host : ℕ) (history : List Event) → EachEvent (HasCause header outside) history → FramesAreCounted header host history
+pub frames_counted : (header : Header) (outside : Outside) (host : ℕ) (history : List Event) → EachEvent (HasCause header outside) history
+    → FramesAreCounted header host history
 frames_counted header outside host history c = by (count_of header outside host history c)
   where
     by : Count header host history → FramesAreCounted header host history
@@ -377,5 +475,6 @@ frames_counted header outside host history c = by (count_of header outside host 
           count = ap (λ n. n + returns_out host history) count.held.count ∙ count.sum;
         }
 
-pub never_both : (header : Header) (outside : Outside) (host o p : ℕ) (history : List Event) → EachEvent (HasCause header outside) history → (page_on header host o p history).here ≡ true → (page_on header host o p history).asked ≡ false
+pub never_both : (header : Header) (outside : Outside) (host o p : ℕ) (history : List Event) → EachEvent (HasCause header outside) history
+    → (page_on header host o p history).here ≡ true → (page_on header host o p history).asked ≡ false
 never_both header outside host o p history c = ((base_of header outside host history c).sane o p).apart

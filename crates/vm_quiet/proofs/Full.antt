@@ -22,7 +22,8 @@ pub full_paged : AllPaged header
 full_paged o below = absurd (omega (arith, below))
 
 -- a step that took nothing owes nothing
-idle : (past : List Event) → owed past ≡ None → taken_letter past ≡ None → error_taken header.size past ≡ None → absence_taken header.size past ≡ None → IsPaid header past
+idle : (past : List Event) → owed past ≡ None → taken_letter past ≡ None → error_taken header.size past ≡ None → absence_taken header.size past ≡ None
+    → IsPaid header past
 idle past made took failed lacked =
     record {
       none_owed = made;
@@ -51,7 +52,20 @@ full_causes = (
       (
         (command.Settle 0, tt),
         (
-          (command.Settle 0, record { idle = refl; host = 0; lives = refl; whole = refl; inside = omega arith; made = omega arith; used = λ is. refl; file = λ is. never is; unfilled = refl }),
+          (
+            command.Settle 0,
+            record {
+              idle = refl;
+              host = 0;
+              lives = refl;
+              whole = refl;
+              inside = omega arith;
+              made = omega arith;
+              used = λ is. refl;
+              file = λ is. never is;
+              unfilled = refl;
+            },
+          ),
           ((command.Settle 0, (refl, refl)), ((command.Settle 0, tt), ((command.Settle 0, tt), ((command.Settle 0, tt), tt)))),
         ),
       ),
@@ -63,7 +77,20 @@ pub full_waits : Waits header 0 (Loading 0 1) history
 full_waits =
     record {
       waits = refl;
-      at = record { host = 0; entry = record { address = 0; bytes = 16; region = region; offset = 0; prot = record { read = true; write = true }; inherit = Copy }; lives = refl; found = refl };
+      at =
+          record {
+            host = 0;
+            entry = record {
+              address = 0;
+              bytes = 16;
+              region = region;
+              offset = 0;
+              prot = record { read = true; write = true };
+              inherit = Copy;
+            };
+            lives = refl;
+            found = refl;
+          };
       left = tt;
     }
 
@@ -88,7 +115,13 @@ full_prompt h below =
     record {
       leads = let first : 0 ≡ h = omega (arith, below) in subst (λ (k : ℕ). EachLeads header k history) first full_leads;
       waits = let first : 0 ≡ h = omega (arith, below) in subst (λ (k : ℕ). NoneInVain header k history) first full_none;
-      swept = record { pages = λ o p ours unreached. refl; controls = λ o ours unreached. refl; declared_pages = λ o p ours unheld. refl; declared_controls = λ o ours unheld. refl };
+      swept =
+          record {
+            pages = λ o p ours unreached. refl;
+            controls = λ o ours unreached. refl;
+            declared_pages = λ o p ours unheld. refl;
+            declared_controls = λ o ours unheld. refl;
+          };
     }
 
 pub full_delivered : undelivered history ≡ []

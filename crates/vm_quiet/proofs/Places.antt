@@ -51,7 +51,8 @@ abbrev pub without_place : ℕ → ℕ → List Place → List Place
 without_place o p [] = []
 without_place o p (place ∷ places) = if place.object == o && place.page == p then places else place ∷ without_place o p places
 
-pub times_without : (a b o p : ℕ) (places : List Place) → times o p (without_place a b places) ≡ (if a == o && b == p then times o p places - 1 else times o p places)
+pub times_without : (a b o p : ℕ) (places : List Place)
+    → times o p (without_place a b places) ≡ (if a == o && b == p then times o p places - 1 else times o p places)
 times_without a b o p [] = none (a == o && b == p)
   where
     none : (t : Bool) → 0 ≡ (if t then 0 - 1 else 0)
@@ -71,22 +72,26 @@ times_without a b o p (x ∷ xs) = by (x.object == a && x.page == b) (x.object =
     hit true false k e = never (sym e)
     hit false true k e = never e
 
-    miss : (u t : Bool) (k w : ℕ) → (u ≡ true → t ≡ true → ⊥) → w ≡ (if t then k - 1 else k) → (if u then suc w else w) ≡ (if t then (if u then suc k else k) - 1 else (if u then suc k else k))
+    miss : (u t : Bool) (k w : ℕ) → (u ≡ true → t ≡ true → ⊥) → w ≡ (if t then k - 1 else k)
+        → (if u then suc w else w) ≡ (if t then (if u then suc k else k) - 1 else (if u then suc k else k))
     miss true true k w clash e = absurd (clash refl refl)
     miss true false k w clash e = ap (λ x. suc x) e
     miss false true k w clash e = e
     miss false false k w clash e = e
 
-    by : (s u t : Bool) → (x.object == a && x.page == b) ≡ s → (x.object == o && x.page == p) ≡ u → (a == o && b == p) ≡ t → times o p (without_place a b xs) ≡ (if a == o && b == p then times o p xs - 1 else times o p xs)
+    by : (s u t : Bool) → (x.object == a && x.page == b) ≡ s → (x.object == o && x.page == p) ≡ u → (a == o && b == p) ≡ t
+        → times o p (without_place a b xs) ≡ (if a == o && b == p then times o p xs - 1 else times o p xs)
         → times o p (if s then xs else x ∷ without_place a b xs) ≡ (if a == o && b == p then times o p (x ∷ xs) - 1 else times o p (x ∷ xs))
     by true u t e f g more = hit (x.object == o && x.page == p) (a == o && b == p) (times o p xs) (equal x.object x.page a b o p e)
-    by false u t e f g more = miss (x.object == o && x.page == p) (a == o && b == p) (times o p xs) (times o p (without_place a b xs)) (apart x.object x.page a b o p e) more
+    by false u t e f g more =
+        miss (x.object == o && x.page == p) (a == o && b == p) (times o p xs) (times o p (without_place a b xs)) (apart x.object x.page a b o p e) more
 
 pub length_without : (a b : ℕ) (places : List Place) → 1 ≤ times a b places → length (without_place a b places) + 1 ≡ length places
 length_without a b [] some = absurd (omega (arith, some))
 length_without a b (x ∷ xs) some = by (x.object == a && x.page == b) some (length_without a b xs)
   where
-    by : (s : Bool) → 1 ≤ (if s then suc (times a b xs) else times a b xs) → (1 ≤ times a b xs → length (without_place a b xs) + 1 ≡ length xs) → length (if s then xs else x ∷ without_place a b xs) + 1 ≡ length (x ∷ xs)
+    by : (s : Bool) → 1 ≤ (if s then suc (times a b xs) else times a b xs) → (1 ≤ times a b xs → length (without_place a b xs) + 1 ≡ length xs)
+        → length (if s then xs else x ∷ without_place a b xs) + 1 ≡ length (x ∷ xs)
     by true some more = omega arith
     by false some more = omega (arith, more some)
 
@@ -94,7 +99,9 @@ pub held_less : (U V : ℕ → ℕ → Bool) (n a b : ℕ) → U a b ≡ true �
 held_less U V n a b there new h =
     record {
       places = without_place a b h.places;
-      each = λ o p. times_without a b o p h.places ∙ one (a == o && b == p) (times o p h.places) (U o p) (V o p) (λ is. test_there U a b o p is ∙ there) (h.each o p) (new o p);
+      each =
+          λ o p. times_without a b o p h.places ∙ one (a == o && b == p) (times o p h.places) (U o p) (V o p) (λ is. test_there U a b o p is ∙ there)
+          (h.each o p) (new o p);
       count = omega (arith, length_without a b h.places (omega (arith, h.each a b ∙ ap one_if there)), h.count);
     }
   where

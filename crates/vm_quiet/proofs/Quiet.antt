@@ -1,5 +1,6 @@
 -- A history in which nothing is on its way leaves waiting only those who wait for frames, or for a pager that the script drives.
-use Rattle.std.proofs.Common.{inl, inr, ℕ, suc, ◌≡◌, ◌∙◌, List, [], ◌∷◌, length, Bool, true, false, refl, sym, ap, subst, arith, Option, Some, None, if◌then◌else◌}
+use Rattle.std.proofs.Common.{inl, inr, ℕ, suc, ◌≡◌, ◌∙◌, List, [], ◌∷◌, length, Bool, true, false, refl, sym, ap, subst, arith, Option, Some, None}
+use Rattle.std.proofs.Common.{if◌then◌else◌}
 use Rattle.std.proofs.lemmas.Bool.{cases_lt}
 use Rattle.std.proofs.lemmas.Bool.Decides.{nat_tests}
 use Rattle.std.proofs.lemmas.List.Elements.{All-cons, All-head}
@@ -29,7 +30,8 @@ use Rattle.vm_legal.specs.Steps.{answers, is_answer, is_ready_message as says_re
 use Rattle.vm_legal.specs.Walks.{page_on}
 use Rattle.vm_quiet.specs.Carried.{is_request, opens}
 use Rattle.vm_quiet.specs.Places.{AllPaged, times}
-use Rattle.vm_quiet.specs.Quiet.{IsHeldWild, IsShortOfFrames, NobodyWaitsInVain, NoneIsWild, OnlyFramesAreAwaited, OnlyWildAreAwaited, SharedAreAnswered, WaitsForWild, WaitsOnWild}
+use Rattle.vm_quiet.specs.Quiet.{IsHeldWild, IsShortOfFrames, NobodyWaitsInVain, NoneIsWild, OnlyFramesAreAwaited, OnlyWildAreAwaited, SharedAreAnswered}
+use Rattle.vm_quiet.specs.Quiet.{WaitsForWild, WaitsOnWild}
 use Rattle.vm_quiet.proofs.Letters.{never, outs}
 use Rattle.vm_quiet.proofs.Places.{length_without, one_if, own_place, times_without, without_place}
 use Rattle.vm_quiet.proofs.Sane.{Base, base_of, paged}
@@ -48,13 +50,16 @@ pub shared_supplied : (header : Header) (o : ℕ) → is_shared header o ≡ tru
 shared_supplied header o is = shared_tame (kind_of header o) is
 
 -- where nothing is undelivered each live control is ready, but for wild objects'
-pub ready_now : (header : Header) (outside : Outside) (history : List Event) (host o control : ℕ) → EachEvent (HasCause header outside) history → BeforeSteps (IsPaid header) history → IsPaid header history → undelivered history ≡ []
+pub ready_now : (header : Header) (outside : Outside) (history : List Event) (host o control : ℕ) → EachEvent (HasCause header outside) history
+    → BeforeSteps (IsPaid header) history → IsPaid header history → undelivered history ≡ []
     → is_wild header o ≡ false → live_control host o history ≡ Some control → is_ready host o history ≡ true
 ready_now header outside history host o control causes steps paid delivered ours live = by (is_ready host o history) refl
   where
     by : (b : Bool) → is_ready host o history ≡ b → is_ready host o history ≡ true
     by true is = is
-    by false is = absurd (way_none (opens control) says_ready (readies o) host o control history delivered (done_opening header history paid host o control ours) (opens_of header outside host history causes steps o control ours live is))
+    by false is =
+        absurd (way_none (opens control) says_ready (readies o) host o control history delivered (done_opening header history paid host o control ours)
+        (opens_of header outside host history causes steps o control ours live is))
 
 -- an object is temporary or a file's, or a shared one, or a wild one
 kinds_of : (header : Header) (o : ℕ) → NoneIsTemporary header → (is_paged header o ≡ true) ⊎ ((is_shared header o ≡ true) ⊎ (is_wild header o ≡ true))
@@ -63,7 +68,8 @@ kinds_of header o none = by (nat_lt o (named header)) refl
     below : (a b : ℕ) → nat_lt a b ≡ true → a < b
     below a b is = grind (arith, nat_tests)
 
-    found : (row : Option Declared) → kind_in row ≢ Temp → (is_file_kept row ≡ true) ⊎ ((is_shared_kind (kind_in row) ≡ true) ⊎ (is_wild_kind (kind_in row) ≡ true))
+    found : (row : Option Declared) → kind_in row ≢ Temp → (is_file_kept row ≡ true)
+        ⊎ ((is_shared_kind (kind_in row) ≡ true) ⊎ (is_wild_kind (kind_in row) ≡ true))
     found None none = absurd (none refl)
     found (Some object) none = at object.kind none
       where
@@ -74,9 +80,12 @@ kinds_of header o none = by (nat_lt o (named header)) refl
         at Wild none = inr (inr refl)
 
     by : (b : Bool) → nat_lt o (named header) ≡ b
-        → ((not b || (b && is_file_kept (declared header o))) ≡ true) ⊎ ((is_shared_kind (if b then kind_in (declared header o) else Temp) ≡ true) ⊎ (is_wild_kind (if b then kind_in (declared header o) else Temp) ≡ true))
+        → ((not b || (b && is_file_kept (declared header o))) ≡ true)
+        ⊎ ((is_shared_kind (if b then kind_in (declared header o) else Temp) ≡ true)
+        ⊎ (is_wild_kind (if b then kind_in (declared header o) else Temp) ≡ true))
     by false is = inl refl
-    by true is = found (declared header o) (subst (λ (b : Bool). (if b then kind_in (declared header o) else Temp) ≢ Temp) is (none o (below o (named header) is)))
+    by true is =
+        found (declared header o) (subst (λ (b : Bool). (if b then kind_in (declared header o) else Temp) ≢ Temp) is (none o (below o (named header) is)))
 
 -- Of places among which each stands at most once, and each is kept or is the spare one, all but one are kept.
 
@@ -98,7 +107,10 @@ grown false k some = some
 all_standing : (W : Place → Type 0) (places : List Place) → ((o p : ℕ) → 0 < times o p places → W (record { object = o; page = p })) → All W places
 all_standing W [] each = λ k d below. absurd (omega (arith, below))
 all_standing W (x ∷ xs) each =
-    All-cons W x xs (each x.object x.page (omega (arith, counted (x.object == x.object && x.page == x.page) (times x.object x.page xs) (own_place x.object x.page))))
+    All-cons W x xs (each x.object x.page (omega (
+      arith,
+      counted (x.object == x.object && x.page == x.page) (times x.object x.page xs) (own_place x.object x.page),
+    )))
     (all_standing W xs (λ o p some. each o p (grown (x.object == o && x.page == p) (times o p xs) some)))
 
 fewer : (b : Bool) (k j : ℕ) → j ≡ (if b then k - 1 else k) → j ≤ k
@@ -114,14 +126,17 @@ keep_rest : (W : Place → Type 0) (spare : Option Place) (all : List Place) →
     → ((o p : ℕ) → 0 < times o p all → W (record { object = o; page = p }) ⊎ (spare ≡ Some (record { object = o; page = p }))) → Rest W all
 keep_rest W None all once each = record { kept = all; each = all_standing W all (λ o p some. kept o p (each o p some)); once = once; few = omega arith }
   where
-    kept : (o p : ℕ) → W (record { object = o; page = p }) ⊎ (◌≡◌ {A = Option Place} None (Some (record { object = o; page = p }))) → W (record { object = o; page = p })
+    kept : (o p : ℕ) → W (record { object = o; page = p }) ⊎ (◌≡◌ {A = Option Place} None (Some (record { object = o; page = p })))
+        → W (record { object = o; page = p })
     kept o p (inl w) = w
     kept o p (inr is) = absurd (cc)
 keep_rest W (Some x) all once each = by (nat_lt 0 (times x.object x.page all)) refl
   where
-    kept : (o p : ℕ) → W (record { object = o; page = p }) ⊎ (Some x ≡ Some (record { object = o; page = p })) → (x.object ≡ o → x.page ≡ p → ⊥) → W (record { object = o; page = p })
+    kept : (o p : ℕ) → W (record { object = o; page = p }) ⊎ (Some x ≡ Some (record { object = o; page = p })) → (x.object ≡ o → x.page ≡ p → ⊥)
+        → W (record { object = o; page = p })
     kept o p (inl w) apart = w
-    kept o p (inr is) apart = let same : x ≡ record { object = o; page = p } = cc in absurd (apart (ap (λ (z : Place). z.object) same) (ap (λ (z : Place). z.page) same))
+    kept o p (inr is) apart =
+        let same : x ≡ record { object = o; page = p } = cc in absurd (apart (ap (λ (z : Place). z.object) same) (ap (λ (z : Place). z.page) same))
 
     none : (o p : ℕ) → nat_lt 0 (times x.object x.page all) ≡ false → 0 < times o p all → x.object ≡ o → x.page ≡ p → ⊥
     none o p is some object page =
@@ -131,14 +146,16 @@ keep_rest W (Some x) all once each = by (nat_lt 0 (times x.object x.page all)) r
 
     gone : (o p : ℕ) → 0 < times o p (without_place x.object x.page all) → x.object ≡ o → x.page ≡ p → ⊥
     gone o p some object page =
-        out (x.object == o && x.page == p) (times o p all) (times o p (without_place x.object x.page all)) (grind (arith, nat_tests, object, page)) (times_without x.object x.page o p all) (once o p) some
+        out (x.object == o && x.page == p) (times o p all) (times o p (without_place x.object x.page all)) (grind (arith, nat_tests, object, page))
+        (times_without x.object x.page o p all) (once o p) some
 
     by : (b : Bool) → nat_lt 0 (times x.object x.page all) ≡ b → Rest W all
     by false is = record { kept = all; each = all_standing W all (λ o p some. kept o p (each o p some) (none o p is some)); once = once; few = omega arith }
     by true is =
         let some : 1 ≤ times x.object x.page all = grind (arith, nat_tests, is) in
         let all_but : List Place = without_place x.object x.page all in
-        let less : (o p : ℕ) → times o p all_but ≤ times o p all = λ o p. fewer (x.object == o && x.page == p) (times o p all) (times o p all_but) (times_without x.object x.page o p all) in
+        let less : (o p : ℕ) → times o p all_but ≤ times o p all = λ o p. fewer (x.object == o && x.page == p) (times o p all) (times o p all_but)
+        (times_without x.object x.page o p all) in
         record {
           kept = all_but;
           each = all_standing W all_but (λ o p stays. kept o p (each o p (omega (arith, less o p, stays))) (gone o p stays));
@@ -155,18 +172,21 @@ record IsQuiet (header : Header) (outside : Outside) (history : List Event) : Ty
   delivered : undelivered history ≡ []
 
 -- a page that is asked is a wild object's
-asked_wild : (header : Header) (outside : Outside) (history : List Event) (host o p : ℕ) → IsQuiet header outside history → (page_on header host o p history).asked ≡ true → is_wild header o ≡ true
+asked_wild : (header : Header) (outside : Outside) (history : List Event) (host o p : ℕ) → IsQuiet header outside history
+    → (page_on header host o p history).asked ≡ true → is_wild header o ≡ true
 asked_wild header outside history host o p quiet is = by (kinds_of header o quiet.kinds)
   where
     by : (is_paged header o ≡ true) ⊎ ((is_shared header o ≡ true) ⊎ (is_wild header o ≡ true)) → is_wild header o ≡ true
     by (inl ours) =
         let a = asks_of header outside host history quiet.causes quiet.steps o p ours is in
-        absurd (way_none (is_request a.0 p) (is_answer p) (answers o p) host o a.0 history quiet.delivered (done_request header history quiet.paid host o a.0 p ours) a.2)
+        absurd (way_none (is_request a.0 p) (is_answer p) (answers o p) host o a.0 history quiet.delivered
+        (done_request header history quiet.paid host o a.0 p ours) a.2)
     by (inr (inl shared)) = never (sym (quiet.shared.asked host o p shared) ∙ is)
     by (inr (inr wild)) = wild
 
 -- so is a page that is here, locked against somebody, with an unlock outstanding
-locked_wild : (header : Header) (outside : Outside) (history : List Event) (host o p : ℕ) (store : Bool) → IsQuiet header outside history → (page_on header host o p history).here ≡ true → names (page_on header host o p history).lock store ≡ true
+locked_wild : (header : Header) (outside : Outside) (history : List Event) (host o p : ℕ) (store : Bool) → IsQuiet header outside history
+    → (page_on header host o p history).here ≡ true → names (page_on header host o p history).lock store ≡ true
     → (page_on header host o p history).unlocking ≡ true → is_wild header o ≡ true
 locked_wild header outside history host o p store quiet here named unlocking = by (kinds_of header o quiet.kinds)
   where
@@ -175,20 +195,23 @@ locked_wild header outside history host o p store quiet here named unlocking = b
     by (inr (inl shared)) = never (sym (quiet.shared.unlocking host o p shared here) ∙ unlocking)
     by (inr (inr wild)) = wild
 
-awaits_wild : (header : Header) (outside : Outside) (history : List Event) (host : ℕ) (store : Bool) (o p : ℕ) → IsQuiet header outside history → Awaits header host store o p history → is_wild header o ≡ true
+awaits_wild : (header : Header) (outside : Outside) (history : List Event) (host : ℕ) (store : Bool) (o p : ℕ) → IsQuiet header outside history
+    → Awaits header host store o p history → is_wild header o ≡ true
 awaits_wild header outside history host store o p quiet (AnAnswer is) = asked_wild header outside history host o p quiet is
 awaits_wild header outside history host store o p quiet (AReady control live is) = by (is_wild header o) refl
   where
     by : (b : Bool) → is_wild header o ≡ b → is_wild header o ≡ true
     by true wild = wild
     by false tame = never (sym is ∙ ready_now header outside history host o control quiet.causes quiet.steps quiet.paid quiet.delivered tame live)
-awaits_wild header outside history host store o p quiet (AnUnlock here named unlocking) = locked_wild header outside history host o p store quiet here named unlocking
+awaits_wild header outside history host store o p quiet (AnUnlock here named unlocking) =
+    locked_wild header outside history host o p store quiet here named unlocking
 
 usable : (of held wired n : ℕ) → of - (held + wired) ≡ 0 → held ≤ n + 1 → of - wired - n < 2
 usable of held wired n none few = omega arith
 
 -- of a host that is full all pages with a frame but one are held for a pager that the script drives
-full_short : (header : Header) (outside : Outside) (history : List Event) (host : ℕ) → IsQuiet header outside history → Base header host history → Count header host history → HostIsFull header host history → IsShortOfFrames header host history
+full_short : (header : Header) (outside : Outside) (history : List Event) (host : ℕ) → IsQuiet header outside history → Base header host history
+    → Count header host history → HostIsFull header host history → IsShortOfFrames header host history
 full_short header outside history host quiet base count full = by full.why
   where
     none_out : returns_out host history ≡ 0
@@ -205,11 +228,14 @@ full_short header outside history host quiet base count full = by full.why
     has true k e some = refl
     has false k e some = absurd (omega (arith, e, some))
 
-    held : (spare : Option Place) → ((o p : ℕ) → (page_on header host o p history).here ≡ true → WaitsUnlocked header host o p history ⊎ (spare ≡ Some (record { object = o; page = p })))
-        → (o p : ℕ) → framed header host history o p ≡ true → IsHeldWild header host history (record { object = o; page = p }) ⊎ (spare ≡ Some (record { object = o; page = p }))
+    held : (spare : Option Place) → ((o p : ℕ) → (page_on header host o p history).here ≡ true → WaitsUnlocked header host o p history
+        ⊎ (spare ≡ Some (record { object = o; page = p })))
+        → (o p : ℕ) → framed header host history o p ≡ true → IsHeldWild header host history (record { object = o; page = p })
+        ⊎ (spare ≡ Some (record { object = o; page = p }))
     held spare each o p is = pick (page_on header host o p history).here (page_on header host o p history).asked refl refl is
       where
-        waited : WaitsUnlocked header host o p history ⊎ (spare ≡ Some (record { object = o; page = p })) → IsHeldWild header host history (record { object = o; page = p }) ⊎ (spare ≡ Some (record { object = o; page = p }))
+        waited : WaitsUnlocked header host o p history ⊎ (spare ≡ Some (record { object = o; page = p }))
+            → IsHeldWild header host history (record { object = o; page = p }) ⊎ (spare ≡ Some (record { object = o; page = p }))
         waited (inl w) = inl (record { wild = locked_wild header outside history host o p (is_store w.access) quiet w.here w.named w.unlocking; why = inr w })
         waited (inr same) = inr same
 
@@ -226,28 +252,40 @@ full_short header outside history host quiet base count full = by full.why
         keep_rest (IsHeldWild header host history) e.spare places (λ o p. most (framed header host history o p) (times o p places) (count.held.each o p))
         (λ o p some. held e.spare e.held o p (has (framed header host history o p) (times o p places) (count.held.each o p) some)) in
         let few : frames_held header.size host history ≤ length r.kept + 1 = omega (arith, r.few, count.held.count, count.sum, none_out) in
-        record { none = full.none; wild = r.kept; held = r.each; once = r.once; usable = usable (frames_of header host) (frames_held header.size host history) (frames_wired host history) (length r.kept) full.none few }
+        record {
+          none = full.none;
+          wild = r.kept;
+          held = r.each;
+          once = r.once;
+          usable = usable (frames_of header host) (frames_held header.size host history) (frames_wired host history) (length r.kept) full.none few;
+        }
 
-one_short : (header : Header) (outside : Outside) (history : List Event) (host task : ℕ) (access : Access) → IsQuiet header outside history → WaitsForPager header host task access history ⊎ HostIsFull header host history
+one_short : (header : Header) (outside : Outside) (history : List Event) (host task : ℕ) (access : Access) → IsQuiet header outside history
+    → WaitsForPager header host task access history ⊎ HostIsFull header host history
     → WaitsForWild header host task access history ⊎ IsShortOfFrames header host history
-one_short header outside history host task access q (inl w) = inl (record { what = w; wild = awaits_wild header outside history host (is_store access) w.object w.page q w.what })
-one_short header outside history host task access q (inr full) = inr (full_short header outside history host q (base_of header outside host history q.causes) (count_of header outside host history q.causes) full)
+one_short header outside history host task access q (inl w) =
+    inl (record { what = w; wild = awaits_wild header outside history host (is_store access) w.object w.page q w.what })
+one_short header outside history host task access q (inr full) =
+    inr (full_short header outside history host q (base_of header outside host history q.causes) (count_of header outside host history q.causes) full)
 
 -- who lives on a host waits there
-pub leads_there : (header : Header) (host task : ℕ) (access : Access) (history : List Event) → (waits : Waits header task access history) → lives_on host task history ≡ true → waits.at.host ≡ host
+pub leads_there : (header : Header) (host task : ℕ) (access : Access) (history : List Event) → (waits : Waits header task access history)
+    → lives_on host task history ≡ true → waits.at.host ≡ host
 leads_there header host task access history waits lives = same waits.at.host (subst (λ (found : Option ℕ). is_on host found ≡ true) waits.at.lives lives)
   where
     same : (own : ℕ) → (own == host) ≡ true → own ≡ host
     same own is = grind (arith, nat_tests)
 
-pub only_wild : (header : Header) (outside : Outside) (history : List Event) → NoneIsTemporary header → EachEvent (HasCause header outside) history → BeforeSteps (IsPaid header) history → IsPaid header history → SharedAreAnswered header history → Prompt header history → undelivered history ≡ []
+pub only_wild : (header : Header) (outside : Outside) (history : List Event) → NoneIsTemporary header → EachEvent (HasCause header outside) history
+    → BeforeSteps (IsPaid header) history → IsPaid header history → SharedAreAnswered header history → Prompt header history → undelivered history ≡ []
     → OnlyWildAreAwaited header history
 only_wild header outside history kinds causes steps paid shared prompt delivered =
     let q : IsQuiet header outside history = record { kinds = kinds; causes = causes; steps = steps; paid = paid; shared = shared; delivered = delivered } in
     record {
       short = λ host task access below waiting lives. (
           let waits : Waits header task access history = (prompt host below).leads task access waiting lives in
-          one_short header outside history host task access q ((prompt host below).waits task access waits (leads_there header host task access history waits lives))
+          one_short header outside history host task access q ((prompt host below).waits task access waits
+          (leads_there header host task access history waits lives))
           );
     }
 
@@ -273,28 +311,37 @@ none_shared header o all shared = elim (cases_lt o (named header)) [
   | inr above ↦ never (sym (temporary_unshared header o above) ∙ shared)
 ]
 
-pub quiet : (header : Header) (outside : Outside) (history : List Event) → AllPaged header → EachEvent (HasCause header outside) history → BeforeSteps (IsPaid header) history → IsPaid header history → Prompt header history → undelivered history ≡ [] → NobodyWaitsInVain header history
-quiet header outside history all causes steps paid prompt delivered = record { short = λ host task access below waiting lives. short host task access (only.short host task access below waiting lives) }
+pub quiet : (header : Header) (outside : Outside) (history : List Event) → AllPaged header → EachEvent (HasCause header outside) history
+    → BeforeSteps (IsPaid header) history → IsPaid header history → Prompt header history → undelivered history ≡ [] → NobodyWaitsInVain header history
+quiet header outside history all causes steps paid prompt delivered =
+    record { short = λ host task access below waiting lives. short host task access (only.short host task access below waiting lives) }
   where
     only : OnlyWildAreAwaited header history
     only =
         only_wild header outside history (paged_kinds header all) causes steps paid
-        (record { asked = λ host o p shared. absurd (none_shared header o all shared); unlocking = λ host o p shared here. absurd (none_shared header o all shared) }) prompt delivered
+        (record {
+          asked = λ host o p shared. absurd (none_shared header o all shared);
+          unlocking = λ host o p shared here. absurd (none_shared header o all shared);
+        }) prompt delivered
 
-    short : (host task : ℕ) (access : Access) → WaitsForWild header host task access history ⊎ IsShortOfFrames header host history → WaitsOnWild header host task access history ⊎ IsShortOfFrames header host history
+    short : (host task : ℕ) (access : Access) → WaitsForWild header host task access history ⊎ IsShortOfFrames header host history
+        → WaitsOnWild header host task access history ⊎ IsShortOfFrames header host history
     short host task access (inl for) = never (sym (paged_supplied header for.what.object (paged header all for.what.object)) ∙ for.wild)
     short host task access (inr frames) = inr frames
 
 -- where no object is wild, no frame is held for a pager that the script drives
 
-no_wild : (header : Header) (host : ℕ) (past : List Event) (places : List Place) → NoneIsWild header → All (IsHeldWild header host past) places → length places ≡ 0
+no_wild : (header : Header) (host : ℕ) (past : List Event) (places : List Place) → NoneIsWild header → All (IsHeldWild header host past) places
+    → length places ≡ 0
 no_wild header host past [] tame held = refl
 no_wild header host past (x ∷ xs) tame held = never (sym (tame x.object) ∙ (All-head (IsHeldWild header host past) x xs held).wild)
 
 pub for_frames : (header : Header) (history : List Event) → NoneIsWild header → NobodyWaitsInVain header history → OnlyFramesAreAwaited header history
-for_frames header history tame vain = record { short = λ host task access below waiting lives. frames host (short host task access (vain.short host task access below waiting lives)) }
+for_frames header history tame vain =
+    record { short = λ host task access below waiting lives. frames host (short host task access (vain.short host task access below waiting lives)) }
   where
-    short : (host task : ℕ) (access : Access) → WaitsOnWild header host task access history ⊎ IsShortOfFrames header host history → IsShortOfFrames header host history
+    short : (host task : ℕ) (access : Access) → WaitsOnWild header host task access history ⊎ IsShortOfFrames header host history
+        → IsShortOfFrames header host history
     short host task access (inl on) = never (sym (tame on.waits.at.entry.region.0) ∙ on.wild)
     short host task access (inr full) = full
 

@@ -1,5 +1,6 @@
 -- What holds of each place, control and channel of a host at every moment of a caused history.
-use Rattle.std.proofs.Common.{inl, inr, ℕ, zero, suc, ◌≡◌, ◌∙◌, List, [], ◌∷◌, Bool, true, false, refl, sym, ap, subst, arith, Option, Some, None, if◌then◌else◌}
+use Rattle.std.proofs.Common.{inl, inr, ℕ, zero, suc, ◌≡◌, ◌∙◌, List, [], ◌∷◌, Bool, true, false, refl, sym, ap, subst, arith, Option, Some, None}
+use Rattle.std.proofs.Common.{if◌then◌else◌}
 use Rattle.std.proofs.lemmas.Bool.Decides.{nat_tests}
 use Rattle.std.specs.Prelude.{◌==◌, ◌&&◌, ◌||◌, ◌<◌, ◌≤◌, ◌⊎◌, not, nat_lt, is_some}
 use Rattle.vm_base.specs.Pages.{little_endian_bytes}
@@ -13,7 +14,8 @@ use Rattle.vm_model.specs.declared.message.Message.TheVariants as message
 use Rattle.vm_model.specs.declared.command.Command.{Command}
 use Rattle.vm_model.specs.declared.script.Header.{Header}
 use Rattle.vm_model.specs.Controls.{is_control, without_control, last_control, live_control}
-use Rattle.vm_model.specs.Local.{LocalEffect, Local, Zeroes, Raises, Stores, Drops, Returns, Asks, Unlocks, TakesPage, TakesNothing, TakesError, TakesLock, Begins, Ends, Elsewhere, effect, is_on, local, local_after}
+use Rattle.vm_model.specs.Local.{LocalEffect, Local, Zeroes, Raises, Stores, Drops, Returns, Asks, Unlocks, TakesPage, TakesNothing, TakesError, TakesLock}
+use Rattle.vm_model.specs.Local.{Begins, Ends, Elsewhere, effect, is_on, local, local_after}
 use Rattle.vm_model.specs.Moments.{EachEvent}
 use Rattle.vm_model.specs.Named.{named}
 use Rattle.vm_model.specs.Tasks.{host_of}
@@ -70,7 +72,8 @@ pub record IsVacant (page : Local) : Type 0 where
   pub away : page.here ≡ false
   pub unasked : page.asked ≡ false
 
-pub vacant_zeroed : (header : Header) (host o p : ℕ) (past : List Event) → Fills header host o p past ⊎ Bottoms header host o p past → IsVacant (page_on header host o p past)
+pub vacant_zeroed : (header : Header) (host o p : ℕ) (past : List Event) → Fills header host o p past ⊎ Bottoms header host o p past
+    → IsVacant (page_on header host o p past)
 vacant_zeroed header host o p past (inl c) = record { away = c.away; unasked = c.unasked }
 vacant_zeroed header host o p past (inr c) = by c.steps c.sinks
   where
@@ -78,10 +81,12 @@ vacant_zeroed header host o p past (inr c) = by c.steps c.sinks
     by zero s = record { away = s.0.away; unasked = s.0.unasked }
     by (suc n) s = record { away = s.0.away; unasked = s.0.unasked }
 
-pub vacant_raised : (header : Header) (host lower lower_page o p : ℕ) (past : List Event) → RaisesPage header host lower lower_page o p past → IsVacant (page_on header host o p past)
+pub vacant_raised : (header : Header) (host lower lower_page o p : ℕ) (past : List Event) → RaisesPage header host lower lower_page o p past
+    → IsVacant (page_on header host o p past)
 vacant_raised header host lower lower_page o p past c = record { away = c.walks.0.away; unasked = c.walks.0.unasked }
 
-pub vacant_copied : (header : Header) (host task index object page target : ℕ) (past : List Event) → CopiesPage header task index object page target past → is_on host (host_of task past) ≡ true → IsVacant (page_on header host target index past)
+pub vacant_copied : (header : Header) (host task index object page target : ℕ) (past : List Event) → CopiesPage header task index object page target past
+    → is_on host (host_of task past) ≡ true → IsVacant (page_on header host target index past)
 vacant_copied header host task index object page target past c on =
     let same : is_on host (Some c.waits.at.host) ≡ true = subst (λ (h : Option ℕ). is_on host h ≡ true) c.waits.at.lives on in
     subst (λ h. IsVacant (page_on header h target index past)) (is c.waits.at.host host same) (record { away = c.away; unasked = c.unasked })
@@ -125,7 +130,15 @@ sane_moved size Asks was live after c s = record { apart = λ is. never (sym c.0
 sane_moved size Unlocks was live after c s = record { apart = s.apart; living = λ is. c (s.living is) }
 sane_moved size (TakesPage lock precious bytes) was live after c s = by was.asked refl
   where
-    by : (b : Bool) → was.asked ≡ b → Sane (if b then record was { here = true; bytes = bytes; lock = lock; dirty = false; precious = precious; unlocking = false; asked = false } else was) after
+    by : (b : Bool) → was.asked ≡ b → Sane (if b then record was {
+      here = true;
+      bytes = bytes;
+      lock = lock;
+      dirty = false;
+      precious = precious;
+      unlocking = false;
+      asked = false;
+    } else was) after
     by true is = record { apart = λ x. refl; living = λ x. never x }
     by false is = record { apart = s.apart; living = λ x. never (sym is ∙ x) }
 sane_moved size TakesNothing was live after c s = by was.asked refl
@@ -148,11 +161,13 @@ pub record Base (header : Header) (host : ℕ) (past : List Event) : Type 0 wher
   pub numbered : (o : ℕ) → last_control host o past ≡ 0 → is_some (live_control host o past) ≡ false
   pub returns : returns_out host past ≡ outs host (undelivered past)
 
-allowed_if : (t : Bool) (e : LocalEffect) (was : Local) (live after : Option ℕ) → (t ≡ true → Allowed e was live after) → Lives live after → Allowed (if t then e else Elsewhere) was live after
+allowed_if : (t : Bool) (e : LocalEffect) (was : Local) (live after : Option ℕ) → (t ≡ true → Allowed e was live after) → Lives live after
+    → Allowed (if t then e else Elsewhere) was live after
 allowed_if true e was live after c keeps = c refl
 allowed_if false e was live after c keeps = keeps
 
-allowed_two : (s t : Bool) (e : LocalEffect) (was : Local) (live after : Option ℕ) → (s ≡ true → t ≡ true → Allowed e was live after) → Lives live after → Allowed (if s then (if t then e else Elsewhere) else Elsewhere) was live after
+allowed_two : (s t : Bool) (e : LocalEffect) (was : Local) (live after : Option ℕ) → (s ≡ true → t ≡ true → Allowed e was live after) → Lives live after
+    → Allowed (if s then (if t then e else Elsewhere) else Elsewhere) was live after
 allowed_two true true e was live after c keeps = c refl refl
 allowed_two true false e was live after c keeps = keeps
 allowed_two false t e was live after c keeps = keeps
@@ -180,7 +195,8 @@ control_of live k e = ap (λ (l : Option ℕ). is_control k l) e ∙ own k
     own : (k : ℕ) → (k == k) ≡ true
     own k = grind (arith, nat_tests)
 
-begins_allowed : (b : Bool) (control : ℕ) (page : Local) (live : Option ℕ) → Allowed (if b then Begins else Elsewhere) page live (if b then Some control else live)
+begins_allowed : (b : Bool) (control : ℕ) (page : Local) (live : Option ℕ)
+    → Allowed (if b then Begins else Elsewhere) page live (if b then Some control else live)
 begins_allowed true control page live = tt
 begins_allowed false control page live = λ is. is
 
@@ -188,61 +204,90 @@ elsewhere_allowed : (b : Bool) (page : Local) (live : Option ℕ) → Allowed (i
 elsewhere_allowed true page live = λ is. is
 elsewhere_allowed false page live = λ is. is
 
-up_allowed : (header : Header) (host : ℕ) (at : HostId) (object : ObjectId) (m : Message) (past : List Event) (o p : ℕ) → ((doing : Command) × MaySendUp header doing at.0 object.0 m past) → Allowed (effect host (record { object = o; page = p }) (λ source. local header.size host source past) (event.Sent (Up at object) m) past) (page_on header host o p past) (live_control host o past) (live_control host o (event.Sent (Up at object) m ∷ past))
-up_allowed header host at object (message.Init control size) past o p c = begins_allowed (at.0 == host && object.0 == o) control (page_on header host o p past) (live_control host o past)
-up_allowed header host at object (message.Create control size) past o p c = begins_allowed (at.0 == host && object.0 == o) control (page_on header host o p past) (live_control host o past)
-up_allowed header host at object (message.Terminate control) past o p c = by (at.0 == host && object.0 == o) (is_control control (live_control host o past)) (λ is. control_of (live_control host o past) control (there_two (λ h k. live_control h k past ≡ Some control) at.0 object.0 host o is c.1.live))
+up_allowed : (header : Header) (host : ℕ) (at : HostId) (object : ObjectId) (m : Message) (past : List Event) (o p : ℕ)
+    → ((doing : Command) × MaySendUp header doing at.0 object.0 m past)
+    → Allowed (effect host (record { object = o; page = p }) (λ source. local header.size host source past) (event.Sent (Up at object) m) past)
+    (page_on header host o p past) (live_control host o past) (live_control host o (event.Sent (Up at object) m ∷ past))
+up_allowed header host at object (message.Init control size) past o p c =
+    begins_allowed (at.0 == host && object.0 == o) control (page_on header host o p past) (live_control host o past)
+up_allowed header host at object (message.Create control size) past o p c =
+    begins_allowed (at.0 == host && object.0 == o) control (page_on header host o p past) (live_control host o past)
+up_allowed header host at object (message.Terminate control) past o p c =
+    by (at.0 == host && object.0 == o) (is_control control (live_control host o past))
+    (λ is. control_of (live_control host o past) control (there_two (λ h k. live_control h k past ≡ Some control) at.0 object.0 host o is c.1.live))
   where
-    by : (b t : Bool) → (b ≡ true → t ≡ true) → Allowed (if b then (if t then Ends else Elsewhere) else Elsewhere) (page_on header host o p past) (live_control host o past) (if b then without_control control (live_control host o past) else live_control host o past)
+    by : (b t : Bool) → (b ≡ true → t ≡ true) → Allowed (if b then (if t then Ends else Elsewhere) else Elsewhere) (page_on header host o p past)
+        (live_control host o past) (if b then without_control control (live_control host o past) else live_control host o past)
     by true true is = tt
     by true false is = never (is refl)
     by false t is = λ x. x
 up_allowed header host at object (message.Request control page access) past o p c =
-    allowed_two (at.0 == host && object.0 == o) (page.0 == p && is_control control (live_control host o past)) Asks (page_on header host o p past) (live_control host o past) (live_control host o past)
+    allowed_two (at.0 == host && object.0 == o) (page.0 == p && is_control control (live_control host o past)) Asks (page_on header host o p past)
+    (live_control host o past) (live_control host o past)
     (λ s t. (
-      there (λ h k q. IsVacant (page_on header h k q past)) at.0 object.0 page.0 host o p (join (at.0 == host) (object.0 == o) (page.0 == p) s (left (page.0 == p) (is_control control (live_control host o past)) t)) (record { away = c.1.away; unasked = c.1.unasked }),
+      there (λ h k q. IsVacant (page_on header h k q past)) at.0 object.0 page.0 host o p
+          (join (at.0 == host) (object.0 == o) (page.0 == p) s (left (page.0 == p) (is_control control (live_control host o past)) t))
+          (record { away = c.1.away; unasked = c.1.unasked }),
       is_some_of (live_control host o past) control (there_two (λ h k. live_control h k past ≡ Some control) at.0 object.0 host o s c.1.live),
     ))
     (λ is. is)
 up_allowed header host at object (message.Return control page dirty keep bytes) past o p c =
-    allowed_two (at.0 == host && object.0 == o) (page.0 == p) (Returns keep) (page_on header host o p past) (live_control host o past) (live_control host o past)
-    (λ s t. there (λ h k q. (page_on header h k q past).here ≡ true) at.0 object.0 page.0 host o p (join (at.0 == host) (object.0 == o) (page.0 == p) s t) c.1.here)
+    allowed_two (at.0 == host && object.0 == o) (page.0 == p) (Returns keep) (page_on header host o p past) (live_control host o past)
+    (live_control host o past)
+    (λ s t. there (λ h k q. (page_on header h k q past).here ≡ true) at.0 object.0 page.0 host o p (join (at.0 == host) (object.0 == o) (page.0 == p) s t)
+    c.1.here)
     (λ is. is)
 up_allowed header host at object (message.Unlock control page access) past o p c =
-    allowed_two (at.0 == host && object.0 == o) (page.0 == p) Unlocks (page_on header host o p past) (live_control host o past) (live_control host o past) (λ s t. λ is. is) (λ is. is)
-up_allowed header host at object (message.Completed control page count) past o p c = elsewhere_allowed (at.0 == host && object.0 == o) (page_on header host o p past) (live_control host o past)
+    allowed_two (at.0 == host && object.0 == o) (page.0 == p) Unlocks (page_on header host o p past) (live_control host o past) (live_control host o past)
+    (λ s t. λ is. is) (λ is. is)
+up_allowed header host at object (message.Completed control page count) past o p c =
+    elsewhere_allowed (at.0 == host && object.0 == o) (page_on header host o p past) (live_control host o past)
 up_allowed header host at object m past o p c = absurd c.1
 
 down_allowed : (header : Header) (host : ℕ) (at : HostId) (object : ObjectId) (control : ℕ) (m : Message) (past : List Event) (o p : ℕ)
-    → Allowed (effect host (record { object = o; page = p }) (λ source. local header.size host source past) (event.Taken (Down at object control) m) past) (page_on header host o p past) (live_control host o past) (live_control host o past)
+    → Allowed (effect host (record { object = o; page = p }) (λ source. local header.size host source past) (event.Taken (Down at object control) m) past)
+    (page_on header host o p past) (live_control host o past) (live_control host o past)
 down_allowed header host at object control (message.Supply page lock precious bytes) past o p =
-    allowed_two (at.0 == host && (object.0 == o && is_control control (live_control host o past))) (page.0 == p) (TakesPage lock precious bytes) (page_on header host o p past) (live_control host o past) (live_control host o past) (λ s t. tt) (λ is. is)
+    allowed_two (at.0 == host && (object.0 == o && is_control control (live_control host o past))) (page.0 == p) (TakesPage lock precious bytes)
+    (page_on header host o p past) (live_control host o past) (live_control host o past) (λ s t. tt) (λ is. is)
 down_allowed header host at object control (message.Unavailable page) past o p =
-    allowed_two (at.0 == host && (object.0 == o && is_control control (live_control host o past))) (page.0 == p) TakesNothing (page_on header host o p past) (live_control host o past) (live_control host o past) (λ s t. tt) (λ is. is)
+    allowed_two (at.0 == host && (object.0 == o && is_control control (live_control host o past))) (page.0 == p) TakesNothing (page_on header host o p past)
+    (live_control host o past) (live_control host o past) (λ s t. tt) (λ is. is)
 down_allowed header host at object control (message.Error page reason) past o p =
-    allowed_two (at.0 == host && (object.0 == o && is_control control (live_control host o past))) (page.0 == p) TakesError (page_on header host o p past) (live_control host o past) (live_control host o past) (λ s t. tt) (λ is. is)
+    allowed_two (at.0 == host && (object.0 == o && is_control control (live_control host o past))) (page.0 == p) TakesError (page_on header host o p past)
+    (live_control host o past) (live_control host o past) (λ s t. tt) (λ is. is)
 down_allowed header host at object control (message.Lock page count returns flush lock reply) past o p =
-    allowed_two (at.0 == host && (object.0 == o && is_control control (live_control host o past))) (in_range p page.0 count) (TakesLock lock flush) (page_on header host o p past) (live_control host o past) (live_control host o past)
+    allowed_two (at.0 == host && (object.0 == o && is_control control (live_control host o past))) (in_range p page.0 count) (TakesLock lock flush)
+    (page_on header host o p past) (live_control host o past) (live_control host o past)
     (λ s t. λ is. is) (λ is. is)
-down_allowed header host at object control m past o p = elsewhere_allowed (at.0 == host && (object.0 == o && is_control control (live_control host o past))) (page_on header host o p past) (live_control host o past)
+down_allowed header host at object control m past o p =
+    elsewhere_allowed (at.0 == host && (object.0 == o && is_control control (live_control host o past))) (page_on header host o p past)
+    (live_control host o past)
 
 allowed_next : (header : Header) (outside : Outside) (host : ℕ) (e : Event) (past : List Event) → HasCause header outside e past → (o p : ℕ)
-    → Allowed (effect host (record { object = o; page = p }) (λ source. local header.size host source past) e past) (page_on header host o p past) (live_control host o past) (live_control host o (e ∷ past))
+    → Allowed (effect host (record { object = o; page = p }) (λ source. local header.size host source past) e past) (page_on header host o p past)
+    (live_control host o past) (live_control host o (e ∷ past))
 allowed_next header outside host (event.Zeroed at object page) past c o p =
     allowed_if (at.0 == host && (object.0 == o && page.0 == p)) Zeroes (page_on header host o p past) (live_control host o past) (live_control host o past)
     (λ is. there (λ h k q. IsVacant (page_on header h k q past)) at.0 object.0 page.0 host o p is (vacant_zeroed header at.0 object.0 page.0 past c.1))
     (λ is. is)
 allowed_next header outside host (event.Raised at lower lower_page upper upper_page) past c o p =
-    allowed_if (at.0 == host && (upper.0 == o && upper_page.0 == p)) (Raises (page_on header host lower.0 lower_page.0 past).bytes) (page_on header host o p past) (live_control host o past) (live_control host o past)
-    (λ is. there (λ h k q. IsVacant (page_on header h k q past)) at.0 upper.0 upper_page.0 host o p is (vacant_raised header at.0 lower.0 lower_page.0 upper.0 upper_page.0 past c.1))
+    allowed_if (at.0 == host && (upper.0 == o && upper_page.0 == p)) (Raises (page_on header host lower.0 lower_page.0 past).bytes)
+    (page_on header host o p past) (live_control host o past) (live_control host o past)
+    (λ is. there (λ h k q. IsVacant (page_on header h k q past)) at.0 upper.0 upper_page.0 host o p is
+    (vacant_raised header at.0 lower.0 lower_page.0 upper.0 upper_page.0 past c.1))
     (λ is. is)
 allowed_next header outside host (event.CopiedPage task page object object_page target) past c o p =
-    allowed_if (is_on host (host_of task.0 past) && (target.0 == o && page.0 == p)) (Raises (page_on header host object.0 object_page.0 past).bytes) (page_on header host o p past) (live_control host o past) (live_control host o past)
-    (λ is. there_two (λ k q. IsVacant (page_on header host k q past)) target.0 page.0 o p (right (is_on host (host_of task.0 past)) (target.0 == o && page.0 == p) is)
-    (vacant_copied header host task.0 page.0 object.0 object_page.0 target.0 past c.1 (left (is_on host (host_of task.0 past)) (target.0 == o && page.0 == p) is)))
+    allowed_if (is_on host (host_of task.0 past) && (target.0 == o && page.0 == p)) (Raises (page_on header host object.0 object_page.0 past).bytes)
+    (page_on header host o p past) (live_control host o past) (live_control host o past)
+    (λ is. there_two (λ k q. IsVacant (page_on header host k q past)) target.0 page.0 o p
+    (right (is_on host (host_of task.0 past)) (target.0 == o && page.0 == p) is)
+    (vacant_copied header host task.0 page.0 object.0 object_page.0 target.0 past c.1
+    (left (is_on host (host_of task.0 past)) (target.0 == o && page.0 == p) is)))
     (λ is. is)
 allowed_next header outside host (event.Stored task object page at size value) past c o p =
-    allowed_if (is_on host (host_of task.0 past) && (object.0 == o && page.0 == p)) (Stores at (little_endian_bytes size value)) (page_on header host o p past) (live_control host o past) (live_control host o past) (λ is. λ x. x) (λ is. is)
+    allowed_if (is_on host (host_of task.0 past) && (object.0 == o && page.0 == p)) (Stores at (little_endian_bytes size value)) (page_on header host o p past)
+    (live_control host o past) (live_control host o past) (λ is. λ x. x) (λ is. is)
 allowed_next header outside host (event.Dropped at object page) past c o p =
     allowed_if (at.0 == host && (object.0 == o && page.0 == p)) Drops (page_on header host o p past) (live_control host o past) (live_control host o past)
     (λ is. there (λ h k q. (page_on header h k q past).here ≡ true) at.0 object.0 page.0 host o p is c.1.here)
@@ -254,7 +299,8 @@ allowed_next header outside host (event.Taken (Down at object control) m) past c
 allowed_next header outside host e past c o p = λ is. is
 
 -- a number of a control is never 0
-numbered_if : (b : Bool) (control last : ℕ) (live : Option ℕ) → 1 ≤ control → (last ≡ 0 → is_some live ≡ false) → (if b then control else last) ≡ 0 → is_some (if b then Some control else live) ≡ false
+numbered_if : (b : Bool) (control last : ℕ) (live : Option ℕ) → 1 ≤ control → (last ≡ 0 → is_some live ≡ false) → (if b then control else last) ≡ 0
+    → is_some (if b then Some control else live) ≡ false
 numbered_if true control last live some was none = absurd (omega (arith, some, none))
 numbered_if false control last live some was none = was none
 
@@ -263,23 +309,30 @@ none_without true control None is = refl
 none_without true control (Some n) is = never (sym is)
 none_without false control live is = is
 
-numbered_next : (header : Header) (outside : Outside) (host : ℕ) (e : Event) (past : List Event) → Base header host past → HasCause header outside e past → (o : ℕ) → last_control host o (e ∷ past) ≡ 0 → is_some (live_control host o (e ∷ past)) ≡ false
+numbered_next : (header : Header) (outside : Outside) (host : ℕ) (e : Event) (past : List Event) → Base header host past → HasCause header outside e past
+    → (o : ℕ) → last_control host o (e ∷ past) ≡ 0 → is_some (live_control host o (e ∷ past)) ≡ false
 numbered_next header outside host (event.Sent (Up at object) (message.Init control size)) past base c o =
     numbered_if (at.0 == host && object.0 == o) control (last_control host o past) (live_control host o past) (omega (arith, c.1.number)) (base.numbered o)
 numbered_next header outside host (event.Sent (Up at object) (message.Create control size)) past base c o =
     numbered_if (at.0 == host && object.0 == o) control (last_control host o past) (live_control host o past) (omega (arith, c.1.number)) (base.numbered o)
-numbered_next header outside host (event.Sent (Up at object) (message.Terminate control)) past base c o = λ none. none_without (at.0 == host && object.0 == o) control (live_control host o past) (base.numbered o none)
+numbered_next header outside host (event.Sent (Up at object) (message.Terminate control)) past base c o =
+    λ none. none_without (at.0 == host && object.0 == o) control (live_control host o past) (base.numbered o none)
 numbered_next header outside host e past base c o = base.numbered o
 
-returns_next : (header : Header) (outside : Outside) (host : ℕ) (e : Event) (past : List Event) → Base header host past → HasCause header outside e past → returns_out host (e ∷ past) ≡ outs host (undelivered (e ∷ past))
+returns_next : (header : Header) (outside : Outside) (host : ℕ) (e : Event) (past : List Event) → Base header host past → HasCause header outside e past
+    → returns_out host (e ∷ past) ≡ outs host (undelivered (e ∷ past))
 returns_next header outside host (event.Sent d m) past base c = outs_sent host d m past base.returns
 returns_next header outside host (event.Taken d m) past base c = outs_taken host d m past c.1.0 base.returns
 returns_next header outside host e past base c = base.returns
 
-pub base_next : (header : Header) (outside : Outside) (host : ℕ) (e : Event) (past : List Event) → Base header host past → HasCause header outside e past → Base header host (e ∷ past)
+pub base_next : (header : Header) (outside : Outside) (host : ℕ) (e : Event) (past : List Event) → Base header host past → HasCause header outside e past
+    → Base header host (e ∷ past)
 base_next header outside host e past base c =
     record {
-      sane = λ o p. sane_moved header.size (effect host (record { object = o; page = p }) (λ source. local header.size host source past) e past) (page_on header host o p past) (live_control host o past) (live_control host o (e ∷ past)) (allowed_next header outside host e past c o p) (base.sane o p);
+      sane =
+          λ o p. sane_moved header.size (effect host (record { object = o; page = p }) (λ source. local header.size host source past) e past)
+          (page_on header host o p past) (live_control host o past) (live_control host o (e ∷ past)) (allowed_next header outside host e past c o p)
+          (base.sane o p);
       numbered = numbered_next header outside host e past base c;
       returns = returns_next header outside host e past base c;
     }

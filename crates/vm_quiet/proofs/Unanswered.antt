@@ -34,7 +34,8 @@ none_is_shared : NoneIsShared header
 none_is_shared = none_shared header (λ o below. let first : 0 ≡ o = omega (arith, below) in subst (λ k. is_shared header k ≡ false) first refl)
 
 pub wild_answered : SharedAreAnswered header history
-wild_answered = record { asked = λ h o p shared. never (sym (none_is_shared o) ∙ shared); unlocking = λ h o p shared here. never (sym (none_is_shared o) ∙ shared) }
+wild_answered =
+    record { asked = λ h o p shared. never (sym (none_is_shared o) ∙ shared); unlocking = λ h o p shared here. never (sym (none_is_shared o) ∙ shared) }
 
 -- what steps owe: a wild object's pager answers nothing
 
@@ -46,7 +47,8 @@ abbrev letter_object : Option Letter → ℕ
 letter_object None = 0
 letter_object (Some letter) = channel_object letter.channel
 
-paid : (past : List Event) → owed past ≡ None → letter_object (taken_letter past) ≡ 0 → error_taken header.size past ≡ None → absence_taken header.size past ≡ None → lock_taken past ≡ None → IsPaid header past
+paid : (past : List Event) → owed past ≡ None → letter_object (taken_letter past) ≡ 0 → error_taken header.size past ≡ None
+    → absence_taken header.size past ≡ None → lock_taken past ≡ None → IsPaid header past
 paid past made took failed lacked locked =
     record {
       none_owed = made;
@@ -63,7 +65,31 @@ pub wild_paid : IsPaid header history
 wild_paid = paid history refl refl refl refl refl
 
 pub wild_steps : BeforeSteps (IsPaid header) history
-wild_steps = (paid _ refl refl refl refl refl, (paid _ refl refl refl refl refl, (paid _ refl refl refl refl refl, (paid _ refl refl refl refl refl, (paid _ refl refl refl refl refl, (paid _ refl refl refl refl refl, (paid _ refl refl refl refl refl, (paid _ refl refl refl refl refl, (paid _ refl refl refl refl refl, (paid _ refl refl refl refl refl, (paid _ refl refl refl refl refl, (paid _ refl refl refl refl refl, tt))))))))))))
+wild_steps = (
+  paid _ refl refl refl refl refl,
+  (
+    paid _ refl refl refl refl refl,
+    (
+      paid _ refl refl refl refl refl,
+      (
+        paid _ refl refl refl refl refl,
+        (
+          paid _ refl refl refl refl refl,
+          (
+            paid _ refl refl refl refl refl,
+            (
+              paid _ refl refl refl refl refl,
+              (
+                paid _ refl refl refl refl refl,
+                (paid _ refl refl refl refl refl, (paid _ refl refl refl refl refl, (paid _ refl refl refl refl refl, (paid _ refl refl refl refl refl, tt)))),
+              ),
+            ),
+          ),
+        ),
+      ),
+    ),
+  ),
+)
 
 -- causes
 
@@ -74,7 +100,132 @@ abbrev mapped : Entry
 mapped = record { address = 0; bytes = 16; region = region; offset = 0; prot = both; inherit = Share }
 
 pub wild_causes : EachEvent (HasCause header outside) history
-wild_causes = ((settling, (refl, (refl, omega arith))), ((settling, record { task = 0; access = Loading 0 1; waits = record { waits = refl; at = record { host = 0; entry = mapped; lives = refl; found = refl }; left = tt }; on_host = refl; unmarked = λ store. refl; comes = record { top = 0; top_page = 0; steps = 0; is_top = record { object = refl; page = refl }; walks = (refl, refl) }; number = refl; live = refl; ready = refl; away = refl; unasked = refl; known = refl }), ((settling, (refl, (refl, omega arith))), ((settling, (refl, (refl, omega arith))), ((settling, (refl, (refl, omega arith))), ((settling, tt), ((settling, refl), ((settling, tt), ((settling, refl), ((settling, tt), ((command.Say (record { 0 = 0 }) object (message.Ready false 0), (refl, refl, refl, refl, refl)), ((settling, tt), ((settling, record { number = refl; sized = refl; declared = omega arith; none = refl; task = 1; address = 0; at = record { host = 1; entry = mapped; lives = refl; found = refl }; on_host = refl; region = refl }), ((settling, record { idle = refl; host = 1; lives = refl; whole = refl; inside = omega arith; made = omega arith; used = λ above. absurd (omega (arith, above)); file = λ is. never is; unfilled = refl }), ((settling, tt), ((settling, record { number = refl; sized = refl; declared = omega arith; none = refl; task = 0; address = 0; at = record { host = 0; entry = mapped; lives = refl; found = refl }; on_host = refl; region = refl }), ((settling, record { idle = refl; host = 0; lives = refl; whole = refl; inside = omega arith; made = omega arith; used = λ above. absurd (omega (arith, above)); file = λ is. never is; unfilled = refl }), ((settling, tt), ((settling, tt), ((settling, tt), ((settling, tt), ((settling, tt), tt))))))))))))))))))))))
+wild_causes = (
+  (settling, (refl, (refl, omega arith))),
+  (
+    (
+      settling,
+      record {
+        task = 0;
+        access = Loading 0 1;
+        waits = record { waits = refl; at = record { host = 0; entry = mapped; lives = refl; found = refl }; left = tt };
+        on_host = refl;
+        unmarked = λ store. refl;
+        comes = record {
+          top = 0;
+          top_page = 0;
+          steps = 0;
+          is_top = record { object = refl; page = refl };
+          walks = (refl, refl);
+        };
+        number = refl;
+        live = refl;
+        ready = refl;
+        away = refl;
+        unasked = refl;
+        known = refl;
+      },
+    ),
+    (
+      (settling, (refl, (refl, omega arith))),
+      (
+        (settling, (refl, (refl, omega arith))),
+        (
+          (settling, (refl, (refl, omega arith))),
+          (
+            (settling, tt),
+            (
+              (settling, refl),
+              (
+                (settling, tt),
+                (
+                  (settling, refl),
+                  (
+                    (settling, tt),
+                    (
+                      (command.Say (record { 0 = 0 }) object (message.Ready false 0), (refl, refl, refl, refl, refl)),
+                      (
+                        (settling, tt),
+                        (
+                          (
+                            settling,
+                            record {
+                              number = refl;
+                              sized = refl;
+                              declared = omega arith;
+                              none = refl;
+                              task = 1;
+                              address = 0;
+                              at = record { host = 1; entry = mapped; lives = refl; found = refl };
+                              on_host = refl;
+                              region = refl;
+                            },
+                          ),
+                          (
+                            (
+                              settling,
+                              record {
+                                idle = refl;
+                                host = 1;
+                                lives = refl;
+                                whole = refl;
+                                inside = omega arith;
+                                made = omega arith;
+                                used = λ above. absurd (omega (arith, above));
+                                file = λ is. never is;
+                                unfilled = refl;
+                              },
+                            ),
+                            (
+                              (settling, tt),
+                              (
+                                (
+                                  settling,
+                                  record {
+                                    number = refl;
+                                    sized = refl;
+                                    declared = omega arith;
+                                    none = refl;
+                                    task = 0;
+                                    address = 0;
+                                    at = record { host = 0; entry = mapped; lives = refl; found = refl };
+                                    on_host = refl;
+                                    region = refl;
+                                  },
+                                ),
+                                (
+                                  (
+                                    settling,
+                                    record {
+                                      idle = refl;
+                                      host = 0;
+                                      lives = refl;
+                                      whole = refl;
+                                      inside = omega arith;
+                                      made = omega arith;
+                                      used = λ above. absurd (omega (arith, above));
+                                      file = λ is. never is;
+                                      unfilled = refl;
+                                    },
+                                  ),
+                                  ((settling, tt), ((settling, tt), ((settling, tt), ((settling, tt), ((settling, tt), tt))))),
+                                ),
+                              ),
+                            ),
+                          ),
+                        ),
+                      ),
+                    ),
+                  ),
+                ),
+              ),
+            ),
+          ),
+        ),
+      ),
+    ),
+  ),
+)
 
 -- both loads wait
 
@@ -95,14 +246,30 @@ for_answer : Awaiting 0 (Loading 0 1)
 for_answer = record {
   host = 0;
   lives = refl;
-  pager = record { waits = wild_waits; on_host = refl; object = 0; page = 0; place = record { top = 0; top_page = 0; steps = 0; is_top = record { object = refl; page = refl }; leads = (refl, refl) }; what = AnAnswer refl };
+  pager =
+      record {
+        waits = wild_waits;
+        on_host = refl;
+        object = 0;
+        page = 0;
+        place = record { top = 0; top_page = 0; steps = 0; is_top = record { object = refl; page = refl }; leads = (refl, refl) };
+        what = AnAnswer refl;
+      };
 }
 
 for_ready : Awaiting 1 (Loading 0 1)
 for_ready = record {
   host = 1;
   lives = refl;
-  pager = record { waits = wild_unready; on_host = refl; object = 0; page = 0; place = record { top = 0; top_page = 0; steps = 0; is_top = record { object = refl; page = refl }; leads = (refl, refl) }; what = AReady 1 refl refl };
+  pager =
+      record {
+        waits = wild_unready;
+        on_host = refl;
+        object = 0;
+        page = 0;
+        place = record { top = 0; top_page = 0; steps = 0; is_top = record { object = refl; page = refl }; leads = (refl, refl) };
+        what = AReady 1 refl refl;
+      };
 }
 
 who : (t : ℕ) (access : Access) → waiting t history ≡ Some access → Awaiting t access
@@ -112,9 +279,11 @@ who t access is = by (1 == t) (0 == t) refl refl is
     number_is a b is = grind (arith, nat_tests)
 
     moved : (k : ℕ) → Awaiting k (Loading 0 1) → k ≡ t → Some (Loading 0 1) ≡ Some access → Awaiting t access
-    moved k awaiting number is = let same : Loading 0 1 ≡ access = cc in subst (λ (z : ℕ). Awaiting z access) number (subst (λ (z : Access). Awaiting k z) same awaiting)
+    moved k awaiting number is =
+        let same : Loading 0 1 ≡ access = cc in subst (λ (z : ℕ). Awaiting z access) number (subst (λ (z : Access). Awaiting k z) same awaiting)
 
-    by : (a b : Bool) → (1 == t) ≡ a → (0 == t) ≡ b → (if a then Some (Loading 0 1) else (if b then Some (Loading 0 1) else (if a then None else (if b then None else None)))) ≡ Some access → Awaiting t access
+    by : (a b : Bool) → (1 == t) ≡ a → (0 == t) ≡ b → (if a then Some (Loading 0 1) else
+        (if b then Some (Loading 0 1) else (if a then None else (if b then None else None)))) ≡ Some access → Awaiting t access
     by true b second first e = moved 1 for_ready (number_is 1 t second) e
     by false true second first e = moved 0 for_answer (number_is 0 t first) e
     by false false second first e = absurd (let bad : ◌≡◌ {A = Option Access} None (Some access) = e in cc)
@@ -123,7 +292,9 @@ wild_leads : (h : ℕ) → EachLeads header h history
 wild_leads h t access is lives = (who t access is).pager.waits
 
 wild_none : (h : ℕ) → NoneInVain header h history
-wild_none h t access waits on = let found = who t access waits.waits in inl (subst (λ (z : ℕ). WaitsForPager header z t access history) (same found.host waits.at.host (sym found.lives ∙ waits.at.lives) ∙ on) found.pager)
+wild_none h t access waits on =
+    let found = who t access waits.waits in inl (subst (λ (z : ℕ). WaitsForPager header z t access history)
+    (same found.host waits.at.host (sym found.lives ∙ waits.at.lives) ∙ on) found.pager)
   where
     same : (a b : ℕ) → Some a ≡ Some b → a ≡ b
     same a b is = cc

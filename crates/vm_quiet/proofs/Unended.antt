@@ -22,17 +22,67 @@ settling = command.Settle 100
 
 pub unended_causes : EachEvent (HasCause header outside) history
 unended_causes = (
-  (settling, record { address = 0; bytes = 16; to = 32; waits = record { waits = refl; at = record { host = 0; entry = entry; lives = refl; found = refl }; left = omega arith }; next = refl; declared = omega arith; supplied = refl; is_top = record { object = refl; page = refl }; here = refl; region = 1; filled = refl; inside = omega arith; away = refl; unasked = refl }),
+  (
+    settling,
+    record {
+      address = 0;
+      bytes = 16;
+      to = 32;
+      waits = record { waits = refl; at = record { host = 0; entry = entry; lives = refl; found = refl }; left = omega arith };
+      next = refl;
+      declared = omega arith;
+      supplied = refl;
+      is_top = record { object = refl; page = refl };
+      here = refl;
+      region = 1;
+      filled = refl;
+      inside = omega arith;
+      away = refl;
+      unasked = refl;
+    },
+  ),
   (
     (settling, (refl, (refl, omega arith))),
     (
-      (settling, (record { access = 1; taken = refl; unanswered = refl }, record { kept = refl; read = refl }, refl, refl, λ temporary. never (sym temporary), λ told. never told)),
+      (
+        settling,
+        (
+          record { access = 1; taken = refl; unanswered = refl },
+          record { kept = refl; read = refl },
+          refl,
+          refl,
+          λ temporary. never (sym temporary),
+          λ told. never told,
+        ),
+      ),
       (
         (settling, (refl, (refl, omega arith))),
         (
           (settling, tt),
           (
-            (settling, record { task = 0; access = Copying 0 16 32; waits = record { waits = refl; at = record { host = 0; entry = entry; lives = refl; found = refl }; left = omega arith }; on_host = refl; unmarked = λ store. refl; comes = record { top = 0; top_page = 0; steps = 0; is_top = record { object = refl; page = refl }; walks = (refl, refl) }; number = refl; live = refl; ready = refl; away = refl; unasked = refl; known = refl }),
+            (
+              settling,
+              record {
+                task = 0;
+                access = Copying 0 16 32;
+                waits = record { waits = refl; at = record { host = 0; entry = entry; lives = refl; found = refl }; left = omega arith };
+                on_host = refl;
+                unmarked = λ store. refl;
+                comes = record {
+                  top = 0;
+                  top_page = 0;
+                  steps = 0;
+                  is_top = record { object = refl; page = refl };
+                  walks = (refl, refl);
+                };
+                number = refl;
+                live = refl;
+                ready = refl;
+                away = refl;
+                unasked = refl;
+                known = refl;
+              },
+            ),
             (
               (settling, (refl, refl)),
               (
@@ -48,9 +98,35 @@ unended_causes = (
                         (
                           (settling, tt),
                           (
-                            (settling, record { number = refl; sized = refl; declared = omega arith; none = refl; task = 0; address = 0; at = record { host = 0; entry = entry; lives = refl; found = refl }; on_host = refl; region = refl }),
                             (
-                              (settling, record { idle = refl; host = 0; lives = refl; whole = refl; inside = omega arith; made = omega arith; used = λ above. refl; file = λ is. refl; unfilled = refl }),
+                              settling,
+                              record {
+                                number = refl;
+                                sized = refl;
+                                declared = omega arith;
+                                none = refl;
+                                task = 0;
+                                address = 0;
+                                at = record { host = 0; entry = entry; lives = refl; found = refl };
+                                on_host = refl;
+                                region = refl;
+                              },
+                            ),
+                            (
+                              (
+                                settling,
+                                record {
+                                  idle = refl;
+                                  host = 0;
+                                  lives = refl;
+                                  whole = refl;
+                                  inside = omega arith;
+                                  made = omega arith;
+                                  used = λ above. refl;
+                                  file = λ is. refl;
+                                  unfilled = refl;
+                                },
+                              ),
                               ((settling, tt), ((settling, tt), ((settling, tt), tt))),
                             ),
                           ),

@@ -14,7 +14,8 @@ use Rattle.vm_model.specs.declared.message.Message.TheVariants as message
 use Rattle.vm_model.specs.declared.script.Header.{Header}
 use Rattle.vm_model.specs.Channels.{queue, down_port}
 use Rattle.vm_model.specs.Controls.{is_control, live_control}
-use Rattle.vm_model.specs.Local.{LocalEffect, Local, Zeroes, Raises, Stores, Drops, Returns, Asks, Unlocks, TakesPage, TakesNothing, TakesError, TakesLock, Begins, Ends, Elsewhere, effect, is_on, local, local_after}
+use Rattle.vm_model.specs.Local.{LocalEffect, Local, Zeroes, Raises, Stores, Drops, Returns, Asks, Unlocks, TakesPage, TakesNothing, TakesError, TakesLock}
+use Rattle.vm_model.specs.Local.{Begins, Ends, Elsewhere, effect, is_on, local, local_after}
 use Rattle.vm_model.specs.Moments.{EachEvent}
 use Rattle.vm_model.specs.Server.{first}
 use Rattle.vm_model.specs.Side.{rest}
@@ -55,7 +56,15 @@ lock_moved size Asks was c is = is
 lock_moved size Unlocks was c is = is
 lock_moved size (TakesPage lock precious bytes) was c is = by was.asked
   where
-    by : (b : Bool) → (if b then record was { here = true; bytes = bytes; lock = lock; dirty = false; precious = precious; unlocking = false; asked = false } else was).lock ≡ 0
+    by : (b : Bool) → (if b then record was {
+      here = true;
+      bytes = bytes;
+      lock = lock;
+      dirty = false;
+      precious = precious;
+      unlocking = false;
+      asked = false;
+    } else was).lock ≡ 0
     by true = c
     by false = is
 lock_moved size TakesNothing was c is = by was.asked
@@ -113,36 +122,47 @@ two_nothing : (s t : Bool) (e : LocalEffect) → (s ≡ true → LocksNothing e)
 two_nothing true t e is = if_nothing t e (λ at. is refl)
 two_nothing false t e is = tt
 
-up_nothing : (header : Header) (host : ℕ) (at : HostId) (object : ObjectId) (m : Message) (past : List Event) (o p : ℕ) → LocksNothing (effect host (record { object = o; page = p }) (λ source. local header.size host source past) (event.Sent (Up at object) m) past)
+up_nothing : (header : Header) (host : ℕ) (at : HostId) (object : ObjectId) (m : Message) (past : List Event) (o p : ℕ)
+    → LocksNothing (effect host (record { object = o; page = p }) (λ source. local header.size host source past) (event.Sent (Up at object) m) past)
 up_nothing header host at object (message.Init control size) past o p = if_nothing (at.0 == host && object.0 == o) Begins (λ is. tt)
 up_nothing header host at object (message.Create control size) past o p = if_nothing (at.0 == host && object.0 == o) Begins (λ is. tt)
-up_nothing header host at object (message.Terminate control) past o p = two_nothing (at.0 == host && object.0 == o) (is_control control (live_control host o past)) Ends (λ is. tt)
-up_nothing header host at object (message.Request control page access) past o p = two_nothing (at.0 == host && object.0 == o) (page.0 == p && is_control control (live_control host o past)) Asks (λ is. tt)
+up_nothing header host at object (message.Terminate control) past o p =
+    two_nothing (at.0 == host && object.0 == o) (is_control control (live_control host o past)) Ends (λ is. tt)
+up_nothing header host at object (message.Request control page access) past o p =
+    two_nothing (at.0 == host && object.0 == o) (page.0 == p && is_control control (live_control host o past)) Asks (λ is. tt)
 up_nothing header host at object (message.Unlock control page access) past o p = two_nothing (at.0 == host && object.0 == o) (page.0 == p) Unlocks (λ is. tt)
-up_nothing header host at object (message.Return control page dirty keep bytes) past o p = two_nothing (at.0 == host && object.0 == o) (page.0 == p) (Returns keep) (λ is. tt)
+up_nothing header host at object (message.Return control page dirty keep bytes) past o p =
+    two_nothing (at.0 == host && object.0 == o) (page.0 == p) (Returns keep) (λ is. tt)
 up_nothing header host at object m past o p = if_nothing (at.0 == host && object.0 == o) Elsewhere (λ is. tt)
 
-down_nothing : (header : Header) (host : ℕ) (at : HostId) (object : ObjectId) (control : ℕ) (m : Message) (past : List Event) (o p : ℕ) → ((at.0 == host && object.0 == o) ≡ true → IsPlain m)
+down_nothing : (header : Header) (host : ℕ) (at : HostId) (object : ObjectId) (control : ℕ) (m : Message) (past : List Event) (o p : ℕ)
+    → ((at.0 == host && object.0 == o) ≡ true → IsPlain m)
     → LocksNothing (effect host (record { object = o; page = p }) (λ source. local header.size host source past) (event.Taken (Down at object control) m) past)
 down_nothing header host at object control (message.Supply page lock precious bytes) past o p plain =
-    two_nothing (at.0 == host && (object.0 == o && is_control control (live_control host o past))) (page.0 == p) (TakesPage lock precious bytes) (λ is. plain (pair (at.0 == host) (object.0 == o) (is_control control (live_control host o past)) is))
+    two_nothing (at.0 == host && (object.0 == o && is_control control (live_control host o past))) (page.0 == p) (TakesPage lock precious bytes)
+    (λ is. plain (pair (at.0 == host) (object.0 == o) (is_control control (live_control host o past)) is))
   where
     pair : (a b c : Bool) → (a && (b && c)) ≡ true → (a && b) ≡ true
     pair true true c e = refl
     pair true false c e = never e
     pair false b c e = never e
 down_nothing header host at object control (message.Lock page count returns flush lock reply) past o p plain =
-    two_nothing (at.0 == host && (object.0 == o && is_control control (live_control host o past))) (in_range p page.0 count) (TakesLock lock flush) (λ is. plain (pair (at.0 == host) (object.0 == o) (is_control control (live_control host o past)) is))
+    two_nothing (at.0 == host && (object.0 == o && is_control control (live_control host o past))) (in_range p page.0 count) (TakesLock lock flush)
+    (λ is. plain (pair (at.0 == host) (object.0 == o) (is_control control (live_control host o past)) is))
   where
     pair : (a b c : Bool) → (a && (b && c)) ≡ true → (a && b) ≡ true
     pair true true c e = refl
     pair true false c e = never e
     pair false b c e = never e
-down_nothing header host at object control (message.Unavailable page) past o p plain = two_nothing (at.0 == host && (object.0 == o && is_control control (live_control host o past))) (page.0 == p) TakesNothing (λ is. tt)
-down_nothing header host at object control (message.Error page reason) past o p plain = two_nothing (at.0 == host && (object.0 == o && is_control control (live_control host o past))) (page.0 == p) TakesError (λ is. tt)
-down_nothing header host at object control m past o p plain = if_nothing (at.0 == host && (object.0 == o && is_control control (live_control host o past))) Elsewhere (λ is. tt)
+down_nothing header host at object control (message.Unavailable page) past o p plain =
+    two_nothing (at.0 == host && (object.0 == o && is_control control (live_control host o past))) (page.0 == p) TakesNothing (λ is. tt)
+down_nothing header host at object control (message.Error page reason) past o p plain =
+    two_nothing (at.0 == host && (object.0 == o && is_control control (live_control host o past))) (page.0 == p) TakesError (λ is. tt)
+down_nothing header host at object control m past o p plain =
+    if_nothing (at.0 == host && (object.0 == o && is_control control (live_control host o past))) Elsewhere (λ is. tt)
 
-nothing_next : (header : Header) (outside : Outside) (host o : ℕ) (e : Event) (past : List Event) → HasNoLock header host o past → HasCause header outside e past → (p : ℕ)
+nothing_next : (header : Header) (outside : Outside) (host o : ℕ) (e : Event) (past : List Event) → HasNoLock header host o past
+    → HasCause header outside e past → (p : ℕ)
     → LocksNothing (effect host (record { object = o; page = p }) (λ source. local header.size host source past) e past)
 nothing_next header outside host o (event.Zeroed at object page) past h c p = if_nothing (at.0 == host && (object.0 == o && page.0 == p)) Zeroes (λ is. tt)
 nothing_next header outside host o (event.Raised at lower lower_page upper upper_page) past h c p =
@@ -155,30 +175,38 @@ nothing_next header outside host o (event.Dropped at object page) past h c p = i
 nothing_next header outside host o (event.Sent (Up at object) m) past h c p = up_nothing header host at object m past o p
 nothing_next header outside host o (event.Taken (Down at object control) m) past h c p =
     down_nothing header host at object control m past o p
-    (λ is. plain_first (queue (down_port host o control) past) m (there_two (λ g k. first (queue (down_port g k control) past) ≡ Some m) at.0 object.0 host o is c.1.0) (h.plain control))
+    (λ is. plain_first (queue (down_port host o control) past) m (there_two (λ g k. first (queue (down_port g k control) past) ≡ Some m) at.0 object.0 host o is
+    c.1.0) (h.plain control))
 nothing_next header outside host o e past h c p = tt
 
-down_plain : (header : Header) (outside : Outside) (doing : Command) (h o k : ℕ) (m : Message) (past : List Event) → MaySendDown header outside doing h o k m past → IsPlain m
+down_plain : (header : Header) (outside : Outside) (doing : Command) (h o k : ℕ) (m : Message) (past : List Event)
+    → MaySendDown header outside doing h o k m past → IsPlain m
 down_plain header outside doing h o k (message.Supply page lock precious bytes) past c = c.2
 down_plain header outside doing h o k (message.Lock page count returns flush lock reply) past c = c.2
 down_plain header outside doing h o k m past c = tt
 
-plain_next : (header : Header) (outside : Outside) (host o : ℕ) (e : Event) (past : List Event) → is_paged header o ≡ true → HasNoLock header host o past → HasCause header outside e past → (k : ℕ) → ArePlain (queue (down_port host o k) (e ∷ past))
+plain_next : (header : Header) (outside : Outside) (host o : ℕ) (e : Event) (past : List Event) → is_paged header o ≡ true → HasNoLock header host o past
+    → HasCause header outside e past → (k : ℕ) → ArePlain (queue (down_port host o k) (e ∷ past))
 plain_next header outside host o (event.Sent (Down at object n) m) past paged h c k =
     plain_if (at.0 == host && (object.0 == o && n == k)) (queue (down_port host o k) past) m
-    (λ is. down_plain header outside c.0 at.0 object.0 n m past (paged_may header outside c.0 at.0 object.0 n m past (subst (λ b. is_paged header b ≡ true) (same at.0 object.0 n host o k is) paged) c.1))
+    (λ is. down_plain header outside c.0 at.0 object.0 n m past (paged_may header outside c.0 at.0 object.0 n m past
+    (subst (λ b. is_paged header b ≡ true) (same at.0 object.0 n host o k is) paged) c.1))
     (h.plain k)
   where
     same : (a b n h o k : ℕ) → (a == h && (b == o && n == k)) ≡ true → o ≡ b
     same a b n h o k is = grind (arith, nat_tests)
-plain_next header outside host o (event.Taken (Down at object n) m) past paged h c k = plain_rest (at.0 == host && (object.0 == o && n == k)) (queue (down_port host o k) past) (h.plain k)
+plain_next header outside host o (event.Taken (Down at object n) m) past paged h c k =
+    plain_rest (at.0 == host && (object.0 == o && n == k)) (queue (down_port host o k) past) (h.plain k)
 plain_next header outside host o e past paged h c k = h.plain k
 
-pub no_lock : (header : Header) (outside : Outside) (host o : ℕ) (history : List Event) → is_paged header o ≡ true → EachEvent (HasCause header outside) history → HasNoLock header host o history
+pub no_lock : (header : Header) (outside : Outside) (host o : ℕ) (history : List Event) → is_paged header o ≡ true → EachEvent (HasCause header outside) history
+    → HasNoLock header host o history
 no_lock header outside host o [] paged c = record { locks = λ p. refl; plain = λ k. tt }
 no_lock header outside host o (e ∷ past) paged c =
     let was = no_lock header outside host o past paged c.1 in
     record {
-      locks = λ p. lock_moved header.size (effect host (record { object = o; page = p }) (λ source. local header.size host source past) e past) (page_on header host o p past) (nothing_next header outside host o e past was c.0 p) (was.locks p);
+      locks =
+          λ p. lock_moved header.size (effect host (record { object = o; page = p }) (λ source. local header.size host source past) e past)
+          (page_on header host o p past) (nothing_next header outside host o e past was c.0 p) (was.locks p);
       plain = plain_next header outside host o e past paged was c.0;
     }

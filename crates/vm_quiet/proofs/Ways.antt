@@ -33,7 +33,8 @@ some_more true test q m is = end q is
     end [] is = never is
     end (x ∷ q) is = step (test x) (some_such test q) (some_such test (q ++ m ∷ [])) (end q) is
 
-pub some_last : (b : Bool) (test : Message → Bool) (q : List Message) (m : Message) → b ≡ true → test m ≡ true → some_such test (if b then q ++ m ∷ [] else q) ≡ true
+pub some_last : (b : Bool) (test : Message → Bool) (q : List Message) (m : Message) → b ≡ true → test m ≡ true
+    → some_such test (if b then q ++ m ∷ [] else q) ≡ true
 some_last false test q m e is = never e
 some_last true test q m e is = end q
   where
@@ -41,7 +42,8 @@ some_last true test q m e is = end q
     end [] = ap (λ b. b || false) is
     end (x ∷ q) = ap (λ b. test x || b) (end q) ∙ or_true (test x)
 
-some_rest : (b : Bool) (test : Message → Bool) (q : List Message) (m : Message) → (b ≡ true → first q ≡ Some m) → some_such test q ≡ true → (some_such test (if b then rest q else q) ≡ true) ⊎ ((b ≡ true) × (test m ≡ true))
+some_rest : (b : Bool) (test : Message → Bool) (q : List Message) (m : Message) → (b ≡ true → first q ≡ Some m) → some_such test q ≡ true
+    → (some_such test (if b then rest q else q) ≡ true) ⊎ ((b ≡ true) × (test m ≡ true))
 some_rest false test q m head is = inl is
 some_rest true test [] m head is = never is
 some_rest true test (x ∷ q) m head is = by (test x) refl is
@@ -69,7 +71,8 @@ abbrev pub IsDone : (Message → Bool) → (Event → Bool) → ℕ → ℕ → 
 IsDone up done h o past = (m : Message) → taken_letter past ≡ Some (record { channel = up_port h o; message = m }) → up m ≡ true → since done past ≡ true
 
 pub way_sent : (up down : Message → Bool) (done : Event → Bool) (h o k : ℕ) (c : Channel) (m : Message) (past : List Event)
-    → (done (event.Sent c m) ≡ true → (n : Message) → taken_letter past ≡ Some (record { channel = up_port h o; message = n }) → up n ≡ true → (is_channel (down_port h o k) c ≡ true) × (down m ≡ true))
+    → (done (event.Sent c m) ≡ true → (n : Message) → taken_letter past ≡ Some (record { channel = up_port h o; message = n }) → up n ≡ true
+    → (is_channel (down_port h o k) c ≡ true) × (down m ≡ true))
     → OnTheWay up down done h o k past → OnTheWay up down done h o k (event.Sent c m ∷ past)
 way_sent up down done h o k c m past answered (inl q) = inl (some_more (is_channel (up_port h o) c) up (queue (up_port h o) past) m q)
 way_sent up down done h o k c m past answered (inr (inl q)) = inr (inl (some_more (is_channel (down_port h o k) c) down (queue (down_port h o k) past) m q))
@@ -79,33 +82,40 @@ way_sent up down done h o k c m past answered (inr (inr t)) = by (done (event.Se
     by true e = let a = answered e t.0 t.1 t.2 in inr (inl (some_last (is_channel (down_port h o k) c) down (queue (down_port h o k) past) m a.0 a.1))
     by false e = inr (inr (t.0, t.1, t.2, ap (λ b. b || since done past) e ∙ t.3))
 
-pub way_taken : (up down : Message → Bool) (done : Event → Bool) (h o k : ℕ) (c : Channel) (m : Message) (past : List Event) → first (queue c past) ≡ Some m → IsDone up done h o past
+pub way_taken : (up down : Message → Bool) (done : Event → Bool) (h o k : ℕ) (c : Channel) (m : Message) (past : List Event) → first (queue c past) ≡ Some m
+    → IsDone up done h o past
     → (is_channel (down_port h o k) c ≡ true → down m ≡ true → ⊥) → OnTheWay up down done h o k past → OnTheWay up down done h o k (event.Taken c m ∷ past)
 way_taken up down done h o k c m past head paid unanswered (inl q) = by (some_rest (is_channel (up_port h o) c) up (queue (up_port h o) past) m own q)
   where
     own : is_channel (up_port h o) c ≡ true → first (queue (up_port h o) past) ≡ Some m
     own is = subst (λ (d : Channel). first (queue d past) ≡ Some m) (same_channel (up_port h o) c is) head
 
-    by : (some_such up (if is_channel (up_port h o) c then rest (queue (up_port h o) past) else queue (up_port h o) past) ≡ true) ⊎ ((is_channel (up_port h o) c ≡ true) × (up m ≡ true)) → OnTheWay up down done h o k (event.Taken c m ∷ past)
+    by : (some_such up (if is_channel (up_port h o) c then rest (queue (up_port h o) past) else queue (up_port h o) past) ≡ true)
+        ⊎ ((is_channel (up_port h o) c ≡ true) × (up m ≡ true)) → OnTheWay up down done h o k (event.Taken c m ∷ past)
     by (inl is) = inl is
-    by (inr is) = inr (inr (m, ap (λ (d : Channel). let l : Letter = record { channel = d; message = m } in Some l) (same_channel (up_port h o) c is.0), is.1, refl))
-way_taken up down done h o k c m past head paid unanswered (inr (inl q)) = by (some_rest (is_channel (down_port h o k) c) down (queue (down_port h o k) past) m own q)
+    by (inr is) =
+        inr (inr (m, ap (λ (d : Channel). let l : Letter = record { channel = d; message = m } in Some l) (same_channel (up_port h o) c is.0), is.1, refl))
+way_taken up down done h o k c m past head paid unanswered (inr (inl q)) =
+    by (some_rest (is_channel (down_port h o k) c) down (queue (down_port h o k) past) m own q)
   where
     own : is_channel (down_port h o k) c ≡ true → first (queue (down_port h o k) past) ≡ Some m
     own is = subst (λ (d : Channel). first (queue d past) ≡ Some m) (same_channel (down_port h o k) c is) head
 
-    by : (some_such down (if is_channel (down_port h o k) c then rest (queue (down_port h o k) past) else queue (down_port h o k) past) ≡ true) ⊎ ((is_channel (down_port h o k) c ≡ true) × (down m ≡ true)) → OnTheWay up down done h o k (event.Taken c m ∷ past)
+    by : (some_such down (if is_channel (down_port h o k) c then rest (queue (down_port h o k) past) else queue (down_port h o k) past) ≡ true)
+        ⊎ ((is_channel (down_port h o k) c ≡ true) × (down m ≡ true)) → OnTheWay up down done h o k (event.Taken c m ∷ past)
     by (inl is) = inr (inl is)
     by (inr is) = absurd (unanswered is.0 is.1)
 way_taken up down done h o k c m past head paid unanswered (inr (inr t)) = never (sym t.3 ∙ paid t.0 t.1 t.2)
 
-pub way_line : (up down : Message → Bool) (done : Event → Bool) (h o k line : ℕ) (past : List Event) → IsDone up done h o past → OnTheWay up down done h o k past → OnTheWay up down done h o k (event.Line line ∷ past)
+pub way_line : (up down : Message → Bool) (done : Event → Bool) (h o k line : ℕ) (past : List Event) → IsDone up done h o past
+    → OnTheWay up down done h o k past → OnTheWay up down done h o k (event.Line line ∷ past)
 way_line up down done h o k line past paid (inl q) = inl q
 way_line up down done h o k line past paid (inr (inl q)) = inr (inl q)
 way_line up down done h o k line past paid (inr (inr t)) = never (sym t.3 ∙ paid t.0 t.1 t.2)
 
 -- where nothing is undelivered nothing is on the way
-pub way_none : (up down : Message → Bool) (done : Event → Bool) (h o k : ℕ) (past : List Event) → undelivered past ≡ [] → IsDone up done h o past → OnTheWay up down done h o k past → ⊥
+pub way_none : (up down : Message → Bool) (done : Event → Bool) (h o k : ℕ) (past : List Event) → undelivered past ≡ [] → IsDone up done h o past
+    → OnTheWay up down done h o k past → ⊥
 way_none up down done h o k past none paid (inl q) = none_such up (queue (up_port h o) past) (none_queued (up_port h o) past none) q
 way_none up down done h o k past none paid (inr (inl q)) = none_such down (queue (down_port h o k) past) (none_queued (down_port h o k) past none) q
 way_none up down done h o k past none paid (inr (inr t)) = never (sym t.3 ∙ paid t.0 t.1 t.2)
@@ -132,7 +142,12 @@ test_in test None = false
 test_in test (Some l) = test l.message
 
 -- two letters up that the step took are one
-pub same_taken : (h o a b : ℕ) (m n : Message) (test : Message → Bool) (past : List Event) → taken_letter past ≡ Some (record { channel = up_port h o; message = m }) → taken_letter past ≡ Some (record { channel = up_port a b; message = n }) → test m ≡ true
+pub same_taken : (h o a b : ℕ) (m n : Message) (test : Message → Bool) (past : List Event)
+    → taken_letter past ≡ Some (record { channel = up_port h o; message = m }) → taken_letter past ≡ Some (record { channel = up_port a b; message = n })
+    → test m ≡ true
     → (a ≡ h) × (b ≡ o) × (test n ≡ true)
-same_taken h o a b m n test past e f is =
-    (ap (λ (l : Option Letter). host_in l) (sym f ∙ e), ap (λ (l : Option Letter). object_in l) (sym f ∙ e), ap (λ (l : Option Letter). test_in test l) (sym f ∙ e) ∙ is)
+same_taken h o a b m n test past e f is = (
+  ap (λ (l : Option Letter). host_in l) (sym f ∙ e),
+  ap (λ (l : Option Letter). object_in l) (sym f ∙ e),
+  ap (λ (l : Option Letter). test_in test l) (sym f ∙ e) ∙ is,
+)

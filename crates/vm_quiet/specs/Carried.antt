@@ -35,5 +35,6 @@ pub record IsCarried (header : Header) (history : List Event) : Type 0 where
       → (control : ℕ) × (live_control host object history ≡ Some control)
       × (IsUndelivered (is_request control page) (up_port host object) history ⊎ IsUndelivered (is_answer page) (down_port host object control) history)
   -- of each live control that isn't ready, but for wild objects', its init or create is undelivered, or a ready
-  pub opening : (host object control : ℕ) → is_wild header object ≡ false → live_control host object history ≡ Some control → is_ready host object history ≡ false
+  pub opening : (host object control : ℕ) → is_wild header object ≡ false → live_control host object history ≡ Some control
+      → is_ready host object history ≡ false
       → IsUndelivered (opens control) (up_port host object) history ⊎ IsUndelivered says_ready (down_port host object control) history

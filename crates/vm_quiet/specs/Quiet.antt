@@ -19,7 +19,8 @@ NoneIsWild header = (o : ℕ) → is_wild header o ≡ false
 -- the server of shared memory has answered everybody: no page of a shared object is asked, and no unlock of one is outstanding
 pub record SharedAreAnswered (header : Header) (history : List Event) : Type 0 where
   pub asked : (host object page : ℕ) → is_shared header object ≡ true → (page_on header host object page history).asked ≡ false
-  pub unlocking : (host object page : ℕ) → is_shared header object ≡ true → (page_on header host object page history).here ≡ true → (page_on header host object page history).unlocking ≡ false
+  pub unlocking : (host object page : ℕ) → is_shared header object ≡ true → (page_on header host object page history).here ≡ true
+      → (page_on header host object page history).unlocking ≡ false
 
 -- a page of a wild object keeps its frame for as long as its pager likes: it is asked, or somebody waits for its unlock
 pub record IsHeldWild (header : Header) (host : ℕ) (past : List Event) (place : Place) : Type 0 where
@@ -38,7 +39,8 @@ pub record IsShortOfFrames (header : Header) (host : ℕ) (past : List Event) : 
 -- whoever waits on one of the hosts has W
 abbrev pub EachWaiting : Header → List Event → (ℕ → ℕ → Access → Type 0) → Type 0
 EachWaiting header history W =
-    (host task : ℕ) (access : Access) → host < length header.frames.items → waiting task history ≡ Some access → lives_on host task history ≡ true → W host task access
+    (host task : ℕ) (access : Access) → host < length header.frames.items → waiting task history ≡ Some access → lives_on host task history ≡ true
+    → W host task access
 
 -- an access of a task of the host waits on a wild object's region
 pub record WaitsOnWild (header : Header) (host task : ℕ) (access : Access) (past : List Event) : Type 0 where

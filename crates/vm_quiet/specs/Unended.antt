@@ -17,7 +17,13 @@ use Rattle.vm_legal.specs.Outside.{Outside, Untold}
 
 -- pages of 16 bytes, one host of 4 frames, a file of one page
 abbrev pub header : Header
-header = record { size = 16; slots = 1024; frames = record { items = 4 ∷ []; room = 0 }; objects = record { items = record { name = 102 ∷ []; kind = File; pages = 1 } ∷ []; room = 0 } }
+header =
+    record {
+      size = 16;
+      slots = 1024;
+      frames = record { items = 4 ∷ []; room = 0 };
+      objects = record { items = record { name = 102 ∷ []; kind = File; pages = 1 } ∷ []; room = 0 };
+    }
 
 -- nothing is told of what the file holds
 abbrev pub outside : Outside

@@ -35,8 +35,10 @@ ghost use Rattle.vm_quiet.specs.Unended as unended;
 #[tactic(auto, using(crate::proofs::Letters::queue_is, crate::proofs::Letters::first_is, crate::proofs::Letters::is_first))]
 pub fn channels_are_letters()
     ensures queue { (channel : Channel) (past : List Event) → queue channel past ≡ messages_on channel (undelivered past) }
-    ensures first { (channel : Channel) (m : Message) (past : List Event) → first (queue channel past) ≡ Some m → first (messages_on channel (undelivered past)) ≡ Some m }
-    ensures is_first { (channel : Channel) (m : Message) (past : List Event) → first (messages_on channel (undelivered past)) ≡ Some m → first (queue channel past) ≡ Some m }
+    ensures first { (channel : Channel) (m : Message) (past : List Event) → first (queue channel past) ≡ Some m
+        → first (messages_on channel (undelivered past)) ≡ Some m }
+    ensures is_first { (channel : Channel) (m : Message) (past : List Event) → first (messages_on channel (undelivered past)) ≡ Some m
+        → first (queue channel past) ≡ Some m }
 {}
 
 /// The frames that a host holds, as its events count them up and down, are one for each place that is
@@ -46,8 +48,10 @@ pub fn channels_are_letters()
 /// A page that is here is never asked.
 #[tactic(auto, using(crate::proofs::Counting::frames_counted, crate::proofs::Counting::never_both))]
 pub fn frames_are_counted()
-    ensures counted { (header : Header) (outside : Outside) (host : ℕ) (history : List Event) → EachEvent (HasCause header outside) history → FramesAreCounted header host history }
-    ensures apart { (header : Header) (outside : Outside) (host o p : ℕ) (history : List Event) → EachEvent (HasCause header outside) history → (page_on header host o p history).here ≡ true → (page_on header host o p history).asked ≡ false }
+    ensures counted { (header : Header) (outside : Outside) (host : ℕ) (history : List Event) → EachEvent (HasCause header outside) history
+        → FramesAreCounted header host history }
+    ensures apart { (header : Header) (outside : Outside) (host o p : ℕ) (history : List Event) → EachEvent (HasCause header outside) history
+        → (page_on header host o p history).here ≡ true → (page_on header host o p history).asked ≡ false }
 {}
 
 /// Where each step has done what it owes, whoever is asked has a message on its way: of each page of
@@ -56,7 +60,8 @@ pub fn frames_are_counted()
 /// ready. What the server of shared memory is asked may wait with the server too.
 #[tactic(auto, using(crate::proofs::Carried::carried))]
 pub fn what_is_asked_is_on_its_way()
-    ensures carried { (header : Header) (outside : Outside) (history : List Event) → EachEvent (HasCause header outside) history → IsPaid header history → BeforeSteps (IsPaid header) history → IsCarried header history }
+    ensures carried { (header : Header) (outside : Outside) (history : List Event) → EachEvent (HasCause header outside) history
+        → IsPaid header history → BeforeSteps (IsPaid header) history → IsCarried header history }
 {}
 
 /// Where nothing is undelivered, and each step has done what it owes, whoever still waits does so for
@@ -70,8 +75,11 @@ pub fn what_is_asked_is_on_its_way()
 /// shared pages. Where each declared object is a file there are neither shared nor wild ones.
 #[tactic(auto, using(crate::proofs::Quiet::quiet, crate::proofs::Quiet::only_wild))]
 pub fn nobody_waits_in_vain()
-    ensures wild { (header : Header) (outside : Outside) (history : List Event) → NoneIsTemporary header → EachEvent (HasCause header outside) history → BeforeSteps (IsPaid header) history → IsPaid header history → SharedAreAnswered header history → Prompt header history → undelivered history ≡ [] → OnlyWildAreAwaited header history }
-    ensures quiet { (header : Header) (outside : Outside) (history : List Event) → AllPaged header → EachEvent (HasCause header outside) history → BeforeSteps (IsPaid header) history → IsPaid header history → Prompt header history → undelivered history ≡ [] → NobodyWaitsInVain header history }
+    ensures wild { (header : Header) (outside : Outside) (history : List Event) → NoneIsTemporary header → EachEvent (HasCause header outside) history
+        → BeforeSteps (IsPaid header) history → IsPaid header history → SharedAreAnswered header history → Prompt header history → undelivered history ≡ []
+        → OnlyWildAreAwaited header history }
+    ensures quiet { (header : Header) (outside : Outside) (history : List Event) → AllPaged header → EachEvent (HasCause header outside) history
+        → BeforeSteps (IsPaid header) history → IsPaid header history → Prompt header history → undelivered history ≡ [] → NobodyWaitsInVain header history }
 {}
 
 /// Where no object is wild, nobody waits for the pager of one, and no frame is held for it. So on a host that

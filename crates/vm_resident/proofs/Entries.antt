@@ -24,7 +24,8 @@ flipped key o p = grind (arith, nat_tests)
 pub row_entry : (o p : ℕ) (entries : List (PageKey × PageRow)) → row_among o p (pages_of entries) ≡ entry_at o p entries
 row_entry o p [] = refl
 row_entry o p (e ∷ es) =
-    ap (λ b. if b then Some e.1 else row_among o p (pages_of es)) (flipped e.0 o p) ∙ ap (λ z. if o == e.0.object.0 && p == e.0.page.0 then Some e.1 else z) (row_entry o p es)
+    ap (λ b. if b then Some e.1 else row_among o p (pages_of es)) (flipped e.0 o p)
+    ∙ ap (λ z. if o == e.0.object.0 && p == e.0.page.0 then Some e.1 else z) (row_entry o p es)
 
 pub same_page_laws : IsEquivalence same_page
 same_page_laws = record {
@@ -40,13 +41,15 @@ seen entries spare = record { rows = pages_of entries; spare = spare }
 abbrev pub WritesEntry : PageKey → Option PageRow → List (PageKey × PageRow) → List (PageKey × PageRow) → Type 0
 WritesEntry key row old new = (o p : ℕ) → entry_at o p new ≡ (if is_page key o p then row else entry_at o p old)
 
-pub row_put : (old new : List (PageKey × PageRow)) (key : PageKey) (row : Option PageRow) (s t : ℕ) → WritesEntry key row old new → PutsRow key.object.0 key.page.0 row (seen old s) (seen new t)
+pub row_put : (old new : List (PageKey × PageRow)) (key : PageKey) (row : Option PageRow) (s t : ℕ) → WritesEntry key row old new
+    → PutsRow key.object.0 key.page.0 row (seen old s) (seen new t)
 row_put old new key row s t writes = record {
   at = λ o p. row_entry o p new ∙ writes o p ∙ ap (λ z. if is_page key o p then row else z) (sym (row_entry o p old));
 }
 
 -- so the set has the pages of the rows after a write too
-pub pages_put : (old new : List (PageKey × PageRow)) (key : PageKey) (row : Option PageRow) (was now : PageSet) → ((o p : ℕ) → is_in was o p ≡ is_some (row_among o p (pages_of old)))
+pub pages_put : (old new : List (PageKey × PageRow)) (key : PageKey) (row : Option PageRow) (was now : PageSet)
+    → ((o p : ℕ) → is_in was o p ≡ is_some (row_among o p (pages_of old)))
     → WritesEntry key row old new → PutsIn key.object.0 key.page.0 (is_some row) was now → (o p : ℕ) → is_in now o p ≡ is_some (row_among o p (pages_of new))
 pages_put old new key row was now same writes puts o p =
     let rows = row_put old new key row 0 0 writes in
@@ -57,7 +60,8 @@ pages_put old new key row was now same writes puts o p =
     by false = same o p
 
 -- and where the row of a page is changed, with the set left as it was
-pub pages_kept : (old new : List (PageKey × PageRow)) (key : PageKey) (row : PageRow) (set : PageSet) → ((o p : ℕ) → is_in set o p ≡ is_some (row_among o p (pages_of old)))
+pub pages_kept : (old new : List (PageKey × PageRow)) (key : PageKey) (row : PageRow) (set : PageSet)
+    → ((o p : ℕ) → is_in set o p ≡ is_some (row_among o p (pages_of old)))
     → WritesEntry key (Some row) old new → IsSome (entry_at key.object.0 key.page.0 old) → (o p : ℕ) → is_in set o p ≡ is_some (row_among o p (pages_of new))
 pages_kept old new key row set same writes there =
     let stands : IsSome (row_among key.object.0 key.page.0 (pages_of old)) = ap is_some (row_entry key.object.0 key.page.0 old) ∙ there in
@@ -76,7 +80,8 @@ none_where (Some x) some = absurd (false≢true (sym some))
 
 -- the first page in the set is that of the first row
 pub next_row : (table : ResidentTable) (set : PageSet) (object from : ℕ) (result : Option PageNo) → ((o p : ℕ) → is_in set o p ≡ is_some (row_at table o p))
-    → MatchOption result (NoneFrom set object from) (λ page. IsFirstIn set object from page.0) → MatchOption result (NoRowsFrom table object from) (λ page. IsNextPage table object from page.0)
+    → MatchOption result (NoneFrom set object from) (λ page. IsFirstIn set object from page.0)
+    → MatchOption result (NoRowsFrom table object from) (λ page. IsNextPage table object from page.0)
 next_row table set object from None same none = λ q le. none_where (row_at table object q) (sym (same object q) ∙ none q le)
 next_row table set object from (Some page) same found = record {
   low = found.low;

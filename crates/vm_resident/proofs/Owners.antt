@@ -44,7 +44,8 @@ owner_stands f key (e ∷ es) is =
     record { i = suc rest.i; row = rest.row; is = rest.is; frame = rest.frame })
     (cases_eq e.1.frame.0 f)
 
-pub owner_has : (f : ℕ) (key : PageKey) (entries : List (PageKey × PageRow)) → IsDistinct same_page (keys_of entries) → owner_among f (pages_of entries) ≡ Some key → HasFrame key f entries
+pub owner_has : (f : ℕ) (key : PageKey) (entries : List (PageKey × PageRow)) → IsDistinct same_page (keys_of entries)
+    → owner_among f (pages_of entries) ≡ Some key → HasFrame key f entries
 owner_has f key entries unique leads =
     let stands = owner_stands f key entries leads in
     record {
@@ -69,12 +70,14 @@ owner_none f o p row (x ∷ xs) none is same =
     (cases_eq x.row.frame.0 f)
 
 -- the first entry with the frame, and what is left behind one that hasn't it
-pub owner_first : (f : ℕ) (key : PageKey) (row : PageRow) (entries rest : List (PageKey × PageRow)) → entries ≡ (key, row) ∷ rest → row.frame.0 ≡ f → Some key ≡ owner_among f (pages_of entries)
+pub owner_first : (f : ℕ) (key : PageKey) (row : PageRow) (entries rest : List (PageKey × PageRow)) → entries ≡ (key, row) ∷ rest → row.frame.0 ≡ f
+    → Some key ≡ owner_among f (pages_of entries)
 owner_first f key row entries rest is same =
     let yes : (row.frame.0 == f) ≡ true = grind (arith, nat_tests) in
     rw is (rw yes refl)
 
-pub owner_later : (f : ℕ) (key : PageKey) (row : PageRow) (entries rest : List (PageKey × PageRow)) → entries ≡ (key, row) ∷ rest → (row.frame.0 ≡ f → ⊥) → owner_among f (pages_of rest) ≡ owner_among f (pages_of entries)
+pub owner_later : (f : ℕ) (key : PageKey) (row : PageRow) (entries rest : List (PageKey × PageRow)) → entries ≡ (key, row) ∷ rest → (row.frame.0 ≡ f → ⊥)
+    → owner_among f (pages_of rest) ≡ owner_among f (pages_of entries)
 owner_later f key row entries rest is differ =
     let no : (row.frame.0 == f) ≡ false = grind (arith, nat_tests) in
     rw is (rw no refl)
@@ -83,7 +86,8 @@ owner_later f key row entries rest is differ =
 one_frame : (a b g : ℕ) → (a == b) ≡ false → (a == g) ≡ true → (b == g) ≡ false
 one_frame a b g differ same = grind (arith, nat_tests)
 
-pub owner_inserted : (g : ℕ) (key : PageKey) (row : PageRow) (entries : List (PageKey × PageRow)) → lookup (same_page key) entries ≡ None → owner_among row.frame.0 (pages_of entries) ≡ None
+pub owner_inserted : (g : ℕ) (key : PageKey) (row : PageRow) (entries : List (PageKey × PageRow)) → lookup (same_page key) entries ≡ None
+    → owner_among row.frame.0 (pages_of entries) ≡ None
     → owner_among g (pages_of (insert_entry same_page entries key row)) ≡ (if row.frame.0 == g then Some key else owner_among g (pages_of entries))
 owner_inserted g key row [] absent none = refl
 owner_inserted g key row (e ∷ es) absent none =
@@ -94,11 +98,13 @@ owner_inserted g key row (e ∷ es) absent none =
     (λ (yes : (e.1.frame.0 == row.frame.0) ≡ true). absurd (none-some e.0 (sym (rw yes at none))))
     (λ (no : (e.1.frame.0 == row.frame.0) ≡ false).
     let rest = owner_inserted g key row es (rw apart at absent) (rw no at none) in
-    rw apart (rw rest (swap_tests (e.1.frame.0 == g) (row.frame.0 == g) (Some e.0) (Some key) (owner_among g (pages_of es)) (λ same. one_frame e.1.frame.0 row.frame.0 g no same))))
+    rw apart (rw rest (swap_tests (e.1.frame.0 == g) (row.frame.0 == g) (Some e.0) (Some key) (owner_among g (pages_of es))
+    (λ same. one_frame e.1.frame.0 row.frame.0 g no same))))
     (cases_Bool (e.1.frame.0 == row.frame.0)))
     (cases_Bool (same_page key e.0))
 
-pub owner_set : (g : ℕ) (test : PageKey → Bool) (was row : PageRow) (entries : List (PageKey × PageRow)) → lookup test entries ≡ Some was → was.frame.0 ≡ row.frame.0
+pub owner_set : (g : ℕ) (test : PageKey → Bool) (was row : PageRow) (entries : List (PageKey × PageRow)) → lookup test entries ≡ Some was
+    → was.frame.0 ≡ row.frame.0
     → owner_among g (pages_of (set_value test entries row)) ≡ owner_among g (pages_of entries)
 owner_set g test was row [] there frame = refl
 owner_set g test was row (e ∷ es) there frame =

@@ -1,9 +1,11 @@
 -- What a set of pages holds after a write to the bits of a group, and where its first page is from one on.
-use Rattle.std.proofs.Common.{ℕ, ◌≡◌, ◌≢◌, ◌<◌, ◌≤◌, ◌+◌, ◌*◌, ◌/◌, ◌%◌, ◌-◌, ◌^◌, ◌==◌, Bool, true, false, List, Option, Some, None, inl, inr, refl, sym, ◌∙◌, ap, arith, w64}
+use Rattle.std.proofs.Common.{ℕ, ◌≡◌, ◌≢◌, ◌<◌, ◌≤◌, ◌+◌, ◌*◌, ◌/◌, ◌%◌, ◌-◌, ◌^◌, ◌==◌, Bool, true, false, List, Option, Some, None, inl, inr, refl, sym, ◌∙◌}
+use Rattle.std.proofs.Common.{ap, arith, w64}
 use Rattle.std.proofs.lemmas.Bool.{false≢true}
 use Rattle.std.proofs.lemmas.Bool.Decides.{eqb_tells, leb_tells, nat_tests}
 use Rattle.std.proofs.lemmas.Nat.{div-add-mod'}
-use Rattle.std.proofs.lemmas.Nat.Bits.{and_high_mask, bit_at-lt, bit_at-trailing_zeros, bit_at-zero, bit_at_and, bit_at_clear_other, bit_at_clear_same, bit_at_mask_below, bit_at_mask_inside, bit_at_set_other, bit_at_set_same, ones_shl}
+use Rattle.std.proofs.lemmas.Nat.Bits.{and_high_mask, bit_at-lt, bit_at-trailing_zeros, bit_at-zero, bit_at_and, bit_at_clear_other, bit_at_clear_same}
+use Rattle.std.proofs.lemmas.Nat.Bits.{bit_at_mask_below, bit_at_mask_inside, bit_at_set_other, bit_at_set_same, ones_shl}
 use Rattle.std.specs.Int.{bit_at, trailing_zeros}
 use Rattle.std.specs.Option.{unwrap_or}
 use Rattle.std.specs.Prelude.{◌&&◌, bit_and, bit_or, IsOk, IsSome, OnOk, Result, if◌then◌else◌}
@@ -39,8 +41,10 @@ bit_cleared n k within = record {
   other = λ i less apart. bit_at_clear_other w64 n k within i less apart;
 }
 
-pub put_in : (old new : PageSet) (key : PageKey) (group : GroupKey) (was bits : ℕ) (kept : Option ℕ) (now : Bool) → group.object ≡ key.object → group.group ≡ key.page.0 / 64 → was ≡ bits_of old group.object.0 group.group
-    → unwrap_or kept 0 ≡ bits → WritesBit (key.page.0 % 64) now was bits → WritesGroup group kept old.groups new.groups → PutsIn key.object.0 key.page.0 now old new
+pub put_in : (old new : PageSet) (key : PageKey) (group : GroupKey) (was bits : ℕ) (kept : Option ℕ) (now : Bool) → group.object ≡ key.object
+    → group.group ≡ key.page.0 / 64 → was ≡ bits_of old group.object.0 group.group
+    → unwrap_or kept 0 ≡ bits → WritesBit (key.page.0 % 64) now was bits → WritesGroup group kept old.groups new.groups
+    → PutsIn key.object.0 key.page.0 now old new
 put_in old new key group was bits kept now object of before is bit writes = record {
   at = λ o p. elim (eqb_tells group.object.0 o) [
     | inl one ↦
@@ -74,7 +78,8 @@ put_in old new key group was bits kept now object of before is bit writes = reco
 pub some_of : {A : Type 0} (o : Option A) (x : A) → o ≡ Some x → IsSome o
 some_of o x is = rw is refl
 
-pub below_written : (old new : List (GroupKey × ℕ)) (bound : ℕ) (group : GroupKey) (bits : Option ℕ) → AreBelow bound old → group.group < bound → WritesGroup group bits old new → AreBelow bound new
+pub below_written : (old new : List (GroupKey × ℕ)) (bound : ℕ) (group : GroupKey) (bits : Option ℕ) → AreBelow bound old → group.group < bound
+    → WritesGroup group bits old new → AreBelow bound new
 below_written old new bound group bits below less writes = record {
   end = below.end;
   at = λ o g is found. elim (eqb_tells group.group g) [
@@ -90,8 +95,10 @@ below_gone old new bound group below writes = record {
 }
 
 -- the bits of a group that is kept are others
-pub below_set : (old new : List (GroupKey × ℕ)) (bound : ℕ) (group : GroupKey) (was bits : ℕ) → AreBelow bound old → bits_at group.object.0 group.group old ≡ Some was → WritesGroup group (Some bits) old new → AreBelow bound new
-below_set old new bound group was bits below there writes = below_written old new bound group (Some bits) below (below.at group.object.0 group.group was there) writes
+pub below_set : (old new : List (GroupKey × ℕ)) (bound : ℕ) (group : GroupKey) (was bits : ℕ) → AreBelow bound old
+    → bits_at group.object.0 group.group old ≡ Some was → WritesGroup group (Some bits) old new → AreBelow bound new
+below_set old new bound group was bits below there writes =
+    below_written old new bound group (Some bits) below (below.at group.object.0 group.group was there) writes
 
 pub below_wider : (groups : List (GroupKey × ℕ)) (bound wider : ℕ) → AreBelow bound groups → bound ≤ wider → wider ≤ 2 ^ 26 → AreBelow wider groups
 below_wider groups bound wider below le fits = record {
@@ -144,7 +151,8 @@ passed set o from group seeks q le past =
       | inr before ↦ seeks.none q le before.1
     ]
 
-pub seek_on : (set : PageSet) (o from group bits : ℕ) → Seeks set o from group 0 → group + 1 < 2 ^ 26 → bits ≡ bits_of set o (group + 1) → bits < 2 ^ 64 → Seeks set o from (group + 1) bits
+pub seek_on : (set : PageSet) (o from group bits : ℕ) → Seeks set o from group 0 → group + 1 < 2 ^ 26 → bits ≡ bits_of set o (group + 1) → bits < 2 ^ 64
+    → Seeks set o from (group + 1) bits
 seek_on set o from group bits seeks fits is bound = record {
   low = omega (arith, seeks.low);
   fits = fits;
@@ -186,7 +194,8 @@ seek_found set o from group bits seeks some =
         | inl inside ↦
             let within : q % 64 < 64 = omega arith in
             let place : q ≡ group * 64 + q % 64 = omega (arith, inside.1, less, lowest.0) in
-            in_group set o q group (q % 64) place within ∙ ap (λ z. z == 1) (sym (seeks.here (q % 64) within (omega (arith, place))) ∙ lowest.2 (q % 64) (omega (arith, place, less)))
+            in_group set o q group (q % 64) place within
+            ∙ ap (λ z. z == 1) (sym (seeks.here (q % 64) within (omega (arith, place))) ∙ lowest.2 (q % 64) (omega (arith, place, less)))
         | inr before ↦ seeks.none q le before.1
       ];
     }

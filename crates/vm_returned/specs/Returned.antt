@@ -10,5 +10,6 @@ use Rattle.vm_legal.specs.Returned.{was_returned}
 
 -- a page of temporary memory that a host takes from its pager is one that the host had returned
 abbrev pub TakesReturned : Header → Event → List Event → Type 0
-TakesReturned header (event.Taken (Down host object control) (message.Supply page lock precious bytes)) past = named header ≤ object.0 → was_returned host.0 object.0 page.0 past ≡ true
+TakesReturned header (event.Taken (Down host object control) (message.Supply page lock precious bytes)) past =
+    named header ≤ object.0 → was_returned host.0 object.0 page.0 past ≡ true
 TakesReturned header other past = Unit {0}

@@ -17,12 +17,14 @@ ghost use Rattle.vm_returned.specs.Returned.{TakesReturned};
 /// was never reclaimed is nowhere but on its host.
 #[tactic(auto, using(crate::proofs::Returned::takes_returned))]
 pub fn supplied_pages_were_returned()
-    ensures { (header : Header) (outside : Outside) (history : List Event) → EachEvent (HasCause header outside) history → EachEvent (TakesReturned header) history }
+    ensures { (header : Header) (outside : Outside) (history : List Event) → EachEvent (HasCause header outside) history
+        → EachEvent (TakesReturned header) history }
 {}
 
 /// What a host takes of temporary memory it had returned, and no page of it is locked: what its kernel rests on
 /// to have whoever waits beside a page that is here wait for a frame.
 #[tactic(auto, using(crate::proofs::Returned::only_returned))]
 pub fn temporary_pages_come_back_only()
-    ensures { (header : Header) (outside : Outside) (host : ℕ) (history : List Event) → EachEvent (HasCause header outside) history → OnlyReturned (named header) host history }
+    ensures { (header : Header) (outside : Outside) (host : ℕ) (history : List Event) → EachEvent (HasCause header outside) history
+        → OnlyReturned (named header) host history }
 {}

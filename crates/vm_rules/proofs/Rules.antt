@@ -18,16 +18,22 @@ use Rattle.vm_shared.proofs.Pages.{legal, one_writer}
 use Rattle.vm_rules.specs.Tests.{Tests}
 
 -- where each load answers from its own host's page it answers the flat map's bytes
-pub flat_of : (header : Header) (outside : Outside) (history : List Event) → NoneIsTemporary header → EachEvent (HasCause header outside) history → EachEvent (OwnBytes header) history → EachEvent (FlatBytes header outside) history
-flat_of header outside history kinds caused own = answers header outside history caused own (copies_current header outside history kinds caused own) (loads_current header outside history caused own)
+pub flat_of : (header : Header) (outside : Outside) (history : List Event) → NoneIsTemporary header → EachEvent (HasCause header outside) history
+    → EachEvent (OwnBytes header) history → EachEvent (FlatBytes header outside) history
+flat_of header outside history kinds caused own =
+    answers header outside history caused own (copies_current header outside history kinds caused own) (loads_current header outside history caused own)
 
 -- a shared page has one writer at every moment
-pub writers : (header : Header) (outside : Outside) (history : List Event) → EachEvent (HasCause header outside) history → EachEvent (OwnBytes header) history → EachMoment (HasOneWriter header) history
+pub writers : (header : Header) (outside : Outside) (history : List Event) → EachEvent (HasCause header outside) history → EachEvent (OwnBytes header) history
+    → EachMoment (HasOneWriter header) history
 writers header outside [] caused own = λ g h o p shared apart. one_writer header outside [] caused own h g o p shared (λ same. apart (sym same))
-writers header outside (e ∷ past) caused own =
-    (λ g h o p shared apart. one_writer header outside (e ∷ past) caused own h g o p shared (λ same. apart (sym same)), writers header outside past caused.1 own.1)
+writers header outside (e ∷ past) caused own = (
+  λ g h o p shared apart. one_writer header outside (e ∷ past) caused own h g o p shared (λ same. apart (sym same)),
+  writers header outside past caused.1 own.1,
+)
 
-pub holds_of : (header : Header) (outside : Outside) (run : List Numbered) (history : List Event) → NoneIsTemporary header → Tests header outside run history → Holds header outside history
+pub holds_of : (header : Header) (outside : Outside) (run : List Numbered) (history : List Event) → NoneIsTemporary header → Tests header outside run history
+    → Holds header outside history
 holds_of header outside run history kinds tests =
     let caused : EachEvent (HasCause header outside) history = any_cut_caused header outside run history tests.follows in
     record {
@@ -43,7 +49,8 @@ holds_of header outside run history kinds tests =
 
 -- what legal histories have of that
 
-pub cut_passes : (header : Header) (outside : Outside) (commands : List Numbered) (history : List Event) → FollowsAnyCut header outside commands history → Holds header outside history → Tests header outside commands history
+pub cut_passes : (header : Header) (outside : Outside) (commands : List Numbered) (history : List Event) → FollowsAnyCut header outside commands history
+    → Holds header outside history → Tests header outside commands history
 cut_passes header outside commands history follows holds = record {
   follows = follows;
   own_bytes = holds.own_bytes;
@@ -53,17 +60,23 @@ cut_passes header outside commands history follows holds = record {
   served = holds.served;
 }
 
-passes : (header : Header) (outside : Outside) (run : List Numbered) (history : List Event) → FollowsSoFar header outside run history → Holds header outside history → Tests header outside run history
+passes : (header : Header) (outside : Outside) (run : List Numbered) (history : List Event) → FollowsSoFar header outside run history
+    → Holds header outside history → Tests header outside run history
 passes header outside run history follows holds = cut_passes header outside run history (any_cut header outside run history follows) holds
 
-pub legal_passes : (header : Header) (outside : Outside) (commands : List Numbered) (history : List Event) → LegalFor header outside commands history → Tests header outside commands history
+pub legal_passes : (header : Header) (outside : Outside) (commands : List Numbered) (history : List Event) → LegalFor header outside commands history
+    → Tests header outside commands history
 legal_passes header outside commands history is = passes header outside commands history (open_of header outside commands history is.follows) is.holds
 
-pub legal_so_far_passes : (script : Script) (outside : Outside) (history : List Event) (is : LegalSoFar script outside history) → Tests script.header outside is.run history
+pub legal_so_far_passes : (script : Script) (outside : Outside) (history : List Event) (is : LegalSoFar script outside history)
+    → Tests script.header outside is.run history
 legal_so_far_passes script outside history is = passes script.header outside is.run history is.follows is.holds
 
-pub canonical_passes : (header : Header) (outside : Outside) (commands : List Numbered) (history : List Event) → CanonicalFor header outside commands history → Tests header outside commands history
+pub canonical_passes : (header : Header) (outside : Outside) (commands : List Numbered) (history : List Event) → CanonicalFor header outside commands history
+    → Tests header outside commands history
 canonical_passes header outside commands history is = legal_passes header outside commands history (legal_of header outside commands history is)
 
-pub canonical_so_far_passes : (script : Script) (outside : Outside) (history : List Event) (is : CanonicalSoFar script outside history) → Tests script.header outside is.run history
-canonical_so_far_passes script outside history is = passes script.header outside is.run history (so_far_of script.header outside is.run history is.follows) is.holds
+pub canonical_so_far_passes : (script : Script) (outside : Outside) (history : List Event) (is : CanonicalSoFar script outside history)
+    → Tests script.header outside is.run history
+canonical_so_far_passes script outside history is =
+    passes script.header outside is.run history (so_far_of script.header outside is.run history is.follows) is.holds

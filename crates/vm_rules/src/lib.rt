@@ -26,16 +26,22 @@ ghost use Rattle.vm_rules.specs.Tests.{Tests};
 /// No declared object is temporary: of one that were, nothing would say what its pager answers.
 #[tactic(auto, using(crate::proofs::Rules::holds_of))]
 pub fn rules_are_all()
-    ensures { (header : Header) (outside : Outside) (run : List Numbered) (history : List Event) → NoneIsTemporary header → Tests header outside run history → Holds header outside history }
+    ensures { (header : Header) (outside : Outside) (run : List Numbered) (history : List Event) → NoneIsTemporary header → Tests header outside run history
+        → Holds header outside history }
 {}
 
 /// Nothing is tested that a legal history might lack, so each history that the rules give for its commands passes, so far as it
 /// goes too. One that ends behind any event passes where all holds of it that holds of a legal one.
 #[tactic(auto, using(crate::proofs::Rules::legal_passes, crate::proofs::Rules::canonical_passes, crate::proofs::Rules::legal_so_far_passes, crate::proofs::Rules::canonical_so_far_passes))]
 pub fn legal_histories_pass()
-    ensures legal { (header : Header) (outside : Outside) (commands : List Numbered) (history : List Event) → LegalFor header outside commands history → Tests header outside commands history }
-    ensures legal_so_far { (script : Script) (outside : Outside) (history : List Event) (is : LegalSoFar script outside history) → Tests script.header outside is.run history }
-    ensures cut { (header : Header) (outside : Outside) (commands : List Numbered) (history : List Event) → FollowsAnyCut header outside commands history → Holds header outside history → Tests header outside commands history }
-    ensures canonical { (header : Header) (outside : Outside) (commands : List Numbered) (history : List Event) → CanonicalFor header outside commands history → Tests header outside commands history }
-    ensures canonical_so_far { (script : Script) (outside : Outside) (history : List Event) (is : CanonicalSoFar script outside history) → Tests script.header outside is.run history }
+    ensures legal { (header : Header) (outside : Outside) (commands : List Numbered) (history : List Event) → LegalFor header outside commands history
+        → Tests header outside commands history }
+    ensures legal_so_far { (script : Script) (outside : Outside) (history : List Event) (is : LegalSoFar script outside history)
+        → Tests script.header outside is.run history }
+    ensures cut { (header : Header) (outside : Outside) (commands : List Numbered) (history : List Event) → FollowsAnyCut header outside commands history
+        → Holds header outside history → Tests header outside commands history }
+    ensures canonical { (header : Header) (outside : Outside) (commands : List Numbered) (history : List Event) → CanonicalFor header outside commands history
+        → Tests header outside commands history }
+    ensures canonical_so_far { (script : Script) (outside : Outside) (history : List Event) (is : CanonicalSoFar script outside history)
+        → Tests script.header outside is.run history }
 {}

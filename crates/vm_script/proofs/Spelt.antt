@@ -59,7 +59,16 @@ task_spelt t less =
 
 pub map_spelt : (t : ℕ) → t < 6 → IsSpelt (map_line t)
 map_spelt t less = record {
-  words = (letters (codes "map") refl (omega arith) (omega arith), (word_is t (omega (arith, less)), (word_is 0 (omega arith), (word_is 256 (omega arith), (letters (codes "a") refl (omega arith) (omega arith), (word_is 0 (omega arith), tt))))));
+  words = (
+    letters (codes "map") refl (omega arith) (omega arith),
+    (
+      word_is t (omega (arith, less)),
+      (
+        word_is 0 (omega arith),
+        (word_is 256 (omega arith), (letters (codes "a") refl (omega arith) (omega arith), (word_is 0 (omega arith), tt))),
+      ),
+    ),
+  );
   few = omega arith;
   read = λ line before.
       rw (task_is t (omega (arith, less)), address_is 0 (omega arith), bytes_are, between 0 4096 0 (omega arith) (omega arith) (omega arith)) refl;
@@ -67,7 +76,10 @@ map_spelt t less = record {
 
 pub allocate_spelt : (t : ℕ) → t < 6 → IsSpelt (allocate_line t)
 allocate_spelt t less = record {
-  words = (letters (codes "allocate") refl (omega arith) (omega arith), (word_is t (omega (arith, less)), (word_is 4096 (omega arith), (word_is 256 (omega arith), tt))));
+  words = (
+    letters (codes "allocate") refl (omega arith) (omega arith),
+    (word_is t (omega (arith, less)), (word_is 4096 (omega arith), (word_is 256 (omega arith), tt))),
+  );
   few = omega arith;
   read = λ line before. rw (task_is t (omega (arith, less)), address_is 4096 (omega arith), bytes_are) refl;
 }
@@ -76,7 +88,10 @@ allocate_spelt t less = record {
 
 load_spelt : (task address : ℕ) → task < 16 → address < 32768 → IsSpelt (load_at task address)
 load_spelt task address one two = record {
-  words = (letters (codes "load") refl (omega arith) (omega arith), (word_is task (omega (arith, one)), (word_is address (omega (arith, two)), (word_is 4 (omega arith), tt))));
+  words = (
+    letters (codes "load") refl (omega arith) (omega arith),
+    (word_is task (omega (arith, one)), (word_is address (omega (arith, two)), (word_is 4 (omega arith), tt))),
+  );
   few = omega arith;
   read = λ line before. rw (task_is task (omega (arith, one)), address_is address two, four_is) refl;
 }
@@ -86,7 +101,10 @@ value_is value less = between 0 4294967295 value (omega (arith, less)) (omega ar
 
 store_spelt : (task address value : ℕ) → task < 16 → address < 32768 → value < 256 → IsSpelt (store_at task address value)
 store_spelt task address value one two three = record {
-  words = (letters (codes "store") refl (omega arith) (omega arith), (word_is task (omega (arith, one)), (word_is address (omega (arith, two)), (word_is 4 (omega arith), (word_is value (omega (arith, three)), tt)))));
+  words = (
+    letters (codes "store") refl (omega arith) (omega arith),
+    (word_is task (omega (arith, one)), (word_is address (omega (arith, two)), (word_is 4 (omega arith), (word_is value (omega (arith, three)), tt)))),
+  );
   few = omega arith;
   read = λ line before. rw (task_is task (omega (arith, one)), address_is address two, four_is, value_is value three) refl;
 }
@@ -117,7 +135,10 @@ copy_spelt : (task address to : ℕ) → task < 16 → address < 32768 → to < 
 copy_spelt task address to one two three =
     let owner = word_is task (omega (arith, one)) in
     record {
-      words = (letters (codes "copy") refl (omega arith) (omega arith), (owner, (word_is address (omega (arith, two)), (word_is 256 (omega arith), (owner, (word_is to (omega (arith, three)), tt))))));
+      words = (
+        letters (codes "copy") refl (omega arith) (omega arith),
+        (owner, (word_is address (omega (arith, two)), (word_is 256 (omega arith), (owner, (word_is to (omega (arith, three)), tt))))),
+      );
       few = omega arith;
       read = λ line before. rw (task_is task (omega (arith, one)), address_is address two, bytes_are, address_is to three) refl;
     }

@@ -1,6 +1,7 @@
 // Whether two events are the same.
 ghost use Rattle.std.specs.Prelude.{◌≡◌, ◌≤◌, ◌↔◌, length, IsTrue, true};
-ghost use Rattle.vm_seen.specs.Same.{is_begun, is_carrying, is_ended, is_notice, is_of_entries, is_of_pages, is_of_regions, is_of_steps, is_of_tasks, is_order, is_wish};
+ghost use Rattle.vm_seen.specs.Same.{is_begun, is_carrying, is_ended, is_notice, is_of_entries, is_of_pages, is_of_regions, is_of_steps, is_of_tasks, is_order};
+ghost use Rattle.vm_seen.specs.Same.{is_wish};
 ghost use Rattle.vm_seen.specs.Behind.{oldest_items};
 
 use vm_base::PageBytes;

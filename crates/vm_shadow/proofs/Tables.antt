@@ -1,5 +1,6 @@
 -- What regions and shadows are after a write.
-use Rattle.std.proofs.Common.{◌≡◌, ◌∙◌, sym, subst, ℕ, ◌+◌, ◌<◌, ◌≤◌, ◌==◌, true, false, List, Option, Some, None, if◌then◌else◌, IfSome, IsSome, IsSomeAnd, arith, refl}
+use Rattle.std.proofs.Common.{◌≡◌, ◌∙◌, sym, subst, ℕ, ◌+◌, ◌<◌, ◌≤◌, ◌==◌, true, false, List, Option, Some, None, if◌then◌else◌, IfSome, IsSome, IsSomeAnd}
+use Rattle.std.proofs.Common.{arith, refl}
 use Rattle.std.proofs.lemmas.Bool.Decides.{nat_tests}
 use Rattle.std.specs.Map.{lookup}
 use Rattle.vm_base.specs.declared.ids.ObjectId.{ObjectId}
@@ -39,13 +40,15 @@ source_kept old mid source copy offset pages row found below is put there =
     same_row (region_at mid source) found row there kept
 
 pub region_copied : (old mid new : ChainTable) (source copy offset pages : ℕ) (row found : RegionRow) → RegionsBelow copy old → region_at old source ≡ Some row
-    → PutsRegion copy (Some (copy_of row offset pages)) old mid → region_at mid source ≡ Some found → PutsRegion source (Some (record found { marked = true })) mid new
+    → PutsRegion copy (Some (copy_of row offset pages)) old mid → region_at mid source ≡ Some found
+    → PutsRegion source (Some (record found { marked = true })) mid new
     → CopiesRegion source copy offset pages row old new
 region_copied old mid new source copy offset pages row found below is put there marks =
     let less = region_below copy source row old below is in
     let other : (copy == source) ≡ false = grind (arith, nat_tests) in
     let same : found ≡ row = source_kept old mid source copy offset pages row found below is put there in
-    let at : (r : ℕ) → region_at new r ≡ (if copy == r then Some (copy_of row offset pages) else (if source == r then Some (record row { marked = true }) else region_at old r))
+    let at : (r : ℕ) → region_at new r ≡ (if copy == r then Some (copy_of row offset pages) else
+    (if source == r then Some (record row { marked = true }) else region_at old r))
     = λ r. rw (← same) (grind (arith, nat_tests, marks.at r, put.at r, other)) in
     record { at = at; shadows = marks.shadows ∙ put.shadows }
 
@@ -54,7 +57,8 @@ abbrev pub AreOlderUnder : List (ObjectId × ShadowRow) → Type 0
 AreOlderUnder shadows = (o : ℕ) (row : ShadowRow) → lookup (λ id. o == id.0) shadows ≡ Some row → row.under.0 < o
 
 -- so has what was found under an object
-pub older_found : (table : ChainTable) (o : ℕ) (found : Option ShadowRow) → IsOlderUnder table → found ≡ shadow_at table o → IfSome found (λ row. row.under.0 < o)
+pub older_found : (table : ChainTable) (o : ℕ) (found : Option ShadowRow) → IsOlderUnder table → found ≡ shadow_at table o
+    → IfSome found (λ row. row.under.0 < o)
 older_found table o None older is = tt
 older_found table o (Some row) older is = older o row (sym is)
 

@@ -45,7 +45,8 @@ copy_of row offset pages = record { top = row.top; shift = row.shift + offset; p
 
 -- a symmetric copy of a region with this row: the copy is there, and both are marked
 pub record CopiesRegion (source copy offset pages : ℕ) (row : RegionRow) (old new : ChainTable) : Type 0 where
-  pub at : (r : ℕ) → region_at new r ≡ (if copy == r then Some (copy_of row offset pages) else (if source == r then Some (record row { marked = true }) else region_at old r))
+  pub at : (r : ℕ) → region_at new r ≡ (if copy == r then Some (copy_of row offset pages) else
+      (if source == r then Some (record row { marked = true }) else region_at old r))
   pub shadows : shadow_at new ≡ shadow_at old
 
 -- a region with this row gets an object of its own over its old top, and has no mark any more

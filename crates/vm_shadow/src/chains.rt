@@ -1,7 +1,8 @@
 // The regions of a host, and the shadows under them.
 ghost use Rattle.std.specs.Option.{option_map};
 ghost use Rattle.std.specs.Prelude.{ℕ, ◌≡◌, ◌+◌, ◌-◌, ◌<◌, ◌≤◌, ◌^◌, Some, None, true, if◌then◌else◌, IfOk, IfSome, IsOk, IsSome, IsSomeAnd, OnErr, OnOk};
-ghost use Rattle.vm_shadow.specs.Chains.{CopiesRegion, DropsShadow, IsDeep, ObjectsBelow, PutsRegion, RegionsBelow, SameChains, ShadowsRegion, place_under, region_at, shadow_at};
+ghost use Rattle.vm_shadow.specs.Chains.{CopiesRegion, DropsShadow, IsDeep, ObjectsBelow, PutsRegion, RegionsBelow, SameChains, ShadowsRegion, place_under};
+ghost use Rattle.vm_shadow.specs.Chains.{region_at, shadow_at};
 
 use crate::{Ids, RegionRow, ShadowRow};
 use indexmap::IndexMap;

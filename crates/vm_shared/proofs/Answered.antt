@@ -1,5 +1,6 @@
 -- Where nothing is undelivered the server of shared memory has answered everybody.
-use Rattle.std.proofs.Common.{inl, inr, ⊎_elim, ℕ, zero, suc, ◌≡◌, ◌∙◌, List, [], Bool, true, false, refl, sym, ap, subst, arith, Option, Some, None, if◌then◌else◌}
+use Rattle.std.proofs.Common.{inl, inr, ⊎_elim, ℕ, zero, suc, ◌≡◌, ◌∙◌, List, [], Bool, true, false, refl, sym, ap, subst, arith, Option, Some, None}
+use Rattle.std.proofs.Common.{if◌then◌else◌}
 use Rattle.std.proofs.lemmas.Bool.{cases_lt}
 use Rattle.std.specs.Prelude.{◌<◌, ◌⊎◌}
 use Rattle.vm_model.specs.declared.event.Event.{Event}
@@ -55,14 +56,18 @@ live_some s live is lives = sym is ∙ pick s.live lives
     pick true e = refl
     pick false e = absurd (let bad : false ≡ true = e in cc)
 
-pub quiet_part : (header : Header) (outside : Outside) (history : List Event) (o p : ℕ) → IsStill header outside history → is_shared header o ≡ true → ActsLicensed header.size (page_part header.size o p history) → Quiet (page_part header.size o p history)
+pub quiet_part : (header : Header) (outside : Outside) (history : List Event) (o p : ℕ) → IsStill header outside history → is_shared header o ≡ true
+    → ActsLicensed header.size (page_part header.size o p history) → Quiet (page_part header.size o p history)
 quiet_part header outside history o p still shared licensed =
     record {
-      no_up = λ h. page_queue header.size history h o p (up_in_order header outside history still.causes) ∙ ap (up_words p) (none_queued (up_port h o) history still.delivered);
+      no_up =
+          λ h. page_queue header.size history h o p (up_in_order header outside history still.causes)
+          ∙ ap (up_words p) (none_queued (up_port h o) history still.delivered);
       no_down = λ h. by h (side h (page_part header.size o p history)).live refl;
       all_ready = λ h live.
           (stepped_of header outside history still.causes h o p shared).ready live
-          ∙ ready_now header outside history h o (side h (page_part header.size o p history)).control still.causes still.steps still.paid still.delivered (shared_supplied header o shared)
+          ∙ ready_now header outside history h o (side h (page_part header.size o p history)).control still.causes still.steps still.paid still.delivered
+          (shared_supplied header o shared)
           (live_some (side h (page_part header.size o p history)) (live_control h o history) (side_is_local header.size history h o p known).control live);
       done = done_now header outside o p history shared still.causes still.paid;
     }
@@ -72,7 +77,8 @@ quiet_part header outside history o p still shared licensed =
 
     by : (h : ℕ) (b : Bool) → (side h (page_part header.size o p history)).live ≡ b → (side h (page_part header.size o p history)).down ≡ []
     by h true live =
-        page_descent header.size history h o p (down_in_order header outside history still.causes) live ∙ ap (down_words p) (none_queued (down_port h o (side h (page_part header.size o p history)).control) history still.delivered)
+        page_descent header.size history h o p (down_in_order header outside history still.causes) live
+        ∙ ap (down_words p) (none_queued (down_port h o (side h (page_part header.size o p history)).control) history still.delivered)
     by h false live = ((world header.size (page_part header.size o p history) licensed).each h).gone_down live
 
 -- what the part says is what the hosts have
@@ -87,12 +93,15 @@ has_right page right is here = subst (λ n. 0 < n) (sym is) (pick page.here here
     pick true e = above page.lock
     pick false e = absurd (let bad : false ≡ true = e in cc)
 
-all_answered : (header : Header) (outside : Outside) (history : List Event) → IsStill header outside history → ((o p : ℕ) → is_shared header o ≡ true → ActsLicensed header.size (page_part header.size o p history)) → AllServed header history
+all_answered : (header : Header) (outside : Outside) (history : List Event) → IsStill header outside history
+    → ((o p : ℕ) → is_shared header o ≡ true → ActsLicensed header.size (page_part header.size o p history)) → AllServed header history
     → SharedAreAnswered header history
 all_answered header outside history still licensed served =
     record {
       asked = λ h o p shared. sym (tied h o p).asked ∙ (none o p shared).none_asked h;
-      unlocking = λ h o p shared here. sym ((tied h o p).unlocking here) ∙ (none o p shared).none_unlocking h (has_right (page_on header h o p history) _ (tied h o p).right here);
+      unlocking =
+          λ h o p shared here. sym ((tied h o p).unlocking here)
+          ∙ (none o p shared).none_unlocking h (has_right (page_on header h o p history) _ (tied h o p).right here);
     }
   where
     tied : (h o p : ℕ) → SideIsLocal (live_control h o history) (side h (page_part header.size o p history)) (page_on header h o p history)
@@ -100,35 +109,46 @@ all_answered header outside history still licensed served =
 
     none : (o p : ℕ) → is_shared header o ≡ true → NothingIsAsked (page_part header.size o p history)
     none o p shared =
-        answered header.size (page_part header.size o p history) (licensed o p shared) (steps_done header outside o p history shared still.causes still.steps) (served o p shared)
+        answered header.size (page_part header.size o p history) (licensed o p shared) (steps_done header outside o p history shared still.causes still.steps)
+        (served o p shared)
         (quiet_part header outside history o p still shared (licensed o p shared))
 
-pub shared_are_answered : (header : Header) (outside : Outside) (history : List Event) → EachEvent (HasCause header outside) history → EachEvent (OwnBytes header) history → BeforeSteps (IsPaid header) history → IsPaid header history → AllServed header history → undelivered history ≡ []
+pub shared_are_answered : (header : Header) (outside : Outside) (history : List Event) → EachEvent (HasCause header outside) history
+    → EachEvent (OwnBytes header) history → BeforeSteps (IsPaid header) history → IsPaid header history → AllServed header history → undelivered history ≡ []
     → SharedAreAnswered header history
 shared_are_answered header outside history causes own steps paid served delivered =
-    all_answered header outside history (record { causes = causes; steps = steps; paid = paid; delivered = delivered }) (λ o p shared. licensed header outside history causes own o p shared) served
+    all_answered header outside history (record { causes = causes; steps = steps; paid = paid; delivered = delivered })
+    (λ o p shared. licensed header outside history causes own o p shared) served
 
 -- whoever waits for a wild object's place waits on its region
 
 wild_declared : (header : Header) (o : ℕ) → is_wild header o ≡ true → o < named header
-wild_declared header o wild = ⊎_elim (λ less. less) (λ above. let bad : true ≡ false = sym wild ∙ paged_supplied header o (later_paged header o above) in absurd (cc)) (cases_lt o (named header))
+wild_declared header o wild =
+    ⊎_elim (λ less. less) (λ above. let bad : true ≡ false = sym wild ∙ paged_supplied header o (later_paged header o above) in absurd (cc))
+    (cases_lt o (named header))
 
-on_wild : (header : Header) (outside : Outside) (history : List Event) (host task : ℕ) (access : Access) → EachEvent (HasCause header outside) history → WaitsForWild header host task access history → WaitsOnWild header host task access history
+on_wild : (header : Header) (outside : Outside) (history : List Event) (host task : ℕ) (access : Access) → EachEvent (HasCause header outside) history
+    → WaitsForWild header host task access history → WaitsOnWild header host task access history
 on_wild header outside history host task access causes is =
     let waits : Waits header task access history = is.what.waits in
     let n : Numbering header history = numbering header outside history causes in
     let made = at_made header task (address_of header.size (next_page task history) access) history n.made waits.at in
-    let own = place_own header history waits.at.entry.region.0 (page_of header task access history waits.at.entry) is.what.object is.what.page n.numbered (wild_declared header is.what.object is.wild) made is.what.place in
+    let own = place_own header history waits.at.entry.region.0 (page_of header task access history waits.at.entry) is.what.object is.what.page n.numbered
+    (wild_declared header is.what.object is.wild) made is.what.place in
     record { waits = waits; on_host = is.what.on_host; wild = ap (is_wild header) own.own.region ∙ is.wild }
 
-pub nobody_waits : (header : Header) (outside : Outside) (history : List Event) → NoneIsTemporary header → EachEvent (HasCause header outside) history → EachEvent (OwnBytes header) history → BeforeSteps (IsPaid header) history → IsPaid header history → AllServed header history → Prompt header history
+pub nobody_waits : (header : Header) (outside : Outside) (history : List Event) → NoneIsTemporary header → EachEvent (HasCause header outside) history
+    → EachEvent (OwnBytes header) history → BeforeSteps (IsPaid header) history → IsPaid header history → AllServed header history → Prompt header history
     → undelivered history ≡ [] → NobodyWaitsInVain header history
 nobody_waits header outside history kinds causes own steps paid served prompt delivered =
     record { short = λ host task access below waits lives. by host task access (only.short host task access below waits lives) }
   where
     only : OnlyWildAreAwaited header history
-    only = only_wild header outside history kinds causes steps paid (shared_are_answered header outside history causes own steps paid served delivered) prompt delivered
+    only =
+        only_wild header outside history kinds causes steps paid (shared_are_answered header outside history causes own steps paid served delivered) prompt
+        delivered
 
-    by : (host task : ℕ) (access : Access) → WaitsForWild header host task access history ⊎ IsShortOfFrames header host history → WaitsOnWild header host task access history ⊎ IsShortOfFrames header host history
+    by : (host task : ℕ) (access : Access) → WaitsForWild header host task access history ⊎ IsShortOfFrames header host history
+        → WaitsOnWild header host task access history ⊎ IsShortOfFrames header host history
     by host task access (inl is) = inl (on_wild header outside history host task access causes is)
     by host task access (inr frames) = inr frames

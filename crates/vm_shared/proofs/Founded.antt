@@ -8,5 +8,6 @@ use Rattle.vm_legal.specs.Licences.{HasCause}
 use Rattle.vm_legal.specs.Outside.{Outside}
 use Rattle.vm_flat.proofs.Locals.{each_founded}
 
-pub founded : (header : Header) (outside : Outside) (history : List Event) → EachEvent (HasCause header outside) history → EachEvent (IsFounded header.size) history
+pub founded : (header : Header) (outside : Outside) (history : List Event) → EachEvent (HasCause header outside) history
+    → EachEvent (IsFounded header.size) history
 founded header outside history caused = each_founded header outside history caused

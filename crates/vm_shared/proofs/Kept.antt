@@ -1,5 +1,6 @@
 -- What a host has of a shared page: its lock is none or one that prohibits writing, and it is never precious.
-use Rattle.std.proofs.Common.{◌≡◌, ℕ, ◌≤◌, ◌==◌, ◌&&◌, ◌||◌, ◌∙◌, List, [], ◌∷◌, Bool, true, false, Option, Some, None, if◌then◌else◌, refl, sym, subst, arith, inl, inr}
+use Rattle.std.proofs.Common.{◌≡◌, ℕ, ◌≤◌, ◌==◌, ◌&&◌, ◌||◌, ◌∙◌, List, [], ◌∷◌, Bool, true, false, Option, Some, None, if◌then◌else◌, refl, sym, subst, arith}
+use Rattle.std.proofs.Common.{inl, inr}
 use Rattle.std.proofs.lemmas.Bool.Decides.{nat_tests}
 use Rattle.std.specs.Prelude.{◌⊎◌}
 use Rattle.vm_base.specs.Pages.{little_endian_bytes}
@@ -10,7 +11,8 @@ use Rattle.vm_model.specs.declared.message.Message.{Message}
 use Rattle.vm_model.specs.declared.message.Message.TheVariants as message
 use Rattle.vm_model.specs.declared.script.Header.{Header}
 use Rattle.vm_model.specs.Controls.{is_control, live_control}
-use Rattle.vm_model.specs.Local.{Asks, Begins, Drops, Elsewhere, Ends, Local, LocalEffect, Raises, Returns, Stores, TakesError, TakesLock, TakesNothing, TakesPage, Unlocks, Zeroes, effect, is_on, local, local_after, sent_effect, taken_effect}
+use Rattle.vm_model.specs.Local.{Asks, Begins, Drops, Elsewhere, Ends, Local, LocalEffect, Raises, Returns, Stores, TakesError, TakesLock, TakesNothing}
+use Rattle.vm_model.specs.Local.{TakesPage, Unlocks, Zeroes, effect, is_on, local, local_after, sent_effect, taken_effect}
 use Rattle.vm_model.specs.Moments.{EachEvent}
 use Rattle.vm_model.specs.Named.{named}
 use Rattle.vm_model.specs.Tasks.{host_of}
@@ -62,7 +64,15 @@ moved size Asks page g i = record { lock = i.lock; plain = i.plain }
 moved size Unlocks page g i = record { lock = i.lock; plain = i.plain }
 moved size (TakesPage lock precious bytes) page g i = by page.asked
   where
-    by : (b : Bool) → IsShareds (if b then record page { here = true; bytes = bytes; lock = lock; dirty = false; precious = precious; unlocking = false; asked = false } else page)
+    by : (b : Bool) → IsShareds (if b then record page {
+      here = true;
+      bytes = bytes;
+      lock = lock;
+      dirty = false;
+      precious = precious;
+      unlocking = false;
+      asked = false;
+    } else page)
     by true = record { lock = g.0; plain = g.1 }
     by false = i
 moved size TakesNothing page g i = by page.asked
@@ -98,7 +108,8 @@ here_was size TakesNothing page g b here = by page.asked here
 here_was size TakesError page g b here = here
 here_was size (TakesLock lock flush) page g b here = by page.here refl here
   where
-    by : (b : Bool) → page.here ≡ b → (if b then record page { lock = if flush || lock == 8 then page.lock else lock; unlocking = false } else page).here ≡ true → page.here ≡ true
+    by : (b : Bool) → page.here ≡ b → (if b then record page { lock = if flush || lock == 8 then page.lock else lock; unlocking = false } else page).here ≡ true
+        → page.here ≡ true
     by true now is = is
     by false now is = is
 here_was size Begins page g b here = here
@@ -118,17 +129,23 @@ none_if false e is = tt
 apart : (header : Header) (o : ℕ) → is_shared header o ≡ true → named header ≤ o → ⊥
 apart header o shared above = never (sym (temporary_unshared header o above) ∙ shared)
 
-pub unzeroed : (header : Header) (outside : Outside) (host o p : ℕ) (past : List Event) → EachEvent (HasCause header outside) past → is_shared header o ≡ true → Fills header host o p past ⊎ Bottoms header host o p past → ⊥
+pub unzeroed : (header : Header) (outside : Outside) (host o p : ℕ) (past : List Event) → EachEvent (HasCause header outside) past → is_shared header o ≡ true
+    → Fills header host o p past ⊎ Bottoms header host o p past → ⊥
 unzeroed header outside host o p past caused shared (inl c) =
-    let lacks : IsElsewhere (Some (record { host = host; object = o; page = p })) header = subst (λ a. IsElsewhere a header) c.void (none_lacks header outside past caused) in
+    let lacks : IsElsewhere (Some (record { host = host; object = o; page = p })) header = subst (λ a. IsElsewhere a header) c.void
+    (none_lacks header outside past caused) in
     lacks shared
 unzeroed header outside host o p past caused shared (inr c) = apart header o shared c.temporary
 
-pub unraised : (header : Header) (outside : Outside) (host lower lower_page o p : ℕ) (past : List Event) → EachEvent (HasCause header outside) past → is_shared header o ≡ true → RaisesPage header host lower lower_page o p past → ⊥
-unraised header outside host lower lower_page o p past caused shared c = apart header o shared ((numbering header outside past caused).numbered.upper o c.walks.1)
+pub unraised : (header : Header) (outside : Outside) (host lower lower_page o p : ℕ) (past : List Event) → EachEvent (HasCause header outside) past
+    → is_shared header o ≡ true → RaisesPage header host lower lower_page o p past → ⊥
+unraised header outside host lower lower_page o p past caused shared c =
+    apart header o shared ((numbering header outside past caused).numbered.upper o c.walks.1)
 
-pub uncopied : (header : Header) (outside : Outside) (task index object page target : ℕ) (past : List Event) → EachEvent (HasCause header outside) past → is_shared header target ≡ true → CopiesPage header task index object page target past → ⊥
-uncopied header outside task index object page target past caused shared c = apart header target shared ((numbering header outside past caused).fills task _ c.filled)
+pub uncopied : (header : Header) (outside : Outside) (task index object page target : ℕ) (past : List Event) → EachEvent (HasCause header outside) past
+    → is_shared header target ≡ true → CopiesPage header task index object page target past → ⊥
+uncopied header outside task index object page target past caused shared c =
+    apart header target shared ((numbering header outside past caused).fills task _ c.filled)
 
 gentle_sent : (p : ℕ) (live : Option ℕ) (m : Message) → Gentle (sent_effect p live m)
 gentle_sent p live (message.Init control size) = tt
@@ -156,7 +173,8 @@ servers_lock count returns false lock false is = inl (inl is.2)
 
 gentle_taken : (p : ℕ) (m : Message) → IsServers m → Gentle (taken_effect p m)
 gentle_taken p (message.Supply at lock precious bytes) is = gentle_if (at.0 == p) (TakesPage lock precious bytes) (λ same. is)
-gentle_taken p (message.Lock at count returns flush lock reply) is = gentle_if (in_range p at.0 count) (TakesLock lock flush) (λ same. servers_lock count returns flush lock reply is)
+gentle_taken p (message.Lock at count returns flush lock reply) is =
+    gentle_if (in_range p at.0 count) (TakesLock lock flush) (λ same. servers_lock count returns flush lock reply is)
 gentle_taken p (message.Ready cache strategy) is = tt
 gentle_taken p m is = absurd is
 
@@ -174,29 +192,39 @@ theirs header a h b o t is shared = its header a h b o (both (a == h) (b == o) t
     both true false c is = is
     both false b c is = is
 
-pub gentle : (header : Header) (outside : Outside) (e : Event) (past : List Event) → EachEvent (HasCause header outside) past → HasCause header outside e past → (h o p : ℕ) → is_shared header o ≡ true
+pub gentle : (header : Header) (outside : Outside) (e : Event) (past : List Event) → EachEvent (HasCause header outside) past → HasCause header outside e past
+    → (h o p : ℕ) → is_shared header o ≡ true
     → Gentle (effect h (record { object = o; page = p }) (λ source. local header.size h source past) e past)
 gentle header outside (event.Zeroed at object page) past caused c h o p shared =
-    gentle_if (at.0 == h && (object.0 == o && page.0 == p)) Zeroes (λ is. unzeroed header outside at.0 object.0 page.0 past caused (theirs header at.0 h object.0 o (page.0 == p) is shared) c.1)
+    gentle_if (at.0 == h && (object.0 == o && page.0 == p)) Zeroes (λ is. unzeroed header outside at.0 object.0 page.0 past caused
+    (theirs header at.0 h object.0 o (page.0 == p) is shared) c.1)
 gentle header outside (event.Raised at lower lower_page upper upper_page) past caused c h o p shared =
-    gentle_if (at.0 == h && (upper.0 == o && upper_page.0 == p)) (Raises _) (λ is. unraised header outside at.0 lower.0 lower_page.0 upper.0 upper_page.0 past caused (theirs header at.0 h upper.0 o (upper_page.0 == p) is shared) c.1)
+    gentle_if (at.0 == h && (upper.0 == o && upper_page.0 == p)) (Raises _) (λ is. unraised header outside at.0 lower.0 lower_page.0 upper.0 upper_page.0 past
+    caused (theirs header at.0 h upper.0 o (upper_page.0 == p) is shared) c.1)
 gentle header outside (event.CopiedPage task page object object_page target) past caused c h o p shared =
     gentle_if (is_on h (host_of task.0 past) && (target.0 == o && page.0 == p)) (Raises _)
-    (λ is. uncopied header outside task.0 page.0 object.0 object_page.0 target.0 past caused (subst (λ k. is_shared header k ≡ true) (sym (there_two (λ k q. target.0 ≡ k) target.0 page.0 o p (right (is_on h (host_of task.0 past)) _ is) refl)) shared) c.1)
-gentle header outside (event.Stored task object page at size value) past caused c h o p shared = gentle_if (is_on h (host_of task.0 past) && (object.0 == o && page.0 == p)) (Stores at (little_endian_bytes size value)) (λ is. tt)
+    (λ is. uncopied header outside task.0 page.0 object.0 object_page.0 target.0 past caused
+    (subst (λ k. is_shared header k ≡ true) (sym (there_two (λ k q. target.0 ≡ k) target.0 page.0 o p (right (is_on h (host_of task.0 past)) _ is) refl))
+    shared) c.1)
+gentle header outside (event.Stored task object page at size value) past caused c h o p shared =
+    gentle_if (is_on h (host_of task.0 past) && (object.0 == o && page.0 == p)) (Stores at (little_endian_bytes size value)) (λ is. tt)
 gentle header outside (event.Dropped at object page) past caused c h o p shared = gentle_if (at.0 == h && (object.0 == o && page.0 == p)) Drops (λ is. tt)
-gentle header outside (event.Sent (Up at object) m) past caused c h o p shared = gentle_if (at.0 == h && object.0 == o) (sent_effect p (live_control h o past) m) (λ is. gentle_sent p (live_control h o past) m)
+gentle header outside (event.Sent (Up at object) m) past caused c h o p shared =
+    gentle_if (at.0 == h && object.0 == o) (sent_effect p (live_control h o past) m) (λ is. gentle_sent p (live_control h o past) m)
 gentle header outside (event.Sent (Down at object control) m) past caused c h o p shared = tt
 gentle header outside (event.Taken (Up at object) m) past caused c h o p shared = tt
 gentle header outside (event.Taken (Down at object control) m) past caused c h o p shared =
     gentle_if (at.0 == h && (object.0 == o && is_control control (live_control h o past))) (taken_effect p m)
-    (λ is. gentle_taken p m (taken_servers header outside at object control m past caused c.1.0 (theirs header at.0 h object.0 o (is_control control (live_control h o past)) is shared)))
+    (λ is. gentle_taken p m (taken_servers header outside at object control m past caused c.1.0
+    (theirs header at.0 h object.0 o (is_control control (live_control h o past)) is shared)))
 gentle header outside e past caused c h o p shared = tt
 
-pub shareds_of : (header : Header) (outside : Outside) (past : List Event) → EachEvent (HasCause header outside) past → (h o p : ℕ) → is_shared header o ≡ true → IsShareds (page_on header h o p past)
+pub shareds_of : (header : Header) (outside : Outside) (past : List Event) → EachEvent (HasCause header outside) past → (h o p : ℕ) → is_shared header o ≡ true
+    → IsShareds (page_on header h o p past)
 shareds_of header outside [] caused h o p shared = record { lock = inl refl; plain = refl }
 shareds_of header outside (e ∷ past) caused h o p shared =
-    moved header.size (effect h (record { object = o; page = p }) (λ source. local header.size h source past) e past) (page_on header h o p past) (gentle header outside e past caused.1 caused.0 h o p shared) (shareds_of header outside past caused.1 h o p shared)
+    moved header.size (effect h (record { object = o; page = p }) (λ source. local header.size h source past) e past) (page_on header h o p past)
+    (gentle header outside e past caused.1 caused.0 h o p shared) (shareds_of header outside past caused.1 h o p shared)
 
 -- where a step took a lock over an object whose page is here, its control lives still
 
@@ -204,7 +232,8 @@ abbrev pub still_lives : ℕ → ℕ → Option LockRequest → Option ℕ → B
 still_lives h o None live = true
 still_lives h o (Some r) live = if r.host == h && r.object == o then is_control r.control live else true
 
-lives_if : (b : Bool) (h o : ℕ) (r : LockRequest) (live : Option ℕ) → ((r.host == h && r.object == o) ≡ true → b ≡ true → is_control r.control live ≡ true) → still_lives h o (if b then Some r else None) live ≡ true
+lives_if : (b : Bool) (h o : ℕ) (r : LockRequest) (live : Option ℕ) → ((r.host == h && r.object == o) ≡ true → b ≡ true → is_control r.control live ≡ true)
+    → still_lives h o (if b then Some r else None) live ≡ true
 lives_if false h o r live is = refl
 lives_if true h o r live is = by (r.host == h && r.object == o) refl
   where
@@ -220,53 +249,72 @@ begun_lives h o control (Some r) is = by (r.host == h && r.object == o) is
     by true e = never e
     by false e = refl
 
-opened_lives : (b : Bool) (h o control : ℕ) (lock : Option LockRequest) (live : Option ℕ) → (b ≡ true → live ≡ None) → still_lives h o lock live ≡ true → still_lives h o lock (if b then Some control else live) ≡ true
+opened_lives : (b : Bool) (h o control : ℕ) (lock : Option LockRequest) (live : Option ℕ) → (b ≡ true → live ≡ None) → still_lives h o lock live ≡ true
+    → still_lives h o lock (if b then Some control else live) ≡ true
 opened_lives false h o control lock live none is = is
 opened_lives true h o control lock live none is = begun_lives h o control lock (subst (λ (l : Option ℕ). still_lives h o lock l ≡ true) (none refl) is)
 
-same_if : (b : Bool) (h o : ℕ) (lock : Option LockRequest) (live after : Option ℕ) → (b ≡ true → ⊥) → still_lives h o lock live ≡ true → still_lives h o lock (if b then after else live) ≡ true
+same_if : (b : Bool) (h o : ℕ) (lock : Option LockRequest) (live after : Option ℕ) → (b ≡ true → ⊥) → still_lives h o lock live ≡ true
+    → still_lives h o lock (if b then after else live) ≡ true
 same_if true h o lock live after isnt is = absurd (isnt refl)
 same_if false h o lock live after isnt is = is
 
 object_of : (a b c d : ℕ) → (a == b && c == d) ≡ true → d ≡ c
 object_of a b c d is = grind (arith, nat_tests)
 
-lives_next : (header : Header) (outside : Outside) (e : Event) (past : List Event) → EachEvent (HasCause header outside) past → HasCause header outside e past → (h o p : ℕ) → is_shared header o ≡ true
+lives_next : (header : Header) (outside : Outside) (e : Event) (past : List Event) → EachEvent (HasCause header outside) past → HasCause header outside e past
+    → (h o p : ℕ) → is_shared header o ≡ true
     → ((page_on header h o p past).here ≡ true → still_lives h o (lock_taken past) (live_control h o past) ≡ true)
     → (page_on header h o p (e ∷ past)).here ≡ true → still_lives h o (lock_taken (e ∷ past)) (live_control h o (e ∷ past)) ≡ true
 lives_next header outside (event.Line line) past caused c h o p shared was here = refl
 lives_next header outside (event.Taken (Up host object) m) past caused c h o p shared was here = refl
 lives_next header outside (event.Taken (Down host object control) (message.Lock page count returns flush lock reply)) past caused c h o p shared was here =
-    lives_if (is_control control (live_control host.0 object.0 past)) h o _ (live_control h o past) (λ same is. there_two (λ g k. is_control control (live_control g k past) ≡ true) host.0 object.0 h o same is)
+    lives_if (is_control control (live_control host.0 object.0 past)) h o _ (live_control h o past)
+    (λ same is. there_two (λ g k. is_control control (live_control g k past) ≡ true) host.0 object.0 h o same is)
 lives_next header outside (event.Taken (Down host object control) m) past caused c h o p shared was here = refl
 lives_next header outside (event.Sent (Up host object) (message.Init control size)) past caused c h o p shared was here =
-    opened_lives (host.0 == h && object.0 == o) h o control (lock_taken past) (live_control h o past) (λ is. there_two (λ g k. live_control g k past ≡ None) host.0 object.0 h o is c.1.none)
-    (was (here_was header.size (if host.0 == h && object.0 == o then Begins else Elsewhere) (page_on header h o p past) (gentle_if (host.0 == h && object.0 == o) Begins (λ is. tt)) (none_if (host.0 == h && object.0 == o) Begins tt) here))
+    opened_lives (host.0 == h && object.0 == o) h o control (lock_taken past) (live_control h o past)
+    (λ is. there_two (λ g k. live_control g k past ≡ None) host.0 object.0 h o is c.1.none)
+    (was (here_was header.size (if host.0 == h && object.0 == o then Begins else Elsewhere) (page_on header h o p past)
+    (gentle_if (host.0 == h && object.0 == o) Begins (λ is. tt)) (none_if (host.0 == h && object.0 == o) Begins tt) here))
 lives_next header outside (event.Sent (Up host object) (message.Create control size)) past caused c h o p shared was here =
-    same_if (host.0 == h && object.0 == o) h o (lock_taken past) (live_control h o past) _ (λ is. apart header object.0 (its header host.0 h object.0 o is shared) c.1.temporary)
-    (was (here_was header.size (if host.0 == h && object.0 == o then Begins else Elsewhere) (page_on header h o p past) (gentle_if (host.0 == h && object.0 == o) Begins (λ is. tt)) (none_if (host.0 == h && object.0 == o) Begins tt) here))
+    same_if (host.0 == h && object.0 == o) h o (lock_taken past) (live_control h o past) _
+    (λ is. apart header object.0 (its header host.0 h object.0 o is shared) c.1.temporary)
+    (was (here_was header.size (if host.0 == h && object.0 == o then Begins else Elsewhere) (page_on header h o p past)
+    (gentle_if (host.0 == h && object.0 == o) Begins (λ is. tt)) (none_if (host.0 == h && object.0 == o) Begins tt) here))
 lives_next header outside (event.Sent (Up host object) (message.Terminate control)) past caused c h o p shared was here =
     let effect : LocalEffect = sent_effect p (live_control h o past) (message.Terminate control) in
     let now : (page_on header h o p past).here ≡ true =
-    here_was header.size (if host.0 == h && object.0 == o then effect else Elsewhere) (page_on header h o p past) (gentle_if (host.0 == h && object.0 == o) effect (λ is. gentle_sent p (live_control h o past) (message.Terminate control)))
+    here_was header.size (if host.0 == h && object.0 == o then effect else Elsewhere) (page_on header h o p past)
+    (gentle_if (host.0 == h && object.0 == o) effect (λ is. gentle_sent p (live_control h o past) (message.Terminate control)))
     (none_if (host.0 == h && object.0 == o) effect (none_sent p (live_control h o past) (message.Terminate control))) here in
-    same_if (host.0 == h && object.0 == o) h o (lock_taken past) (live_control h o past) _ (λ is. never (sym (there_two (λ g k. (page_on header g k p past).here ≡ false) host.0 object.0 h o is (c.1.away p)) ∙ now)) (was now)
+    same_if (host.0 == h && object.0 == o) h o (lock_taken past) (live_control h o past) _
+    (λ is. never (sym (there_two (λ g k. (page_on header g k p past).here ≡ false) host.0 object.0 h o is (c.1.away p)) ∙ now)) (was now)
 lives_next header outside (event.Sent (Up host object) m) past caused c h o p shared was here =
     let effect : LocalEffect = sent_effect p (live_control h o past) m in
-    was (here_was header.size (if host.0 == h && object.0 == o then effect else Elsewhere) (page_on header h o p past) (gentle_if (host.0 == h && object.0 == o) effect (λ is. gentle_sent p (live_control h o past) m))
+    was (here_was header.size (if host.0 == h && object.0 == o then effect else Elsewhere) (page_on header h o p past)
+    (gentle_if (host.0 == h && object.0 == o) effect (λ is. gentle_sent p (live_control h o past) m))
     (none_if (host.0 == h && object.0 == o) effect (none_sent p (live_control h o past) m)) here)
 lives_next header outside (event.Zeroed at object page) past caused c h o p shared was here =
-    was (here_was header.size (if at.0 == h && (object.0 == o && page.0 == p) then Zeroes else Elsewhere) (page_on header h o p past) (gentle header outside (event.Zeroed at object page) past caused c h o p shared) (none_if _ Zeroes tt) here)
+    was (here_was header.size (if at.0 == h && (object.0 == o && page.0 == p) then Zeroes else Elsewhere) (page_on header h o p past)
+    (gentle header outside (event.Zeroed at object page) past caused c h o p shared) (none_if _ Zeroes tt) here)
 lives_next header outside (event.Raised at lower lower_page upper upper_page) past caused c h o p shared was here =
-    was (here_was header.size (if at.0 == h && (upper.0 == o && upper_page.0 == p) then Raises _ else Elsewhere) (page_on header h o p past) (gentle header outside (event.Raised at lower lower_page upper upper_page) past caused c h o p shared) (none_if _ (Raises _) tt) here)
+    was (here_was header.size (if at.0 == h && (upper.0 == o && upper_page.0 == p) then Raises _ else Elsewhere) (page_on header h o p past)
+    (gentle header outside (event.Raised at lower lower_page upper upper_page) past caused c h o p shared) (none_if _ (Raises _) tt) here)
 lives_next header outside (event.CopiedPage task page object object_page target) past caused c h o p shared was here =
-    was (here_was header.size (if is_on h (host_of task.0 past) && (target.0 == o && page.0 == p) then Raises _ else Elsewhere) (page_on header h o p past) (gentle header outside (event.CopiedPage task page object object_page target) past caused c h o p shared) (none_if _ (Raises _) tt) here)
+    was (here_was header.size (if is_on h (host_of task.0 past) && (target.0 == o && page.0 == p) then Raises _ else Elsewhere) (page_on header h o p past)
+    (gentle header outside (event.CopiedPage task page object object_page target) past caused c h o p shared) (none_if _ (Raises _) tt) here)
 lives_next header outside (event.Stored task object page at size value) past caused c h o p shared was here =
-    was (here_was header.size (if is_on h (host_of task.0 past) && (object.0 == o && page.0 == p) then Stores at (little_endian_bytes size value) else Elsewhere) (page_on header h o p past) (gentle_if _ (Stores at (little_endian_bytes size value)) (λ is. tt)) (none_if _ (Stores at (little_endian_bytes size value)) tt) here)
+    was (here_was header.size (if is_on h (host_of task.0 past) && (object.0 == o && page.0 == p) then Stores at (little_endian_bytes size value) else
+    Elsewhere) (page_on header h o p past) (gentle_if _ (Stores at (little_endian_bytes size value)) (λ is. tt))
+    (none_if _ (Stores at (little_endian_bytes size value)) tt) here)
 lives_next header outside (event.Dropped at object page) past caused c h o p shared was here =
-    was (here_was header.size (if at.0 == h && (object.0 == o && page.0 == p) then Drops else Elsewhere) (page_on header h o p past) (gentle_if _ Drops (λ is. tt)) (none_if _ Drops tt) here)
+    was (here_was header.size (if at.0 == h && (object.0 == o && page.0 == p) then Drops else Elsewhere) (page_on header h o p past)
+    (gentle_if _ Drops (λ is. tt)) (none_if _ Drops tt) here)
 lives_next header outside e past caused c h o p shared was here = was here
 
-pub lives_of : (header : Header) (outside : Outside) (past : List Event) → EachEvent (HasCause header outside) past → (h o p : ℕ) → is_shared header o ≡ true → (page_on header h o p past).here ≡ true → still_lives h o (lock_taken past) (live_control h o past) ≡ true
+pub lives_of : (header : Header) (outside : Outside) (past : List Event) → EachEvent (HasCause header outside) past → (h o p : ℕ) → is_shared header o ≡ true
+    → (page_on header h o p past).here ≡ true → still_lives h o (lock_taken past) (live_control h o past) ≡ true
 lives_of header outside [] caused h o p shared here = refl
-lives_of header outside (e ∷ past) caused h o p shared here = lives_next header outside e past caused.1 caused.0 h o p shared (lives_of header outside past caused.1 h o p shared) here
+lives_of header outside (e ∷ past) caused h o p shared here =
+    lives_next header outside e past caused.1 caused.0 h o p shared (lives_of header outside past caused.1 h o p shared) here

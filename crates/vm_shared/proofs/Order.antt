@@ -20,7 +20,8 @@ use Rattle.vm_model.specs.PagePart.{page_part}
 use Rattle.vm_model.specs.Server.{first}
 use Rattle.vm_model.specs.Side.{Side, side, side_after}
 use Rattle.vm_model.specs.TaskPlace.{means_page, task_host}
-use Rattle.vm_model.specs.Words.{Asking, Unlocking, Returning, OtherUp, ActEffect, TakenUp, BeginsCopy, EndsCopy, StepBegins, Nothing, sent_act_effect, times_meant, to_others, up_word}
+use Rattle.vm_model.specs.Words.{Asking, Unlocking, Returning, OtherUp, ActEffect, TakenUp, BeginsCopy, EndsCopy, StepBegins, Nothing, sent_act_effect}
+use Rattle.vm_model.specs.Words.{times_meant, to_others, up_word}
 use Rattle.vm_legal.specs.Licences.{HasCause, MaySendDown, MaySendUp, PagerSends, Says, ServerSends}
 use Rattle.vm_legal.specs.Outside.{Outside, kind_of}
 use Rattle.vm_quiet.proofs.Sane.{there_two}
@@ -89,62 +90,88 @@ hears_act p n true false m s said small = small
 hears_act p n false true m s said small = small
 hears_act p n false false m s said small = small
 
-heard_next : (header : Header) (outside : Outside) (e : Event) (past : List Event) → Numbers past → HasCause header outside e past → (h o p : ℕ) → (side h (page_part header.size o p past)).heard ≤ last_control h o past → (side h (page_part header.size o p (e ∷ past))).heard ≤ last_control h o past
+heard_next : (header : Header) (outside : Outside) (e : Event) (past : List Event) → Numbers past → HasCause header outside e past → (h o p : ℕ)
+    → (side h (page_part header.size o p past)).heard ≤ last_control h o past → (side h (page_part header.size o p (e ∷ past))).heard ≤ last_control h o past
 heard_next header outside (event.Sent (Up host object) m) past n c h o p small = deaf_act _ h host.0 _ _ (deaf_if (object.0 == o) _ _ (deaf_sent p m) tt) small
 heard_next header outside (event.Sent (Down host object control) m) past n c h o p small = deaf_act _ h host.0 _ _ (deaf_if (object.0 == o) _ _ tt tt) small
 heard_next header outside (event.Taken (Up host object) m) past n c h o p small =
     hears_act p (last_control h o past) (host.0 == h) (object.0 == o) m (side h (page_part header.size o p past))
-    (λ same. first_up_to (last_control h o past) (queue (up_port h o) past) m (n.sent h o) (there_two (λ g j. first (queue (up_port g j) past) ≡ Some m) host.0 object.0 h o same c.1.0)) small
+    (λ same. first_up_to (last_control h o past) (queue (up_port h o) past) m (n.sent h o)
+    (there_two (λ g j. first (queue (up_port g j) past) ≡ Some m) host.0 object.0 h o same c.1.0)) small
 heard_next header outside (event.Taken (Down host object control) m) past n c h o p small = deaf_act _ h host.0 _ _ (deaf_if (object.0 == o) _ _ tt tt) small
-heard_next header outside (event.Dropped host object page) past n c h o p small = deaf_act _ h host.0 _ _ (deaf_if (object.0 == o && page.0 == p) _ _ tt tt) small
-heard_next header outside (event.Zeroed host object page) past n c h o p small = deaf_act _ h host.0 _ _ (deaf_if (object.0 == o && page.0 == p) _ _ tt tt) small
-heard_next header outside (event.Raised host lower lower_page upper upper_page) past n c h o p small = deaf_act _ h host.0 _ _ (deaf_if (upper.0 == o && upper_page.0 == p) _ _ tt tt) small
-heard_next header outside (event.BegunCopy task address bytes to) past n c h o p small = deaf_act _ h (task_host task.0 past) (BeginsCopy task.0 (times_meant header.size (λ at. means_page header.size o p task.0 at past) address (bytes / header.size))) _ tt small
+heard_next header outside (event.Dropped host object page) past n c h o p small =
+    deaf_act _ h host.0 _ _ (deaf_if (object.0 == o && page.0 == p) _ _ tt tt) small
+heard_next header outside (event.Zeroed host object page) past n c h o p small =
+    deaf_act _ h host.0 _ _ (deaf_if (object.0 == o && page.0 == p) _ _ tt tt) small
+heard_next header outside (event.Raised host lower lower_page upper upper_page) past n c h o p small =
+    deaf_act _ h host.0 _ _ (deaf_if (upper.0 == o && upper_page.0 == p) _ _ tt tt) small
+heard_next header outside (event.BegunCopy task address bytes to) past n c h o p small =
+    deaf_act _ h (task_host task.0 past) (BeginsCopy task.0 (times_meant header.size (λ at. means_page header.size o p task.0 at past) address
+    (bytes / header.size))) _ tt small
 heard_next header outside (event.CopiedPage task page object object_page target) past n c h o p small =
     deaf_act _ h (task_host task.0 past) _ _ (deaf_if (target.0 == o && page.0 == p) _ _ tt (deaf_if (object.0 == o && object_page.0 == p) _ _ tt tt)) small
 heard_next header outside (event.CopyEnded task) past n c h o p small = deaf_act _ h (task_host task.0 past) (EndsCopy task.0) _ tt small
-heard_next header outside (event.BegunLoad task address bytes) past n c h o p small = deaf_act _ h (task_host task.0 past) _ _ (deaf_if (means_page header.size o p task.0 address past) _ _ tt tt) small
-heard_next header outside (event.BegunStore task address bytes value) past n c h o p small = deaf_act _ h (task_host task.0 past) _ _ (deaf_if (means_page header.size o p task.0 address past) _ _ tt tt) small
-heard_next header outside (event.Loaded task object page value) past n c h o p small = deaf_act _ h (task_host task.0 past) _ _ (deaf_if (object.0 == o && page.0 == p) _ _ tt tt) small
-heard_next header outside (event.Stored task object page at bytes value) past n c h o p small = deaf_act _ h (task_host task.0 past) _ _ (deaf_if (object.0 == o && page.0 == p) _ _ tt tt) small
-heard_next header outside (event.Failed task object page) past n c h o p small = deaf_act _ h (task_host task.0 past) _ _ (deaf_if (object.0 == o && page.0 == p) _ _ tt tt) small
+heard_next header outside (event.BegunLoad task address bytes) past n c h o p small =
+    deaf_act _ h (task_host task.0 past) _ _ (deaf_if (means_page header.size o p task.0 address past) _ _ tt tt) small
+heard_next header outside (event.BegunStore task address bytes value) past n c h o p small =
+    deaf_act _ h (task_host task.0 past) _ _ (deaf_if (means_page header.size o p task.0 address past) _ _ tt tt) small
+heard_next header outside (event.Loaded task object page value) past n c h o p small =
+    deaf_act _ h (task_host task.0 past) _ _ (deaf_if (object.0 == o && page.0 == p) _ _ tt tt) small
+heard_next header outside (event.Stored task object page at bytes value) past n c h o p small =
+    deaf_act _ h (task_host task.0 past) _ _ (deaf_if (object.0 == o && page.0 == p) _ _ tt tt) small
+heard_next header outside (event.Failed task object page) past n c h o p small =
+    deaf_act _ h (task_host task.0 past) _ _ (deaf_if (object.0 == o && page.0 == p) _ _ tt tt) small
 heard_next header outside (event.Line line) past n c h o p small = deaf_act _ h 0 StepBegins _ tt small
 heard_next header outside e past n c h o p small = deaf_act _ h 0 Nothing _ tt small
 
-pub heard_small : (header : Header) (outside : Outside) (past : List Event) → EachEvent (HasCause header outside) past → (h o p : ℕ) → (side h (page_part header.size o p past)).heard ≤ last_control h o past
+pub heard_small : (header : Header) (outside : Outside) (past : List Event) → EachEvent (HasCause header outside) past → (h o p : ℕ)
+    → (side h (page_part header.size o p past)).heard ≤ last_control h o past
 heard_small header outside [] caused h o p = omega arith
 heard_small header outside (e ∷ past) caused h o p =
-    omega (arith, heard_next header outside e past (numbers_of header outside past caused.1) caused.0 h o p (heard_small header outside past caused.1 h o p), last_grows header outside e past caused.0 h o)
+    omega (
+      arith,
+      heard_next header outside e past (numbers_of header outside past caused.1) caused.0 h o p (heard_small header outside past caused.1 h o p),
+      last_grows header outside e past caused.0 h o,
+    )
 
 -- what is sent down
 
-pager_small : (header : Header) (outside : Outside) (why : Command) (host object control : ℕ) (m : Message) (past : List Event) → Numbers past → MaySendDown header outside why host object control m past → control ≤ last_control host object past
+pager_small : (header : Header) (outside : Outside) (why : Command) (host object control : ℕ) (m : Message) (past : List Event) → Numbers past
+    → MaySendDown header outside why host object control m past → control ≤ last_control host object past
 pager_small header outside why host object control (message.Supply page lock precious bytes) past n c = n.taken host object _ c.0.taken
 pager_small header outside why host object control (message.Unavailable page) past n c = n.taken host object _ c.0.taken
 pager_small header outside why host object control (message.Error page reason) past n c = n.taken host object _ c.0.taken
-pager_small header outside why host object control (message.Ready cache strategy) past n c = elim c.3 [ inl is ↦ n.taken host object _ is.0 | inr is ↦ n.taken host object _ is.0 ]
+pager_small header outside why host object control (message.Ready cache strategy) past n c =
+    elim c.3 [ inl is ↦ n.taken host object _ is.0 | inr is ↦ n.taken host object _ is.0 ]
 pager_small header outside why host object control (message.Lock page count returns flush lock reply) past n c = n.known host object control c.4
 pager_small header outside why host object control m past n c = absurd c
 
-server_small : (header : Header) (outside : Outside) (host object control : ℕ) (m : Message) (past : List Event) → EachEvent (HasCause header outside) past → Numbers past → ServerSends header host object control m past → control ≤ last_control host object past
-server_small header outside host object control (message.Supply page lock precious bytes) past caused n c = omega (arith, c.0, heard_small header outside past caused host object page.0)
-server_small header outside host object control (message.Lock page count returns flush lock true) past caused n c = omega (arith, c.0, heard_small header outside past caused host object page.0)
-server_small header outside host object control (message.Lock page count returns flush lock false) past caused n c = omega (arith, c.0, heard_small header outside past caused host object page.0)
+server_small : (header : Header) (outside : Outside) (host object control : ℕ) (m : Message) (past : List Event) → EachEvent (HasCause header outside) past
+    → Numbers past → ServerSends header host object control m past → control ≤ last_control host object past
+server_small header outside host object control (message.Supply page lock precious bytes) past caused n c =
+    omega (arith, c.0, heard_small header outside past caused host object page.0)
+server_small header outside host object control (message.Lock page count returns flush lock true) past caused n c =
+    omega (arith, c.0, heard_small header outside past caused host object page.0)
+server_small header outside host object control (message.Lock page count returns flush lock false) past caused n c =
+    omega (arith, c.0, heard_small header outside past caused host object page.0)
 server_small header outside host object control (message.Ready cache strategy) past caused n c = n.taken host object _ c.3
 server_small header outside host object control m past caused n c = absurd c
 
-said_small : (why : Command) (host object control : ℕ) (m : Message) (past : List Event) → Numbers past → Says why host object control m past → control ≤ last_control host object past
+said_small : (why : Command) (host object control : ℕ) (m : Message) (past : List Event) → Numbers past → Says why host object control m past
+    → control ≤ last_control host object past
 said_small (command.Say at wild said) host object control m past n c = omega (arith, n.live host object control c.3)
 said_small why host object control m past n c = absurd c
 
-sent_small : (kind : ObjectKind) (header : Header) (outside : Outside) (why : Command) (host object control : ℕ) (m : Message) (past : List Event) → EachEvent (HasCause header outside) past → Numbers past → PagerSends kind header outside why host object control m past
+sent_small : (kind : ObjectKind) (header : Header) (outside : Outside) (why : Command) (host object control : ℕ) (m : Message) (past : List Event)
+    → EachEvent (HasCause header outside) past → Numbers past → PagerSends kind header outside why host object control m past
     → control ≤ last_control host object past
 sent_small Temp header outside why host object control m past caused n c = pager_small header outside why host object control m past n c
 sent_small File header outside why host object control m past caused n c = pager_small header outside why host object control m past n c
 sent_small Shared header outside why host object control m past caused n c = server_small header outside host object control m past caused n c
 sent_small Wild header outside why host object control m past caused n c = said_small why host object control m past n c
 
-opens_first : (header : Header) (why : Command) (host : HostId) (object : ObjectId) (m : Message) (past : List Event) → MaySendUp header why host.0 object.0 m past → DownFirst (event.Sent (Up host object) m) past
+opens_first : (header : Header) (why : Command) (host : HostId) (object : ObjectId) (m : Message) (past : List Event)
+    → MaySendUp header why host.0 object.0 m past → DownFirst (event.Sent (Up host object) m) past
 opens_first header why host object (message.Init control size) past c = omega (arith, c.number)
 opens_first header why host object (message.Create control size) past c = omega (arith, c.number, c.never)
 opens_first header why host object (message.Request control page access) past c = tt
@@ -154,9 +181,11 @@ opens_first header why host object (message.Completed control page count) past c
 opens_first header why host object (message.Terminate control) past c = tt
 opens_first header why host object m past c = absurd c
 
-down_first : (header : Header) (outside : Outside) (e : Event) (past : List Event) → EachEvent (HasCause header outside) past → HasCause header outside e past → DownFirst e past
+down_first : (header : Header) (outside : Outside) (e : Event) (past : List Event) → EachEvent (HasCause header outside) past → HasCause header outside e past
+    → DownFirst e past
 down_first header outside (event.Sent (Up host object) m) past caused c = opens_first header c.0 host object m past c.1
-down_first header outside (event.Sent (Down host object control) m) past caused c = sent_small (kind_of header object.0) header outside c.0 host.0 object.0 control m past caused (numbers_of header outside past caused) c.1
+down_first header outside (event.Sent (Down host object control) m) past caused c =
+    sent_small (kind_of header object.0) header outside c.0 host.0 object.0 control m past caused (numbers_of header outside past caused) c.1
 down_first header outside (event.Taken (Up host object) m) past caused c = tt
 down_first header outside (event.Taken (Down host object control) m) past caused c = c.1.0
 down_first header outside e past caused c = tt

@@ -17,12 +17,19 @@ use Rattle.vm_coherence.proofs.Whole.{page_legal}
 use Rattle.vm_shared.proofs.Causes.{licensed}
 use Rattle.vm_shared.proofs.Founded.{founded}
 
-pub legal : (header : Header) (outside : Outside) (history : List Event) → EachEvent (HasCause header outside) history → EachEvent (OwnBytes header) history → (o p : ℕ) → is_shared header o ≡ true → PageLegal header.size (page_part header.size o p history)
-legal header outside history caused own o p shared = page_legal header.size (page_part header.size o p history) (licensed header outside history caused own o p shared)
+pub legal : (header : Header) (outside : Outside) (history : List Event) → EachEvent (HasCause header outside) history → EachEvent (OwnBytes header) history
+    → (o p : ℕ) → is_shared header o ≡ true → PageLegal header.size (page_part header.size o p history)
+legal header outside history caused own o p shared =
+    page_legal header.size (page_part header.size o p history) (licensed header outside history caused own o p shared)
 
-pub one_writer : (header : Header) (outside : Outside) (history : List Event) → EachEvent (HasCause header outside) history → EachEvent (OwnBytes header) history → (g h o p : ℕ) → is_shared header o ≡ true → g ≢ h → CanWrite (page_on header h o p history) → CanRead (page_on header g o p history) → ⊥
-one_writer header outside history caused own g h o p shared apart write read = page.one_writer header.size history g h o p (founded header outside history caused) (licensed header outside history caused own o p shared) apart write read
+pub one_writer : (header : Header) (outside : Outside) (history : List Event) → EachEvent (HasCause header outside) history
+    → EachEvent (OwnBytes header) history → (g h o p : ℕ) → is_shared header o ≡ true → g ≢ h → CanWrite (page_on header h o p history)
+    → CanRead (page_on header g o p history) → ⊥
+one_writer header outside history caused own g h o p shared apart write read =
+    page.one_writer header.size history g h o p (founded header outside history caused) (licensed header outside history caused own o p shared) apart write read
 
-pub same_bytes : (header : Header) (outside : Outside) (history : List Event) → EachEvent (HasCause header outside) history → EachEvent (OwnBytes header) history → (h o p : ℕ) → is_shared header o ≡ true → (page_on header h o p history).here ≡ true
+pub same_bytes : (header : Header) (outside : Outside) (history : List Event) → EachEvent (HasCause header outside) history
+    → EachEvent (OwnBytes header) history → (h o p : ℕ) → is_shared header o ≡ true → (page_on header h o p history).here ≡ true
     → (page_on header h o p history).bytes ≡ current header.size (page_part header.size o p history)
-same_bytes header outside history caused own h o p shared here = page.local_bytes header.size history h o p (founded header outside history caused) (licensed header outside history caused own o p shared) here
+same_bytes header outside history caused own h o p shared here =
+    page.local_bytes header.size history h o p (founded header outside history caused) (licensed header outside history caused own o p shared) here

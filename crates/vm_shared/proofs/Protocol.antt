@@ -36,9 +36,12 @@ use Rattle.vm_shared.proofs.Steps.{steps_done}
 first_word : (p : ℕ) (q : List Message) (m : Message) → first q ≡ Some m → (up_word p m ≡ OtherUp → ⊥) → first (up_words p q) ≡ Some (up_word p m)
 first_word p q m head word = grind arith
 
-taken_word : (header : Header) (outside : Outside) (h o p : ℕ) (m : Message) (past : List Event) → EachEvent (HasCause header outside) past → first (queue (up_port h o) past) ≡ Some m → (up_word p m ≡ OtherUp → ⊥)
+taken_word : (header : Header) (outside : Outside) (h o p : ℕ) (m : Message) (past : List Event) → EachEvent (HasCause header outside) past
+    → first (queue (up_port h o) past) ≡ Some m → (up_word p m ≡ OtherUp → ⊥)
     → first (side h (page_part header.size o p past)).up ≡ Some (up_word p m)
-taken_word header outside h o p m past causes head word = ap (λ (q : List UpWord). first q) (page_queue header.size past h o p (up_in_order header outside past causes)) ∙ first_word p (up_queue h o past) m head word
+taken_word header outside h o p m past causes head word =
+    ap (λ (q : List UpWord). first q) (page_queue header.size past h o p (up_in_order header outside past causes))
+    ∙ first_word p (up_queue h o past) m head word
 
 itself : (n : ℕ) → (n == n) ≡ true
 itself n = grind (arith, nat_tests)
@@ -82,7 +85,8 @@ mute : (e : ActEffect) (s : Side) → IsMute e → (side_after s e).up ≡ s.up
 mute e s is = grind (arith, nat_tests)
 
 numbered_own : (size h : ℕ) (e : ActEffect) (past : List Act) → Cause size h e past → AreNumbered (side h past).up → AreNumbered (side_after (side h past) e).up
-numbered_own size h (SendsUp control (Asking asker access)) past c all = numbered_end (side h past).up (Asking asker access) (reason_is access (waiters h past) (readers h past) c.2.4) all
+numbered_own size h (SendsUp control (Asking asker access)) past c all =
+    numbered_end (side h past).up (Asking asker access) (reason_is access (waiters h past) (readers h past) c.2.4) all
 numbered_own size h (SendsUp control (Unlocking access)) past c all = numbered_end (side h past).up (Unlocking access) c.2.3 all
 numbered_own size h (SendsUp control (Returning dirty keep bytes)) past c all = numbered_end (side h past).up (Returning dirty keep bytes) tt all
 numbered_own size h (SendsUp control (Doing told count)) past c all = numbered_end (side h past).up (Doing told count) tt all
@@ -99,7 +103,8 @@ numbered_own size h e past c all = subst (λ (q : List UpWord). AreNumbered q) (
 mute_others : (e : ActEffect) (s : Side) → (side_after s (to_others e)).up ≡ s.up
 mute_others e s = grind arith
 
-numbered_next : (size : ℕ) (a : Act) (past : List Act) → Cause size a.host a.effect past → (h : ℕ) → AreNumbered (side h past).up → AreNumbered (side h (a ∷ past)).up
+numbered_next : (size : ℕ) (a : Act) (past : List Act) → Cause size a.host a.effect past → (h : ℕ) → AreNumbered (side h past).up
+    → AreNumbered (side h (a ∷ past)).up
 numbered_next size a past licensed h all = by (a.host == h) refl
   where
     same : (a b : ℕ) → (a == b) ≡ true → a ≡ b
@@ -140,7 +145,8 @@ one_first : (q : List Message) (m : Message) → first q ≡ Some m → AreOfOne
 one_first [] m head all = absurd (cc)
 one_first (x ∷ q) m head all = let same : x ≡ m = cc in subst (λ (y : Message). IsOfOne y) same all.0
 
-count_is : (header : Header) (taken : Option LockRequest) (r : LockRequest) → IsServersRequest taken header → taken ≡ Some r → is_shared header r.object ≡ true → r.count ≡ 1
+count_is : (header : Header) (taken : Option LockRequest) (r : LockRequest) → IsServersRequest taken header → taken ≡ Some r → is_shared header r.object ≡ true
+    → r.count ≡ 1
 count_is header None r is e shared = absurd (cc)
 count_is header (Some t) r is e shared = by r.flush r.reply (subst (λ (x : Option LockRequest). IsServersRequest x header) e is shared)
   where
@@ -150,56 +156,89 @@ count_is header (Some t) r is e shared = by r.flush r.reply (subst (λ (x : Opti
     by true false is = absurd is
     by false false is = is.0
 
-sent_one : (header : Header) (outside : Outside) (doing : Command) (h o : ℕ) (m : Message) (past : List Event) → EachEvent (HasCause header outside) past → is_shared header o ≡ true → MaySendUp header doing h o m past → IsOfOne m
+sent_one : (header : Header) (outside : Outside) (doing : Command) (h o : ℕ) (m : Message) (past : List Event) → EachEvent (HasCause header outside) past
+    → is_shared header o ≡ true → MaySendUp header doing h o m past → IsOfOne m
 sent_one header outside doing h o (message.Completed control page count) past causes shared c =
-    count_is header (lock_taken past) (record { host = h; object = o; control = control; page = page.0; count = count; returns = c.returns; flush = c.flush; lock = c.lock; reply = true }) (lock_is header outside past causes) c.taken shared
+    count_is header (lock_taken past) (record {
+      host = h;
+      object = o;
+      control = control;
+      page = page.0;
+      count = count;
+      returns = c.returns;
+      flush = c.flush;
+      lock = c.lock;
+      reply = true;
+    }) (lock_is header outside past causes) c.taken shared
 sent_one header outside doing h o m past causes shared c = tt
 
-pub one_of : (header : Header) (outside : Outside) (past : List Event) → EachEvent (HasCause header outside) past → (h o : ℕ) → is_shared header o ≡ true → AreOfOne (queue (up_port h o) past)
+pub one_of : (header : Header) (outside : Outside) (past : List Event) → EachEvent (HasCause header outside) past → (h o : ℕ) → is_shared header o ≡ true
+    → AreOfOne (queue (up_port h o) past)
 one_of header outside [] causes h o shared = tt
 one_of header outside (event.Sent (Up host object) m ∷ past) causes h o shared =
     one_if (host.0 == h && object.0 == o) (queue (up_port h o) past) m
-    (λ is. sent_one header outside causes.0.0 host.0 object.0 m past causes.1 (subst (λ j. is_shared header j ≡ true) (same host.0 h object.0 o is) shared) causes.0.1)
+    (λ is. sent_one header outside causes.0.0 host.0 object.0 m past causes.1 (subst (λ j. is_shared header j ≡ true) (same host.0 h object.0 o is) shared)
+    causes.0.1)
     (one_of header outside past causes.1 h o shared)
   where
     same : (a h b o : ℕ) → (a == h && b == o) ≡ true → o ≡ b
     same a h b o is = grind (arith, nat_tests)
-one_of header outside (event.Taken (Up host object) m ∷ past) causes h o shared = one_rest (host.0 == h && object.0 == o) (queue (up_port h o) past) (one_of header outside past causes.1 h o shared)
+one_of header outside (event.Taken (Up host object) m ∷ past) causes h o shared =
+    one_rest (host.0 == h && object.0 == o) (queue (up_port h o) past) (one_of header outside past causes.1 h o shared)
 one_of header outside (e ∷ past) causes h o shared = one_of header outside past causes.1 h o shared
 
 -- what is promised
 
-pub request_alone : (header : Header) (outside : Outside) (h o control access : ℕ) (page : PageNo) (past : List Event) → EachEvent (HasCause header outside) past → EachEvent (OwnBytes header) past → is_shared header o ≡ true
-    → first (queue (up_port h o) past) ≡ Some (message.Request control page access) → NoRequest h (line (page_part header.size o page.0 past)) × ((access ≡ 1) ⊎ (access ≡ 3))
-request_alone header outside h o control access page past causes own shared head = by (page.0 == page.0) (itself page.0) (taken_word header outside h o page.0 (message.Request control page access) past causes head)
+pub request_alone : (header : Header) (outside : Outside) (h o control access : ℕ) (page : PageNo) (past : List Event)
+    → EachEvent (HasCause header outside) past → EachEvent (OwnBytes header) past → is_shared header o ≡ true
+    → first (queue (up_port h o) past) ≡ Some (message.Request control page access) → NoRequest h (line (page_part header.size o page.0 past))
+    × ((access ≡ 1) ⊎ (access ≡ 3))
+request_alone header outside h o control access page past causes own shared head =
+    by (page.0 == page.0) (itself page.0) (taken_word header outside h o page.0 (message.Request control page access) past causes head)
   where
     licensed : ActsLicensed header.size (page_part header.size o page.0 past)
     licensed = part_licensed header outside past causes own o page.0 shared
 
-    by : (b : Bool) → b ≡ true → (((if b then Asking control access else OtherUp) ≡ OtherUp → ⊥) → first (side h (page_part header.size o page.0 past)).up ≡ Some (if b then Asking control access else OtherUp))
+    by : (b : Bool) → b ≡ true → (((if b then Asking control access else OtherUp) ≡ OtherUp → ⊥)
+        → first (side h (page_part header.size o page.0 past)).up ≡ Some (if b then Asking control access else OtherUp))
         → NoRequest h (line (page_part header.size o page.0 past)) × ((access ≡ 1) ⊎ (access ≡ 3))
     by true is word =
-        let w : first (side h (page_part header.size o page.0 past)).up ≡ Some (Asking control access) = word (λ e. cc) in
-        (one_request header.size h control access (page_part header.size o page.0 past) licensed w, numbered_first (side h (page_part header.size o page.0 past)).up (Asking control access) w (numbered header.size (page_part header.size o page.0 past) licensed h))
+        let w : first (side h (page_part header.size o page.0 past)).up ≡ Some (Asking control access) = word (λ e. cc) in (
+          one_request header.size h control access (page_part header.size o page.0 past) licensed w,
+          numbered_first (side h (page_part header.size o page.0 past)).up (Asking control access) w
+              (numbered header.size (page_part header.size o page.0 past) licensed h),
+        )
     by false is word = never is
 
-pub unlock_alone : (header : Header) (outside : Outside) (h o control access : ℕ) (page : PageNo) (past : List Event) → EachEvent (HasCause header outside) past → EachEvent (OwnBytes header) past → BeforeSteps (IsPaid header) past → is_shared header o ≡ true
+pub unlock_alone : (header : Header) (outside : Outside) (h o control access : ℕ) (page : PageNo) (past : List Event) → EachEvent (HasCause header outside) past
+    → EachEvent (OwnBytes header) past → BeforeSteps (IsPaid header) past → is_shared header o ≡ true
     → first (queue (up_port h o) past) ≡ Some (message.Unlock control page access) → NoUpgrade h (line (page_part header.size o page.0 past)) × (access ≡ 3)
-unlock_alone header outside h o control access page past causes own steps shared head = by (page.0 == page.0) (itself page.0) (taken_word header outside h o page.0 (message.Unlock control page access) past causes head)
+unlock_alone header outside h o control access page past causes own steps shared head =
+    by (page.0 == page.0) (itself page.0) (taken_word header outside h o page.0 (message.Unlock control page access) past causes head)
   where
     licensed : ActsLicensed header.size (page_part header.size o page.0 past)
     licensed = part_licensed header outside past causes own o page.0 shared
 
-    by : (b : Bool) → b ≡ true → (((if b then Unlocking access else OtherUp) ≡ OtherUp → ⊥) → first (side h (page_part header.size o page.0 past)).up ≡ Some (if b then Unlocking access else OtherUp))
+    by : (b : Bool) → b ≡ true → (((if b then Unlocking access else OtherUp) ≡ OtherUp → ⊥)
+        → first (side h (page_part header.size o page.0 past)).up ≡ Some (if b then Unlocking access else OtherUp))
         → NoUpgrade h (line (page_part header.size o page.0 past)) × (access ≡ 3)
     by true is word =
-        let w : first (side h (page_part header.size o page.0 past)).up ≡ Some (Unlocking access) = word (λ e. cc) in
-        (one_unlock header.size h access (page_part header.size o page.0 past) licensed (steps_done header outside o page.0 past shared causes steps) w, numbered_first (side h (page_part header.size o page.0 past)).up (Unlocking access) w (numbered header.size (page_part header.size o page.0 past) licensed h))
+        let w : first (side h (page_part header.size o page.0 past)).up ≡ Some (Unlocking access) = word (λ e. cc) in (
+          one_unlock header.size h access (page_part header.size o page.0 past) licensed (steps_done header outside o page.0 past shared causes steps) w,
+          numbered_first (side h (page_part header.size o page.0 past)).up (Unlocking access) w
+              (numbered header.size (page_part header.size o page.0 past) licensed h),
+        )
     by false is word = never is
 
-pub completed_mine : (header : Header) (outside : Outside) (h o control count : ℕ) (page : PageNo) (past : List Event) → EachEvent (HasCause header outside) past → EachEvent (OwnBytes header) past → BeforeSteps (IsPaid header) past → is_shared header o ≡ true
-    → first (queue (up_port h o) past) ≡ Some (message.Completed control page count) → (count ≡ 1) × ((side h (page_part header.size o page.0 past)).awaited_control ≡ control)
-completed_mine header outside h o control count page past causes own steps shared head = (one, by (in_range page.0 page.0 count) (inside page.0 count one) (taken_word header outside h o page.0 (message.Completed control page count) past causes head))
+pub completed_mine : (header : Header) (outside : Outside) (h o control count : ℕ) (page : PageNo) (past : List Event)
+    → EachEvent (HasCause header outside) past → EachEvent (OwnBytes header) past → BeforeSteps (IsPaid header) past → is_shared header o ≡ true
+    → first (queue (up_port h o) past) ≡ Some (message.Completed control page count) → (count ≡ 1)
+    × ((side h (page_part header.size o page.0 past)).awaited_control ≡ control)
+completed_mine header outside h o control count page past causes own steps shared head = (
+  one,
+  by (in_range page.0 page.0 count) (inside page.0 count one) (taken_word header outside h o page.0 (message.Completed control page count) past causes
+      head),
+)
   where
     licensed : ActsLicensed header.size (page_part header.size o page.0 past)
     licensed = part_licensed header outside past causes own o page.0 shared
@@ -210,16 +249,24 @@ completed_mine header outside h o control count page past causes own steps share
     inside : (p n : ℕ) → n ≡ 1 → in_range p p n ≡ true
     inside p n is = grind (arith, nat_tests)
 
-    by : (b : Bool) → b ≡ true → (((if b then Doing control count else OtherUp) ≡ OtherUp → ⊥) → first (side h (page_part header.size o page.0 past)).up ≡ Some (if b then Doing control count else OtherUp))
+    by : (b : Bool) → b ≡ true → (((if b then Doing control count else OtherUp) ≡ OtherUp → ⊥)
+        → first (side h (page_part header.size o page.0 past)).up ≡ Some (if b then Doing control count else OtherUp))
         → (side h (page_part header.size o page.0 past)).awaited_control ≡ control
-    by true is word = completed_awaited header.size h control count (page_part header.size o page.0 past) licensed (steps_done header outside o page.0 past shared causes steps) (word (λ e. cc))
+    by true is word =
+        completed_awaited header.size h control count (page_part header.size o page.0 past) licensed
+        (steps_done header outside o page.0 past shared causes steps) (word (λ e. cc))
     by false is word = never is
 
-pub ended_mine : (header : Header) (outside : Outside) (h o control p : ℕ) (past : List Event) → EachEvent (HasCause header outside) past → EachEvent (OwnBytes header) past → BeforeSteps (IsPaid header) past → is_shared header o ≡ true
-    → first (queue (up_port h o) past) ≡ Some (message.Terminate control) → NoRequest h (line (page_part header.size o p past)) × (0 < (side h (page_part header.size o p past)).awaits → (side h (page_part header.size o p past)).awaited_control ≡ control)
+pub ended_mine : (header : Header) (outside : Outside) (h o control p : ℕ) (past : List Event) → EachEvent (HasCause header outside) past
+    → EachEvent (OwnBytes header) past → BeforeSteps (IsPaid header) past → is_shared header o ≡ true
+    → first (queue (up_port h o) past) ≡ Some (message.Terminate control) → NoRequest h (line (page_part header.size o p past))
+    × (0 < (side h (page_part header.size o p past)).awaits → (side h (page_part header.size o p past)).awaited_control ≡ control)
 ended_mine header outside h o control p past causes own steps shared head =
-    let w : first (side h (page_part header.size o p past)).up ≡ Some (Ending control) = taken_word header outside h o p (message.Terminate control) past causes head (λ e. let bad : Ending control ≡ OtherUp = e in cc) in
-    (ended_unasked header.size h control (page_part header.size o p past) licensed w, ended_awaited header.size h control (page_part header.size o p past) licensed (steps_done header outside o p past shared causes steps) w)
+    let w : first (side h (page_part header.size o p past)).up ≡ Some (Ending control) = taken_word header outside h o p (message.Terminate control) past causes
+    head (λ e. let bad : Ending control ≡ OtherUp = e in cc) in (
+      ended_unasked header.size h control (page_part header.size o p past) licensed w,
+      ended_awaited header.size h control (page_part header.size o p past) licensed (steps_done header outside o p past shared causes steps) w,
+    )
   where
     licensed : ActsLicensed header.size (page_part header.size o p past)
     licensed = part_licensed header outside past causes own o p shared

@@ -527,19 +527,83 @@ caused_5 : EachEvent (HasCause header outside) past_5
 caused_5 = ((settling, tt), caused_4)
 
 caused_6 : EachEvent (HasCause header outside) past_6
-caused_6 = ((settling, record { idle = refl; host = 0; lives = refl; whole = refl; inside = omega arith; made = omega arith; used = λ above. absurd (omega (arith, above)); file = λ is. never is; unfilled = refl }), caused_5)
+caused_6 = (
+  (
+    settling,
+    record {
+      idle = refl;
+      host = 0;
+      lives = refl;
+      whole = refl;
+      inside = omega arith;
+      made = omega arith;
+      used = λ above. absurd (omega (arith, above));
+      file = λ is. never is;
+      unfilled = refl;
+    },
+  ),
+  caused_5,
+)
 
 caused_7 : EachEvent (HasCause header outside) past_7
-caused_7 = ((settling, record { number = refl; sized = refl; declared = omega arith; none = refl; task = 0; address = 0; at = record { host = 0; entry = mapped; lives = refl; found = refl }; on_host = refl; region = refl }), caused_6)
+caused_7 = (
+  (
+    settling,
+    record {
+      number = refl;
+      sized = refl;
+      declared = omega arith;
+      none = refl;
+      task = 0;
+      address = 0;
+      at = record { host = 0; entry = mapped; lives = refl; found = refl };
+      on_host = refl;
+      region = refl;
+    },
+  ),
+  caused_6,
+)
 
 caused_8 : EachEvent (HasCause header outside) past_8
 caused_8 = ((settling, tt), caused_7)
 
 caused_9 : EachEvent (HasCause header outside) past_9
-caused_9 = ((settling, record { idle = refl; host = 1; lives = refl; whole = refl; inside = omega arith; made = omega arith; used = λ above. absurd (omega (arith, above)); file = λ is. never is; unfilled = refl }), caused_8)
+caused_9 = (
+  (
+    settling,
+    record {
+      idle = refl;
+      host = 1;
+      lives = refl;
+      whole = refl;
+      inside = omega arith;
+      made = omega arith;
+      used = λ above. absurd (omega (arith, above));
+      file = λ is. never is;
+      unfilled = refl;
+    },
+  ),
+  caused_8,
+)
 
 caused_10 : EachEvent (HasCause header outside) past_10
-caused_10 = ((settling, record { number = refl; sized = refl; declared = omega arith; none = refl; task = 1; address = 0; at = record { host = 1; entry = mapped; lives = refl; found = refl }; on_host = refl; region = refl }), caused_9)
+caused_10 = (
+  (
+    settling,
+    record {
+      number = refl;
+      sized = refl;
+      declared = omega arith;
+      none = refl;
+      task = 1;
+      address = 0;
+      at = record { host = 1; entry = mapped; lives = refl; found = refl };
+      on_host = refl;
+      region = refl;
+    },
+  ),
+  caused_9,
+)
 
 caused_11 : EachEvent (HasCause header outside) past_11
 caused_11 = ((settling, tt), caused_10)
@@ -572,13 +636,51 @@ caused_20 : EachEvent (HasCause header outside) past_20
 caused_20 = ((settling, (refl, (refl, omega arith))), caused_19)
 
 caused_21 : EachEvent (HasCause header outside) past_21
-caused_21 = ((settling, record { task = 0; access = Loading 0 1; waits = record { waits = refl; at = record { host = 0; entry = mapped; lives = refl; found = refl }; left = tt }; on_host = refl; unmarked = λ store. refl; comes = record { top = 0; top_page = 0; steps = 0; is_top = record { object = refl; page = refl }; walks = (refl, refl) }; number = refl; live = refl; ready = refl; away = refl; unasked = refl; known = refl }), caused_20)
+caused_21 = (
+  (
+    settling,
+    record {
+      task = 0;
+      access = Loading 0 1;
+      waits = record { waits = refl; at = record { host = 0; entry = mapped; lives = refl; found = refl }; left = tt };
+      on_host = refl;
+      unmarked = λ store. refl;
+      comes = record { top = 0; top_page = 0; steps = 0; is_top = record { object = refl; page = refl }; walks = (refl, refl) };
+      number = refl;
+      live = refl;
+      ready = refl;
+      away = refl;
+      unasked = refl;
+      known = refl;
+    },
+  ),
+  caused_20,
+)
 
 caused_22 : EachEvent (HasCause header outside) past_22
 caused_22 = ((settling, (refl, (refl, omega arith))), caused_21)
 
 caused_23 : EachEvent (HasCause header outside) past_23
-caused_23 = ((settling, record { task = 1; access = Loading 0 1; waits = record { waits = refl; at = record { host = 1; entry = mapped; lives = refl; found = refl }; left = tt }; on_host = refl; unmarked = λ store. refl; comes = record { top = 0; top_page = 0; steps = 0; is_top = record { object = refl; page = refl }; walks = (refl, refl) }; number = refl; live = refl; ready = refl; away = refl; unasked = refl; known = refl }), caused_22)
+caused_23 = (
+  (
+    settling,
+    record {
+      task = 1;
+      access = Loading 0 1;
+      waits = record { waits = refl; at = record { host = 1; entry = mapped; lives = refl; found = refl }; left = tt };
+      on_host = refl;
+      unmarked = λ store. refl;
+      comes = record { top = 0; top_page = 0; steps = 0; is_top = record { object = refl; page = refl }; walks = (refl, refl) };
+      number = refl;
+      live = refl;
+      ready = refl;
+      away = refl;
+      unasked = refl;
+      known = refl;
+    },
+  ),
+  caused_22,
+)
 
 caused_24 : EachEvent (HasCause header outside) past_24
 caused_24 = ((settling, (refl, (refl, omega arith))), caused_23)
@@ -596,13 +698,45 @@ caused_28 : EachEvent (HasCause header outside) past_28
 caused_28 = ((settling, (refl, (refl, omega arith))), caused_27)
 
 caused_29 : EachEvent (HasCause header outside) past_29
-caused_29 = ((settling, record { address = 0; bytes = 1; waits = record { waits = refl; at = record { host = 0; entry = mapped; lives = refl; found = refl }; left = tt }; comes = record { top = 0; top_page = 0; steps = 0; is_top = record { object = refl; page = refl }; walks = (refl, refl) }; here = refl }), caused_28)
+caused_29 = (
+  (
+    settling,
+    record {
+      address = 0;
+      bytes = 1;
+      waits = record {
+        waits = refl;
+        at = record { host = 0; entry = mapped; lives = refl; found = refl };
+        left = tt;
+      };
+      comes = record { top = 0; top_page = 0; steps = 0; is_top = record { object = refl; page = refl }; walks = (refl, refl) };
+      here = refl;
+    },
+  ),
+  caused_28,
+)
 
 caused_30 : EachEvent (HasCause header outside) past_30
 caused_30 = ((settling, (refl, (refl, omega arith))), caused_29)
 
 caused_31 : EachEvent (HasCause header outside) past_31
-caused_31 = ((settling, record { address = 0; bytes = 1; waits = record { waits = refl; at = record { host = 1; entry = mapped; lives = refl; found = refl }; left = tt }; comes = record { top = 0; top_page = 0; steps = 0; is_top = record { object = refl; page = refl }; walks = (refl, refl) }; here = refl }), caused_30)
+caused_31 = (
+  (
+    settling,
+    record {
+      address = 0;
+      bytes = 1;
+      waits = record {
+        waits = refl;
+        at = record { host = 1; entry = mapped; lives = refl; found = refl };
+        left = tt;
+      };
+      comes = record { top = 0; top_page = 0; steps = 0; is_top = record { object = refl; page = refl }; walks = (refl, refl) };
+      here = refl;
+    },
+  ),
+  caused_30,
+)
 
 caused_32 : EachEvent (HasCause header outside) past_32
 caused_32 = ((settling, tt), caused_31)
@@ -611,7 +745,25 @@ caused_33 : EachEvent (HasCause header outside) past_33
 caused_33 = ((settling, refl), caused_32)
 
 caused_34 : EachEvent (HasCause header outside) past_34
-caused_34 = ((settling, record { task = 0; access = Storing 0 1 8; waits = record { waits = refl; at = record { host = 0; entry = mapped; lives = refl; found = refl }; left = tt }; on_host = refl; comes = record { top = 0; top_page = 0; steps = 0; is_top = record { object = refl; page = refl }; walks = (refl, refl) }; number = refl; live = refl; here = refl; named = refl; none = refl; behind = λ is. never is }), caused_33)
+caused_34 = (
+  (
+    settling,
+    record {
+      task = 0;
+      access = Storing 0 1 8;
+      waits = record { waits = refl; at = record { host = 0; entry = mapped; lives = refl; found = refl }; left = tt };
+      on_host = refl;
+      comes = record { top = 0; top_page = 0; steps = 0; is_top = record { object = refl; page = refl }; walks = (refl, refl) };
+      number = refl;
+      live = refl;
+      here = refl;
+      named = refl;
+      none = refl;
+      behind = λ is. never is;
+    },
+  ),
+  caused_33,
+)
 
 caused_35 : EachEvent (HasCause header outside) past_35
 caused_35 = ((settling, tt), caused_34)
@@ -632,16 +784,60 @@ caused_40 : EachEvent (HasCause header outside) past_40
 caused_40 = ((settling, record { here = refl; why = Ended refl refl (omega arith) unheld }), caused_39)
 
 caused_41 : EachEvent (HasCause header outside) past_41
-caused_41 = ((settling, record { live = refl; unreached = λ above. absurd (omega (arith, above)); unheld = λ less. unheld_then; away = away_then; unasked = unasked_then }), caused_40)
+caused_41 = (
+  (
+    settling,
+    record {
+      live = refl;
+      unreached = λ above. absurd (omega (arith, above));
+      unheld = λ less. unheld_then;
+      away = away_then;
+      unasked = unasked_then;
+    },
+  ),
+  caused_40,
+)
 
 caused_42 : EachEvent (HasCause header outside) past_42
 caused_42 = ((settling, tt), caused_41)
 
 caused_43 : EachEvent (HasCause header outside) past_43
-caused_43 = ((settling, record { idle = refl; host = 1; lives = refl; whole = refl; inside = omega arith; made = omega arith; used = λ above. absurd (omega (arith, above)); file = λ is. never is; unfilled = refl }), caused_42)
+caused_43 = (
+  (
+    settling,
+    record {
+      idle = refl;
+      host = 1;
+      lives = refl;
+      whole = refl;
+      inside = omega arith;
+      made = omega arith;
+      used = λ above. absurd (omega (arith, above));
+      file = λ is. never is;
+      unfilled = refl;
+    },
+  ),
+  caused_42,
+)
 
 caused_44 : EachEvent (HasCause header outside) past_44
-caused_44 = ((settling, record { number = refl; sized = refl; declared = omega arith; none = refl; task = 1; address = 0; at = record { host = 1; entry = mapped; lives = refl; found = refl }; on_host = refl; region = refl }), caused_43)
+caused_44 = (
+  (
+    settling,
+    record {
+      number = refl;
+      sized = refl;
+      declared = omega arith;
+      none = refl;
+      task = 1;
+      address = 0;
+      at = record { host = 1; entry = mapped; lives = refl; found = refl };
+      on_host = refl;
+      region = refl;
+    },
+  ),
+  caused_43,
+)
 
 caused_45 : EachEvent (HasCause header outside) past_45
 caused_45 = ((settling, tt), caused_44)
@@ -671,7 +867,20 @@ caused_53 : EachEvent (HasCause header outside) past_53
 caused_53 = ((settling, (refl, (refl, omega arith))), caused_52)
 
 caused_54 : EachEvent (HasCause header outside) past_54
-caused_54 = ((settling, record { address = 0; waits = record { waits = refl; at = record { host = 0; entry = mapped; lives = refl; found = refl }; left = tt }; is_top = record { object = refl; page = refl }; unmarked = refl; here = refl; place = refl }), caused_53)
+caused_54 = (
+  (
+    settling,
+    record {
+      address = 0;
+      waits = record { waits = refl; at = record { host = 0; entry = mapped; lives = refl; found = refl }; left = tt };
+      is_top = record { object = refl; page = refl };
+      unmarked = refl;
+      here = refl;
+      place = refl;
+    },
+  ),
+  caused_53,
+)
 
 caused_55 : EachEvent (HasCause header outside) past_55
 caused_55 = ((settling, (refl, (refl, omega arith))), caused_54)
@@ -683,7 +892,26 @@ caused_57 : EachEvent (HasCause header outside) past_57
 caused_57 = ((settling, refl), caused_56)
 
 caused_58 : EachEvent (HasCause header outside) past_58
-caused_58 = ((settling, record { task = 1; access = Loading 0 1; waits = record { waits = refl; at = record { host = 1; entry = mapped; lives = refl; found = refl }; left = tt }; on_host = refl; unmarked = λ store. refl; comes = record { top = 0; top_page = 0; steps = 0; is_top = record { object = refl; page = refl }; walks = (refl, refl) }; number = refl; live = refl; ready = refl; away = refl; unasked = refl; known = refl }), caused_57)
+caused_58 = (
+  (
+    settling,
+    record {
+      task = 1;
+      access = Loading 0 1;
+      waits = record { waits = refl; at = record { host = 1; entry = mapped; lives = refl; found = refl }; left = tt };
+      on_host = refl;
+      unmarked = λ store. refl;
+      comes = record { top = 0; top_page = 0; steps = 0; is_top = record { object = refl; page = refl }; walks = (refl, refl) };
+      number = refl;
+      live = refl;
+      ready = refl;
+      away = refl;
+      unasked = refl;
+      known = refl;
+    },
+  ),
+  caused_57,
+)
 
 caused_59 : EachEvent (HasCause header outside) past_59
 caused_59 = ((settling, tt), caused_58)
@@ -698,10 +926,48 @@ caused_62 : EachEvent (HasCause header outside) past_62
 caused_62 = ((settling, (refl, (refl, omega arith))), caused_61)
 
 caused_63 : EachEvent (HasCause header outside) past_63
-caused_63 = ((settling, record { live = refl; here = refl; due = refl; same = refl; flag = refl; why = Wanted 1 false (record { control = 1; first = 0; count = 1; lock = 2; reply = true; taken = refl; from = omega arith; below = omega arith; undone = refl; rising = λ later above. refl }) refl refl }), caused_62)
+caused_63 = (
+  (
+    settling,
+    record {
+      live = refl;
+      here = refl;
+      due = refl;
+      same = refl;
+      flag = refl;
+      why = Wanted 1 false (record {
+        control = 1;
+        first = 0;
+        count = 1;
+        lock = 2;
+        reply = true;
+        taken = refl;
+        from = omega arith;
+        below = omega arith;
+        undone = refl;
+        rising = λ later above. refl;
+      }) refl refl;
+    },
+  ),
+  caused_62,
+)
 
 caused_64 : EachEvent (HasCause header outside) past_64
-caused_64 = ((settling, record { live = refl; returns = 1; flush = false; lock = 2; taken = refl; once = refl; done = λ p from less. cleaned p past_63 (λ here. (refl, refl)) less }), caused_63)
+caused_64 = (
+  (
+    settling,
+    record {
+      live = refl;
+      returns = 1;
+      flush = false;
+      lock = 2;
+      taken = refl;
+      once = refl;
+      done = λ p from less. cleaned p past_63 (λ here. (refl, refl)) less;
+    },
+  ),
+  caused_63,
+)
 
 caused_65 : EachEvent (HasCause header outside) past_65
 caused_65 = ((settling, (refl, (refl, omega arith))), caused_64)
@@ -716,7 +982,23 @@ caused_68 : EachEvent (HasCause header outside) past_68
 caused_68 = ((settling, (refl, (refl, omega arith))), caused_67)
 
 caused_69 : EachEvent (HasCause header outside) past_69
-caused_69 = ((settling, record { address = 0; bytes = 1; waits = record { waits = refl; at = record { host = 1; entry = mapped; lives = refl; found = refl }; left = tt }; comes = record { top = 0; top_page = 0; steps = 0; is_top = record { object = refl; page = refl }; walks = (refl, refl) }; here = refl }), caused_68)
+caused_69 = (
+  (
+    settling,
+    record {
+      address = 0;
+      bytes = 1;
+      waits = record {
+        waits = refl;
+        at = record { host = 1; entry = mapped; lives = refl; found = refl };
+        left = tt;
+      };
+      comes = record { top = 0; top_page = 0; steps = 0; is_top = record { object = refl; page = refl }; walks = (refl, refl) };
+      here = refl;
+    },
+  ),
+  caused_68,
+)
 
 caused_70 : EachEvent (HasCause header outside) past_70
 caused_70 = ((settling, tt), caused_69)
@@ -728,13 +1010,50 @@ caused_72 : EachEvent (HasCause header outside) past_72
 caused_72 = ((settling, (refl, refl)), caused_71)
 
 caused_73 : EachEvent (HasCause header outside) past_73
-caused_73 = ((settling, record { address = 0; bytes = 16; to = 64; waits = record { waits = refl; at = record { host = 0; entry = mapped; lives = refl; found = refl }; left = omega arith }; next = refl; declared = omega arith; supplied = refl; is_top = record { object = refl; page = refl }; here = refl; region = 1; filled = refl; inside = omega arith; away = refl; unasked = refl }), caused_72)
+caused_73 = (
+  (
+    settling,
+    record {
+      address = 0;
+      bytes = 16;
+      to = 64;
+      waits = record { waits = refl; at = record { host = 0; entry = mapped; lives = refl; found = refl }; left = omega arith };
+      next = refl;
+      declared = omega arith;
+      supplied = refl;
+      is_top = record { object = refl; page = refl };
+      here = refl;
+      region = 1;
+      filled = refl;
+      inside = omega arith;
+      away = refl;
+      unasked = refl;
+    },
+  ),
+  caused_72,
+)
 
 caused_74 : EachEvent (HasCause header outside) past_74
 caused_74 = ((settling, record { address = 0; bytes = 16; to = 64; waits = refl; all = refl }), caused_73)
 
 caused_75 : EachEvent (HasCause header outside) past_75
-caused_75 = ((settling, record { idle = refl; host = 0; lives = refl; whole = refl; inside = omega arith; made = omega arith; used = λ above. refl; file = λ is. refl; unfilled = refl }), caused_74)
+caused_75 = (
+  (
+    settling,
+    record {
+      idle = refl;
+      host = 0;
+      lives = refl;
+      whole = refl;
+      inside = omega arith;
+      made = omega arith;
+      used = λ above. refl;
+      file = λ is. refl;
+      unfilled = refl;
+    },
+  ),
+  caused_74,
+)
 
 pub causes : EachEvent (HasCause header outside) history
 causes = caused_75
@@ -742,19 +1061,265 @@ causes = caused_75
 -- what is loaded, stored and copied
 
 own_29 : OwnBytes header (event.Loaded (task 0) object page 0) past_28
-own_29 = record { address = 0; bytes = 1; waits = record { waits = refl; at = record { host = 0; entry = mapped; lives = refl; found = refl }; left = tt }; readable = record { here = refl; unlocked = inr refl }; number = refl }
+own_29 =
+    record {
+      address = 0;
+      bytes = 1;
+      waits = record { waits = refl; at = record { host = 0; entry = mapped; lives = refl; found = refl }; left = tt };
+      readable = record { here = refl; unlocked = inr refl };
+      number = refl;
+    }
 
 own_31 : OwnBytes header (event.Loaded (task 1) object page 0) past_30
-own_31 = record { address = 0; bytes = 1; waits = record { waits = refl; at = record { host = 1; entry = mapped; lives = refl; found = refl }; left = tt }; readable = record { here = refl; unlocked = inr refl }; number = refl }
+own_31 =
+    record {
+      address = 0;
+      bytes = 1;
+      waits = record { waits = refl; at = record { host = 1; entry = mapped; lives = refl; found = refl }; left = tt };
+      readable = record { here = refl; unlocked = inr refl };
+      number = refl;
+    }
 
 own_54 : OwnBytes header (event.Stored (task 0) object page 0 1 8) past_53
-own_54 = record { address = 0; waits = record { waits = refl; at = record { host = 0; entry = mapped; lives = refl; found = refl }; left = tt }; writable = record { here = refl; unlocked = refl }; place = refl }
+own_54 =
+    record {
+      address = 0;
+      waits = record { waits = refl; at = record { host = 0; entry = mapped; lives = refl; found = refl }; left = tt };
+      writable = record { here = refl; unlocked = refl };
+      place = refl;
+    }
 
 own_69 : OwnBytes header (event.Loaded (task 1) object page 8) past_68
-own_69 = record { address = 0; bytes = 1; waits = record { waits = refl; at = record { host = 1; entry = mapped; lives = refl; found = refl }; left = tt }; readable = record { here = refl; unlocked = inr refl }; number = refl }
+own_69 =
+    record {
+      address = 0;
+      bytes = 1;
+      waits = record { waits = refl; at = record { host = 1; entry = mapped; lives = refl; found = refl }; left = tt };
+      readable = record { here = refl; unlocked = inr refl };
+      number = refl;
+    }
 
 own_73 : OwnBytes header (event.CopiedPage (task 0) page object page copied_object) past_72
 own_73 = λ h lives. copied_here h lives
 
 pub own_bytes : EachEvent (OwnBytes header) history
-own_bytes = (tt, (tt, (own_73, (tt, (tt, (tt, (own_69, (tt, (tt, (tt, (tt, (tt, (tt, (tt, (tt, (tt, (tt, (tt, (tt, (tt, (tt, (own_54, (tt, (tt, (tt, (tt, (tt, (tt, (tt, (tt, (tt, (tt, (tt, (tt, (tt, (tt, (tt, (tt, (tt, (tt, (tt, (tt, (tt, (tt, (own_31, (tt, (own_29, (tt, (tt, (tt, (tt, (tt, (tt, (tt, (tt, (tt, (tt, (tt, (tt, (tt, (tt, (tt, (tt, (tt, (tt, (tt, (tt, (tt, (tt, (tt, (tt, (tt, (tt, (tt, (tt, tt)))))))))))))))))))))))))))))))))))))))))))))))))))))))))))))))))))))))))))
+own_bytes = (
+  tt,
+  (
+    tt,
+    (
+      own_73,
+      (
+        tt,
+        (
+          tt,
+          (
+            tt,
+            (
+              own_69,
+              (
+                tt,
+                (
+                  tt,
+                  (
+                    tt,
+                    (
+                      tt,
+                      (
+                        tt,
+                        (
+                          tt,
+                          (
+                            tt,
+                            (
+                              tt,
+                              (
+                                tt,
+                                (
+                                  tt,
+                                  (
+                                    tt,
+                                    (
+                                      tt,
+                                      (
+                                        tt,
+                                        (
+                                          tt,
+                                          (
+                                            own_54,
+                                            (
+                                              tt,
+                                              (
+                                                tt,
+                                                (
+                                                  tt,
+                                                  (
+                                                    tt,
+                                                    (
+                                                      tt,
+                                                      (
+                                                        tt,
+                                                        (
+                                                          tt,
+                                                          (
+                                                            tt,
+                                                            (
+                                                              tt,
+                                                              (
+                                                                tt,
+                                                                (
+                                                                  tt,
+                                                                  (
+                                                                    tt,
+                                                                    (
+                                                                      tt,
+                                                                      (
+                                                                        tt,
+                                                                        (
+                                                                          tt,
+                                                                          (
+                                                                            tt,
+                                                                            (
+                                                                              tt,
+                                                                              (
+                                                                                tt,
+                                                                                (
+                                                                                  tt,
+                                                                                  (
+                                                                                    tt,
+                                                                                    (
+                                                                                      tt,
+                                                                                      (
+                                                                                        tt,
+                                                                                        (
+                                                                                          own_31,
+                                                                                          (
+                                                                                            tt,
+                                                                                            (
+                                                                                              own_29,
+                                                                                              (
+                                                                                                tt,
+                                                                                                (
+                                                                                                  tt,
+                                                                                                  (
+                                                                                                    tt,
+                                                                                                    (
+                                                                                                      tt,
+                                                                                                      (
+                                                                                                        tt,
+                                                                                                        (
+                                                                                                          tt,
+                                                                                                          (
+                                                                                                            tt,
+                                                                                                            (
+                                                                                                              tt,
+                                                                                                              (
+                                                                                                                tt,
+                                                                                                                (
+                                                                                                                  tt,
+                                                                                                                  (
+                                                                                                                    tt,
+                                                                                                                    (
+                                                                                                                      tt,
+                                                                                                                      (
+                                                                                                                        tt,
+                                                                                                                        (
+                                                                                                                          tt,
+                                                                                                                          (
+                                                                                                                            tt,
+                                                                                                                            (
+                                                                                                                              tt,
+                                                                                                                              (
+                                                                                                                                tt,
+                                                                                                                                (
+                                                                                                                                  tt,
+                                                                                                                                  (
+                                                                                                                                    tt,
+                                                                                                                                    (
+                                                                                                                                      tt,
+                                                                                                                                      (
+                                                                                                                                        tt,
+                                                                                                                                        (
+                                                                                                                                          tt,
+                                                                                                                                          (
+                                                                                                                                            tt,
+                                                                                                                                            (
+                                                                                                                                              tt,
+                                                                                                                                              (
+                                                                                                                                                tt,
+                                                                                                                                                (
+                                                                                                                                                  tt,
+                                                                                                                                                  (tt, (tt, tt)),
+                                                                                                                                                ),
+                                                                                                                                              ),
+                                                                                                                                            ),
+                                                                                                                                          ),
+                                                                                                                                        ),
+                                                                                                                                      ),
+                                                                                                                                    ),
+                                                                                                                                  ),
+                                                                                                                                ),
+                                                                                                                              ),
+                                                                                                                            ),
+                                                                                                                          ),
+                                                                                                                        ),
+                                                                                                                      ),
+                                                                                                                    ),
+                                                                                                                  ),
+                                                                                                                ),
+                                                                                                              ),
+                                                                                                            ),
+                                                                                                          ),
+                                                                                                        ),
+                                                                                                      ),
+                                                                                                    ),
+                                                                                                  ),
+                                                                                                ),
+                                                                                              ),
+                                                                                            ),
+                                                                                          ),
+                                                                                        ),
+                                                                                      ),
+                                                                                    ),
+                                                                                  ),
+                                                                                ),
+                                                                              ),
+                                                                            ),
+                                                                          ),
+                                                                        ),
+                                                                      ),
+                                                                    ),
+                                                                  ),
+                                                                ),
+                                                              ),
+                                                            ),
+                                                          ),
+                                                        ),
+                                                      ),
+                                                    ),
+                                                  ),
+                                                ),
+                                              ),
+                                            ),
+                                          ),
+                                        ),
+                                      ),
+                                    ),
+                                  ),
+                                ),
+                              ),
+                            ),
+                          ),
+                        ),
+                      ),
+                    ),
+                  ),
+                ),
+              ),
+            ),
+          ),
+        ),
+      ),
+    ),
+  ),
+)

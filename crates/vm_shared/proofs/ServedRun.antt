@@ -155,19 +155,83 @@ caused_4 : EachEvent (HasCause header outside) past_4
 caused_4 = ((settling, tt), caused_3)
 
 caused_5 : EachEvent (HasCause header outside) past_5
-caused_5 = ((settling, record { idle = refl; host = 0; lives = refl; whole = refl; inside = omega arith; made = omega arith; used = λ above. absurd (omega (arith, above)); file = λ is. never is; unfilled = refl }), caused_4)
+caused_5 = (
+  (
+    settling,
+    record {
+      idle = refl;
+      host = 0;
+      lives = refl;
+      whole = refl;
+      inside = omega arith;
+      made = omega arith;
+      used = λ above. absurd (omega (arith, above));
+      file = λ is. never is;
+      unfilled = refl;
+    },
+  ),
+  caused_4,
+)
 
 caused_6 : EachEvent (HasCause header outside) past_6
-caused_6 = ((settling, record { number = refl; sized = refl; declared = omega arith; none = refl; task = 0; address = 0; at = record { host = 0; entry = mapped; lives = refl; found = refl }; on_host = refl; region = refl }), caused_5)
+caused_6 = (
+  (
+    settling,
+    record {
+      number = refl;
+      sized = refl;
+      declared = omega arith;
+      none = refl;
+      task = 0;
+      address = 0;
+      at = record { host = 0; entry = mapped; lives = refl; found = refl };
+      on_host = refl;
+      region = refl;
+    },
+  ),
+  caused_5,
+)
 
 caused_7 : EachEvent (HasCause header outside) past_7
 caused_7 = ((settling, tt), caused_6)
 
 caused_8 : EachEvent (HasCause header outside) past_8
-caused_8 = ((settling, record { idle = refl; host = 1; lives = refl; whole = refl; inside = omega arith; made = omega arith; used = λ above. absurd (omega (arith, above)); file = λ is. never is; unfilled = refl }), caused_7)
+caused_8 = (
+  (
+    settling,
+    record {
+      idle = refl;
+      host = 1;
+      lives = refl;
+      whole = refl;
+      inside = omega arith;
+      made = omega arith;
+      used = λ above. absurd (omega (arith, above));
+      file = λ is. never is;
+      unfilled = refl;
+    },
+  ),
+  caused_7,
+)
 
 caused_9 : EachEvent (HasCause header outside) past_9
-caused_9 = ((settling, record { number = refl; sized = refl; declared = omega arith; none = refl; task = 1; address = 0; at = record { host = 1; entry = mapped; lives = refl; found = refl }; on_host = refl; region = refl }), caused_8)
+caused_9 = (
+  (
+    settling,
+    record {
+      number = refl;
+      sized = refl;
+      declared = omega arith;
+      none = refl;
+      task = 1;
+      address = 0;
+      at = record { host = 1; entry = mapped; lives = refl; found = refl };
+      on_host = refl;
+      region = refl;
+    },
+  ),
+  caused_8,
+)
 
 caused_10 : EachEvent (HasCause header outside) past_10
 caused_10 = ((settling, tt), caused_9)
@@ -200,13 +264,51 @@ caused_19 : EachEvent (HasCause header outside) past_19
 caused_19 = ((settling, (refl, (refl, omega arith))), caused_18)
 
 caused_20 : EachEvent (HasCause header outside) past_20
-caused_20 = ((settling, record { task = 0; access = Loading 0 1; waits = record { waits = refl; at = record { host = 0; entry = mapped; lives = refl; found = refl }; left = tt }; on_host = refl; unmarked = λ store. refl; comes = record { top = 0; top_page = 0; steps = 0; is_top = record { object = refl; page = refl }; walks = (refl, refl) }; number = refl; live = refl; ready = refl; away = refl; unasked = refl; known = refl }), caused_19)
+caused_20 = (
+  (
+    settling,
+    record {
+      task = 0;
+      access = Loading 0 1;
+      waits = record { waits = refl; at = record { host = 0; entry = mapped; lives = refl; found = refl }; left = tt };
+      on_host = refl;
+      unmarked = λ store. refl;
+      comes = record { top = 0; top_page = 0; steps = 0; is_top = record { object = refl; page = refl }; walks = (refl, refl) };
+      number = refl;
+      live = refl;
+      ready = refl;
+      away = refl;
+      unasked = refl;
+      known = refl;
+    },
+  ),
+  caused_19,
+)
 
 caused_21 : EachEvent (HasCause header outside) past_21
 caused_21 = ((settling, (refl, (refl, omega arith))), caused_20)
 
 caused_22 : EachEvent (HasCause header outside) past_22
-caused_22 = ((settling, record { task = 1; access = Storing 0 1 8; waits = record { waits = refl; at = record { host = 1; entry = mapped; lives = refl; found = refl }; left = tt }; on_host = refl; unmarked = λ store. refl; comes = record { top = 0; top_page = 0; steps = 0; is_top = record { object = refl; page = refl }; walks = (refl, refl) }; number = refl; live = refl; ready = refl; away = refl; unasked = refl; known = refl }), caused_21)
+caused_22 = (
+  (
+    settling,
+    record {
+      task = 1;
+      access = Storing 0 1 8;
+      waits = record { waits = refl; at = record { host = 1; entry = mapped; lives = refl; found = refl }; left = tt };
+      on_host = refl;
+      unmarked = λ store. refl;
+      comes = record { top = 0; top_page = 0; steps = 0; is_top = record { object = refl; page = refl }; walks = (refl, refl) };
+      number = refl;
+      live = refl;
+      ready = refl;
+      away = refl;
+      unasked = refl;
+      known = refl;
+    },
+  ),
+  caused_21,
+)
 
 caused_23 : EachEvent (HasCause header outside) past_23
 caused_23 = ((settling, (refl, (refl, omega arith))), caused_22)
@@ -230,19 +332,59 @@ caused_27 : EachEvent (HasCause header outside) past_27
 caused_27 = ((settling, (refl, (refl, omega arith))), caused_26)
 
 caused_28 : EachEvent (HasCause header outside) past_28
-caused_28 = ((settling, record { address = 0; bytes = 1; waits = record { waits = refl; at = record { host = 0; entry = mapped; lives = refl; found = refl }; left = tt }; comes = record { top = 0; top_page = 0; steps = 0; is_top = record { object = refl; page = refl }; walks = (refl, refl) }; here = refl }), caused_27)
+caused_28 = (
+  (
+    settling,
+    record {
+      address = 0;
+      bytes = 1;
+      waits = record {
+        waits = refl;
+        at = record { host = 0; entry = mapped; lives = refl; found = refl };
+        left = tt;
+      };
+      comes = record { top = 0; top_page = 0; steps = 0; is_top = record { object = refl; page = refl }; walks = (refl, refl) };
+      here = refl;
+    },
+  ),
+  caused_27,
+)
 
 caused_29 : EachEvent (HasCause header outside) past_29
 caused_29 = ((settling, (refl, (refl, omega arith))), caused_28)
 
 caused_30 : EachEvent (HasCause header outside) past_30
-caused_30 = ((settling, record { here = refl; why = Flushed 1 (record { control = 1; first = 0; count = 1; lock = 8; reply = true; taken = refl; from = omega arith; below = omega arith; undone = refl; rising = λ later less. refl }) refl }), caused_29)
+caused_30 = (
+  (
+    settling,
+    record {
+      here = refl;
+      why = Flushed 1 (record {
+        control = 1;
+        first = 0;
+        count = 1;
+        lock = 8;
+        reply = true;
+        taken = refl;
+        from = omega arith;
+        below = omega arith;
+        undone = refl;
+        rising = λ later less. refl;
+      }) refl;
+    },
+  ),
+  caused_29,
+)
 
-gone : (q : ℕ) → 0 ≤ q → q < 1 → (page_on header 0 0 q past_30).here ≡ true → (true ≡ false) × (gives_back 1 (page_on header 0 0 q past_30).dirty (page_on header 0 0 q past_30).precious ≡ false)
+gone : (q : ℕ) → 0 ≤ q → q < 1 → (page_on header 0 0 q past_30).here ≡ true → (true ≡ false)
+    × (gives_back 1 (page_on header 0 0 q past_30).dirty (page_on header 0 0 q past_30).precious ≡ false)
 gone q from below here = let same : q ≡ 0 = omega (arith, below) in never (subst (λ k. (page_on header 0 0 k past_30).here ≡ true) same here)
 
 caused_31 : EachEvent (HasCause header outside) past_31
-caused_31 = ((settling, record { live = refl; returns = 1; flush = true; lock = 8; taken = refl; once = refl; done = λ q from below here. gone q from below here }), caused_30)
+caused_31 = (
+  (settling, record { live = refl; returns = 1; flush = true; lock = 8; taken = refl; once = refl; done = λ q from below here. gone q from below here }),
+  caused_30,
+)
 
 caused_32 : EachEvent (HasCause header outside) past_32
 caused_32 = ((settling, (refl, (refl, omega arith))), caused_31)
@@ -260,22 +402,106 @@ caused_34 : EachEvent (HasCause header outside) past_34
 caused_34 = ((settling, (refl, (refl, omega arith))), caused_33)
 
 caused_35 : EachEvent (HasCause header outside) past_35
-caused_35 = ((settling, record { address = 0; waits = record { waits = refl; at = record { host = 1; entry = mapped; lives = refl; found = refl }; left = tt }; is_top = record { object = refl; page = refl }; unmarked = refl; here = refl; place = refl }), caused_34)
+caused_35 = (
+  (
+    settling,
+    record {
+      address = 0;
+      waits = record { waits = refl; at = record { host = 1; entry = mapped; lives = refl; found = refl }; left = tt };
+      is_top = record { object = refl; page = refl };
+      unmarked = refl;
+      here = refl;
+      place = refl;
+    },
+  ),
+  caused_34,
+)
 
 pub served_causes : EachEvent (HasCause header outside) history
 served_causes = caused_35
 
 own_load : OwnBytes header (event.Loaded (task 0) object page 0) past_27
-own_load = record { address = 0; bytes = 1; waits = record { waits = refl; at = record { host = 0; entry = mapped; lives = refl; found = refl }; left = tt }; readable = record { here = refl; unlocked = inr refl }; number = refl }
+own_load =
+    record {
+      address = 0;
+      bytes = 1;
+      waits = record { waits = refl; at = record { host = 0; entry = mapped; lives = refl; found = refl }; left = tt };
+      readable = record { here = refl; unlocked = inr refl };
+      number = refl;
+    }
 
 own_store : OwnBytes header (event.Stored (task 1) object page 0 1 8) past_34
-own_store = record { address = 0; waits = record { waits = refl; at = record { host = 1; entry = mapped; lives = refl; found = refl }; left = tt }; writable = record { here = refl; unlocked = refl }; place = refl }
+own_store =
+    record {
+      address = 0;
+      waits = record { waits = refl; at = record { host = 1; entry = mapped; lives = refl; found = refl }; left = tt };
+      writable = record { here = refl; unlocked = refl };
+      place = refl;
+    }
 
 pub served_own : EachEvent (OwnBytes header) history
-served_own = (own_store, (tt, (tt, (tt, (tt, (tt, (tt, (own_load, (tt, (tt, (tt, (tt, (tt, (tt, (tt, (tt, (tt, (tt, (tt, (tt, (tt, (tt, (tt, (tt, (tt, (tt, (tt, (tt, (tt, (tt, (tt, (tt, (tt, (tt, (tt, (tt, tt))))))))))))))))))))))))))))))))))))
+served_own = (
+  own_store,
+  (
+    tt,
+    (
+      tt,
+      (
+        tt,
+        (
+          tt,
+          (
+            tt,
+            (
+              tt,
+              (
+                own_load,
+                (
+                  tt,
+                  (
+                    tt,
+                    (
+                      tt,
+                      (
+                        tt,
+                        (
+                          tt,
+                          (
+                            tt,
+                            (
+                              tt,
+                              (
+                                tt,
+                                (
+                                  tt,
+                                  (
+                                    tt,
+                                    (
+                                      tt,
+                                      (tt, (tt, (tt, (tt, (tt, (tt, (tt, (tt, (tt, (tt, (tt, (tt, (tt, (tt, (tt, (tt, (tt, tt))))))))))))))))),
+                                    ),
+                                  ),
+                                ),
+                              ),
+                            ),
+                          ),
+                        ),
+                      ),
+                    ),
+                  ),
+                ),
+              ),
+            ),
+          ),
+        ),
+      ),
+    ),
+  ),
+)
 
 pub served_delivered : undelivered history ≡ []
 served_delivered = refl
 
 pub served_kinds : NoneIsTemporary header
-served_kinds o below = let first : 0 ≡ o = omega (arith, below) in subst (λ k. kind_of header k ≢ Temp) first (λ is. absurd (let bad : Shared ≡ Temp = is in cc))
+served_kinds o below =
+    let first : 0 ≡ o = omega (arith, below) in subst (λ k. kind_of header k ≢ Temp) first (λ is. absurd (let bad : Shared ≡ Temp = is in cc))

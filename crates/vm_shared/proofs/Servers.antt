@@ -55,7 +55,8 @@ supply_lock h lock past (Some w) row = by (w.access == 3) row.2
     by true is = inl is
     by false is = inr is
 
-recall_lock : (h count returns : ℕ) (flush : Bool) (lock holds : ℕ) (w : Option Wanting) → count ≡ 1 → returns ≡ 1 → RecallRow h flush lock holds w → IsServersLock count returns flush lock true
+recall_lock : (h count returns : ℕ) (flush : Bool) (lock holds : ℕ) (w : Option Wanting) → count ≡ 1 → returns ≡ 1 → RecallRow h flush lock holds w
+    → IsServersLock count returns flush lock true
 recall_lock h count returns true lock holds None one kind row = absurd row
 recall_lock h count returns false lock holds None one kind row = absurd row
 recall_lock h count returns true lock holds (Some w) one kind row = (one, kind, row.1)
@@ -69,7 +70,8 @@ sends_servers header host object control (message.Lock page count returns false 
 sends_servers header host object control (message.Ready cache strategy) past c = tt
 sends_servers header host object control m past c = absurd c
 
-pub shared_sends : (kind : ObjectKind) (header : Header) (outside : Outside) (why : Command) (host object control : ℕ) (m : Message) (past : List Event) → is_shared_kind kind ≡ true → PagerSends kind header outside why host object control m past → ServerSends header host object control m past
+pub shared_sends : (kind : ObjectKind) (header : Header) (outside : Outside) (why : Command) (host object control : ℕ) (m : Message) (past : List Event)
+    → is_shared_kind kind ≡ true → PagerSends kind header outside why host object control m past → ServerSends header host object control m past
 shared_sends Temp header outside why host object control m past is c = never is
 shared_sends File header outside why host object control m past is c = never is
 shared_sends Shared header outside why host object control m past is c = c
@@ -97,21 +99,26 @@ servers_first (x ∷ q) m is all = let same : x ≡ m = cc in subst (λ (y : Mes
 same_object : (a h b o c k : ℕ) → (a == h && (b == o && c == k)) ≡ true → o ≡ b
 same_object a h b o c k is = grind (arith, nat_tests)
 
-pub servers_of : (header : Header) (outside : Outside) (past : List Event) → EachEvent (HasCause header outside) past → (h o k : ℕ) → is_shared header o ≡ true → AreServers (queue (down_port h o k) past)
+pub servers_of : (header : Header) (outside : Outside) (past : List Event) → EachEvent (HasCause header outside) past → (h o k : ℕ) → is_shared header o ≡ true
+    → AreServers (queue (down_port h o k) past)
 servers_of header outside [] caused h o k shared = tt
 servers_of header outside (event.Sent (Down host object control) m ∷ past) caused h o k shared =
     servers_if (host.0 == h && (object.0 == o && control == k)) (queue (down_port h o k) past) m
     (λ is.
     let its : is_shared header object.0 ≡ true = subst (λ j. is_shared header j ≡ true) (same_object host.0 h object.0 o control k is) shared in
-    sends_servers header host.0 object.0 control m past (shared_sends (kind_of header object.0) header outside caused.0.0 host.0 object.0 control m past its caused.0.1))
+    sends_servers header host.0 object.0 control m past (shared_sends (kind_of header object.0) header outside caused.0.0 host.0 object.0 control m past its
+    caused.0.1))
     (servers_of header outside past caused.1 h o k shared)
-servers_of header outside (event.Taken (Down host object control) m ∷ past) caused h o k shared = servers_rest (host.0 == h && (object.0 == o && control == k)) (queue (down_port h o k) past) (servers_of header outside past caused.1 h o k shared)
+servers_of header outside (event.Taken (Down host object control) m ∷ past) caused h o k shared =
+    servers_rest (host.0 == h && (object.0 == o && control == k)) (queue (down_port h o k) past) (servers_of header outside past caused.1 h o k shared)
 servers_of header outside (e ∷ past) caused h o k shared = servers_of header outside past caused.1 h o k shared
 
 -- what a step took
 
-pub taken_servers : (header : Header) (outside : Outside) (host : HostId) (object : ObjectId) (control : ℕ) (m : Message) (past : List Event) → EachEvent (HasCause header outside) past → first (queue (Down host object control) past) ≡ Some m → is_shared header object.0 ≡ true → IsServers m
-taken_servers header outside host object control m past caused head shared = servers_first (queue (down_port host.0 object.0 control) past) m head (servers_of header outside past caused host.0 object.0 control shared)
+pub taken_servers : (header : Header) (outside : Outside) (host : HostId) (object : ObjectId) (control : ℕ) (m : Message) (past : List Event)
+    → EachEvent (HasCause header outside) past → first (queue (Down host object control) past) ≡ Some m → is_shared header object.0 ≡ true → IsServers m
+taken_servers header outside host object control m past caused head shared =
+    servers_first (queue (down_port host.0 object.0 control) past) m head (servers_of header outside past caused host.0 object.0 control shared)
 
 no_request : (r : LockRequest) → ◌≡◌ {A = Option LockRequest} None (Some r) → ⊥
 no_request r e = cc
@@ -121,7 +128,8 @@ abbrev pub IsServersRequest : Option LockRequest → Header → Type 0
 IsServersRequest None header = Unit {0}
 IsServersRequest (Some r) header = is_shared header r.object ≡ true → IsServersLock r.count r.returns r.flush r.lock r.reply
 
-request_if : (b : Bool) (header : Header) (r : LockRequest) → (is_shared header r.object ≡ true → IsServersLock r.count r.returns r.flush r.lock r.reply) → IsServersRequest (if b then Some r else None) header
+request_if : (b : Bool) (header : Header) (r : LockRequest) → (is_shared header r.object ≡ true → IsServersLock r.count r.returns r.flush r.lock r.reply)
+    → IsServersRequest (if b then Some r else None) header
 request_if true header r is = is
 request_if false header r is = tt
 
@@ -129,7 +137,8 @@ pub lock_is : (header : Header) (outside : Outside) (past : List Event) → Each
 lock_is header outside [] caused = tt
 lock_is header outside (event.Line line ∷ past) caused = tt
 lock_is header outside (event.Taken (Down host object control) (message.Lock page count returns flush lock reply) ∷ past) caused =
-    request_if (is_control control (live_control host.0 object.0 past)) header (record { host = host.0; object = object.0; control = control; page = page.0; count = count; returns = returns; flush = flush; lock = lock; reply = reply })
+    request_if (is_control control (live_control host.0 object.0 past)) header (record
+    { host = host.0; object = object.0; control = control; page = page.0; count = count; returns = returns; flush = flush; lock = lock; reply = reply })
     (λ shared. taken_servers header outside host object control (message.Lock page count returns flush lock reply) past caused.1 caused.0.1.0 shared)
 lock_is header outside (event.Taken (Down host object control) m ∷ past) caused = tt
 lock_is header outside (event.Taken (Up host object) m ∷ past) caused = tt
@@ -144,24 +153,30 @@ elsewhere_if : (b : Bool) (header : Header) (asked : Asked) → (is_shared heade
 elsewhere_if true header asked is = is
 elsewhere_if false header asked is = tt
 
-lacking : (header : Header) (host object : ℕ) (asked : ℕ → Bool) (m : Message) → (is_shared header object ≡ true → IsServers m) → IsElsewhere (absence_of host object asked m) header
+lacking : (header : Header) (host object : ℕ) (asked : ℕ → Bool) (m : Message) → (is_shared header object ≡ true → IsServers m)
+    → IsElsewhere (absence_of host object asked m) header
 lacking header host object asked (message.Unavailable page) is = elsewhere_if (asked page.0) header (record { host = host; object = object; page = page.0 }) is
 lacking header host object asked m is = tt
 
-failing : (header : Header) (host object : ℕ) (asked : ℕ → Bool) (m : Message) → (is_shared header object ≡ true → IsServers m) → IsElsewhere (error_of host object asked m) header
+failing : (header : Header) (host object : ℕ) (asked : ℕ → Bool) (m : Message) → (is_shared header object ≡ true → IsServers m)
+    → IsElsewhere (error_of host object asked m) header
 failing header host object asked (message.Error page reason) is = elsewhere_if (asked page.0) header (record { host = host; object = object; page = page.0 }) is
 failing header host object asked m is = tt
 
-pub none_lacks : (header : Header) (outside : Outside) (past : List Event) → EachEvent (HasCause header outside) past → IsElsewhere (absence_taken header.size past) header
+pub none_lacks : (header : Header) (outside : Outside) (past : List Event) → EachEvent (HasCause header outside) past
+    → IsElsewhere (absence_taken header.size past) header
 none_lacks header outside [] caused = tt
 none_lacks header outside (event.Line line ∷ past) caused = tt
-none_lacks header outside (event.Taken (Down host object control) m ∷ past) caused = lacking header host.0 object.0 _ m (λ shared. taken_servers header outside host object control m past caused.1 caused.0.1.0 shared)
+none_lacks header outside (event.Taken (Down host object control) m ∷ past) caused =
+    lacking header host.0 object.0 _ m (λ shared. taken_servers header outside host object control m past caused.1 caused.0.1.0 shared)
 none_lacks header outside (event.Taken (Up host object) m ∷ past) caused = tt
 none_lacks header outside (e ∷ past) caused = none_lacks header outside past caused.1
 
-pub none_fails : (header : Header) (outside : Outside) (past : List Event) → EachEvent (HasCause header outside) past → IsElsewhere (error_taken header.size past) header
+pub none_fails : (header : Header) (outside : Outside) (past : List Event) → EachEvent (HasCause header outside) past
+    → IsElsewhere (error_taken header.size past) header
 none_fails header outside [] caused = tt
 none_fails header outside (event.Line line ∷ past) caused = tt
-none_fails header outside (event.Taken (Down host object control) m ∷ past) caused = failing header host.0 object.0 _ m (λ shared. taken_servers header outside host object control m past caused.1 caused.0.1.0 shared)
+none_fails header outside (event.Taken (Down host object control) m ∷ past) caused =
+    failing header host.0 object.0 _ m (λ shared. taken_servers header outside host object control m past caused.1 caused.0.1.0 shared)
 none_fails header outside (event.Taken (Up host object) m ∷ past) caused = tt
 none_fails header outside (e ∷ past) caused = none_fails header outside past caused.1

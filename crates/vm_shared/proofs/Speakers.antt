@@ -69,18 +69,23 @@ grow_if true control last is = is refl
 grow_if false control last is = omega arith
 
 -- a control that begins has a greater number than those before it
-pub last_grows : (header : Header) (outside : Outside) (e : Event) (past : List Event) → HasCause header outside e past → (h o : ℕ) → last_control h o past ≤ last_control h o (e ∷ past)
+pub last_grows : (header : Header) (outside : Outside) (e : Event) (past : List Event) → HasCause header outside e past → (h o : ℕ)
+    → last_control h o past ≤ last_control h o (e ∷ past)
 last_grows header outside (event.Sent (Up host object) (message.Init control size)) past c h o =
-    grow_if (host.0 == h && object.0 == o) control (last_control h o past) (λ is. there_two (λ g k. last_control g k past ≤ control) host.0 object.0 h o is (omega (arith, c.1.number)))
+    grow_if (host.0 == h && object.0 == o) control (last_control h o past) (λ is. there_two (λ g k. last_control g k past ≤ control) host.0 object.0 h o is
+    (omega (arith, c.1.number)))
 last_grows header outside (event.Sent (Up host object) (message.Create control size)) past c h o =
-    grow_if (host.0 == h && object.0 == o) control (last_control h o past) (λ is. there_two (λ g k. last_control g k past ≤ control) host.0 object.0 h o is (omega (arith, c.1.never)))
+    grow_if (host.0 == h && object.0 == o) control (last_control h o past) (λ is. there_two (λ g k. last_control g k past ≤ control) host.0 object.0 h o is
+    (omega (arith, c.1.never)))
 last_grows header outside e past c h o = omega arith
 
-live_begun : (b : Bool) (control last k : ℕ) (live : Option ℕ) → (live ≡ Some k → k ≡ last) → (if b then Some control else live) ≡ Some k → k ≡ (if b then control else last)
+live_begun : (b : Bool) (control last k : ℕ) (live : Option ℕ) → (live ≡ Some k → k ≡ last) → (if b then Some control else live) ≡ Some k
+    → k ≡ (if b then control else last)
 live_begun true control last k live was is = sym (some_is control k is)
 live_begun false control last k live was is = was is
 
-live_ended : (b : Bool) (control last k : ℕ) (live : Option ℕ) → (live ≡ Some k → k ≡ last) → (if b then without_control control live else live) ≡ Some k → k ≡ last
+live_ended : (b : Bool) (control last k : ℕ) (live : Option ℕ) → (live ≡ Some k → k ≡ last) → (if b then without_control control live else live) ≡ Some k
+    → k ≡ last
 live_ended false control last k live was is = was is
 live_ended true control last k None was is = was is
 live_ended true control last k (Some n) was is = by (n == control) is
@@ -89,10 +94,14 @@ live_ended true control last k (Some n) was is = by (n == control) is
     by true e = absurd (let bad : ◌≡◌ {A = Option ℕ} None (Some k) = e in cc)
     by false e = was e
 
-live_next : (header : Header) (outside : Outside) (e : Event) (past : List Event) → Numbers past → HasCause header outside e past → (h o k : ℕ) → live_control h o (e ∷ past) ≡ Some k → k ≡ last_control h o (e ∷ past)
-live_next header outside (event.Sent (Up host object) (message.Init control size)) past n c h o k = live_begun (host.0 == h && object.0 == o) control (last_control h o past) k (live_control h o past) (n.live h o k)
-live_next header outside (event.Sent (Up host object) (message.Create control size)) past n c h o k = live_begun (host.0 == h && object.0 == o) control (last_control h o past) k (live_control h o past) (n.live h o k)
-live_next header outside (event.Sent (Up host object) (message.Terminate control)) past n c h o k = live_ended (host.0 == h && object.0 == o) control (last_control h o past) k (live_control h o past) (n.live h o k)
+live_next : (header : Header) (outside : Outside) (e : Event) (past : List Event) → Numbers past → HasCause header outside e past → (h o k : ℕ)
+    → live_control h o (e ∷ past) ≡ Some k → k ≡ last_control h o (e ∷ past)
+live_next header outside (event.Sent (Up host object) (message.Init control size)) past n c h o k =
+    live_begun (host.0 == h && object.0 == o) control (last_control h o past) k (live_control h o past) (n.live h o k)
+live_next header outside (event.Sent (Up host object) (message.Create control size)) past n c h o k =
+    live_begun (host.0 == h && object.0 == o) control (last_control h o past) k (live_control h o past) (n.live h o k)
+live_next header outside (event.Sent (Up host object) (message.Terminate control)) past n c h o k =
+    live_ended (host.0 == h && object.0 == o) control (last_control h o past) k (live_control h o past) (n.live h o k)
 live_next header outside e past n c h o k = n.live h o k
 
 own_if : (b : Bool) (control last : ℕ) → b ≡ true → control ≤ (if b then control else last)
@@ -100,17 +109,22 @@ own_if true control last is = omega arith
 own_if false control last is = never is
 
 -- what is sent names a control that began
-sent_said : (header : Header) (doing : Command) (host : HostId) (object : ObjectId) (m : Message) (past : List Event) → Numbers past → MaySendUp header doing host.0 object.0 m past → (h o : ℕ) → (host.0 == h && object.0 == o) ≡ true → speaker m ≤ last_control h o (event.Sent (Up host object) m ∷ past)
+sent_said : (header : Header) (doing : Command) (host : HostId) (object : ObjectId) (m : Message) (past : List Event) → Numbers past
+    → MaySendUp header doing host.0 object.0 m past → (h o : ℕ) → (host.0 == h && object.0 == o) ≡ true
+    → speaker m ≤ last_control h o (event.Sent (Up host object) m ∷ past)
 sent_said header doing host object (message.Init control size) past n c h o is = own_if (host.0 == h && object.0 == o) control (last_control h o past) is
 sent_said header doing host object (message.Create control size) past n c h o is = own_if (host.0 == h && object.0 == o) control (last_control h o past) is
 sent_said header doing host object (message.Request control page access) past n c h o is =
     there_two (λ g k. control ≤ last_control g k past) host.0 object.0 h o is (omega (arith, n.live host.0 object.0 control c.live))
 sent_said header doing host object m past n c h o is = omega arith
 
-sent_next : (header : Header) (outside : Outside) (e : Event) (past : List Event) → Numbers past → HasCause header outside e past → (h o : ℕ) → UpTo (last_control h o (e ∷ past)) (queue (up_port h o) (e ∷ past))
+sent_next : (header : Header) (outside : Outside) (e : Event) (past : List Event) → Numbers past → HasCause header outside e past → (h o : ℕ)
+    → UpTo (last_control h o (e ∷ past)) (queue (up_port h o) (e ∷ past))
 sent_next header outside (event.Sent (Up host object) m) past n c h o =
-    sent_up_to (host.0 == h && object.0 == o) (last_control h o past) _ (queue (up_port h o) past) m (last_grows header outside (event.Sent (Up host object) m) past c h o) (n.sent h o) (sent_said header c.0 host object m past n c.1 h o)
-sent_next header outside (event.Taken (Up host object) m) past n c h o = taken_up_to (host.0 == h && object.0 == o) (last_control h o past) (queue (up_port h o) past) (n.sent h o)
+    sent_up_to (host.0 == h && object.0 == o) (last_control h o past) _ (queue (up_port h o) past) m
+    (last_grows header outside (event.Sent (Up host object) m) past c h o) (n.sent h o) (sent_said header c.0 host object m past n c.1 h o)
+sent_next header outside (event.Taken (Up host object) m) past n c h o =
+    taken_up_to (host.0 == h && object.0 == o) (last_control h o past) (queue (up_port h o) past) (n.sent h o)
 sent_next header outside e past n c h o = n.sent h o
 
 abbrev channel_in : Option Letter → Channel → Channel
@@ -121,17 +135,21 @@ abbrev message_in : Option Letter → Message → Message
 message_in None other = other
 message_in (Some letter) other = letter.message
 
-taken_next : (header : Header) (outside : Outside) (e : Event) (past : List Event) → Numbers past → HasCause header outside e past → (h o : ℕ) (m : Message) → taken_letter (e ∷ past) ≡ Some (record { channel = up_port h o; message = m }) → speaker m ≤ last_control h o (e ∷ past)
-taken_next header outside (event.Line line) past n c h o m is = absurd (let bad : ◌≡◌ {A = Option Letter} None (Some (record { channel = up_port h o; message = m })) = is in cc)
+taken_next : (header : Header) (outside : Outside) (e : Event) (past : List Event) → Numbers past → HasCause header outside e past → (h o : ℕ) (m : Message)
+    → taken_letter (e ∷ past) ≡ Some (record { channel = up_port h o; message = m }) → speaker m ≤ last_control h o (e ∷ past)
+taken_next header outside (event.Line line) past n c h o m is =
+    absurd (let bad : ◌≡◌ {A = Option Letter} None (Some (record { channel = up_port h o; message = m })) = is in cc)
 taken_next header outside (event.Taken channel said) past n c h o m is =
     let same : said ≡ m = ap (λ l. message_in l m) is in
     let on : channel ≡ up_port h o = ap (λ l. channel_in l channel) is in
     let head : first (queue (up_port h o) past) ≡ Some said = subst (λ (d : Channel). first (queue d past) ≡ Some said) on c.1.0 in
     subst (λ (x : Message). speaker x ≤ last_control h o past) same (first_up_to (last_control h o past) (queue (up_port h o) past) said (n.sent h o) head)
-taken_next header outside (event.Sent channel said) past n c h o m is = omega (arith, n.taken h o m is, last_grows header outside (event.Sent channel said) past c h o)
+taken_next header outside (event.Sent channel said) past n c h o m is =
+    omega (arith, n.taken h o m is, last_grows header outside (event.Sent channel said) past c h o)
 taken_next header outside e past n c h o m is = n.taken h o m is
 
-known_if : (b : Bool) (m : Message) (was : Option ℕ) (last k : ℕ) → (b ≡ true → speaker m ≤ last) → ((j : ℕ) → was ≡ Some j → j ≤ last) → (if b then known_after m was else was) ≡ Some k → k ≤ last
+known_if : (b : Bool) (m : Message) (was : Option ℕ) (last k : ℕ) → (b ≡ true → speaker m ≤ last) → ((j : ℕ) → was ≡ Some j → j ≤ last)
+    → (if b then known_after m was else was) ≡ Some k → k ≤ last
 known_if false m was last k said small is = small k is
 known_if true (message.Init control size) was last k said small is = omega (arith, some_is control k is, said refl)
 known_if true (message.Create control size) was last k said small is = omega (arith, some_is control k is, said refl)
@@ -143,15 +161,29 @@ known_if true (message.Terminate control) (Some n) last k said small is = by (n 
     by false e = small k e
 known_if true m was last k said small is = small k is
 
-known_next : (header : Header) (outside : Outside) (e : Event) (past : List Event) → Numbers past → HasCause header outside e past → (h o k : ℕ) → known_control h o (e ∷ past) ≡ Some k → k ≤ last_control h o (e ∷ past)
+known_next : (header : Header) (outside : Outside) (e : Event) (past : List Event) → Numbers past → HasCause header outside e past → (h o k : ℕ)
+    → known_control h o (e ∷ past) ≡ Some k → k ≤ last_control h o (e ∷ past)
 known_next header outside (event.Taken (Up host object) m) past n c h o k is =
     known_if (host.0 == h && object.0 == o) m (known_control h o past) (last_control h o past) k
-    (λ same. first_up_to (last_control h o past) (queue (up_port h o) past) m (n.sent h o) (there_two (λ g j. first (queue (up_port g j) past) ≡ Some m) host.0 object.0 h o same c.1.0)) (n.known h o) is
-known_next header outside (event.Sent channel said) past n c h o k is = omega (arith, n.known h o k is, last_grows header outside (event.Sent channel said) past c h o)
+    (λ same. first_up_to (last_control h o past) (queue (up_port h o) past) m (n.sent h o)
+    (there_two (λ g j. first (queue (up_port g j) past) ≡ Some m) host.0 object.0 h o same c.1.0)) (n.known h o) is
+known_next header outside (event.Sent channel said) past n c h o k is =
+    omega (arith, n.known h o k is, last_grows header outside (event.Sent channel said) past c h o)
 known_next header outside e past n c h o k is = n.known h o k is
 
 pub numbers_of : (header : Header) (outside : Outside) (past : List Event) → EachEvent (HasCause header outside) past → Numbers past
-numbers_of header outside [] caused = record { live = λ h o k is. absurd (let bad : ◌≡◌ {A = Option ℕ} None (Some k) = is in cc); sent = λ h o. tt; taken = λ h o m is. absurd (let bad : ◌≡◌ {A = Option Letter} None (Some (record { channel = up_port h o; message = m })) = is in cc); known = λ h o k is. absurd (let bad : ◌≡◌ {A = Option ℕ} None (Some k) = is in cc) }
+numbers_of header outside [] caused =
+    record {
+      live = λ h o k is. absurd (let bad : ◌≡◌ {A = Option ℕ} None (Some k) = is in cc);
+      sent = λ h o. tt;
+      taken = λ h o m is. absurd (let bad : ◌≡◌ {A = Option Letter} None (Some (record { channel = up_port h o; message = m })) = is in cc);
+      known = λ h o k is. absurd (let bad : ◌≡◌ {A = Option ℕ} None (Some k) = is in cc);
+    }
 numbers_of header outside (e ∷ past) caused =
     let n : Numbers past = numbers_of header outside past caused.1 in
-    record { live = live_next header outside e past n caused.0; sent = sent_next header outside e past n caused.0; taken = taken_next header outside e past n caused.0; known = known_next header outside e past n caused.0 }
+    record {
+      live = live_next header outside e past n caused.0;
+      sent = sent_next header outside e past n caused.0;
+      taken = taken_next header outside e past n caused.0;
+      known = known_next header outside e past n caused.0;
+    }

@@ -1,5 +1,6 @@
 -- A shared page's part knows which control is ready, and the lock with a reply that the step has still to do.
-use Rattle.std.proofs.Common.{◌≡◌, ℕ, ◌/◌, ◌%◌, ◌<◌, ◌≤◌, ◌==◌, ◌&&◌, ◌||◌, ◌∙◌, List, [], ◌∷◌, Bool, true, false, Option, Some, None, if◌then◌else◌, refl, ap, sym, subst, replicate, arith}
+use Rattle.std.proofs.Common.{◌≡◌, ℕ, ◌/◌, ◌%◌, ◌<◌, ◌≤◌, ◌==◌, ◌&&◌, ◌||◌, ◌∙◌, List, [], ◌∷◌, Bool, true, false, Option, Some, None, if◌then◌else◌, refl, ap}
+use Rattle.std.proofs.Common.{sym, subst, replicate, arith}
 use Rattle.std.proofs.lemmas.Bool.Decides.{nat_tests}
 use Rattle.std.specs.Prelude.{not}
 use Rattle.vm_base.specs.declared.ids.HostId.{HostId}
@@ -18,7 +19,9 @@ use Rattle.vm_model.specs.Named.{named}
 use Rattle.vm_model.specs.PagePart.{page_part}
 use Rattle.vm_model.specs.Side.{Side, is_open_to, kind_of, side, side_after, side_taken_down}
 use Rattle.vm_model.specs.TaskPlace.{means_page, task_host}
-use Rattle.vm_model.specs.Words.{UpWord, Asking, Unlocking, Returning, Doing, Ending, OtherUp, DownWord, Supplying, Locking, Lacking, Failing, Readying, OtherDown, ActEffect, Opens, SendsUp, TakenUp, SentDown, TakesDown, Puts, Drops, Begins, Loads, Stores, Fails, BeginsCopy, Copies, EndsCopy, StepBegins, Nothing, down_word, in_range, sent_act_effect, times_meant, to_others, up_word}
+use Rattle.vm_model.specs.Words.{UpWord, Asking, Unlocking, Returning, Doing, Ending, OtherUp, DownWord, Supplying, Locking, Lacking, Failing, Readying}
+use Rattle.vm_model.specs.Words.{OtherDown, ActEffect, Opens, SendsUp, TakenUp, SentDown, TakesDown, Puts, Drops, Begins, Loads, Stores, Fails, BeginsCopy}
+use Rattle.vm_model.specs.Words.{Copies, EndsCopy, StepBegins, Nothing, down_word, in_range, sent_act_effect, times_meant, to_others, up_word}
 use Rattle.vm_legal.specs.Accesses.{is_ready}
 use Rattle.vm_legal.specs.Licences.{Completes, HasCause, LockRequest, MaySendUp, is_answered_over, lock_taken}
 use Rattle.vm_legal.specs.Outside.{Outside, is_shared}
@@ -90,7 +93,8 @@ mild_others now n (TakenUp word) s is was = absurd is
 mild_others now n (TakesDown control word) s is was = absurd is
 mild_others now n StepBegins s is was = absurd is
 
-mild_act : (now : Bool) (n : ℕ) (mine : Bool) (e : ActEffect) (s : Side) → IsMild e → Stepped now n s → Stepped now n (side_after s (if mine then e else to_others e))
+mild_act : (now : Bool) (n : ℕ) (mine : Bool) (e : ActEffect) (s : Side) → IsMild e → Stepped now n s
+    → Stepped now n (side_after s (if mine then e else to_others e))
 mild_act now n true e s is was = mild now n e s is was
 mild_act now n false e s is was = mild_others now n e s is was
 
@@ -115,7 +119,8 @@ took_up now n (Doing control count) s was = record { ready = was.ready; step = r
 took_up now n (Ending control) s was = record { ready = was.ready; step = refl }
 took_up now n OtherUp s was = record { ready = was.ready; step = refl }
 
-took_up_act : (now : Bool) (n : ℕ) (a b : Bool) (w : UpWord) (s : Side) → Stepped now n s → Stepped now 0 (side_after s (if a then (if b then TakenUp w else StepBegins) else to_others (if b then TakenUp w else StepBegins)))
+took_up_act : (now : Bool) (n : ℕ) (a b : Bool) (w : UpWord) (s : Side) → Stepped now n s
+    → Stepped now 0 (side_after s (if a then (if b then TakenUp w else StepBegins) else to_others (if b then TakenUp w else StepBegins)))
 took_up_act now n true true w s was = took_up now n w s was
 took_up_act now n true false w s was = begun now n s was
 took_up_act now n false true w s was = begun now n s was
@@ -137,11 +142,15 @@ answered now n (Locking count returns flush lock reply) s is was = absurd is
 answered now n Readying s is was = absurd is
 
 -- whatever is taken of another place, or to another control, begins a step
-took_act : (now after : Bool) (n m : ℕ) (a b : Bool) (control : ℕ) (w : DownWord) (s : Side) → Stepped now n s → (a ≡ true → b ≡ true → is_open_to s control ≡ true → Stepped after m (side_taken_down s w))
-    → ((a && (b && is_open_to s control)) ≡ false → (after ≡ now) × (m ≡ 0)) → Stepped after m (side_after s (if a then (if b then TakesDown control w else StepBegins) else to_others (if b then TakesDown control w else StepBegins)))
+took_act : (now after : Bool) (n m : ℕ) (a b : Bool) (control : ℕ) (w : DownWord) (s : Side) → Stepped now n s
+    → (a ≡ true → b ≡ true → is_open_to s control ≡ true → Stepped after m (side_taken_down s w))
+    → ((a && (b && is_open_to s control)) ≡ false → (after ≡ now) × (m ≡ 0))
+    → Stepped after m (side_after s (if a then (if b then TakesDown control w else StepBegins) else to_others
+    (if b then TakesDown control w else StepBegins)))
 took_act now after n m true true control w s was mine none = by (is_open_to s control) (mine refl refl) none
   where
-    by : (open_ : Bool) → (open_ ≡ true → Stepped after m (side_taken_down s w)) → (open_ ≡ false → (after ≡ now) × (m ≡ 0)) → Stepped after m (if open_ then side_taken_down s w else record s { step = 0 })
+    by : (open_ : Bool) → (open_ ≡ true → Stepped after m (side_taken_down s w)) → (open_ ≡ false → (after ≡ now) × (m ≡ 0))
+        → Stepped after m (if open_ then side_taken_down s w else record s { step = 0 })
     by true taken left_ = taken refl
     by false taken left_ = record { ready = λ live. was.ready live ∙ sym (left_ refl).0; step = sym (left_ refl).1 }
 took_act now after n m true false control w s was mine none = record { ready = λ live. was.ready live ∙ sym (none refl).0; step = sym (none refl).1 }
@@ -169,51 +178,87 @@ ready_was : (a b l m now : Bool) → m ≡ l → (a && (b && m)) ≡ false → (
 ready_was a b l m now same is = grind arith
 
 -- the step that a lock begins
-lock_step : (t reply a b i l : Bool) (k : ℕ) → t ≡ true → a ≡ true → b ≡ true → l ≡ true → (if i then (if reply then k else 0) else 0) ≡ (if t && ((reply && (a && (b && i))) && l) then k else 0)
+lock_step : (t reply a b i l : Bool) (k : ℕ) → t ≡ true → a ≡ true → b ≡ true → l ≡ true
+    → (if i then (if reply then k else 0) else 0) ≡ (if t && ((reply && (a && (b && i))) && l) then k else 0)
 lock_step t reply a b i l k one two three four = grind arith
 
 lock_none : (t reply a b i l m : Bool) (k : ℕ) → m ≡ l → (a && (b && m)) ≡ false → (if t && ((reply && (a && (b && i))) && l) then k else 0) ≡ 0
 lock_none t reply a b i l m k same is = grind arith
 
-step_if : (t : Bool) (h o p : ℕ) (r : LockRequest) (live : Option ℕ) → step_in h o p (if t then Some r else None) false live ≡ (if t && (is_answered_over h o p (Some r) && is_control r.control live) then kind_of r.flush else 0)
+step_if : (t : Bool) (h o p : ℕ) (r : LockRequest) (live : Option ℕ)
+    → step_in h o p (if t then Some r else None) false live ≡ (if t && (is_answered_over h o p (Some r) && is_control r.control live) then kind_of r.flush else
+    0)
 step_if true h o p r live = refl
 step_if false h o p r live = refl
 
-took_lock : (now : Bool) (i : Bool) (count returns : ℕ) (flush : Bool) (lock : ℕ) (reply : Bool) (n m : ℕ) (s : Side) → Stepped now n s → (if i then (if reply then kind_of flush else 0) else 0) ≡ m → Stepped now m (side_taken_down s (if i then Locking count returns flush lock reply else OtherDown))
+took_lock : (now : Bool) (i : Bool) (count returns : ℕ) (flush : Bool) (lock : ℕ) (reply : Bool) (n m : ℕ) (s : Side) → Stepped now n s
+    → (if i then (if reply then kind_of flush else 0) else 0) ≡ m
+    → Stepped now m (side_taken_down s (if i then Locking count returns flush lock reply else OtherDown))
 took_lock now true count returns flush lock reply n m s was is = record { ready = was.ready; step = is }
 took_lock now false count returns flush lock reply n m s was is = record { ready = was.ready; step = is }
 
-taken : (header : Header) (host : HostId) (object : ObjectId) (control : ℕ) (m : Message) (past : List Event) (h o p n : ℕ) (s : Side) → is_open_to s control ≡ is_control control (live_control h o past) → Stepped (is_ready h o past) n s
-    → Stepped (is_ready h o (event.Taken (Down host object control) m ∷ past)) (step_in h o p (lock_taken (event.Taken (Down host object control) m ∷ past)) false (live_control h o past))
-    (side_after s (if host.0 == h then (if object.0 == o then TakesDown control (down_word p m) else StepBegins) else to_others (if object.0 == o then TakesDown control (down_word p m) else StepBegins)))
+taken : (header : Header) (host : HostId) (object : ObjectId) (control : ℕ) (m : Message) (past : List Event) (h o p n : ℕ) (s : Side)
+    → is_open_to s control ≡ is_control control (live_control h o past) → Stepped (is_ready h o past) n s
+    → Stepped (is_ready h o (event.Taken (Down host object control) m ∷ past)) (step_in h o p (lock_taken (event.Taken (Down host object control) m ∷ past))
+    false (live_control h o past))
+    (side_after s (if host.0 == h then (if object.0 == o then TakesDown control (down_word p m) else StepBegins) else to_others
+    (if object.0 == o then TakesDown control (down_word p m) else StepBegins)))
 taken header host object control (message.Lock page count returns flush lock reply) past h o p n s is was =
-    let r : LockRequest = record { host = host.0; object = object.0; control = control; page = page.0; count = count; returns = returns; flush = flush; lock = lock; reply = reply } in
+    let r : LockRequest = record {
+      host = host.0;
+      object = object.0;
+      control = control;
+      page = page.0;
+      count = count;
+      returns = returns;
+      flush = flush;
+      lock = lock;
+      reply = reply;
+    } in
     let m : ℕ = step_in h o p (if is_control control (live_control host.0 object.0 past) then Some r else None) false (live_control h o past) in
-    let value : m ≡ (if is_control control (live_control host.0 object.0 past) && (is_answered_over h o p (Some r) && is_control control (live_control h o past)) then kind_of flush else 0) = step_if (is_control control (live_control host.0 object.0 past)) h o p r (live_control h o past) in
-    took_act (is_ready h o past) (is_ready h o past) n m (host.0 == h) (object.0 == o) control (if in_range p page.0 count then Locking count returns flush lock reply else OtherDown) s was
+    let value : m ≡ (if is_control control (live_control host.0 object.0 past) &&
+    (is_answered_over h o p (Some r) && is_control control (live_control h o past)) then kind_of flush else 0) = step_if
+    (is_control control (live_control host.0 object.0 past)) h o p r (live_control h o past) in
+    took_act (is_ready h o past) (is_ready h o past) n m (host.0 == h) (object.0 == o) control
+    (if in_range p page.0 count then Locking count returns flush lock reply else OtherDown) s was
     (λ a b opened.
     took_lock (is_ready h o past) (in_range p page.0 count) count returns flush lock reply n m s was
-    (lock_step (is_control control (live_control host.0 object.0 past)) reply (host.0 == h) (object.0 == o) (in_range p page.0 count) (is_control control (live_control h o past)) (kind_of flush)
+    (lock_step (is_control control (live_control host.0 object.0 past)) reply (host.0 == h) (object.0 == o) (in_range p page.0 count)
+    (is_control control (live_control h o past)) (kind_of flush)
     (own host.0 object.0 h o control a b (sym is ∙ opened)) a b (sym is ∙ opened) ∙ sym value))
-    (λ none. (refl, value ∙ lock_none (is_control control (live_control host.0 object.0 past)) reply (host.0 == h) (object.0 == o) (in_range p page.0 count) (is_control control (live_control h o past)) (is_open_to s control) (kind_of flush) is none))
+    (λ none. (
+      refl,
+      value ∙ lock_none (is_control control (live_control host.0 object.0 past)) reply (host.0 == h) (object.0 == o) (in_range p page.0 count)
+          (is_control control (live_control h o past)) (is_open_to s control) (kind_of flush) is none,
+    ))
   where
     number_is : (a b : ℕ) → (a == b) ≡ true → b ≡ a
     number_is a b e = grind (arith, nat_tests)
 
     own : (g j h o k : ℕ) → (g == h) ≡ true → (j == o) ≡ true → is_control k (live_control h o past) ≡ true → is_control k (live_control g j past) ≡ true
-    own g j h o k a b on = subst (λ x. is_control k (live_control x j past) ≡ true) (number_is g h a) (subst (λ y. is_control k (live_control h y past) ≡ true) (number_is j o b) on)
+    own g j h o k a b on =
+        subst (λ x. is_control k (live_control x j past) ≡ true) (number_is g h a)
+        (subst (λ y. is_control k (live_control h y past) ≡ true) (number_is j o b) on)
 taken header host object control (message.Ready cache strategy) past h o p n s is was =
     took_act (is_ready h o past) _ n 0 (host.0 == h) (object.0 == o) control Readying s was
-    (λ a b opened. record { ready = λ live. sym (ready_is (host.0 == h) (object.0 == o) (is_control control (live_control h o past)) (is_ready h o past) a b (sym is ∙ opened)); step = refl })
+    (λ a b opened. record {
+      ready = λ live. sym (ready_is (host.0 == h) (object.0 == o) (is_control control (live_control h o past)) (is_ready h o past) a b
+          (sym is ∙ opened));
+      step = refl;
+    })
     (λ none. (ready_was (host.0 == h) (object.0 == o) (is_control control (live_control h o past)) (is_open_to s control) (is_ready h o past) is none, refl))
 taken header host object control (message.Supply page lock precious bytes) past h o p n s is was =
-    took_act (is_ready h o past) (is_ready h o past) n 0 (host.0 == h) (object.0 == o) control _ s was (λ a b opened. answered (is_ready h o past) n _ s (answer_if (page.0 == p) (Supplying lock precious bytes) OtherDown tt tt) was) (λ none. (refl, refl))
+    took_act (is_ready h o past) (is_ready h o past) n 0 (host.0 == h) (object.0 == o) control _ s was
+    (λ a b opened. answered (is_ready h o past) n _ s (answer_if (page.0 == p) (Supplying lock precious bytes) OtherDown tt tt) was) (λ none. (refl, refl))
 taken header host object control (message.Unavailable page) past h o p n s is was =
-    took_act (is_ready h o past) (is_ready h o past) n 0 (host.0 == h) (object.0 == o) control _ s was (λ a b opened. answered (is_ready h o past) n _ s (answer_if (page.0 == p) Lacking OtherDown tt tt) was) (λ none. (refl, refl))
+    took_act (is_ready h o past) (is_ready h o past) n 0 (host.0 == h) (object.0 == o) control _ s was
+    (λ a b opened. answered (is_ready h o past) n _ s (answer_if (page.0 == p) Lacking OtherDown tt tt) was) (λ none. (refl, refl))
 taken header host object control (message.Error page reason) past h o p n s is was =
-    took_act (is_ready h o past) (is_ready h o past) n 0 (host.0 == h) (object.0 == o) control _ s was (λ a b opened. answered (is_ready h o past) n _ s (answer_if (page.0 == p) Failing OtherDown tt tt) was) (λ none. (refl, refl))
+    took_act (is_ready h o past) (is_ready h o past) n 0 (host.0 == h) (object.0 == o) control _ s was
+    (λ a b opened. answered (is_ready h o past) n _ s (answer_if (page.0 == p) Failing OtherDown tt tt) was) (λ none. (refl, refl))
 taken header host object control m past h o p n s is was =
-    took_act (is_ready h o past) (is_ready h o past) n 0 (host.0 == h) (object.0 == o) control OtherDown s was (λ a b opened. answered (is_ready h o past) n OtherDown s tt was) (λ none. (refl, refl))
+    took_act (is_ready h o past) (is_ready h o past) n 0 (host.0 == h) (object.0 == o) control OtherDown s was
+    (λ a b opened. answered (is_ready h o past) n OtherDown s tt was) (λ none. (refl, refl))
 
 -- the host sends
 
@@ -231,11 +276,17 @@ plain now n control (Doing told count) s is was = absurd is
 plain now n control (Ending told) s is was = absurd is
 
 -- an event of the host and the object is one thing, and of others nothing
-sent_act : (now after : Bool) (n m : ℕ) (a b : Bool) (e : ActEffect) (s : Side) → to_others e ≡ Nothing → Stepped now n s → (a ≡ true → b ≡ true → Stepped after m (side_after s e)) → ((a && b) ≡ false → (after ≡ now) × (m ≡ n))
+sent_act : (now after : Bool) (n m : ℕ) (a b : Bool) (e : ActEffect) (s : Side) → to_others e ≡ Nothing → Stepped now n s
+    → (a ≡ true → b ≡ true → Stepped after m (side_after s e)) → ((a && b) ≡ false → (after ≡ now) × (m ≡ n))
     → Stepped after m (side_after s (if a then (if b then e else Nothing) else to_others (if b then e else Nothing)))
 sent_act now after n m true true e s to was mine none = mine refl refl
 sent_act now after n m true false e s to was mine none = record { ready = λ live. was.ready live ∙ sym (none refl).0; step = was.step ∙ sym (none refl).1 }
-sent_act now after n m false true e s to was mine none = subst (λ (x : ActEffect). Stepped after m (side_after s x)) (sym to) (record { ready = λ live. was.ready live ∙ sym (none refl).0; step = was.step ∙ sym (none refl).1 })
+sent_act now after n m false true e s to was mine none =
+    subst (λ (x : ActEffect). Stepped after m (side_after s x)) (sym to) (record {
+      ready = λ live. was.ready live ∙ sym (none refl).0;
+      step = was.step
+          ∙ sym (none refl).1;
+    })
 sent_act now after n m false false e s to was mine none = record { ready = λ live. was.ready live ∙ sym (none refl).0; step = was.step ∙ sym (none refl).1 }
 
 uncompleted : (a b c : Bool) → ((a && (b && false)) || c) ≡ c
@@ -292,11 +343,15 @@ both true b one two = two
 both false b one two = never one
 
 -- what leaves the controls and the lock as they are
-sent_plain : (header : Header) (host : HostId) (object : ObjectId) (past : List Event) (h o p control : ℕ) (w : UpWord) (s : Side) → IsPlainWord w → Stepped (is_ready h o past) (step_in h o p (lock_taken past) (since (completes h o) past) (live_control h o past)) s
-    → Stepped (is_ready h o past) (step_in h o p (lock_taken past) ((host.0 == h && (object.0 == o && false)) || since (completes h o) past) (live_control h o past))
-    (side_after s (if host.0 == h then (if object.0 == o then SendsUp control w else Nothing) else to_others (if object.0 == o then SendsUp control w else Nothing)))
+sent_plain : (header : Header) (host : HostId) (object : ObjectId) (past : List Event) (h o p control : ℕ) (w : UpWord) (s : Side) → IsPlainWord w
+    → Stepped (is_ready h o past) (step_in h o p (lock_taken past) (since (completes h o) past) (live_control h o past)) s
+    → Stepped (is_ready h o past) (step_in h o p (lock_taken past) ((host.0 == h && (object.0 == o && false)) || since (completes h o) past)
+    (live_control h o past))
+    (side_after s (if host.0 == h then (if object.0 == o then SendsUp control w else Nothing) else to_others
+    (if object.0 == o then SendsUp control w else Nothing)))
 sent_plain header host object past h o p control w s is was =
-    let same : step_in h o p (lock_taken past) ((host.0 == h && (object.0 == o && false)) || since (completes h o) past) (live_control h o past) ≡ step_in h o p (lock_taken past) (since (completes h o) past) (live_control h o past) =
+    let same : step_in h o p (lock_taken past) ((host.0 == h && (object.0 == o && false)) || since (completes h o) past) (live_control h o past) ≡ step_in h o p
+    (lock_taken past) (since (completes h o) past) (live_control h o past) =
     ap (λ (d : Bool). step_in h o p (lock_taken past) d (live_control h o past)) (uncompleted (host.0 == h) (object.0 == o) (since (completes h o) past)) in
     sent_act (is_ready h o past) (is_ready h o past) _ _ (host.0 == h) (object.0 == o) (SendsUp control w) s refl was
     (λ a b. plain (is_ready h o past) _ control w s is (record { ready = was.ready; step = was.step ∙ sym same })) (λ none. (refl, same))
@@ -305,23 +360,34 @@ word_if : (b : Bool) (v w : UpWord) → IsPlainWord v → IsPlainWord w → IsPl
 word_if true v w one two = one
 word_if false v w one two = two
 
-sent_init : (header : Header) (host : HostId) (object : ObjectId) (control size : ℕ) (past : List Event) (h o p : ℕ) (s : Side) → (host.0 == h && object.0 == o ≡ true → live_control h o past ≡ None) → (host.0 == h && object.0 == o ≡ true → last_control h o past < control)
-    → LockUpTo h o (last_control h o past) (lock_taken past) → Stepped (is_ready h o past) (step_in h o p (lock_taken past) (since (completes h o) past) (live_control h o past)) s
-    → Stepped (if host.0 == h && object.0 == o then false else is_ready h o past) (step_in h o p (lock_taken past) ((host.0 == h && (object.0 == o && false)) || since (completes h o) past) (if host.0 == h && object.0 == o then Some control else live_control h o past))
-    (side_after s (if host.0 == h then (if object.0 == o then Opens control false else Nothing) else to_others (if object.0 == o then Opens control false else Nothing)))
+sent_init : (header : Header) (host : HostId) (object : ObjectId) (control size : ℕ) (past : List Event) (h o p : ℕ) (s : Side)
+    → (host.0 == h && object.0 == o ≡ true → live_control h o past ≡ None) → (host.0 == h && object.0 == o ≡ true → last_control h o past < control)
+    → LockUpTo h o (last_control h o past) (lock_taken past)
+    → Stepped (is_ready h o past) (step_in h o p (lock_taken past) (since (completes h o) past) (live_control h o past)) s
+    → Stepped (if host.0 == h && object.0 == o then false else is_ready h o past)
+    (step_in h o p (lock_taken past) ((host.0 == h && (object.0 == o && false)) || since (completes h o) past)
+    (if host.0 == h && object.0 == o then Some control else live_control h o past))
+    (side_after s (if host.0 == h then (if object.0 == o then Opens control false else Nothing) else to_others
+    (if object.0 == o then Opens control false else Nothing)))
 sent_init header host object control size past h o p s dead less up was =
     sent_act (is_ready h o past) _ _ _ (host.0 == h) (object.0 == o) (Opens control false) s refl was
     (λ a b.
     let is : (host.0 == h && object.0 == o) ≡ true = both (host.0 == h) (object.0 == o) a b in
-    let zero_then : step_in h o p (lock_taken past) (since (completes h o) past) (live_control h o past) ≡ 0 = ap (λ (l : Option ℕ). step_in h o p (lock_taken past) (since (completes h o) past) l) (dead is) ∙ dead_step h o p (lock_taken past) (since (completes h o) past) in
-    let zero_now : step_in h o p (lock_taken past) ((host.0 == h && (object.0 == o && false)) || since (completes h o) past) (if host.0 == h && object.0 == o then Some control else live_control h o past) ≡ 0 =
-    ap (λ (l : Option ℕ). step_in h o p (lock_taken past) ((host.0 == h && (object.0 == o && false)) || since (completes h o) past) l) (picked (host.0 == h && object.0 == o) (Some control) (live_control h o past) is)
+    let zero_then : step_in h o p (lock_taken past) (since (completes h o) past) (live_control h o past) ≡ 0 = ap
+    (λ (l : Option ℕ). step_in h o p (lock_taken past) (since (completes h o) past) l) (dead is)
+    ∙ dead_step h o p (lock_taken past) (since (completes h o) past) in
+    let zero_now : step_in h o p (lock_taken past) ((host.0 == h && (object.0 == o && false)) || since (completes h o) past)
+    (if host.0 == h && object.0 == o then Some control else live_control h o past) ≡ 0 =
+    ap (λ (l : Option ℕ). step_in h o p (lock_taken past) ((host.0 == h && (object.0 == o && false)) || since (completes h o) past) l)
+    (picked (host.0 == h && object.0 == o) (Some control) (live_control h o past) is)
     ∙ new_step h o p (last_control h o past) control (lock_taken past) ((host.0 == h && (object.0 == o && false)) || since (completes h o) past) up (less is) in
     record { ready = λ live. sym (picked (host.0 == h && object.0 == o) false (is_ready h o past) is); step = was.step ∙ zero_then ∙ sym zero_now })
     (λ none. (
       chosen (host.0 == h && object.0 == o) false (is_ready h o past) none,
-      ap (λ (d : Bool). step_in h o p (lock_taken past) d (if host.0 == h && object.0 == o then Some control else live_control h o past)) (uncompleted (host.0 == h) (object.0 == o) (since (completes h o) past))
-          ∙ ap (λ (l : Option ℕ). step_in h o p (lock_taken past) (since (completes h o) past) l) (chosen (host.0 == h && object.0 == o) (Some control) (live_control h o past) none),
+      ap (λ (d : Bool). step_in h o p (lock_taken past) d (if host.0 == h && object.0 == o then Some control else live_control h o past))
+          (uncompleted (host.0 == h) (object.0 == o) (since (completes h o) past))
+          ∙ ap (λ (l : Option ℕ). step_in h o p (lock_taken past) (since (completes h o) past) l)
+          (chosen (host.0 == h && object.0 == o) (Some control) (live_control h o past) none),
     ))
 
 gone : (control : ℕ) (live : Option ℕ) → live ≡ Some control → without_control control live ≡ None
@@ -330,40 +396,58 @@ gone control live is = ap (without_control control) is ∙ ap (λ (b : Bool). if
     itself : (n : ℕ) → (n == n) ≡ true
     itself n = grind (arith, nat_tests)
 
-sent_terminate : (header : Header) (host : HostId) (object : ObjectId) (control : ℕ) (past : List Event) (h o p : ℕ) (s : Side) → (host.0 == h && object.0 == o ≡ true → live_control h o past ≡ Some control)
+sent_terminate : (header : Header) (host : HostId) (object : ObjectId) (control : ℕ) (past : List Event) (h o p : ℕ) (s : Side)
+    → (host.0 == h && object.0 == o ≡ true → live_control h o past ≡ Some control)
     → Stepped (is_ready h o past) (step_in h o p (lock_taken past) (since (completes h o) past) (live_control h o past)) s
-    → Stepped (is_ready h o past) (step_in h o p (lock_taken past) ((host.0 == h && (object.0 == o && false)) || since (completes h o) past) (if host.0 == h && object.0 == o then without_control control (live_control h o past) else live_control h o past))
-    (side_after s (if host.0 == h then (if object.0 == o then SendsUp control (Ending control) else Nothing) else to_others (if object.0 == o then SendsUp control (Ending control) else Nothing)))
+    → Stepped (is_ready h o past) (step_in h o p (lock_taken past) ((host.0 == h && (object.0 == o && false)) || since (completes h o) past)
+    (if host.0 == h && object.0 == o then without_control control (live_control h o past) else live_control h o past))
+    (side_after s (if host.0 == h then (if object.0 == o then SendsUp control (Ending control) else Nothing) else to_others
+    (if object.0 == o then SendsUp control (Ending control) else Nothing)))
 sent_terminate header host object control past h o p s lives was =
     sent_act (is_ready h o past) (is_ready h o past) _ _ (host.0 == h) (object.0 == o) (SendsUp control (Ending control)) s refl was
     (λ a b.
     let is : (host.0 == h && object.0 == o) ≡ true = both (host.0 == h) (object.0 == o) a b in
     let d : Bool = (host.0 == h && (object.0 == o && false)) || since (completes h o) past in
-    let zero_now : step_in h o p (lock_taken past) d (if host.0 == h && object.0 == o then without_control control (live_control h o past) else live_control h o past) ≡ 0 =
-    ap (λ (l : Option ℕ). step_in h o p (lock_taken past) d l) (picked (host.0 == h && object.0 == o) (without_control control (live_control h o past)) (live_control h o past) is ∙ gone control (live_control h o past) (lives is)) ∙ dead_step h o p (lock_taken past) d in
+    let zero_now : step_in h o p (lock_taken past) d (if host.0 == h && object.0 == o then without_control control (live_control h o past) else live_control h o
+    past) ≡ 0 =
+    ap (λ (l : Option ℕ). step_in h o p (lock_taken past) d l) (picked (host.0 == h && object.0 == o) (without_control control (live_control h o past))
+    (live_control h o past) is ∙ gone control (live_control h o past) (lives is)) ∙ dead_step h o p (lock_taken past) d in
     record { ready = λ live. never live; step = sym zero_now })
     (λ none. (
       refl,
-      ap (λ (d : Bool). step_in h o p (lock_taken past) d (if host.0 == h && object.0 == o then without_control control (live_control h o past) else live_control h o past)) (uncompleted (host.0 == h) (object.0 == o) (since (completes h o) past))
-          ∙ ap (λ (l : Option ℕ). step_in h o p (lock_taken past) (since (completes h o) past) l) (chosen (host.0 == h && object.0 == o) (without_control control (live_control h o past)) (live_control h o past) none),
+      ap (λ (d : Bool). step_in h o p (lock_taken past) d (if host.0 == h && object.0 == o then without_control control (live_control h o past) else
+          live_control h o past)) (uncompleted (host.0 == h) (object.0 == o) (since (completes h o) past))
+          ∙ ap (λ (l : Option ℕ). step_in h o p (lock_taken past) (since (completes h o) past) l)
+          (chosen (host.0 == h && object.0 == o) (without_control control (live_control h o past)) (live_control h o past) none),
     ))
 
 -- a lock over another page is no step of this one
-other_step : (h o p page count : ℕ) (lock : Option LockRequest) (r : LockRequest) (done : Bool) (live : Option ℕ) → lock ≡ Some r → r.page ≡ page → r.count ≡ count → in_range p page count ≡ false → step_in h o p lock done live ≡ 0
+other_step : (h o p page count : ℕ) (lock : Option LockRequest) (r : LockRequest) (done : Bool) (live : Option ℕ) → lock ≡ Some r → r.page ≡ page
+    → r.count ≡ count → in_range p page count ≡ false → step_in h o p lock done live ≡ 0
 other_step h o p page count lock r done live is same many out =
-    ap (λ (l : Option LockRequest). step_in h o p l done live) is ∙ none (in_range p r.page r.count) r.reply (r.host == h) (r.object == o) (not done && is_control r.control live) (kind_of r.flush) (ap (λ x. in_range p x r.count) same ∙ ap (λ x. in_range p page x) many ∙ out)
+    ap (λ (l : Option LockRequest). step_in h o p l done live) is
+    ∙ none (in_range p r.page r.count) r.reply (r.host == h) (r.object == o) (not done && is_control r.control live) (kind_of r.flush)
+    (ap (λ x. in_range p x r.count) same ∙ ap (λ x. in_range p page x) many ∙ out)
   where
     none : (i reply a b l : Bool) (k : ℕ) → i ≡ false → (if (reply && (a && (b && i))) && l then k else 0) ≡ 0
     none i reply a b l k out = grind arith
 
-sent_completed : (header : Header) (host : HostId) (object : ObjectId) (control page count : ℕ) (past : List Event) (h o p : ℕ) (s : Side) → Completes header host.0 control object.0 page count past
+sent_completed : (header : Header) (host : HostId) (object : ObjectId) (control page count : ℕ) (past : List Event) (h o p : ℕ) (s : Side)
+    → Completes header host.0 control object.0 page count past
     → Stepped (is_ready h o past) (step_in h o p (lock_taken past) (since (completes h o) past) (live_control h o past)) s
-    → Stepped (is_ready h o past) (step_in h o p (lock_taken past) ((host.0 == h && (object.0 == o && true)) || since (completes h o) past) (live_control h o past))
-    (side_after s (if host.0 == h then (if object.0 == o then SendsUp control (if in_range p page count then Doing control count else OtherUp) else Nothing) else to_others (if object.0 == o then SendsUp control (if in_range p page count then Doing control count else OtherUp) else Nothing)))
+    → Stepped (is_ready h o past) (step_in h o p (lock_taken past) ((host.0 == h && (object.0 == o && true)) || since (completes h o) past)
+    (live_control h o past))
+    (side_after s (if host.0 == h then (if object.0 == o then SendsUp control (if in_range p page count then Doing control count else OtherUp) else
+    Nothing) else to_others (if object.0 == o then SendsUp control (if in_range p page count then Doing control count else OtherUp) else Nothing)))
 sent_completed header host object control page count past h o p s c was =
-    sent_act (is_ready h o past) (is_ready h o past) _ _ (host.0 == h) (object.0 == o) (SendsUp control (if in_range p page count then Doing control count else OtherUp)) s refl was
+    sent_act (is_ready h o past) (is_ready h o past) _ _ (host.0 == h) (object.0 == o)
+    (SendsUp control (if in_range p page count then Doing control count else OtherUp)) s refl was
     (λ a b. by (in_range p page count) refl a b)
-    (λ none. (refl, ap (λ (d : Bool). step_in h o p (lock_taken past) d (live_control h o past)) (completed_else (host.0 == h) (object.0 == o) (since (completes h o) past) none)))
+    (λ none. (
+      refl,
+      ap (λ (d : Bool). step_in h o p (lock_taken past) d (live_control h o past))
+          (completed_else (host.0 == h) (object.0 == o) (since (completes h o) past) none),
+    ))
   where
     now : ℕ
     now = step_in h o p (lock_taken past) ((host.0 == h && (object.0 == o && true)) || since (completes h o) past) (live_control h o past)
@@ -374,30 +458,47 @@ sent_completed header host object control page count past h o p s c was =
     all false b d one two = never one
 
     zero_now : (host.0 == h) ≡ true → (object.0 == o) ≡ true → now ≡ 0
-    zero_now a b = ap (λ (d : Bool). step_in h o p (lock_taken past) d (live_control h o past)) (all (host.0 == h) (object.0 == o) (since (completes h o) past) a b) ∙ done_step h o p (lock_taken past) (live_control h o past)
+    zero_now a b =
+        ap (λ (d : Bool). step_in h o p (lock_taken past) d (live_control h o past)) (all (host.0 == h) (object.0 == o) (since (completes h o) past) a b)
+        ∙ done_step h o p (lock_taken past) (live_control h o past)
 
-    by : (i : Bool) → in_range p page count ≡ i → (host.0 == h) ≡ true → (object.0 == o) ≡ true → Stepped (is_ready h o past) now (side_after s (SendsUp control (if i then Doing control count else OtherUp)))
+    by : (i : Bool) → in_range p page count ≡ i → (host.0 == h) ≡ true → (object.0 == o) ≡ true
+        → Stepped (is_ready h o past) now (side_after s (SendsUp control (if i then Doing control count else OtherUp)))
     by true is a b = record { ready = was.ready; step = sym (zero_now a b) }
-    by false is a b = record { ready = was.ready; step = was.step ∙ other_step h o p page count (lock_taken past) _ (since (completes h o) past) (live_control h o past) c.taken refl refl is ∙ sym (zero_now a b) }
+    by false is a b =
+        record {
+          ready = was.ready;
+          step = was.step ∙ other_step h o p page count (lock_taken past) _ (since (completes h o) past) (live_control h o past)
+              c.taken refl refl is ∙ sym (zero_now a b);
+        }
 
-sent : (header : Header) (why : Command) (host : HostId) (object : ObjectId) (m : Message) (past : List Event) (h o p : ℕ) (s : Side) → is_shared header o ≡ true → MaySendUp header why host.0 object.0 m past → LockUpTo h o (last_control h o past) (lock_taken past)
+sent : (header : Header) (why : Command) (host : HostId) (object : ObjectId) (m : Message) (past : List Event) (h o p : ℕ) (s : Side)
+    → is_shared header o ≡ true → MaySendUp header why host.0 object.0 m past → LockUpTo h o (last_control h o past) (lock_taken past)
     → Stepped (is_ready h o past) (step_in h o p (lock_taken past) (since (completes h o) past) (live_control h o past)) s
-    → Stepped (is_ready h o (event.Sent (Up host object) m ∷ past)) (step_in h o p (lock_taken past) (completes h o (event.Sent (Up host object) m) || since (completes h o) past) (live_control h o (event.Sent (Up host object) m ∷ past)))
-    (side_after s (if host.0 == h then (if object.0 == o then sent_act_effect p m else Nothing) else to_others (if object.0 == o then sent_act_effect p m else Nothing)))
+    → Stepped (is_ready h o (event.Sent (Up host object) m ∷ past)) (step_in h o p (lock_taken past)
+    (completes h o (event.Sent (Up host object) m) || since (completes h o) past) (live_control h o (event.Sent (Up host object) m ∷ past)))
+    (side_after s (if host.0 == h then (if object.0 == o then sent_act_effect p m else Nothing) else to_others
+    (if object.0 == o then sent_act_effect p m else Nothing)))
 sent header why host object (message.Init control size) past h o p s shared c up was =
-    sent_init header host object control size past h o p s (λ is. there_two (λ g k. live_control g k past ≡ None) host.0 object.0 h o is c.none) (λ is. there_two (λ g k. last_control g k past < control) host.0 object.0 h o is (omega (arith, c.number))) up was
+    sent_init header host object control size past h o p s (λ is. there_two (λ g k. live_control g k past ≡ None) host.0 object.0 h o is c.none)
+    (λ is. there_two (λ g k. last_control g k past < control) host.0 object.0 h o is (omega (arith, c.number))) up was
 sent header why host object (message.Create control size) past h o p s shared c up was =
-    let alone : (host.0 == h && object.0 == o) ≡ true → ⊥ = λ is. let less = shared_declared header o shared in let over = c.temporary in apart host.0 object.0 h o is less over in
+    let alone : (host.0 == h && object.0 == o) ≡ true → ⊥ = λ is. let less = shared_declared header o shared in let over = c.temporary in apart host.0 object.0
+    h o is less over in
     sent_init header host object control size past h o p s (λ is. absurd (alone is)) (λ is. absurd (alone is)) up was
   where
     apart : (a b h o : ℕ) → (a == h && b == o) ≡ true → o < named header → named header ≤ b → ⊥
     apart a b h o is less over = grind (arith, nat_tests)
 sent header why host object (message.Terminate control) past h o p s shared c up was =
     sent_terminate header host object control past h o p s (λ is. there_two (λ g k. live_control g k past ≡ Some control) host.0 object.0 h o is c.live) was
-sent header why host object (message.Completed control page count) past h o p s shared c up was = sent_completed header host object control page.0 count past h o p s c was
-sent header why host object (message.Request control page access) past h o p s shared c up was = sent_plain header host object past h o p control _ s (word_if (page.0 == p) (Asking control access) OtherUp tt tt) was
-sent header why host object (message.Unlock control page access) past h o p s shared c up was = sent_plain header host object past h o p control _ s (word_if (page.0 == p) (Unlocking access) OtherUp tt tt) was
-sent header why host object (message.Return control page dirty keep bytes) past h o p s shared c up was = sent_plain header host object past h o p control _ s (word_if (page.0 == p) (Returning dirty keep bytes) OtherUp tt tt) was
+sent header why host object (message.Completed control page count) past h o p s shared c up was =
+    sent_completed header host object control page.0 count past h o p s c was
+sent header why host object (message.Request control page access) past h o p s shared c up was =
+    sent_plain header host object past h o p control _ s (word_if (page.0 == p) (Asking control access) OtherUp tt tt) was
+sent header why host object (message.Unlock control page access) past h o p s shared c up was =
+    sent_plain header host object past h o p control _ s (word_if (page.0 == p) (Unlocking access) OtherUp tt tt) was
+sent header why host object (message.Return control page dirty keep bytes) past h o p s shared c up was =
+    sent_plain header host object past h o p control _ s (word_if (page.0 == p) (Returning dirty keep bytes) OtherUp tt tt) was
 sent header why host object m past h o p s shared c up was = absurd c
 
 -- what a step took was for a control that began
@@ -406,7 +507,8 @@ lock_more : (h o n k : ℕ) (lock : Option LockRequest) → n ≤ k → LockUpTo
 lock_more h o n k None le up = tt
 lock_more h o n k (Some r) le up = λ is. omega (arith, le, up is)
 
-lock_if : (b : Bool) (h o n : ℕ) (r : LockRequest) → (b ≡ true → (r.host == h && r.object == o) ≡ true → r.control ≤ n) → LockUpTo h o n (if b then Some r else None)
+lock_if : (b : Bool) (h o n : ℕ) (r : LockRequest) → (b ≡ true → (r.host == h && r.object == o) ≡ true → r.control ≤ n)
+    → LockUpTo h o n (if b then Some r else None)
 lock_if true h o n r is = is refl
 lock_if false h o n r is = tt
 
@@ -417,42 +519,66 @@ is_number k (Some n) is = ap (λ x. Some x) (same n k is)
     same : (a b : ℕ) → (a == b) ≡ true → a ≡ b
     same a b e = grind (arith, nat_tests)
 
-lock_small : (header : Header) (outside : Outside) (past : List Event) → EachEvent (HasCause header outside) past → (h o : ℕ) → LockUpTo h o (last_control h o past) (lock_taken past)
+lock_small : (header : Header) (outside : Outside) (past : List Event) → EachEvent (HasCause header outside) past → (h o : ℕ)
+    → LockUpTo h o (last_control h o past) (lock_taken past)
 lock_small header outside [] caused h o = tt
 lock_small header outside (event.Line line ∷ past) caused h o = tt
 lock_small header outside (event.Taken (Down host object control) (message.Lock page count returns flush lock reply) ∷ past) caused h o =
     lock_if (is_control control (live_control host.0 object.0 past)) h o (last_control h o past) _
-    (λ is same. there_two (λ g k. control ≤ last_control g k past) host.0 object.0 h o same (omega (arith, (numbers_of header outside past caused.1).live host.0 object.0 control (is_number control (live_control host.0 object.0 past) is))))
+    (λ is same. there_two (λ g k. control ≤ last_control g k past) host.0 object.0 h o same
+    (omega (arith, (numbers_of header outside past caused.1).live host.0 object.0 control (is_number control (live_control host.0 object.0 past) is))))
 lock_small header outside (event.Taken (Down host object control) m ∷ past) caused h o = tt
 lock_small header outside (event.Taken (Up host object) m ∷ past) caused h o = tt
-lock_small header outside (event.Sent channel m ∷ past) caused h o = lock_more h o (last_control h o past) _ (lock_taken past) (last_grows header outside (event.Sent channel m) past caused.0 h o) (lock_small header outside past caused.1 h o)
+lock_small header outside (event.Sent channel m ∷ past) caused h o =
+    lock_more h o (last_control h o past) _ (lock_taken past) (last_grows header outside (event.Sent channel m) past caused.0 h o)
+    (lock_small header outside past caused.1 h o)
 lock_small header outside (e ∷ past) caused h o = lock_small header outside past caused.1 h o
 
 abbrev pub SteppedAt : Header → ℕ → ℕ → ℕ → List Event → Type 0
-SteppedAt header h o p past = Stepped (is_ready h o past) (step_in h o p (lock_taken past) (since (completes h o) past) (live_control h o past)) (side h (page_part header.size o p past))
+SteppedAt header h o p past =
+    Stepped (is_ready h o past) (step_in h o p (lock_taken past) (since (completes h o) past) (live_control h o past)) (side h (page_part header.size o p past))
 
-stepped_next : (header : Header) (outside : Outside) (e : Event) (past : List Event) → EachEvent (HasCause header outside) past → HasCause header outside e past → (h o p : ℕ) → is_shared header o ≡ true → SteppedAt header h o p past → SteppedAt header h o p (e ∷ past)
-stepped_next header outside (event.Sent (Up host object) m) past caused c h o p shared was = sent header c.0 host object m past h o p _ shared c.1 (lock_small header outside past caused h o) was
-stepped_next header outside (event.Sent (Down host object control) m) past caused c h o p shared was = mild_act _ _ (host.0 == h) _ _ (mild_if (object.0 == o) (SentDown control (down_word p m)) Nothing tt tt) was
+stepped_next : (header : Header) (outside : Outside) (e : Event) (past : List Event) → EachEvent (HasCause header outside) past → HasCause header outside e past
+    → (h o p : ℕ) → is_shared header o ≡ true → SteppedAt header h o p past → SteppedAt header h o p (e ∷ past)
+stepped_next header outside (event.Sent (Up host object) m) past caused c h o p shared was =
+    sent header c.0 host object m past h o p _ shared c.1 (lock_small header outside past caused h o) was
+stepped_next header outside (event.Sent (Down host object control) m) past caused c h o p shared was =
+    mild_act _ _ (host.0 == h) _ _ (mild_if (object.0 == o) (SentDown control (down_word p m)) Nothing tt tt) was
 stepped_next header outside (event.Taken (Up host object) m) past caused c h o p shared was = took_up_act _ _ (host.0 == h) (object.0 == o) (up_word p m) _ was
 stepped_next header outside (event.Taken (Down host object control) m) past caused c h o p shared was =
-    taken header host object control m past h o p _ (side h (page_part header.size o p past)) (open_is (live_control h o past) (side h (page_part header.size o p past)) _ control (side_is_local header.size past h o p (each_founded header outside past caused))) was
-stepped_next header outside (event.Dropped host object page) past caused c h o p shared was = mild_act _ _ (host.0 == h) _ _ (mild_if (object.0 == o && page.0 == p) Drops Nothing tt tt) was
-stepped_next header outside (event.Zeroed host object page) past caused c h o p shared was = mild_act _ _ (host.0 == h) _ _ (mild_if (object.0 == o && page.0 == p) (Puts (replicate header.size 0) false) Nothing tt tt) was
-stepped_next header outside (event.Raised host lower lower_page upper upper_page) past caused c h o p shared was = mild_act _ _ (host.0 == h) _ _ (mild_if (upper.0 == o && upper_page.0 == p) _ Nothing tt tt) was
+    taken header host object control m past h o p _ (side h (page_part header.size o p past))
+    (open_is (live_control h o past) (side h (page_part header.size o p past)) _ control
+    (side_is_local header.size past h o p (each_founded header outside past caused))) was
+stepped_next header outside (event.Dropped host object page) past caused c h o p shared was =
+    mild_act _ _ (host.0 == h) _ _ (mild_if (object.0 == o && page.0 == p) Drops Nothing tt tt) was
+stepped_next header outside (event.Zeroed host object page) past caused c h o p shared was =
+    mild_act _ _ (host.0 == h) _ _ (mild_if (object.0 == o && page.0 == p) (Puts (replicate header.size 0) false) Nothing tt tt) was
+stepped_next header outside (event.Raised host lower lower_page upper upper_page) past caused c h o p shared was =
+    mild_act _ _ (host.0 == h) _ _ (mild_if (upper.0 == o && upper_page.0 == p) _ Nothing tt tt) was
 stepped_next header outside (event.BegunCopy task address bytes to) past caused c h o p shared was =
-    mild_act _ _ (task_host task.0 past == h) (BeginsCopy task.0 (times_meant header.size (λ at. means_page header.size o p task.0 at past) address (bytes / header.size))) _ tt was
+    mild_act _ _ (task_host task.0 past == h) (BeginsCopy task.0 (times_meant header.size (λ at. means_page header.size o p task.0 at past) address
+    (bytes / header.size))) _ tt was
 stepped_next header outside (event.CopiedPage task page object object_page target) past caused c h o p shared was =
-    mild_act _ _ (task_host task.0 past == h) _ _ (mild_if (target.0 == o && page.0 == p) _ _ tt (mild_if (object.0 == o && object_page.0 == p) (Copies task.0) Nothing tt tt)) was
+    mild_act _ _ (task_host task.0 past == h) _ _ (mild_if (target.0 == o && page.0 == p) _ _ tt
+    (mild_if (object.0 == o && object_page.0 == p) (Copies task.0) Nothing tt tt)) was
 stepped_next header outside (event.CopyEnded task) past caused c h o p shared was = mild_act _ _ (task_host task.0 past == h) (EndsCopy task.0) _ tt was
-stepped_next header outside (event.BegunLoad task address bytes) past caused c h o p shared was = mild_act _ _ (task_host task.0 past == h) _ _ (mild_if (means_page header.size o p task.0 address past) (Begins task.0 false (address % header.size) bytes 0) Nothing tt tt) was
-stepped_next header outside (event.BegunStore task address bytes value) past caused c h o p shared was = mild_act _ _ (task_host task.0 past == h) _ _ (mild_if (means_page header.size o p task.0 address past) (Begins task.0 true (address % header.size) bytes value) Nothing tt tt) was
-stepped_next header outside (event.Loaded task object page value) past caused c h o p shared was = mild_act _ _ (task_host task.0 past == h) _ _ (mild_if (object.0 == o && page.0 == p) (Loads task.0 value) Nothing tt tt) was
-stepped_next header outside (event.Stored task object page at bytes value) past caused c h o p shared was = mild_act _ _ (task_host task.0 past == h) _ _ (mild_if (object.0 == o && page.0 == p) (Stores task.0 at bytes value) Nothing tt tt) was
-stepped_next header outside (event.Failed task object page) past caused c h o p shared was = mild_act _ _ (task_host task.0 past == h) _ _ (mild_if (object.0 == o && page.0 == p) (Fails task.0) (EndsCopy task.0) tt tt) was
+stepped_next header outside (event.BegunLoad task address bytes) past caused c h o p shared was =
+    mild_act _ _ (task_host task.0 past == h) _ _ (mild_if (means_page header.size o p task.0 address past)
+    (Begins task.0 false (address % header.size) bytes 0) Nothing tt tt) was
+stepped_next header outside (event.BegunStore task address bytes value) past caused c h o p shared was =
+    mild_act _ _ (task_host task.0 past == h) _ _ (mild_if (means_page header.size o p task.0 address past)
+    (Begins task.0 true (address % header.size) bytes value) Nothing tt tt) was
+stepped_next header outside (event.Loaded task object page value) past caused c h o p shared was =
+    mild_act _ _ (task_host task.0 past == h) _ _ (mild_if (object.0 == o && page.0 == p) (Loads task.0 value) Nothing tt tt) was
+stepped_next header outside (event.Stored task object page at bytes value) past caused c h o p shared was =
+    mild_act _ _ (task_host task.0 past == h) _ _ (mild_if (object.0 == o && page.0 == p) (Stores task.0 at bytes value) Nothing tt tt) was
+stepped_next header outside (event.Failed task object page) past caused c h o p shared was =
+    mild_act _ _ (task_host task.0 past == h) _ _ (mild_if (object.0 == o && page.0 == p) (Fails task.0) (EndsCopy task.0) tt tt) was
 stepped_next header outside (event.Line line) past caused c h o p shared was = begun_act _ _ (0 == h) _ was
 stepped_next header outside e past caused c h o p shared was = mild_act _ _ (0 == h) Nothing _ tt was
 
-pub stepped_of : (header : Header) (outside : Outside) (past : List Event) → EachEvent (HasCause header outside) past → (h o p : ℕ) → is_shared header o ≡ true → SteppedAt header h o p past
+pub stepped_of : (header : Header) (outside : Outside) (past : List Event) → EachEvent (HasCause header outside) past → (h o p : ℕ) → is_shared header o ≡ true
+    → SteppedAt header h o p past
 stepped_of header outside [] caused h o p shared = record { ready = λ live. never live; step = refl }
-stepped_of header outside (e ∷ past) caused h o p shared = stepped_next header outside e past caused.1 caused.0 h o p shared (stepped_of header outside past caused.1 h o p shared)
+stepped_of header outside (e ∷ past) caused h o p shared =
+    stepped_next header outside e past caused.1 caused.0 h o p shared (stepped_of header outside past caused.1 h o p shared)

@@ -52,14 +52,17 @@ pub record SharedAreCarried (header : Header) (history : List Event) : Type 0 wh
       × (IsUndelivered (is_request control page) (up_port host object) history
       ⊎ (IsInLine (requests host) (line_of header object page history) ⊎ IsUndelivered (is_answer page) (down_port host object control) history))
   -- of each that is here with an unlock outstanding that is undelivered or stands in the line as an upgrade, or a lock is undelivered
-  pub unlocking : (host object page : ℕ) → is_shared header object ≡ true → (page_on header host object page history).here ≡ true → (page_on header host object page history).unlocking ≡ true
+  pub unlocking : (host object page : ℕ) → is_shared header object ≡ true → (page_on header host object page history).here ≡ true
+      → (page_on header host object page history).unlocking ≡ true
       → (control : ℕ) × (live_control host object history ≡ Some control)
       × (IsUndelivered (is_unlock page) (up_port host object) history
       ⊎ (IsInLine (upgrades host) (line_of header object page history) ⊎ IsUndelivered (is_lock page) (down_port host object control) history))
-  -- of each host that is awaited for a page, also where its control has ended, the lock with a reply is undelivered on the channel to the control for which it is awaited, or that this control has done it, or its end
+  -- of each host that is awaited for a page, also where its control has ended, the lock with a reply is undelivered on the channel to the control for which it
+  -- is awaited, or that this control has done it, or its end
   pub awaited : (host object page : ℕ) → is_shared header object ≡ true → 0 < (side host (page_part header.size object page history)).awaits
       → IsUndelivered (is_recall page) (down_port host object (side host (page_part header.size object page history)).awaited_control) history
       ⊎ IsUndelivered (is_reply (side host (page_part header.size object page history)).awaited_control page) (up_port host object) history
   -- where anybody stands in line, a lock with a reply is undelivered, or that a control has done it, or its end
   pub standing : (object page : ℕ) → is_shared header object ≡ true → line_of header object page history ≢ []
-      → (host : ℕ) × (control : ℕ) × (IsUndelivered (is_recall page) (down_port host object control) history ⊎ IsUndelivered (is_reply control page) (up_port host object) history)
+      → (host : ℕ) × (control : ℕ) × (IsUndelivered (is_recall page) (down_port host object control) history
+      ⊎ IsUndelivered (is_reply control page) (up_port host object) history)

@@ -14,7 +14,13 @@ use Rattle.vm_coherence.specs.Remapping.{both, remapping}
 
 -- two hosts of eight frames, and a shared object of one page
 abbrev pub header : Header
-header = record { size = 16; slots = 1; frames = record { items = 8 ∷ 8 ∷ []; room = 0 }; objects = record { items = record { name = 115 ∷ []; kind = Shared; pages = 1 } ∷ []; room = 0 } }
+header =
+    record {
+      size = 16;
+      slots = 1;
+      frames = record { items = 8 ∷ 8 ∷ []; room = 0 };
+      objects = record { items = record { name = 115 ∷ []; kind = Shared; pages = 1 } ∷ []; room = 0 };
+    }
 
 abbrev pub outside : Outside
 outside = record { files = Untold; paging = true }

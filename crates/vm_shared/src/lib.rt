@@ -38,16 +38,22 @@ ghost use Rattle.vm_shared.specs.Served as served;
 /// have. Nothing is asked of what steps owe.
 #[tactic(auto, using(crate::proofs::Causes::licensed))]
 pub fn shared_pages_are_licensed()
-    ensures licensed { (header : Header) (outside : Outside) (history : List Event) → EachEvent (HasCause header outside) history → EachEvent (OwnBytes header) history → (o p : ℕ) → is_shared header o ≡ true → ActsLicensed header.size (page_part header.size o p history) }
+    ensures licensed { (header : Header) (outside : Outside) (history : List Event) → EachEvent (HasCause header outside) history
+        → EachEvent (OwnBytes header) history → (o p : ℕ) → is_shared header o ≡ true → ActsLicensed header.size (page_part header.size o p history) }
 {}
 
 /// A shared page behaves as one memory: while a host can write it no other can read it, whoever has it
 /// has what the stores left, and each load answers that, at every moment of the history.
 #[tactic(auto, using(crate::proofs::Pages::legal, crate::proofs::Pages::one_writer, crate::proofs::Pages::same_bytes))]
 pub fn shared_pages_are_one_memory()
-    ensures legal { (header : Header) (outside : Outside) (history : List Event) → EachEvent (HasCause header outside) history → EachEvent (OwnBytes header) history → (o p : ℕ) → is_shared header o ≡ true → PageLegal header.size (page_part header.size o p history) }
-    ensures one_writer { (header : Header) (outside : Outside) (history : List Event) → EachEvent (HasCause header outside) history → EachEvent (OwnBytes header) history → (g h o p : ℕ) → is_shared header o ≡ true → g ≢ h → CanWrite (page_on header h o p history) → CanRead (page_on header g o p history) → ⊥ }
-    ensures same_bytes { (header : Header) (outside : Outside) (history : List Event) → EachEvent (HasCause header outside) history → EachEvent (OwnBytes header) history → (h o p : ℕ) → is_shared header o ≡ true → (page_on header h o p history).here ≡ true → (page_on header h o p history).bytes ≡ current header.size (page_part header.size o p history) }
+    ensures legal { (header : Header) (outside : Outside) (history : List Event) → EachEvent (HasCause header outside) history
+        → EachEvent (OwnBytes header) history → (o p : ℕ) → is_shared header o ≡ true → PageLegal header.size (page_part header.size o p history) }
+    ensures one_writer { (header : Header) (outside : Outside) (history : List Event) → EachEvent (HasCause header outside) history
+        → EachEvent (OwnBytes header) history → (g h o p : ℕ) → is_shared header o ≡ true → g ≢ h → CanWrite (page_on header h o p history)
+        → CanRead (page_on header g o p history) → ⊥ }
+    ensures same_bytes { (header : Header) (outside : Outside) (history : List Event) → EachEvent (HasCause header outside) history
+        → EachEvent (OwnBytes header) history → (h o p : ℕ) → is_shared header o ≡ true → (page_on header h o p history).here ≡ true
+        → (page_on header h o p history).bytes ≡ current header.size (page_part header.size o p history) }
 {}
 
 /// Of every kind of object: what is taken from a channel is its oldest message, nothing is sent to a
@@ -58,7 +64,8 @@ pub fn shared_pages_are_one_memory()
 pub fn channels_are_in_order()
     ensures up { (header : Header) (outside : Outside) (history : List Event) → EachEvent (HasCause header outside) history → UpInOrder history }
     ensures down { (header : Header) (outside : Outside) (history : List Event) → EachEvent (HasCause header outside) history → DownInOrder history }
-    ensures founded { (header : Header) (outside : Outside) (history : List Event) → EachEvent (HasCause header outside) history → EachEvent (IsFounded header.size) history }
+    ensures founded { (header : Header) (outside : Outside) (history : List Event) → EachEvent (HasCause header outside) history
+        → EachEvent (IsFounded header.size) history }
 {}
 
 /// A shared page's part has a step of a host under way only where the present step of the history took a lock
@@ -66,8 +73,10 @@ pub fn channels_are_in_order()
 /// with one under way.
 #[tactic(auto, using(crate::proofs::Steps::steps_done, crate::proofs::Steps::done_now))]
 pub fn steps_are_done()
-    ensures steps { (header : Header) (outside : Outside) (o p : ℕ) (history : List Event) → is_shared header o ≡ true → EachEvent (HasCause header outside) history → BeforeSteps (IsPaid header) history → StepsDone (page_part header.size o p history) }
-    ensures now { (header : Header) (outside : Outside) (o p : ℕ) (past : List Event) → is_shared header o ≡ true → EachEvent (HasCause header outside) past → IsPaid header past → Done (page_part header.size o p past) }
+    ensures steps { (header : Header) (outside : Outside) (o p : ℕ) (history : List Event) → is_shared header o ≡ true
+        → EachEvent (HasCause header outside) history → BeforeSteps (IsPaid header) history → StepsDone (page_part header.size o p history) }
+    ensures now { (header : Header) (outside : Outside) (o p : ℕ) (past : List Event) → is_shared header o ≡ true → EachEvent (HasCause header outside) past
+        → IsPaid header past → Done (page_part header.size o p past) }
 {}
 
 /// Where nothing is undelivered and each step has paid what it owes, the server of shared memory has answered
@@ -77,8 +86,12 @@ pub fn steps_are_done()
 /// that are neither wired nor held for such a pager. No declared object is temporary.
 #[tactic(auto, using(crate::proofs::Answered::shared_are_answered, crate::proofs::Answered::nobody_waits))]
 pub fn nobody_waits_for_the_server()
-    ensures answered { (header : Header) (outside : Outside) (history : List Event) → EachEvent (HasCause header outside) history → EachEvent (OwnBytes header) history → BeforeSteps (IsPaid header) history → IsPaid header history → AllServed header history → undelivered history ≡ [] → SharedAreAnswered header history }
-    ensures waits { (header : Header) (outside : Outside) (history : List Event) → NoneIsTemporary header → EachEvent (HasCause header outside) history → EachEvent (OwnBytes header) history → BeforeSteps (IsPaid header) history → IsPaid header history → AllServed header history → Prompt header history → undelivered history ≡ [] → NobodyWaitsInVain header history }
+    ensures answered { (header : Header) (outside : Outside) (history : List Event) → EachEvent (HasCause header outside) history
+        → EachEvent (OwnBytes header) history → BeforeSteps (IsPaid header) history → IsPaid header history
+        → AllServed header history → undelivered history ≡ [] → SharedAreAnswered header history }
+    ensures waits { (header : Header) (outside : Outside) (history : List Event) → NoneIsTemporary header → EachEvent (HasCause header outside) history
+        → EachEvent (OwnBytes header) history → BeforeSteps (IsPaid header) history → IsPaid header history → AllServed header history → Prompt header history
+        → undelivered history ≡ [] → NobodyWaitsInVain header history }
 {}
 
 /// What the server of shared memory is promised of the message that it takes, before it looks at it. The host
@@ -88,10 +101,23 @@ pub fn nobody_waits_for_the_server()
 ///
 /// That a return is a whole page, and that the host is one of the header's, doesn't follow from causes.
 pub fn takings_keep_the_protocol()
-    ensures request { (header : Header) (outside : Outside) (h o control access : ℕ) (page : PageNo) (past : List Event) → EachEvent (HasCause header outside) past → EachEvent (OwnBytes header) past → is_shared header o ≡ true → first (queue (up_port h o) past) ≡ Some (message.Request control page access) → NoRequest h (line (page_part header.size o page.0 past)) × ((access ≡ 1) ⊎ (access ≡ 3)) }
-    ensures unlock { (header : Header) (outside : Outside) (h o control access : ℕ) (page : PageNo) (past : List Event) → EachEvent (HasCause header outside) past → EachEvent (OwnBytes header) past → BeforeSteps (IsPaid header) past → is_shared header o ≡ true → first (queue (up_port h o) past) ≡ Some (message.Unlock control page access) → NoUpgrade h (line (page_part header.size o page.0 past)) × (access ≡ 3) }
-    ensures completed { (header : Header) (outside : Outside) (h o control count : ℕ) (page : PageNo) (past : List Event) → EachEvent (HasCause header outside) past → EachEvent (OwnBytes header) past → BeforeSteps (IsPaid header) past → is_shared header o ≡ true → first (queue (up_port h o) past) ≡ Some (message.Completed control page count) → (count ≡ 1) × ((side h (page_part header.size o page.0 past)).awaited_control ≡ control) }
-    ensures ended { (header : Header) (outside : Outside) (h o control p : ℕ) (past : List Event) → EachEvent (HasCause header outside) past → EachEvent (OwnBytes header) past → BeforeSteps (IsPaid header) past → is_shared header o ≡ true → first (queue (up_port h o) past) ≡ Some (message.Terminate control) → NoRequest h (line (page_part header.size o p past)) × (0 < (side h (page_part header.size o p past)).awaits → (side h (page_part header.size o p past)).awaited_control ≡ control) }
+    ensures request { (header : Header) (outside : Outside) (h o control access : ℕ) (page : PageNo) (past : List Event)
+        → EachEvent (HasCause header outside) past → EachEvent (OwnBytes header) past → is_shared header o ≡ true
+        → first (queue (up_port h o) past) ≡ Some (message.Request control page access) → NoRequest h (line (page_part header.size o page.0 past))
+        × ((access ≡ 1) ⊎ (access ≡ 3)) }
+    ensures unlock { (header : Header) (outside : Outside) (h o control access : ℕ) (page : PageNo) (past : List Event)
+        → EachEvent (HasCause header outside) past → EachEvent (OwnBytes header) past
+        → BeforeSteps (IsPaid header) past → is_shared header o ≡ true → first (queue (up_port h o) past) ≡ Some (message.Unlock control page access)
+        → NoUpgrade h (line (page_part header.size o page.0 past))
+        × (access ≡ 3) }
+    ensures completed { (header : Header) (outside : Outside) (h o control count : ℕ) (page : PageNo) (past : List Event)
+        → EachEvent (HasCause header outside) past → EachEvent (OwnBytes header) past → BeforeSteps (IsPaid header) past → is_shared header o ≡ true
+        → first (queue (up_port h o) past) ≡ Some (message.Completed control page count) → (count ≡ 1)
+        × ((side h (page_part header.size o page.0 past)).awaited_control ≡ control) }
+    ensures ended { (header : Header) (outside : Outside) (h o control p : ℕ) (past : List Event) → EachEvent (HasCause header outside) past
+        → EachEvent (OwnBytes header) past → BeforeSteps (IsPaid header) past → is_shared header o ≡ true
+        → first (queue (up_port h o) past) ≡ Some (message.Terminate control) → NoRequest h (line (page_part header.size o p past))
+        × (0 < (side h (page_part header.size o p past)).awaits → (side h (page_part header.size o p past)).awaited_control ≡ control) }
 {}
 
 /// Where each step has paid, what is asked of the server of shared memory is on its way: of each page that is
@@ -102,7 +128,9 @@ pub fn takings_keep_the_protocol()
 /// that page is undelivered then too.
 #[tactic(auto, using(crate::proofs::Carried::shared_are_carried))]
 pub fn what_the_server_is_asked_is_on_its_way()
-    ensures carried { (header : Header) (outside : Outside) (history : List Event) → EachEvent (HasCause header outside) history → EachEvent (OwnBytes header) history → BeforeSteps (IsPaid header) history → IsPaid header history → AllServed header history → SharedAreCarried header history }
+    ensures carried { (header : Header) (outside : Outside) (history : List Event) → EachEvent (HasCause header outside) history
+        → EachEvent (OwnBytes header) history → BeforeSteps (IsPaid header) history
+        → IsPaid header history → AllServed header history → SharedAreCarried header history }
 {}
 
 /// A worked history that meets all of that: two hosts map one shared page, host 0 reads it, host 1 wants to
@@ -132,7 +160,10 @@ pub fn shared_run()
 /// No declared object is temporary: of one that were, nothing would say what its pager answers.
 #[tactic(auto, using(crate::proofs::Flat::current_is_flat, crate::proofs::Currents::copies_current, crate::proofs::Currents::loads_current))]
 pub fn copies_and_loads_are_current()
-    ensures flat { (header : Header) (outside : Outside) (history : List Event) → EachEvent (HasCause header outside) history → (o p : ℕ) → is_shared header o ≡ true → flat_page header outside o p history ≡ current header.size (page_part header.size o p history) }
-    ensures copies { (header : Header) (outside : Outside) (history : List Event) → NoneIsTemporary header → EachEvent (HasCause header outside) history → EachEvent (OwnBytes header) history → EachEvent (CopiesCurrent header outside) history }
-    ensures loads { (header : Header) (outside : Outside) (history : List Event) → EachEvent (HasCause header outside) history → EachEvent (OwnBytes header) history → EachEvent (LoadsCurrent header outside) history }
+    ensures flat { (header : Header) (outside : Outside) (history : List Event) → EachEvent (HasCause header outside) history → (o p : ℕ)
+        → is_shared header o ≡ true → flat_page header outside o p history ≡ current header.size (page_part header.size o p history) }
+    ensures copies { (header : Header) (outside : Outside) (history : List Event) → NoneIsTemporary header → EachEvent (HasCause header outside) history
+        → EachEvent (OwnBytes header) history → EachEvent (CopiesCurrent header outside) history }
+    ensures loads { (header : Header) (outside : Outside) (history : List Event) → EachEvent (HasCause header outside) history
+        → EachEvent (OwnBytes header) history → EachEvent (LoadsCurrent header outside) history }
 {}

@@ -26,7 +26,8 @@ unmade_bare header o [] none = refl
 unmade_bare header o (event.RegionMade region object pages ∷ past) none = unmade_bare header o past (not_this object.0 o region.0 (region_for o past) none).1
 unmade_bare header o (event.Shadowed region new old ∷ past) none =
     let apart = not_this new.0 o region.0 (region_for o past) none in
-    ap (λ b. (over b (region_of header region.0 past) (backing_of header o past)).backed) (other_test o new.0 (λ e. apart.0 (sym e))) ∙ unmade_bare header o past apart.1
+    ap (λ b. (over b (region_of header region.0 past) (backing_of header o past)).backed) (other_test o new.0 (λ e. apart.0 (sym e)))
+    ∙ unmade_bare header o past apart.1
 unmade_bare header o (e ∷ past) none = unmade_bare header o past none
 
 pub next_bare : (header : Header) (past : List Event) → HaveHomes header past → (backing_of header (next_object header past) past).backed ≡ false

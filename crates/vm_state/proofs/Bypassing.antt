@@ -47,7 +47,8 @@ away_supplied size lock precious bytes true true true true was returned given is
 ]
   where
     by : (b : Bool) → b ≡ false
-        → IsAway (if b then record was { here = true; bytes = bytes; lock = lock; dirty = false; precious = precious; unlocking = false; asked = false } else was) returned
+        → IsAway (if b then record was { here = true; bytes = bytes; lock = lock; dirty = false; precious = precious; unlocking = false; asked = false } else
+        was) returned
     by true bad = absurd (let no : true ≡ false = bad in cc)
     by false unasked = is
 
@@ -62,12 +63,14 @@ calm_taken page m = tt
 abbrev pub takes_down : HostId → ObjectId → ℕ → Message → Event
 takes_down host object control m = event.Taken (Down host object control) m
 
-stays_supplied : (header : Header) (h : ℕ) (host : HostId) (object : ObjectId) (control : ℕ) (page : PageNo) (lock : ℕ) (precious : Bool) (bytes : List ℕ) (past : List Event) (key : PageKey)
+stays_supplied : (header : Header) (h : ℕ) (host : HostId) (object : ObjectId) (control : ℕ) (page : PageNo) (lock : ℕ) (precious : Bool) (bytes : List ℕ)
+    (past : List Event) (key : PageKey)
     → StaysAway header h past key
     → StaysAway header h (takes_down host object control (message.Supply page lock precious bytes) ∷ past) key
 stays_supplied header h host object control page lock precious bytes past key stays = (
   stays.0,
-  λ only. away_supplied header.size lock precious bytes (host.0 == h) (object.0 == key.object.0) (is_control control (live_control h key.object.0 past)) (page.0 == key.page.0) (page_on header h key.object.0 key.page.0 past)
+  λ only. away_supplied header.size lock precious bytes (host.0 == h) (object.0 == key.object.0) (is_control control (live_control h key.object.0 past))
+      (page.0 == key.page.0) (page_on header h key.object.0 key.page.0 past)
       (was_returned h key.object.0 key.page.0 past)
       (λ on of its.
       let object_is : object.0 ≡ key.object.0 = same_of object.0 key.object.0 of in
@@ -79,22 +82,31 @@ stays_supplied header h host object control page lock precious bytes past key st
 
 pub stays_taken : (header : Header) (h : ℕ) (host : HostId) (object : ObjectId) (control : ℕ) (m : Message) (past : List Event) (key : PageKey)
     → StaysAway header h past key → StaysAway header h (takes_down host object control m ∷ past) key
-stays_taken header h host object control (message.Supply page lock precious bytes) past key stays = stays_supplied header h host object control page lock precious bytes past key stays
+stays_taken header h host object control (message.Supply page lock precious bytes) past key stays =
+    stays_supplied header h host object control page lock precious bytes past key stays
 stays_taken header h host object control (message.Unavailable at) past key stays =
-    stays_quiet header h (takes_down host object control (message.Unavailable at)) past key (quiet_if (host.0 == h && (object.0 == key.object.0 && is_control control (live_control h key.object.0 past))) (taken_effect key.page.0 (message.Unavailable at)) Elsewhere (quiet_if (at.0 == key.page.0) TakesNothing Elsewhere tt tt) tt) stays
+    stays_quiet header h (takes_down host object control (message.Unavailable at)) past key
+    (quiet_if (host.0 == h && (object.0 == key.object.0 && is_control control (live_control h key.object.0 past)))
+    (taken_effect key.page.0 (message.Unavailable at)) Elsewhere (quiet_if (at.0 == key.page.0) TakesNothing Elsewhere tt tt) tt) stays
 stays_taken header h host object control (message.Error at reason) past key stays =
-    stays_quiet header h (takes_down host object control (message.Error at reason)) past key (quiet_if (host.0 == h && (object.0 == key.object.0 && is_control control (live_control h key.object.0 past))) (taken_effect key.page.0 (message.Error at reason)) Elsewhere (quiet_if (at.0 == key.page.0) TakesError Elsewhere tt tt) tt) stays
+    stays_quiet header h (takes_down host object control (message.Error at reason)) past key
+    (quiet_if (host.0 == h && (object.0 == key.object.0 && is_control control (live_control h key.object.0 past)))
+    (taken_effect key.page.0 (message.Error at reason)) Elsewhere (quiet_if (at.0 == key.page.0) TakesError Elsewhere tt tt) tt) stays
 stays_taken header h host object control (message.Lock at count returns flush lock reply) past key stays =
     stays_quiet header h (takes_down host object control (message.Lock at count returns flush lock reply)) past key
-    (quiet_if (host.0 == h && (object.0 == key.object.0 && is_control control (live_control h key.object.0 past))) (taken_effect key.page.0 (message.Lock at count returns flush lock reply)) Elsewhere (quiet_if (in_range key.page.0 at.0 count) (TakesLock lock flush) Elsewhere tt tt) tt) stays
+    (quiet_if (host.0 == h && (object.0 == key.object.0 && is_control control (live_control h key.object.0 past)))
+    (taken_effect key.page.0 (message.Lock at count returns flush lock reply)) Elsewhere
+    (quiet_if (in_range key.page.0 at.0 count) (TakesLock lock flush) Elsewhere tt tt) tt) stays
 stays_taken header h host object control m past key stays =
-    stays_quiet header h (takes_down host object control m) past key (quiet_if (host.0 == h && (object.0 == key.object.0 && is_control control (live_control h key.object.0 past))) Elsewhere Elsewhere tt tt) stays
+    stays_quiet header h (takes_down host object control m) past key (quiet_if (host.0 == h &&
+    (object.0 == key.object.0 && is_control control (live_control h key.object.0 past))) Elsewhere Elsewhere tt tt) stays
 
 pub unmet_taken : (header : Header) (h : ℕ) (host : HostId) (object : ObjectId) (control : ℕ) (m : Message) (past : List Event) (key : PageKey)
     → IsUnmet header h past key → IsUnmet header h (takes_down host object control m ∷ past) key
 unmet_taken header h host object control m past key unmet =
     unmet_calm header h (takes_down host object control m) past key
-    (calm_if (host.0 == h && (object.0 == key.object.0 && is_control control (live_control h key.object.0 past))) (taken_effect key.page.0 m) Elsewhere (calm_taken key.page.0 m) tt) unmet
+    (calm_if (host.0 == h && (object.0 == key.object.0 && is_control control (live_control h key.object.0 past))) (taken_effect key.page.0 m) Elsewhere
+    (calm_taken key.page.0 m) tt) unmet
 
 -- a page that is here goes back to its pager
 
@@ -116,24 +128,31 @@ returning host object control page dirty keep bytes = event.Sent (Up host object
 
 here_moved : (header : Header) (h o p o2 p2 : ℕ) (past : List Event) → o ≡ o2 → p ≡ p2 → (page_on header h o p past).here ≡ true
     → (page_on header h o2 p2 past).here ≡ true
-here_moved header h o p o2 p2 past same also here = subst (λ (z : ℕ). (page_on header h z p2 past).here ≡ true) same (subst (λ (z : ℕ). (page_on header h o z past).here ≡ true) also here)
+here_moved header h o p o2 p2 past same also here =
+    subst (λ (z : ℕ). (page_on header h z p2 past).here ≡ true) same (subst (λ (z : ℕ). (page_on header h o z past).here ≡ true) also here)
 
-pub stays_returned : (header : Header) (h : ℕ) (host : HostId) (object : ObjectId) (control : ℕ) (page : PageNo) (dirty keep : Bool) (bytes : List ℕ) (past : List Event)
+pub stays_returned : (header : Header) (h : ℕ) (host : HostId) (object : ObjectId) (control : ℕ) (page : PageNo) (dirty keep : Bool) (bytes : List ℕ)
+    (past : List Event)
     → (page_on header h object.0 page.0 past).here ≡ true → (key : PageKey) → StaysAway header h past key
     → StaysAway header h (returning host object control page dirty keep bytes ∷ past) key
 stays_returned header h host object control page dirty keep bytes past here key stays = (
   stays.0,
-  λ only. away_returned header.size (host.0 == h) (object.0 == key.object.0) (page.0 == key.page.0) keep (page_on header h key.object.0 key.page.0 past) (was_returned h key.object.0 key.page.0 past)
-      (λ on of its. here_moved header h object.0 page.0 key.object.0 key.page.0 past (same_of object.0 key.object.0 of) (same_of page.0 key.page.0 its) here) (stays.1 only.1),
+  λ only. away_returned header.size (host.0 == h) (object.0 == key.object.0) (page.0 == key.page.0) keep (page_on header h key.object.0 key.page.0 past)
+      (was_returned h key.object.0 key.page.0 past)
+      (λ on of its. here_moved header h object.0 page.0 key.object.0 key.page.0 past (same_of object.0 key.object.0 of) (same_of page.0 key.page.0 its) here)
+      (stays.1 only.1),
 )
 
-pub unmet_returned : (header : Header) (h : ℕ) (host : HostId) (object : ObjectId) (control : ℕ) (page : PageNo) (dirty keep : Bool) (bytes : List ℕ) (past : List Event)
+pub unmet_returned : (header : Header) (h : ℕ) (host : HostId) (object : ObjectId) (control : ℕ) (page : PageNo) (dirty keep : Bool) (bytes : List ℕ)
+    (past : List Event)
     → (page_on header h object.0 page.0 past).here ≡ true → (key : PageKey) → IsUnmet header h past key
     → IsUnmet header h (returning host object control page dirty keep bytes ∷ past) key
 unmet_returned header h host object control page dirty keep bytes past here key unmet =
     unmet_calm header h (returning host object control page dirty keep bytes) past key
     (calm_returned (host.0 == h) (object.0 == key.object.0) (page.0 == key.page.0) keep
-    (λ on of its. (let bad : false ≡ true = sym unmet.away ∙ here_moved header h object.0 page.0 key.object.0 key.page.0 past (same_of object.0 key.object.0 of) (same_of page.0 key.page.0 its) here in cc))) unmet
+    (λ on of its. (let bad : false ≡ true = sym unmet.away
+    ∙ here_moved header h object.0 page.0 key.object.0 key.page.0 past (same_of object.0 key.object.0 of) (same_of page.0 key.page.0 its) here in cc)))
+    unmet
 
 -- a page is asked for that its pager may have
 
@@ -168,7 +187,8 @@ pub stays_asked : (header : Header) (h : ℕ) (host : HostId) (object : ObjectId
     → StaysAway header h past key → StaysAway header h (requests host object control page access ∷ past) key
 stays_asked header h host object control page access past known key stays = (
   stays.0,
-  λ only. away_asked header.size (host.0 == h) (object.0 == key.object.0) (page.0 == key.page.0) (is_control control (live_control h key.object.0 past)) (page_on header h key.object.0 key.page.0 past) (was_returned h key.object.0 key.page.0 past)
+  λ only. away_asked header.size (host.0 == h) (object.0 == key.object.0) (page.0 == key.page.0) (is_control control (live_control h key.object.0 past))
+      (page_on header h key.object.0 key.page.0 past) (was_returned h key.object.0 key.page.0 past)
       (λ on of its.
       let object_is : object.0 ≡ key.object.0 = same_of object.0 key.object.0 of in
       let page_is : page.0 ≡ key.page.0 = same_of page.0 key.page.0 its in
@@ -183,51 +203,69 @@ pub unmet_asked : (header : Header) (h : ℕ) (host : HostId) (object : ObjectId
     → IsUnmet header h (requests host object control page access ∷ past) key
 unmet_asked header h host object control page access past key apart unmet =
     unmet_calm header h (requests host object control page access) past key
-    (calm_asked (host.0 == h) (object.0 == key.object.0) (page.0 == key.page.0) (is_control control (live_control h key.object.0 past)) (λ of. apart (same_of object.0 key.object.0 of))) unmet
+    (calm_asked (host.0 == h) (object.0 == key.object.0) (page.0 == key.page.0) (is_control control (live_control h key.object.0 past))
+    (λ of. apart (same_of object.0 key.object.0 of))) unmet
 
 -- so whoever waits has passed over what it had
 
 -- where both stay so at each place
-pub waits_beyond : {stays unmet stays2 unmet2 : PageKey → Type 0} {maps : Mapped} {chains : ChainTable} {rs : ResidentTable} {os : ObjectTable} {rows : List Waiting} {who : On → Bool} {at : ℕ → Option Access}
+pub waits_beyond : {stays unmet stays2 unmet2 : PageKey → Type 0} {maps : Mapped} {chains : ChainTable} {rs : ResidentTable} {os : ObjectTable}
+    {rows : List Waiting} {who : On → Bool} {at : ℕ → Option Access}
     → ((key : PageKey) → stays key → stays2 key) → ((key : PageKey) → unmet key → unmet2 key)
     → HasWaiters maps chains rs os rows who at stays unmet → HasWaiters maps chains rs os rows who at stays2 unmet2
 waits_beyond {maps = maps} {chains = chains} {rs = rs} {os = os} {rows = rows} {who = who} {at = at} same still has =
-    waits_seen maps chains rs os rows who at has (λ t w found asleep reason to stop m from place leads. same from leads.0) (λ t w found asleep reason object why to its place unmet. still to unmet)
+    waits_seen maps chains rs os rows who at has (λ t w found asleep reason to stop m from place leads. same from leads.0)
+    (λ t w found asleep reason object why to its place unmet. still to unmet)
 
 -- behind an event by which no page comes, or is asked or returned
-pub waits_quiet : {maps : Mapped} {chains : ChainTable} {rs : ResidentTable} {os : ObjectTable} {rows : List Waiting} {who : On → Bool} {at : ℕ → Option Access} (header : Header) (h : ℕ) (e : Event) (past : List Event)
+pub waits_quiet : {maps : Mapped} {chains : ChainTable} {rs : ResidentTable} {os : ObjectTable} {rows : List Waiting} {who : On → Bool} {at : ℕ → Option Access}
+    (header : Header) (h : ℕ) (e : Event) (past : List Event)
     → ((key : PageKey) → IsQuiet (effect_at header h key e past))
     → HasWaiters maps chains rs os rows who at (StaysAway header h past) (IsUnmet header h past)
     → HasWaiters maps chains rs os rows who at (StaysAway header h (e ∷ past)) (IsUnmet header h (e ∷ past))
 waits_quiet header h e past quiet has =
-    waits_beyond (λ key stays. stays_quiet header h e past key (quiet key) stays) (λ key unmet. unmet_calm header h e past key (calm_of (effect_at header h key e past) (quiet key)) unmet) has
+    waits_beyond (λ key stays. stays_quiet header h e past key (quiet key) stays)
+    (λ key unmet. unmet_calm header h e past key (calm_of (effect_at header h key e past) (quiet key)) unmet) has
 
 -- behind a message that was taken
-pub waits_taken : {maps : Mapped} {chains : ChainTable} {rs : ResidentTable} {os : ObjectTable} {rows : List Waiting} {who : On → Bool} {at : ℕ → Option Access} (header : Header) (h : ℕ) (host : HostId) (object : ObjectId) (control : ℕ) (m : Message) (past : List Event)
+pub waits_taken : {maps : Mapped} {chains : ChainTable} {rs : ResidentTable} {os : ObjectTable} {rows : List Waiting} {who : On → Bool} {at : ℕ → Option Access}
+    (header : Header) (h : ℕ) (host : HostId) (object : ObjectId) (control : ℕ) (m : Message) (past : List Event)
     → HasWaiters maps chains rs os rows who at (StaysAway header h past) (IsUnmet header h past)
-    → HasWaiters maps chains rs os rows who at (StaysAway header h (takes_down host object control m ∷ past)) (IsUnmet header h (takes_down host object control m ∷ past))
+    → HasWaiters maps chains rs os rows who at (StaysAway header h (takes_down host object control m ∷ past))
+    (IsUnmet header h (takes_down host object control m ∷ past))
 waits_taken header h host object control m past has =
-    waits_beyond (λ key stays. stays_taken header h host object control m past key stays) (λ key unmet. unmet_taken header h host object control m past key unmet) has
+    waits_beyond (λ key stays. stays_taken header h host object control m past key stays)
+    (λ key unmet. unmet_taken header h host object control m past key unmet) has
 
 -- behind the return of a page that is here
-pub waits_returned : {maps : Mapped} {chains : ChainTable} {rs : ResidentTable} {os : ObjectTable} {rows : List Waiting} {who : On → Bool} {at : ℕ → Option Access} (header : Header) (h : ℕ) (host : HostId) (object : ObjectId) (control : ℕ) (page : PageNo) (dirty keep : Bool) (bytes : List ℕ) (past : List Event)
+pub waits_returned : {maps : Mapped} {chains : ChainTable} {rs : ResidentTable} {os : ObjectTable} {rows : List Waiting} {who : On → Bool}
+    {at : ℕ → Option Access} (header : Header) (h : ℕ) (host : HostId) (object : ObjectId) (control : ℕ) (page : PageNo) (dirty keep : Bool) (bytes : List ℕ)
+    (past : List Event)
     → (page_on header h object.0 page.0 past).here ≡ true → HasWaiters maps chains rs os rows who at (StaysAway header h past) (IsUnmet header h past)
-    → HasWaiters maps chains rs os rows who at (StaysAway header h (returning host object control page dirty keep bytes ∷ past)) (IsUnmet header h (returning host object control page dirty keep bytes ∷ past))
+    → HasWaiters maps chains rs os rows who at (StaysAway header h (returning host object control page dirty keep bytes ∷ past))
+    (IsUnmet header h (returning host object control page dirty keep bytes ∷ past))
 waits_returned header h host object control page dirty keep bytes past here has =
-    waits_beyond (λ key stays. stays_returned header h host object control page dirty keep bytes past here key stays) (λ key unmet. unmet_returned header h host object control page dirty keep bytes past here key unmet) has
+    waits_beyond (λ key stays. stays_returned header h host object control page dirty keep bytes past here key stays)
+    (λ key unmet. unmet_returned header h host object control page dirty keep bytes past here key unmet) has
 
 -- who waits for its pager waits for one that was told
 pub told_pager : (maps : Mapped) (chains : ChainTable) (rs : ResidentTable) (os : ObjectTable) (t : ℕ) (what : Want) (why : On) (other : ObjectId)
     → why ≡ on.Ready other → Reason maps chains rs os t what why → IsPagerTold os other.0
-told_pager maps chains rs os t what why other same reason = let so : Reason maps chains rs os t what (on.Ready other) = subst (λ (z : On). Reason maps chains rs os t what z) same reason in so.3
+told_pager maps chains rs os t what why other same reason =
+    let so : Reason maps chains rs os t what (on.Ready other) = subst (λ (z : On). Reason maps chains rs os t what z) same reason in so.3
 
 -- behind a request for a page that its pager, which is ready, may have
-pub waits_requested : {maps : Mapped} {chains : ChainTable} {rs : ResidentTable} {os : ObjectTable} {rows : List Waiting} {who : On → Bool} {at : ℕ → Option Access} (header : Header) (h : ℕ) (host : HostId) (object : ObjectId) (control : ℕ) (page : PageNo) (access : ℕ) (past : List Event)
+pub waits_requested : {maps : Mapped} {chains : ChainTable} {rs : ResidentTable} {os : ObjectTable} {rows : List Waiting} {who : On → Bool}
+    {at : ℕ → Option Access} (header : Header) (h : ℕ) (host : HostId) (object : ObjectId) (control : ℕ) (page : PageNo) (access : ℕ) (past : List Event)
     → is_known_absent header (record { object = object.0; page = page.0 }) (page_on header h object.0 page.0 past) ≡ false → (IsPagerTold os object.0 → ⊥)
     → HasWaiters maps chains rs os rows who at (StaysAway header h past) (IsUnmet header h past)
-    → HasWaiters maps chains rs os rows who at (StaysAway header h (requests host object control page access ∷ past)) (IsUnmet header h (requests host object control page access ∷ past))
-waits_requested {maps = maps} {chains = chains} {rs = rs} {os = os} {rows = rows} {who = who} {at = at} header h host object control page access past known ready has =
-    waits_seen maps chains rs os rows who at has (λ t w found asleep reason to stop m from place leads. stays_asked header h host object control page access past known from leads.0)
+    → HasWaiters maps chains rs os rows who at (StaysAway header h (requests host object control page access ∷ past))
+    (IsUnmet header h (requests host object control page access ∷ past))
+waits_requested {maps = maps} {chains = chains} {rs = rs} {os = os} {rows = rows} {who = who} {at = at} header h host object control page access past known
+    ready has =
+    waits_seen maps chains rs os rows who at has (λ t w found asleep reason to stop m from place leads. stays_asked header h host object control page access
+    past known from leads.0)
     (λ t w found asleep reason other why to its place unmet.
     unmet_asked header h host object control page access past to
-    (λ same. ready (subst (λ (z : ℕ). IsPagerTold os z) (ap (λ (z : ObjectId). z.0) (sym its) ∙ sym same) (told_pager maps chains rs os t w.want w.on other why reason))) unmet)
+    (λ same. ready (subst (λ (z : ℕ). IsPagerTold os z) (ap (λ (z : ObjectId). z.0) (sym its) ∙ sym same)
+    (told_pager maps chains rs os t w.want w.on other why reason))) unmet)

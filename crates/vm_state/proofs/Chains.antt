@@ -11,9 +11,15 @@ use Rattle.vm_terminate.specs.Finishes.{IsReferred}
 use Rattle.vm_state.specs.Stands.{HasRegions}
 use Rattle.vm_state.proofs.Reaching.{reach_down, reach_up}
 
-pub leads_up : (chains : ChainTable) (objects : ObjectTable) (ids : Ids) (region_from : ℕ → Region) (backing_from : ℕ → Backing) (regions_made objects_made marked : ℕ) → HasRegions chains objects ids region_from backing_from regions_made objects_made marked → IsOlderUnder chains → ((s : ℕ) (row : ShadowRow) → shadow_at chains s ≡ Some row → IsReferred objects s) → (used : ℕ → Bool) → ((r : ℕ) (row : RegionRow) → region_at chains r ≡ Some row → used r ≡ true)
+pub leads_up : (chains : ChainTable) (objects : ObjectTable) (ids : Ids) (region_from : ℕ → Region) (backing_from : ℕ → Backing)
+    (regions_made objects_made marked : ℕ) → HasRegions chains objects ids region_from backing_from regions_made objects_made marked → IsOlderUnder chains
+    → ((s : ℕ) (row : ShadowRow) → shadow_at chains s ≡ Some row → IsReferred objects s) → (used : ℕ → Bool)
+    → ((r : ℕ) (row : RegionRow) → region_at chains r ≡ Some row → used r ≡ true)
     → (o : ℕ) → IsReferred objects o → Reaches used region_from backing_from o
-leads_up chains objects ids region_from backing_from regions_made objects_made marked has older shadows used all o referred = reach_up has older shadows used all o referred
+leads_up chains objects ids region_from backing_from regions_made objects_made marked has older shadows used all o referred =
+    reach_up has older shadows used all o referred
 
-pub leads_down : (chains : ChainTable) (objects : ObjectTable) (ids : Ids) (region_from : ℕ → Region) (backing_from : ℕ → Backing) (regions_made objects_made marked : ℕ) → HasRegions chains objects ids region_from backing_from regions_made objects_made marked → (used : ℕ → Bool) → ((r : ℕ) → used r ≡ true → (row : RegionRow) × (region_at chains r ≡ Some row)) → (o : ℕ) → Reaches used region_from backing_from o → IsReferred objects o
+pub leads_down : (chains : ChainTable) (objects : ObjectTable) (ids : Ids) (region_from : ℕ → Region) (backing_from : ℕ → Backing)
+    (regions_made objects_made marked : ℕ) → HasRegions chains objects ids region_from backing_from regions_made objects_made marked → (used : ℕ → Bool)
+    → ((r : ℕ) → used r ≡ true → (row : RegionRow) × (region_at chains r ≡ Some row)) → (o : ℕ) → Reaches used region_from backing_from o → IsReferred objects o
 leads_down chains objects ids region_from backing_from regions_made objects_made marked has used known o reach = reach_down has used known o reach

@@ -38,7 +38,8 @@ over_recounted : (x n : ℕ) (row : Option RegionRow) → is_over x (with_entrie
 over_recounted x n None = refl
 over_recounted x n (Some row) = refl
 
-pub regions_recounted : (old new : ChainTable) (os : ObjectTable) (ids : Ids) (region_from : ℕ → Region) (backing_from : ℕ → Backing) (rm om marked : ℕ) → SameButEntries old new
+pub regions_recounted : (old new : ChainTable) (os : ObjectTable) (ids : Ids) (region_from : ℕ → Region) (backing_from : ℕ → Backing) (rm om marked : ℕ)
+    → SameButEntries old new
     → HasRegions old os ids region_from backing_from rm om marked → HasRegions new os ids region_from backing_from rm om marked
 regions_recounted old new os ids region_from backing_from rm om marked same has =
     record {
@@ -46,7 +47,9 @@ regions_recounted old new os ids region_from backing_from rm om marked same has 
       object = has.object;
       marks = has.marks;
       few = has.few;
-      rows = λ r row found. let b = before r row found in subst (λ (z : RegionRow). region_from r ≡ record { mark = z.marked; top = z.top.0; shift = z.shift; pages = z.pages }) (sym b.is) (has.rows r b.was b.found);
+      rows =
+          λ r row found. let b = before r row found in subst (λ (z : RegionRow). region_from
+          r ≡ record { mark = z.marked; top = z.top.0; shift = z.shift; pages = z.pages }) (sym b.is) (has.rows r b.was b.found);
       shadows = λ o row found. has.shadows o row (sym (same.shadows o) ∙ found);
       older = λ o row found. has.older o row (sym (same.shadows o) ∙ found);
       bottoms = λ o referred none. has.bottoms o referred (sym (same.shadows o) ∙ none);
@@ -55,17 +58,22 @@ regions_recounted old new os ids region_from backing_from rm om marked same has 
       tops = λ r row found. let b = before r row found in subst (λ (z : RegionRow). IsSome (object_at os z.top.0)) (sym b.is) (has.tops r b.was b.found);
       unders = λ o row found. has.unders o row (sym (same.shadows o) ∙ found);
       fits = record {
-        tops = λ r row found. let b = before r row found in subst (λ (z : RegionRow). z.shift + z.pages ≤ object_pages os z.top.0) (sym b.is) (has.fits.tops r b.was b.found);
+        tops =
+            λ r row found. let b = before r row found in subst (λ (z : RegionRow). z.shift + z.pages ≤ object_pages os z.top.0) (sym b.is)
+            (has.fits.tops r b.was b.found);
         unders = λ o row found. has.fits.unders o row (sym (same.shadows o) ∙ found);
       };
-      counts = λ o known found. has.counts o known found ∙ sym (references_same old new rm om o (λ r. ap (is_over o) (same.at r) ∙ over_recounted o (same.count r) (region_at old r)) (λ s. ap (is_backing o) (same.shadows s)));
+      counts =
+          λ o known found. has.counts o known found ∙ sym (references_same old new rm om o
+          (λ r. ap (is_over o) (same.at r) ∙ over_recounted o (same.count r) (region_at old r)) (λ s. ap (is_backing o) (same.shadows s)));
     }
   where
     before : (r : ℕ) (row : RegionRow) → region_at new r ≡ Some row → IsRecounted row (region_at old r)
     before r row found = recounted (same.count r) row (region_at old r) (sym (same.at r) ∙ found)
 
 -- one object is known otherwise, but for its pages and how often it is referred to
-pub regions_controlled : (o : ℕ) (row row2 : ObjectRow) (cs : ChainTable) (os os2 : ObjectTable) (ids : Ids) (region_from : ℕ → Region) (backing_from : ℕ → Backing) (rm om marked : ℕ)
+pub regions_controlled : (o : ℕ) (row row2 : ObjectRow) (cs : ChainTable) (os os2 : ObjectTable) (ids : Ids) (region_from : ℕ → Region)
+    (backing_from : ℕ → Backing) (rm om marked : ℕ)
     → object_at os o ≡ Some row → PutsObject o (Some row2) os os2 → row2.references ≡ row.references → row2.pages ≡ row.pages
     → HasRegions cs os ids region_from backing_from rm om marked → HasRegions cs os2 ids region_from backing_from rm om marked
 regions_controlled o row row2 cs os os2 ids region_from backing_from rm om marked found put references pages has =
@@ -81,9 +89,14 @@ regions_controlled o row row2 cs os os2 ids region_from backing_from rm om marke
       unmade = has.unmade;
       unknown = λ x le. unknown_still o row2 os os2 put x (known_apart o x row os found (has.unknown x le)) (has.unknown x le);
       tops = λ r region there. known_still o row2 os os2 put region.top.0 (has.tops r region there);
-      unders = λ x shadow there. let both = has.unders x shadow there in (known_still o row2 os os2 put x both.0, known_still o row2 os os2 put shadow.under.0 both.1);
+      unders =
+          λ x shadow there. let both = has.unders x shadow there in (
+            known_still o row2 os os2 put x both.0,
+            known_still o row2 os os2 put shadow.under.0 both.1,
+          );
       fits = fits_still cs os os2 (same_pages os os2 o row row2 found pages put) has.fits;
-      counts = counts_still o row2 os os2 (references_to cs rm om) (references_to cs rm om) put (references ∙ has.counts o row found) (λ x apart. refl) has.counts;
+      counts =
+          counts_still o row2 os os2 (references_to cs rm om) (references_to cs rm om) put (references ∙ has.counts o row found) (λ x apart. refl) has.counts;
     }
   where
     was : 0 < row2.references → IsReferred os o

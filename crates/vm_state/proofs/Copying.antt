@@ -35,13 +35,16 @@ record ComesFrom (cs : ChainTable) (region : RegionRow) : Type 0 where
   inside : region.shift + region.pages ≤ row.shift + row.pages
 
 -- a region is copied: both have its top, which has one reference more
-pub regions_copied : (header : Header) (past : List Event) (copy source : RegionId) (offset pages : ℕ) (row : RegionRow) (known : ObjectRow) (cs cs2 : ChainTable) (os os2 : ObjectTable) (ids ids2 : Ids) (rm om marked marked2 : ℕ)
+pub regions_copied : (header : Header) (past : List Event) (copy source : RegionId) (offset pages : ℕ) (row : RegionRow) (known : ObjectRow)
+    (cs cs2 : ChainTable) (os os2 : ObjectTable) (ids ids2 : Ids) (rm om marked marked2 : ℕ)
     → region_at cs source.0 ≡ Some row → copy.0 ≡ rm → offset + pages ≤ row.pages → CopiesRegion source.0 copy.0 offset pages row cs cs2
     → object_at os row.top.0 ≡ Some known → PutsObject row.top.0 (Some (record known { references = known.references + 1 })) os os2
     → ids2.next_region ≡ ids.next_region + 1 → ids2.next_object ≡ ids.next_object → ids2.marks ≡ marked2 → om + marked2 ≤ most_objects
     → HasRegions cs os ids (λ q. region_of header q past) (λ q. backing_of header q past) rm om marked
-    → HasRegions cs2 os2 ids2 (λ q. region_of header q (event.RegionCopied copy source offset pages ∷ past)) (λ q. backing_of header q (event.RegionCopied copy source offset pages ∷ past)) (rm + 1) om marked2
-regions_copied header past copy source offset pages row known cs cs2 os os2 ids ids2 rm om marked marked2 there next within copies found putting next2 same2 marks2 few2 has =
+    → HasRegions cs2 os2 ids2 (λ q. region_of header q (event.RegionCopied copy source offset pages ∷ past))
+    (λ q. backing_of header q (event.RegionCopied copy source offset pages ∷ past)) (rm + 1) om marked2
+regions_copied header past copy source offset pages row known cs cs2 os os2 ids ids2 rm om marked marked2 there next within copies found putting next2 same2
+    marks2 few2 has =
     record {
       region = next2 ∙ ap (λ z. z + 1) has.region;
       object = same2 ∙ has.object;
@@ -78,8 +81,14 @@ regions_copied header past copy source offset pages row known cs cs2 os os2 ids 
         | inr other ↦ other.1 ∙ has.unmade q (omega (arith, le))
       ];
       unknown = λ q le. unknown_still top new os os2 putting q (known_apart top q known os found (has.unknown q le)) (has.unknown q le);
-      tops = λ q region is. let b = before q region is in known_still top new os os2 putting region.top.0 (subst (λ (z : ObjectId). IsSome (object_at os z.0)) (sym b.top) (has.tops b.at b.row b.found));
-      unders = λ q shadow is. let both = has.unders q shadow (still q ∙ is) in (known_still top new os os2 putting q both.0, known_still top new os os2 putting shadow.under.0 both.1);
+      tops =
+          λ q region is. let b = before q region is in known_still top new os os2 putting region.top.0
+          (subst (λ (z : ObjectId). IsSome (object_at os z.0)) (sym b.top) (has.tops b.at b.row b.found));
+      unders =
+          λ q shadow is. let both = has.unders q shadow (still q ∙ is) in (
+            known_still top new os os2 putting q both.0,
+            known_still top new os os2 putting shadow.under.0 both.1,
+          );
       fits = fits_still cs2 os os2 (same_pages os os2 top known new found refl putting) (record {
         tops = λ q region is.
             let b = before q region is in
@@ -110,17 +119,24 @@ regions_copied header past copy source offset pages row known cs cs2 os os2 ids 
     still q = sym (ap (λ f. f q) copies.shadows)
 
     copy_row : (q : ℕ) → copy.0 ≡ q → region_at cs2 q ≡ Some (copy_of row offset pages)
-    copy_row q same = subst (λ (z : ℕ). region_at cs2 z ≡ Some (copy_of row offset pages)) same (if_true copy.0 (Some (copy_of row offset pages)) (if source.0 == copy.0 then Some (record row { marked = true }) else region_at cs copy.0) (region_at cs2 copy.0) (copies.at copy.0))
+    copy_row q same =
+        subst (λ (z : ℕ). region_at cs2 z ≡ Some (copy_of row offset pages)) same
+        (if_true copy.0 (Some (copy_of row offset pages)) (if source.0 == copy.0 then Some (record row { marked = true }) else region_at cs copy.0)
+        (region_at cs2 copy.0) (copies.at copy.0))
 
-    rest : (q : ℕ) → (copy.0 ≡ q → ⊥) → ((source.0 ≡ q) × (region_at cs2 q ≡ Some (record row { marked = true }))) ⊎ ((source.0 ≡ q → ⊥) × (region_at cs2 q ≡ region_at cs q))
+    rest : (q : ℕ) → (copy.0 ≡ q → ⊥) → ((source.0 ≡ q) × (region_at cs2 q ≡ Some (record row { marked = true })))
+        ⊎ ((source.0 ≡ q → ⊥) × (region_at cs2 q ≡ region_at cs q))
     rest q apart = one_case source.0 q (Some (record row { marked = true })) (region_at cs q) (region_at cs2 q)
-        (elsewhere copy.0 q (Some (copy_of row offset pages)) (if source.0 == q then Some (record row { marked = true }) else region_at cs q) (region_at cs2 q) (copies.at q) apart)
+        (elsewhere copy.0 q (Some (copy_of row offset pages)) (if source.0 == q then Some (record row { marked = true }) else region_at cs q) (region_at cs2 q)
+        (copies.at q) apart)
 
     before : (q : ℕ) (region : RegionRow) → region_at cs2 q ≡ Some region → ComesFrom cs region
     before q region is = elim (eqb_tells copy.0 q) [
-      | inl this ↦ subst (λ (z : RegionRow). ComesFrom cs z) (some_is (copy_of row offset pages) region (sym (copy_row q this.1) ∙ is)) (record { at = source.0; row = row; found = there; top = refl; inside = omega (arith, within) })
+      | inl this ↦ subst (λ (z : RegionRow). ComesFrom cs z) (some_is (copy_of row offset pages) region (sym (copy_row q this.1) ∙ is))
+          (record { at = source.0; row = row; found = there; top = refl; inside = omega (arith, within) })
       | inr apart ↦ elim (rest q apart.1) [
-        | inl this ↦ subst (λ (z : RegionRow). ComesFrom cs z) (some_is (record row { marked = true }) region (sym this.1 ∙ is)) (record { at = source.0; row = row; found = there; top = refl; inside = omega arith })
+        | inl this ↦ subst (λ (z : RegionRow). ComesFrom cs z) (some_is (record row { marked = true }) region (sym this.1 ∙ is))
+            (record { at = source.0; row = row; found = there; top = refl; inside = omega arith })
         | inr other ↦ record { at = q; row = region; found = sym other.1 ∙ is; top = refl; inside = omega arith }
       ]
     ]

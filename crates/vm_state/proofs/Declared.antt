@@ -30,11 +30,13 @@ kind_cases header o = by_test (nat_lt o (named header)) refl
     by_test false is = inr (grind (arith, nat_tests))
 
 -- one object is known otherwise
-pub kinds_put : (header : Header) (o : ℕ) (new : ObjectRow) (os os2 : ObjectTable) (cs : ChainTable) → PutsObject o (Some new) os os2 → SameMarks os os2 → IsOfKind header o new → HasKinds header os cs → HasKinds header os2 cs
+pub kinds_put : (header : Header) (o : ℕ) (new : ObjectRow) (os os2 : ObjectTable) (cs : ChainTable) → PutsObject o (Some new) os os2 → SameMarks os os2
+    → IsOfKind header o new → HasKinds header os cs → HasKinds header os2 cs
 kinds_put header o new os os2 cs put marks its has =
     record {
       kinds = λ x known found. elim (known_cases o new os os2 put x) [
-        | inl this ↦ subst (λ (z : ℕ). IsOfKind header z known) this.0 (subst (λ (z : ObjectRow). IsOfKind header o z) (some_is new known (sym this.1 ∙ found)) its)
+        | inl this ↦ subst (λ (z : ℕ). IsOfKind header z known) this.0 (subst (λ (z : ObjectRow). IsOfKind header o z) (some_is new known (sym this.1 ∙ found))
+            its)
         | inr other ↦ has.kinds x known (sym other.1 ∙ found)
       ];
       present = λ x p declared. marks.at x p ∙ has.present x p declared;
@@ -43,12 +45,19 @@ kinds_put header o new os os2 cs put marks its has =
     }
 
 -- all objects are known as they were, and so are the pages that are missing
-pub kinds_same : (header : Header) (os os2 : ObjectTable) (cs : ChainTable) → SameObjects os os2 → SameMarks os os2 → HasKinds header os cs → HasKinds header os2 cs
+pub kinds_same : (header : Header) (os os2 : ObjectTable) (cs : ChainTable) → SameObjects os os2 → SameMarks os os2 → HasKinds header os cs
+    → HasKinds header os2 cs
 kinds_same header os os2 cs same marks has =
-    record { kinds = λ x known found. has.kinds x known (sym (same.at x) ∙ found); present = λ x p declared. marks.at x p ∙ has.present x p declared; tops = has.tops; unders = has.unders }
+    record {
+      kinds = λ x known found. has.kinds x known (sym (same.at x) ∙ found);
+      present = λ x p declared. marks.at x p ∙ has.present x p declared;
+      tops = has.tops;
+      unders = has.unders;
+    }
 
 -- a page is known to be missing, or not any more: of a declared object it isn't
-pub kinds_marked : (header : Header) (o p : ℕ) (b : Bool) (os os2 : ObjectTable) (cs : ChainTable) → SameObjects os os2 → PutsAbsent o p b os os2 → (o < named header → b ≡ false) → HasKinds header os cs → HasKinds header os2 cs
+pub kinds_marked : (header : Header) (o p : ℕ) (b : Bool) (os os2 : ObjectTable) (cs : ChainTable) → SameObjects os os2 → PutsAbsent o p b os os2
+    → (o < named header → b ≡ false) → HasKinds header os cs → HasKinds header os2 cs
 kinds_marked header o p b os os2 cs same put its has =
     record {
       kinds = λ x known found. has.kinds x known (sym (same.at x) ∙ found);
@@ -62,17 +71,20 @@ kinds_marked header o p b os os2 cs same put its has =
     if_same false x y first second = second
 
     by_test : (x q : ℕ) (c : Bool) → (o == x) ≡ c → x < named header → (if c && (p == q) then b else absent_at os x q) ≡ false
-    by_test x q true same declared = let is : o ≡ x = grind (arith, nat_tests) in if_same (p == q) b (absent_at os x q) (its (omega (arith, is, declared))) (has.present x q declared)
+    by_test x q true same declared =
+        let is : o ≡ x = grind (arith, nat_tests) in if_same (p == q) b (absent_at os x q) (its (omega (arith, is, declared))) (has.present x q declared)
     by_test x q false other declared = has.present x q declared
 
 -- a region comes, or is otherwise: what isn't declared is over nothing that is
-pub kinds_region : (header : Header) (r : ℕ) (row : RegionRow) (os : ObjectTable) (cs cs2 : ChainTable) → PutsRegion r (Some row) cs cs2 → (named header ≤ r → named header ≤ row.top.0) → HasKinds header os cs → HasKinds header os cs2
+pub kinds_region : (header : Header) (r : ℕ) (row : RegionRow) (os : ObjectTable) (cs cs2 : ChainTable) → PutsRegion r (Some row) cs cs2
+    → (named header ≤ r → named header ≤ row.top.0) → HasKinds header os cs → HasKinds header os cs2
 kinds_region header r row os cs cs2 put its has =
     record {
       kinds = has.kinds;
       present = has.present;
       tops = λ q region temporary found. elim (one_case r q (Some row) (region_at cs q) (region_at cs2 q) (put.at q)) [
-        | inl this ↦ subst (λ (z : RegionRow). named header ≤ z.top.0) (some_is row region (sym this.1 ∙ found)) (its (let same = this.0 in omega (arith, same, temporary)))
+        | inl this ↦ subst (λ (z : RegionRow). named header ≤ z.top.0) (some_is row region (sym this.1 ∙ found))
+            (its (let same = this.0 in omega (arith, same, temporary)))
         | inr other ↦ has.tops q region temporary (sym other.1 ∙ found)
       ];
       unders = λ o shadow found. has.unders o shadow (sym (ap (λ f. f o) put.shadows) ∙ found);
@@ -105,24 +117,29 @@ kinds_dropped header o os cs cs2 drop has =
     }
 
 -- a temporary region gets a shadow
-pub kinds_shadowed : (header : Header) (r : ℕ) (object : ObjectId) (row : RegionRow) (os : ObjectTable) (cs cs2 : ChainTable) → ShadowsRegion r object row cs cs2 → region_at cs r ≡ Some row → named header ≤ r → named header ≤ object.0
+pub kinds_shadowed : (header : Header) (r : ℕ) (object : ObjectId) (row : RegionRow) (os : ObjectTable) (cs cs2 : ChainTable)
+    → ShadowsRegion r object row cs cs2 → region_at cs r ≡ Some row → named header ≤ r → named header ≤ object.0
     → HasKinds header os cs → HasKinds header os cs2
 kinds_shadowed header r object row os cs cs2 over there temporary new has =
     record {
       kinds = has.kinds;
       present = has.present;
-      tops = λ q region least found. elim (one_case r q (Some (record row { top = object; shift = 0; marked = false })) (region_at cs q) (region_at cs2 q) (over.at q)) [
-        | inl this ↦ subst (λ (z : RegionRow). named header ≤ z.top.0) (some_is _ region (sym this.1 ∙ found)) new
-        | inr other ↦ has.tops q region least (sym other.1 ∙ found)
-      ];
-      unders = λ o shadow found. elim (one_case object.0 o (Some (record { under = row.top; shift = row.shift })) (shadow_at cs o) (shadow_at cs2 o) (over.under o)) [
-        | inl this ↦ subst (λ (z : ShadowRow). named header ≤ z.under.0) (some_is _ shadow (sym this.1 ∙ found)) (has.tops r row temporary there)
-        | inr other ↦ has.unders o shadow (sym other.1 ∙ found)
-      ];
+      tops =
+          λ q region least found. elim (one_case r q (Some (record row { top = object; shift = 0; marked = false })) (region_at cs q) (region_at cs2 q)
+          (over.at q)) [
+            | inl this ↦ subst (λ (z : RegionRow). named header ≤ z.top.0) (some_is _ region (sym this.1 ∙ found)) new
+            | inr other ↦ has.tops q region least (sym other.1 ∙ found)
+          ];
+      unders =
+          λ o shadow found. elim (one_case object.0 o (Some (record { under = row.top; shift = row.shift })) (shadow_at cs o) (shadow_at cs2 o) (over.under o)) [
+            | inl this ↦ subst (λ (z : ShadowRow). named header ≤ z.under.0) (some_is _ shadow (sym this.1 ∙ found)) (has.tops r row temporary there)
+            | inr other ↦ has.unders o shadow (sym other.1 ∙ found)
+          ];
     }
 
 -- another number of references leaves an object that is referred to as it is
-pub kind_referred : (header : Header) (o : ℕ) (known : ObjectRow) (n : ℕ) → 0 < known.references → IsOfKind header o known → IsOfKind header o (record known { references = n })
+pub kind_referred : (header : Header) (o : ℕ) (known : ObjectRow) (n : ℕ) → 0 < known.references → IsOfKind header o known
+    → IsOfKind header o (record known { references = n })
 kind_referred header o known n some is =
     record {
       lives = is.lives;
@@ -131,9 +148,14 @@ kind_referred header o known n some is =
     }
 
 -- a new object of temporary memory
-pub kind_new : (header : Header) (o : ℕ) (row : ObjectRow) (pages : ℕ) → named header ≤ o → row ≡ record { kind = Temp; pages = pages; state = Without; control = 0; live = false; references = 1 } → IsOfKind header o row
+pub kind_new : (header : Header) (o : ℕ) (row : ObjectRow) (pages : ℕ) → named header ≤ o
+    → row ≡ record { kind = Temp; pages = pages; state = Without; control = 0; live = false; references = 1 } → IsOfKind header o row
 kind_new header o row pages least is =
-    subst (IsOfKind header o) (sym is) (record { lives = refl; temporary = λ more. record { kind = refl; number = λ some. refl }; declared = λ less. absurd (omega (arith, less, least)) })
+    subst (IsOfKind header o) (sym is) (record {
+      lives = refl;
+      temporary = λ more. record { kind = refl; number = λ some. refl };
+      declared = λ less. absurd (omega (arith, less, least));
+    })
 
 -- a declared region is whole, over its own object, and has no copy mark
 pub record IsWhole (header : Header) (r : ℕ) (row : RegionRow) : Type 0 where
@@ -142,10 +164,17 @@ pub record IsWhole (header : Header) (r : ℕ) (row : RegionRow) : Type 0 where
   pub marked : row.marked ≡ false
   pub pages : row.pages ≡ declared_pages header r
 
-pub whole_row : {header : Header} {chains : ChainTable} {objects : ObjectTable} {ids : Ids} {past : List Event} {backing_from : ℕ → Backing} {regions_made objects_made marked : ℕ}
-    → HasRegions chains objects ids (λ r. region_of header r past) backing_from regions_made objects_made marked → HaveHomes header past → (r : ℕ) (row : RegionRow) → r < named header → region_at chains r ≡ Some row → IsWhole header r row
+pub whole_row : {header : Header} {chains : ChainTable} {objects : ObjectTable} {ids : Ids} {past : List Event} {backing_from : ℕ → Backing}
+    {regions_made objects_made marked : ℕ}
+    → HasRegions chains objects ids (λ r. region_of header r past) backing_from regions_made objects_made marked → HaveHomes header past
+    → (r : ℕ) (row : RegionRow) → r < named header → region_at chains r ≡ Some row → IsWhole header r row
 whole_row {header = header} has homes r row declared found =
-    let is : record { mark = row.marked; top = row.top.0; shift = row.shift; pages = row.pages } ≡ record { mark = false; top = r; shift = 0; pages = declared_pages header r } = sym (has.rows r row found) ∙ homes.whole r declared in
+    let is : record { mark = row.marked; top = row.top.0; shift = row.shift; pages = row.pages } ≡ record {
+      mark = false;
+      top = r;
+      shift = 0;
+      pages = declared_pages header r;
+    } = sym (has.rows r row found) ∙ homes.whole r declared in
     record {
       top = ap (λ (z : Region). z.top) is;
       shift = ap (λ (z : Region). z.shift) is;
@@ -154,24 +183,30 @@ whole_row {header = header} has homes r row declared found =
     }
 
 -- a marked region is a temporary one
-pub marked_temporary : {header : Header} {chains : ChainTable} {objects : ObjectTable} {ids : Ids} {past : List Event} {backing_from : ℕ → Backing} {regions_made objects_made marked : ℕ}
-    → HasRegions chains objects ids (λ r. region_of header r past) backing_from regions_made objects_made marked → HaveHomes header past → (r : ℕ) (row : RegionRow) → region_at chains r ≡ Some row → row.marked ≡ true → named header ≤ r
+pub marked_temporary : {header : Header} {chains : ChainTable} {objects : ObjectTable} {ids : Ids} {past : List Event} {backing_from : ℕ → Backing}
+    {regions_made objects_made marked : ℕ}
+    → HasRegions chains objects ids (λ r. region_of header r past) backing_from regions_made objects_made marked → HaveHomes header past
+    → (r : ℕ) (row : RegionRow) → region_at chains r ≡ Some row → row.marked ≡ true → named header ≤ r
 marked_temporary {header = header} has homes r row found mark = elim (kind_cases header r) [
   | inl declared ↦ absurd (let whole = whole_row has homes r row declared found in let bad : false ≡ true = sym whole.marked ∙ mark in cc)
   | inr temporary ↦ temporary
 ]
 
 -- a shadow is a temporary object
-pub shadow_temporary : {header : Header} {chains : ChainTable} {objects : ObjectTable} {ids : Ids} {past : List Event} {region_from : ℕ → Region} {regions_made objects_made marked : ℕ}
-    → HasRegions chains objects ids region_from (λ o. backing_of header o past) regions_made objects_made marked → HaveHomes header past → (o : ℕ) (row : ShadowRow) → shadow_at chains o ≡ Some row → named header ≤ o
+pub shadow_temporary : {header : Header} {chains : ChainTable} {objects : ObjectTable} {ids : Ids} {past : List Event} {region_from : ℕ → Region}
+    {regions_made objects_made marked : ℕ}
+    → HasRegions chains objects ids region_from (λ o. backing_of header o past) regions_made objects_made marked → HaveHomes header past
+    → (o : ℕ) (row : ShadowRow) → shadow_at chains o ≡ Some row → named header ≤ o
 shadow_temporary {header = header} has homes o row found = elim (kind_cases header o) [
   | inl declared ↦ absurd (let bad : true ≡ false = sym (ap (λ (z : Backing). z.backed) (has.shadows o row found)) ∙ homes.bare o declared in cc)
   | inr temporary ↦ temporary
 ]
 
 -- a region over a declared object is that object's own
-pub over_declared : {header : Header} {chains : ChainTable} {objects : ObjectTable} {ids : Ids} {past : List Event} {backing_from : ℕ → Backing} {regions_made objects_made marked : ℕ}
-    → HasRegions chains objects ids (λ r. region_of header r past) backing_from regions_made objects_made marked → HasKinds header objects chains → HaveHomes header past → (r : ℕ) (row : RegionRow) → region_at chains r ≡ Some row → row.top.0 < named header
+pub over_declared : {header : Header} {chains : ChainTable} {objects : ObjectTable} {ids : Ids} {past : List Event} {backing_from : ℕ → Backing}
+    {regions_made objects_made marked : ℕ}
+    → HasRegions chains objects ids (λ r. region_of header r past) backing_from regions_made objects_made marked → HasKinds header objects chains
+    → HaveHomes header past → (r : ℕ) (row : RegionRow) → region_at chains r ≡ Some row → row.top.0 < named header
     → r ≡ row.top.0
 over_declared {header = header} has kinds homes r row found declared = elim (kind_cases header r) [
   | inl less ↦ sym (whole_row has homes r row less found).top

@@ -30,7 +30,8 @@ pub some_apart : (os : ObjectTable) (x y : ℕ) → IsSome (object_at os x) → 
 some_apart os x y known none same = let bad : true ≡ false = sym known ∙ (ap (λ z. is_some (object_at os z)) same ∙ ap is_some none) in cc
 
 -- each object that was known has as many pages
-pub pages_known : (o : ℕ) (new : ObjectRow) (os os2 : ObjectTable) → PutsObject o (Some new) os os2 → object_at os o ≡ None → (x : ℕ) → IsSome (object_at os x) → object_pages os2 x ≡ object_pages os x
+pub pages_known : (o : ℕ) (new : ObjectRow) (os os2 : ObjectTable) → PutsObject o (Some new) os os2 → object_at os o ≡ None → (x : ℕ) → IsSome (object_at os x)
+    → object_pages os2 x ≡ object_pages os x
 pages_known o new os os2 put none x known = elim (known_cases o new os os2 put x) [
   | inl this ↦ absurd (some_apart os x o known none (sym this.0))
   | inr other ↦ ap pages_of_row other.1
@@ -40,9 +41,11 @@ pub pages_put : (o : ℕ) (new : ObjectRow) (os os2 : ObjectTable) → PutsObjec
 pages_put o new os os2 put = ap pages_of_row (known_put o new os os2 put)
 
 -- nothing is over an object that isn't known
-pub unreferenced : (cs : ChainTable) (os : ObjectTable) (ids : Ids) (region_from : ℕ → Region) (backing_from : ℕ → Backing) (rm om marked x : ℕ) → HasRegions cs os ids region_from backing_from rm om marked
+pub unreferenced : (cs : ChainTable) (os : ObjectTable) (ids : Ids) (region_from : ℕ → Region) (backing_from : ℕ → Backing) (rm om marked x : ℕ)
+    → HasRegions cs os ids region_from backing_from rm om marked
     → object_at os x ≡ None → references_to cs rm om x ≡ 0
-unreferenced cs os ids region_from backing_from rm om marked x has none = references_none cs rm om x (λ r. tops r (region_at cs r) refl) (λ o. unders o (shadow_at cs o) refl)
+unreferenced cs os ids region_from backing_from rm om marked x has none =
+    references_none cs rm om x (λ r. tops r (region_at cs r) refl) (λ o. unders o (shadow_at cs o) refl)
   where
     tops : (r : ℕ) (row : Option RegionRow) → region_at cs r ≡ row → is_over x row ≡ false
     tops r None is = refl
@@ -53,7 +56,8 @@ unreferenced cs os ids region_from backing_from rm om marked x has none = refere
     unders o (Some row) is = other_test row.under.0 x (some_apart os row.under.0 x (has.unders o row is).1 none)
 
 -- nothing stands under an object that isn't known
-pub unshadowed : (cs : ChainTable) (os : ObjectTable) (ids : Ids) (region_from : ℕ → Region) (backing_from : ℕ → Backing) (rm om marked x : ℕ) → HasRegions cs os ids region_from backing_from rm om marked
+pub unshadowed : (cs : ChainTable) (os : ObjectTable) (ids : Ids) (region_from : ℕ → Region) (backing_from : ℕ → Backing) (rm om marked x : ℕ)
+    → HasRegions cs os ids region_from backing_from rm om marked
     → object_at os x ≡ None → shadow_at cs x ≡ None
 unshadowed cs os ids region_from backing_from rm om marked x has none = by (shadow_at cs x) refl
   where

@@ -49,8 +49,10 @@ shadow_before o cs cs2 drop q row found = elim (one_case o q None (shadow_at cs 
 ]
 
 -- a region goes, and its top has one reference less
-pub regions_gone : (r left : ℕ) (row : RegionRow) (known : ObjectRow) (cs cs2 : ChainTable) (os os2 : ObjectTable) (ids : Ids) (region_from : ℕ → Region) (backing_from : ℕ → Backing) (rm om marked : ℕ)
-    → region_at cs r ≡ Some row → PutsRegion r None cs cs2 → object_at os row.top.0 ≡ Some known → left + 1 ≡ known.references → PutsObject row.top.0 (Some (record known { references = left })) os os2
+pub regions_gone : (r left : ℕ) (row : RegionRow) (known : ObjectRow) (cs cs2 : ChainTable) (os os2 : ObjectTable) (ids : Ids) (region_from : ℕ → Region)
+    (backing_from : ℕ → Backing) (rm om marked : ℕ)
+    → region_at cs r ≡ Some row → PutsRegion r None cs cs2 → object_at os row.top.0 ≡ Some known → left + 1 ≡ known.references
+    → PutsObject row.top.0 (Some (record known { references = left })) os os2
     → HasRegions cs os ids region_from backing_from rm om marked → HasRegions cs2 os2 ids region_from backing_from rm om marked
 regions_gone r left row known cs cs2 os os2 ids region_from backing_from rm om marked there put found less putting has =
     record {
@@ -65,7 +67,11 @@ regions_gone r left row known cs cs2 os os2 ids region_from backing_from rm om m
       unmade = λ q le. elim (one_case r q None (region_at cs q) (region_at cs2 q) (put.at q)) [ inl this ↦ this.1 | inr other ↦ other.1 ∙ has.unmade q le ];
       unknown = λ o le. unknown_still top new os os2 putting o (known_apart top o known os found (has.unknown o le)) (has.unknown o le);
       tops = λ q region is. known_still top new os os2 putting region.top.0 (has.tops q region (region_before r cs cs2 put q region is));
-      unders = λ o shadow is. let both = has.unders o shadow (still o ∙ is) in (known_still top new os os2 putting o both.0, known_still top new os os2 putting shadow.under.0 both.1);
+      unders =
+          λ o shadow is. let both = has.unders o shadow (still o ∙ is) in (
+            known_still top new os os2 putting o both.0,
+            known_still top new os os2 putting shadow.under.0 both.1,
+          );
       fits = fits_still cs2 os os2 (same_pages os os2 top known new found refl putting) (record {
         tops = λ q region is. has.fits.tops q region (region_before r cs cs2 put q region is);
         unders = λ o shadow is. has.fits.unders o shadow (still o ∙ is);
@@ -98,8 +104,10 @@ regions_gone r left row known cs cs2 os os2 ids region_from backing_from rm om m
     others x apart = let now = fewer x in let none = one_other row.top.0 x apart in omega (arith, now, none)
 
 -- what stood under an object to which nothing refers goes, and has one reference less
-pub regions_dropped : (o left : ℕ) (row : ShadowRow) (known0 known : ObjectRow) (cs cs2 : ChainTable) (os os2 : ObjectTable) (ids : Ids) (region_from : ℕ → Region) (backing_from : ℕ → Backing) (rm om marked : ℕ)
-    → shadow_at cs o ≡ Some row → object_at os o ≡ Some known0 → known0.references ≡ 0 → DropsShadow o cs cs2 → object_at os row.under.0 ≡ Some known → left + 1 ≡ known.references
+pub regions_dropped : (o left : ℕ) (row : ShadowRow) (known0 known : ObjectRow) (cs cs2 : ChainTable) (os os2 : ObjectTable) (ids : Ids)
+    (region_from : ℕ → Region) (backing_from : ℕ → Backing) (rm om marked : ℕ)
+    → shadow_at cs o ≡ Some row → object_at os o ≡ Some known0 → known0.references ≡ 0 → DropsShadow o cs cs2 → object_at os row.under.0 ≡ Some known
+    → left + 1 ≡ known.references
     → PutsObject row.under.0 (Some (record known { references = left })) os os2
     → HasRegions cs os ids region_from backing_from rm om marked → HasRegions cs2 os2 ids region_from backing_from rm om marked
 regions_dropped o left row known0 known cs cs2 os os2 ids region_from backing_from rm om marked there own none drop found less putting has =
@@ -111,14 +119,20 @@ regions_dropped o left row known0 known cs cs2 os os2 ids region_from backing_fr
       rows = λ q region is. has.rows q region (still q ∙ is);
       shadows = λ x shadow is. has.shadows x shadow (shadow_before o cs cs2 drop x shadow is);
       older = λ x shadow is. has.older x shadow (shadow_before o cs cs2 drop x shadow is);
-      bottoms = λ x referred bare. let before = referred_before under new os os2 putting was x referred in elim (one_case o x None (shadow_at cs x) (shadow_at cs2 x) (drop.at x)) [
-        | inl this ↦ absurd (unreferred x this.0 before)
-        | inr other ↦ has.bottoms x before (sym other.1 ∙ bare)
-      ];
+      bottoms =
+          λ x referred bare. let before = referred_before under new os os2 putting was x referred in elim
+          (one_case o x None (shadow_at cs x) (shadow_at cs2 x) (drop.at x)) [
+            | inl this ↦ absurd (unreferred x this.0 before)
+            | inr other ↦ has.bottoms x before (sym other.1 ∙ bare)
+          ];
       unmade = λ q le. sym (still q) ∙ has.unmade q le;
       unknown = λ x le. unknown_still under new os os2 putting x (known_apart under x known os found (has.unknown x le)) (has.unknown x le);
       tops = λ q region is. known_still under new os os2 putting region.top.0 (has.tops q region (still q ∙ is));
-      unders = λ x shadow is. let both = has.unders x shadow (shadow_before o cs cs2 drop x shadow is) in (known_still under new os os2 putting x both.0, known_still under new os os2 putting shadow.under.0 both.1);
+      unders =
+          λ x shadow is. let both = has.unders x shadow (shadow_before o cs cs2 drop x shadow is) in (
+            known_still under new os os2 putting x both.0,
+            known_still under new os os2 putting shadow.under.0 both.1,
+          );
       fits = fits_still cs2 os os2 (same_pages os os2 under known new found refl putting) (record {
         tops = λ q region is. has.fits.tops q region (still q ∙ is);
         unders = λ x shadow is. has.fits.unders x shadow (shadow_before o cs cs2 drop x shadow is);
@@ -152,7 +166,9 @@ regions_dropped o left row known0 known cs cs2 os os2 ids region_from backing_fr
     fewer x = references_dropped cs cs2 rm om o row there (below_all (object_at os) om o known0 has.unknown own) drop x
 
     its : left ≡ references_to cs2 rm om row.under.0
-    its = let before = has.counts row.under.0 known found in let now = fewer row.under.0 in let mine = one_own row.under.0 in omega (arith, before, now, mine, less)
+    its =
+        let before = has.counts row.under.0 known found in let now = fewer row.under.0 in let mine = one_own row.under.0 in omega
+        (arith, before, now, mine, less)
 
     others : (x : ℕ) → (row.under.0 ≡ x → ⊥) → references_to cs2 rm om x ≡ references_to cs rm om x
     others x apart = let now = fewer x in let no = one_other row.under.0 x apart in omega (arith, now, no)

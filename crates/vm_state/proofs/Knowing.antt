@@ -10,21 +10,24 @@ use Rattle.vm_shadow.specs.Chains.{ChainTable}
 use Rattle.vm_terminate.specs.Finishes.{IsReferred}
 
 -- the object is the one that is known otherwise, or another
-pub known_cases : (o : ℕ) (new : ObjectRow) (os os2 : ObjectTable) → PutsObject o (Some new) os os2 → (x : ℕ) → ((o ≡ x) × (object_at os2 x ≡ Some new)) ⊎ ((o ≡ x → ⊥) × (object_at os2 x ≡ object_at os x))
+pub known_cases : (o : ℕ) (new : ObjectRow) (os os2 : ObjectTable) → PutsObject o (Some new) os os2 → (x : ℕ) → ((o ≡ x) × (object_at os2 x ≡ Some new))
+    ⊎ ((o ≡ x → ⊥) × (object_at os2 x ≡ object_at os x))
 known_cases o new os os2 put x = one_case o x (Some new) (object_at os x) (object_at os2 x) (put.at x)
 
 pub known_put : (o : ℕ) (new : ObjectRow) (os os2 : ObjectTable) → PutsObject o (Some new) os os2 → object_at os2 o ≡ Some new
 known_put o new os os2 put = if_true o (Some new) (object_at os o) (object_at os2 o) (put.at o)
 
 -- what was known is so still
-pub known_still : (o : ℕ) (new : ObjectRow) (os os2 : ObjectTable) → PutsObject o (Some new) os os2 → (x : ℕ) → IsSome (object_at os x) → IsSome (object_at os2 x)
+pub known_still : (o : ℕ) (new : ObjectRow) (os os2 : ObjectTable) → PutsObject o (Some new) os os2 → (x : ℕ) → IsSome (object_at os x)
+    → IsSome (object_at os2 x)
 known_still o new os os2 put x known = elim (known_cases o new os os2 put x) [
   | inl this ↦ ap is_some this.1
   | inr other ↦ ap is_some other.1 ∙ known
 ]
 
 -- what wasn't known isn't so now, but for this one
-pub unknown_still : (o : ℕ) (new : ObjectRow) (os os2 : ObjectTable) → PutsObject o (Some new) os os2 → (x : ℕ) → (o ≡ x → ⊥) → object_at os x ≡ None → object_at os2 x ≡ None
+pub unknown_still : (o : ℕ) (new : ObjectRow) (os os2 : ObjectTable) → PutsObject o (Some new) os os2 → (x : ℕ) → (o ≡ x → ⊥) → object_at os x ≡ None
+    → object_at os2 x ≡ None
 unknown_still o new os os2 put x apart none = elim (known_cases o new os os2 put x) [
   | inl this ↦ absurd (apart this.0)
   | inr other ↦ other.1 ∙ none
@@ -35,7 +38,8 @@ pub known_apart : (o x : ℕ) (row : ObjectRow) (os : ObjectTable) → object_at
 known_apart o x row os found none same = let bad : None ≡ Some row = sym none ∙ (ap (object_at os) (sym same) ∙ found) in cc
 
 -- what is referred to was so before, where the object was
-pub referred_before : (o : ℕ) (new : ObjectRow) (os os2 : ObjectTable) → PutsObject o (Some new) os os2 → (0 < new.references → IsReferred os o) → (x : ℕ) → IsReferred os2 x → IsReferred os x
+pub referred_before : (o : ℕ) (new : ObjectRow) (os os2 : ObjectTable) → PutsObject o (Some new) os os2 → (0 < new.references → IsReferred os o) → (x : ℕ)
+    → IsReferred os2 x → IsReferred os x
 referred_before o new os os2 put before x is = elim (known_cases o new os os2 put x) [
   | inl this ↦
       let same : new ≡ is.row = some_is new is.row (sym this.1 ∙ is.known) in
@@ -44,22 +48,26 @@ referred_before o new os os2 put before x is = elim (known_cases o new os os2 pu
 ]
 
 -- another object that is referred to was so before
-pub referred_other : (o : ℕ) (new : ObjectRow) (os os2 : ObjectTable) → PutsObject o (Some new) os os2 → (x : ℕ) → (o ≡ x → ⊥) → IsReferred os2 x → IsReferred os x
+pub referred_other : (o : ℕ) (new : ObjectRow) (os os2 : ObjectTable) → PutsObject o (Some new) os os2 → (x : ℕ) → (o ≡ x → ⊥) → IsReferred os2 x
+    → IsReferred os x
 referred_other o new os os2 put x apart is = elim (known_cases o new os os2 put x) [
   | inl this ↦ absurd (apart this.0)
   | inr other ↦ record { row = is.row; known = sym other.1 ∙ is.known; some = is.some }
 ]
 
 -- what is referred to is so still, where the object is
-pub referred_still : (o : ℕ) (new : ObjectRow) (os os2 : ObjectTable) → PutsObject o (Some new) os os2 → (x : ℕ) → (o ≡ x → 0 < new.references) → IsReferred os x → IsReferred os2 x
+pub referred_still : (o : ℕ) (new : ObjectRow) (os os2 : ObjectTable) → PutsObject o (Some new) os os2 → (x : ℕ) → (o ≡ x → 0 < new.references)
+    → IsReferred os x → IsReferred os2 x
 referred_still o new os os2 put x more is = elim (known_cases o new os os2 put x) [
   | inl this ↦ record { row = new; known = this.1; some = more this.0 }
   | inr other ↦ record { row = is.row; known = other.1 ∙ is.known; some = is.some }
 ]
 
 -- all count their references still
-pub counts_still : (o : ℕ) (new : ObjectRow) (os os2 : ObjectTable) (before after : ℕ → ℕ) → PutsObject o (Some new) os os2 → new.references ≡ after o → ((x : ℕ) → (o ≡ x → ⊥) → after x ≡ before x)
-    → ((x : ℕ) (known : ObjectRow) → object_at os x ≡ Some known → known.references ≡ before x) → (x : ℕ) (known : ObjectRow) → object_at os2 x ≡ Some known → known.references ≡ after x
+pub counts_still : (o : ℕ) (new : ObjectRow) (os os2 : ObjectTable) (before after : ℕ → ℕ) → PutsObject o (Some new) os os2 → new.references ≡ after o
+    → ((x : ℕ) → (o ≡ x → ⊥) → after x ≡ before x)
+    → ((x : ℕ) (known : ObjectRow) → object_at os x ≡ Some known → known.references ≡ before x) → (x : ℕ) (known : ObjectRow) → object_at os2 x ≡ Some known
+    → known.references ≡ after x
 counts_still o new os os2 before after put its same all x known found = elim (known_cases o new os os2 put x) [
   | inl this ↦ sym (ap (λ z. z.references) (some_is new known (sym this.1 ∙ found))) ∙ (its ∙ ap after this.0)
   | inr other ↦ all x known (sym other.1 ∙ found) ∙ sym (same x other.0)

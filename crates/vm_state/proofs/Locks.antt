@@ -78,18 +78,22 @@ storing_is size to (want.Store address n value) = refl
 storing_is size to (want.CopyTo address pages target next) = refl
 
 -- it names the access
-pub names_at : {header : Header} {h : ℕ} {parts : HostParts} {chains : ChainTable} {past : List Event} → IsShown header h parts chains past → (size to o p : ℕ) (what : Want) (row : PageRow) → row_at parts.resident o p ≡ Some row → row.here ≡ true → keeps_out row.lock (is_storing what) ≡ true
+pub names_at : {header : Header} {h : ℕ} {parts : HostParts} {chains : ChainTable} {past : List Event} → IsShown header h parts chains past
+    → (size to o p : ℕ) (what : Want) (row : PageRow) → row_at parts.resident o p ≡ Some row → row.here ≡ true → keeps_out row.lock (is_storing what) ≡ true
     → names (page_on header h o p past).lock (is_store (access_in size to what)) ≡ true
 names_at s size to o p what row found here locked =
-    ap (λ n. names n (is_store (access_in size to what))) (shows_row s o p row found here).lock ∙ (ap (names (lock_number row.lock)) (storing_is size to what) ∙ (names_kept row.lock (is_storing what) ∙ locked))
+    ap (λ n. names n (is_store (access_in size to what))) (shows_row s o p row found here).lock
+    ∙ (ap (names (lock_number row.lock)) (storing_is size to what) ∙ (names_kept row.lock (is_storing what) ∙ locked))
 
 -- so does that of a page for whose unlock it waits
-pub named_at : {header : Header} {h : ℕ} {parts : HostParts} {chains : ChainTable} {past : List Event} → IsShown header h parts chains past → (size to o p : ℕ) (what : Want) → IsLockedFor parts.resident what o p → names (page_on header h o p past).lock (is_store (access_in size to what)) ≡ true
+pub named_at : {header : Header} {h : ℕ} {parts : HostParts} {chains : ChainTable} {past : List Event} → IsShown header h parts chains past
+    → (size to o p : ℕ) (what : Want) → IsLockedFor parts.resident what o p → names (page_on header h o p past).lock (is_store (access_in size to what)) ≡ true
 named_at s size to o p what locked =
     names_at s size to o p what locked.row locked.found locked.here locked.locked
 
 -- a page that is here with such a lock is one for whose unlock the access waits
-pub awaits_word : {header : Header} {h : ℕ} {parts : HostParts} {chains : ChainTable} {past : List Event} → IsShown header h parts chains past → (size to o p : ℕ) (what : Want) → IsAwaitedBy parts.resident what o p → Awaits header h (is_store (access_in size to what)) o p past
+pub awaits_word : {header : Header} {h : ℕ} {parts : HostParts} {chains : ChainTable} {past : List Event} → IsShown header h parts chains past
+    → (size to o p : ℕ) (what : Want) → IsAwaitedBy parts.resident what o p → Awaits header h (is_store (access_in size to what)) o p past
 awaits_word s size to o p what awaits = elim awaits [
   | inl asked ↦ awaits_page s o p asked (is_store (access_in size to what))
   | inr locked ↦

@@ -26,12 +26,15 @@ use Rattle.vm_state.specs.References.{references_to}
 use Rattle.vm_state.specs.Stands.{HasRegions}
 
 -- a region is made over a new object; the history has nothing under that yet
-pub regions_made : (header : Header) (past : List Event) (r : RegionId) (o : ObjectId) (row : RegionRow) (known : ObjectRow) (pages : ℕ) (cs cs2 : ChainTable) (os os2 : ObjectTable) (ids : Ids) (rm om marked : ℕ)
+pub regions_made : (header : Header) (past : List Event) (r : RegionId) (o : ObjectId) (row : RegionRow) (known : ObjectRow) (pages : ℕ) (cs cs2 : ChainTable)
+    (os os2 : ObjectTable) (ids : Ids) (rm om marked : ℕ)
     → r.0 ≡ rm → o.0 ≡ om → om + marked < most_objects → (backing_of header om past).backed ≡ false
-    → row ≡ record { top = o; shift = 0; pages = pages; marked = false; entries = 1 } → known ≡ record { kind = Temp; pages = pages; state = Without; control = 0; live = false; references = 1 }
+    → row ≡ record { top = o; shift = 0; pages = pages; marked = false; entries = 1 }
+    → known ≡ record { kind = Temp; pages = pages; state = Without; control = 0; live = false; references = 1 }
     → PutsRegion r.0 (Some row) cs cs2 → PutsObject o.0 (Some known) os os2
     → HasRegions cs os ids (λ q. region_of header q past) (λ q. backing_of header q past) rm om marked
-    → HasRegions cs2 os2 (record ids { next_region = ids.next_region + 1; next_object = ids.next_object + 1 }) (λ q. region_of header q (event.RegionMade r o pages ∷ past)) (λ q. backing_of header q (event.RegionMade r o pages ∷ past)) (rm + 1) (om + 1) marked
+    → HasRegions cs2 os2 (record ids { next_region = ids.next_region + 1; next_object = ids.next_object + 1 })
+    (λ q. region_of header q (event.RegionMade r o pages ∷ past)) (λ q. backing_of header q (event.RegionMade r o pages ∷ past)) (rm + 1) (om + 1) marked
 regions_made header past r o row known pages cs cs2 os os2 ids rm om marked next next_too room fresh is_row is_known put putting has =
     record {
       region = ap (λ z. z + 1) has.region;
@@ -64,7 +67,11 @@ regions_made header past r o row known pages cs cs2 os os2 ids rm om marked next
             ap (λ z. is_some (object_at os2 z.0)) its ∙ ap is_some (known_put o.0 known os os2 putting)
         | inr other ↦ known_still o.0 known os os2 putting region.top.0 (has.tops q region (sym other.1 ∙ found))
       ];
-      unders = λ q shadow found. let both = has.unders q shadow (still q ∙ found) in (known_still o.0 known os os2 putting q both.0, known_still o.0 known os os2 putting shadow.under.0 both.1);
+      unders =
+          λ q shadow found. let both = has.unders q shadow (still q ∙ found) in (
+            known_still o.0 known os os2 putting q both.0,
+            known_still o.0 known os os2 putting shadow.under.0 both.1,
+          );
       fits = record {
         tops = λ q region found. elim (cases q) [
           | inl this ↦
@@ -73,7 +80,8 @@ regions_made header past r o row known pages cs cs2 os os2 ids rm om marked next
               subst (λ (z : RegionRow). z.shift + z.pages ≤ object_pages os2 z.top.0) (sym its) (subst (λ (z : ℕ). 0 + pages ≤ z) (sym all) (omega arith))
           | inr other ↦
               let before : region_at cs q ≡ Some region = sym other.1 ∙ found in
-              subst (λ (z : ℕ). region.shift + region.pages ≤ z) (sym (pages_known o.0 known os os2 putting none region.top.0 (has.tops q region before))) (has.fits.tops q region before)
+              subst (λ (z : ℕ). region.shift + region.pages ≤ z) (sym (pages_known o.0 known os os2 putting none region.top.0 (has.tops q region before)))
+              (has.fits.tops q region before)
         ];
         unders = λ q shadow found.
             let before : shadow_at cs q ≡ Some shadow = still q ∙ found in
@@ -99,7 +107,8 @@ regions_made header past r o row known pages cs cs2 os os2 ids rm om marked next
     none = ap (object_at os) next_too ∙ none_om
 
     more : (x : ℕ) → references_to cs2 (rm + 1) (om + 1) x ≡ references_to cs rm om x + one (row.top.0 == x)
-    more x = references_made cs cs2 rm om row (unshadowed cs os ids _ _ rm om marked om has none_om) (subst (λ (z : ℕ). PutsRegion z (Some row) cs cs2) next put) x
+    more x =
+        references_made cs cs2 rm om row (unshadowed cs os ids _ _ rm om marked om has none_om) (subst (λ (z : ℕ). PutsRegion z (Some row) cs cs2) next put) x
 
     top_is : row.top.0 ≡ o.0
     top_is = ap (λ z. z.top.0) is_row

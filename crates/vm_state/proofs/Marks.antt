@@ -27,7 +27,9 @@ marks_counted header (suc n) past =
 
 -- with one number more
 marks_next : (header : Header) (n : ℕ) (past : List Event) → marked_below header (n + 1) past ≡ one (is_marked header past n) + tally (is_marked header past) n
-marks_next header n past = subst (λ (k : ℕ). marked_below header k past ≡ one (is_marked header past n) + tally (is_marked header past) n) (let same : suc n ≡ n + 1 = omega arith in same) (marks_counted header (suc n) past)
+marks_next header n past =
+    subst (λ (k : ℕ). marked_below header k past ≡ one (is_marked header past n) + tally (is_marked header past) n)
+    (let same : suc n ≡ n + 1 = omega arith in same) (marks_counted header (suc n) past)
 
 is_self : (n m : ℕ) → n ≡ m → (n == m) ≡ true
 is_self n m same = grind (arith, nat_tests)
@@ -35,14 +37,16 @@ is_self n m same = grind (arith, nat_tests)
 not_self : (n m : ℕ) → (n ≡ m → ⊥) → (n == m) ≡ false
 not_self n m apart = grind (arith, nat_tests)
 
-pub marked_some : (header : Header) (past : List Event) (r : ℕ) → r < next_region header past → (region_of header r past).mark ≡ true → 0 < marked_regions header past
+pub marked_some : (header : Header) (past : List Event) (r : ℕ) → r < next_region header past → (region_of header r past).mark ≡ true
+    → 0 < marked_regions header past
 marked_some header past r less marked =
     let some = tally_some (is_marked header past) (next_region header past) r less marked in
     let is = marks_counted header (next_region header past) past in
     omega (arith, some, is)
 
 -- a region that gets an object of its own loses its mark
-pub marked_shadowed : (header : Header) (past : List Event) (region : RegionId) (new old : ObjectId) → region.0 < next_region header past → (region_of header region.0 past).mark ≡ true
+pub marked_shadowed : (header : Header) (past : List Event) (region : RegionId) (new old : ObjectId) → region.0 < next_region header past
+    → (region_of header region.0 past).mark ≡ true
     → marked_regions header (event.Shadowed region new old ∷ past) + 1 ≡ marked_regions header past
 marked_shadowed header past region new old less marked =
     let now = event.Shadowed region new old ∷ past in
@@ -62,7 +66,8 @@ marked_made header past region object pages new =
     let now = event.RegionMade region object pages ∷ past in
     let n = next_region header past in
     let same = tally_same (is_marked header past) (is_marked header now) n
-    (λ m less. ap (λ b. if b then false else is_marked header past m) (not_self m region.0 (λ eq. let small : m < next_region header past = less in omega (arith, eq, new, small)))) in
+    (λ m less. ap (λ b. if b then false else is_marked header past m) (not_self m region.0
+    (λ eq. let small : m < next_region header past = less in omega (arith, eq, new, small)))) in
     let none : one (is_marked header now n) ≡ 0 = ap (λ b. one (if b then false else is_marked header past n)) (is_self n region.0 (sym new)) in
     let before = marks_counted header n past in
     let after = marks_next header n now in
@@ -73,16 +78,20 @@ abbrev source_marked : Header → List Event → ℕ → ℕ → Bool
 source_marked header past source r = if r == source then true else is_marked header past r
 
 -- a copy has a mark, and its source has one from then on
-pub marked_copied : (header : Header) (past : List Event) (region source : RegionId) (offset pages : ℕ) → region.0 ≡ next_region header past → source.0 < next_region header past
-    → marked_regions header (event.RegionCopied region source offset pages ∷ past) ≡ marked_regions header past + (if (region_of header source.0 past).mark then 1 else 2)
+pub marked_copied : (header : Header) (past : List Event) (region source : RegionId) (offset pages : ℕ) → region.0 ≡ next_region header past
+    → source.0 < next_region header past
+    → marked_regions header (event.RegionCopied region source offset pages ∷ past) ≡ marked_regions header
+    past + (if (region_of header source.0 past).mark then 1 else 2)
 marked_copied header past region source offset pages new less =
     let now = event.RegionCopied region source offset pages ∷ past in
     let n = next_region header past in
     let same = tally_same (source_marked header past source.0) (is_marked header now) n
-    (λ m small. ap (λ b. if b then true else source_marked header past source.0 m) (not_self m region.0 (λ eq. let smaller : m < next_region header past = small in omega (arith, eq, new, smaller)))) in
+    (λ m small. ap (λ b. if b then true else source_marked header past source.0 m)
+    (not_self m region.0 (λ eq. let smaller : m < next_region header past = small in omega (arith, eq, new, smaller)))) in
     let put = tally_put (is_marked header past) (source_marked header past source.0) n source.0 less
     (λ m apart. ap (λ b. if b then true else is_marked header past m) (not_self m source.0 (λ eq. apart (sym eq)))) in
-    let has : one (source_marked header past source.0 source.0) ≡ 1 = ap (λ b. one (if b then true else is_marked header past source.0)) (is_self source.0 source.0 refl) in
+    let has : one (source_marked header past source.0 source.0) ≡ 1 = ap (λ b. one (if b then true else is_marked header past source.0))
+    (is_self source.0 source.0 refl) in
     let copy : one (is_marked header now n) ≡ 1 = ap (λ b. one (if b then true else source_marked header past source.0 n)) (is_self n region.0 (sym new)) in
     let before = marks_counted header n past in
     let after = marks_next header n now in

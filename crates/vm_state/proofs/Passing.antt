@@ -1,5 +1,6 @@
 -- What accesses have passed over on their way to where they wait: how that stays so while events come behind, and while chains change.
-use Rattle.std.proofs.Common.{Bool, List, None, Some, [], ap, arith, false, inl, inr, refl, subst, suc, sym, true, zero, ℕ, ◌&&◌, ◌+◌, ◌<◌, ◌==◌, ◌||◌, ◌∙◌, ◌∷◌, ◌≡◌}
+use Rattle.std.proofs.Common.{Bool, List, None, Some, [], ap, arith, false, inl, inr, refl, subst, suc, sym, true, zero, ℕ, ◌&&◌, ◌+◌, ◌<◌, ◌==◌, ◌||◌, ◌∙◌}
+use Rattle.std.proofs.Common.{◌∷◌, ◌≡◌}
 use Rattle.std.proofs.lemmas.Bool.Decides.{eqb_tells}
 use Rattle.std.specs.Prelude.{if◌then◌else◌}
 use Rattle.vm_base.specs.declared.ids.ObjectId.{ObjectId}
@@ -9,7 +10,8 @@ use Rattle.vm_legal.specs.Returned.{OnlyReturned, was_returned}
 use Rattle.vm_legal.specs.Walks.{page_on}
 use Rattle.vm_maps.specs.Maps.{Mapped}
 use Rattle.vm_model.specs.Controls.{last_control}
-use Rattle.vm_model.specs.Local.{Asks, Begins, Drops, Elsewhere, Ends, Local, LocalEffect, Place, Raises, Returns, Stores, TakesError, TakesLock, TakesNothing, TakesPage, Unlocks, Zeroes, effect, is_known_absent, local, local_after}
+use Rattle.vm_model.specs.Local.{Asks, Begins, Drops, Elsewhere, Ends, Local, LocalEffect, Place, Raises, Returns, Stores, TakesError, TakesLock, TakesNothing}
+use Rattle.vm_model.specs.Local.{TakesPage, Unlocks, Zeroes, effect, is_known_absent, local, local_after}
 use Rattle.vm_model.specs.Named.{named}
 use Rattle.vm_model.specs.declared.event.Event.{Event}
 use Rattle.vm_model.specs.declared.event.Event.TheVariants as event
@@ -97,7 +99,15 @@ unmet_after known size Asks was calm is = absurd calm
 unmet_after known size (TakesPage lock precious bytes) was calm is = by was.asked is.1
   where
     by : (b : Bool) → b ≡ false
-        → UnmetBy known (if b then record was { here = true; bytes = bytes; lock = lock; dirty = false; precious = precious; unlocking = false; asked = false } else was)
+        → UnmetBy known (if b then record was {
+          here = true;
+          bytes = bytes;
+          lock = lock;
+          dirty = false;
+          precious = precious;
+          unlocking = false;
+          asked = false;
+        } else was)
     by true bad = absurd (let no : true ≡ false = bad in cc)
     by false unasked = is
 unmet_after known size (Stores at bytes) was calm is = is
@@ -149,14 +159,18 @@ pub stays_quiet : (header : Header) (h : ℕ) (e : Event) (past : List Event) (k
     → StaysAway header h past key → StaysAway header h (e ∷ past) key
 stays_quiet header h e past key quiet stays = (
   stays.0,
-  λ only. subst (λ (z : Bool). IsAway (page_on header h key.object.0 key.page.0 (e ∷ past)) z) (sym (returned_same h key (λ source. local header.size h source past) e past quiet))
-      (away_after header.size (effect_at header h key e past) (page_on header h key.object.0 key.page.0 past) (was_returned h key.object.0 key.page.0 past) quiet (stays.1 (only_before (named header) h e past only))),
+  λ only. subst (λ (z : Bool). IsAway (page_on header h key.object.0 key.page.0 (e ∷ past)) z)
+      (sym (returned_same h key (λ source. local header.size h source past) e past quiet))
+      (away_after header.size (effect_at header h key e past) (page_on header h key.object.0 key.page.0 past) (was_returned h key.object.0 key.page.0 past)
+      quiet (stays.1 (only_before (named header) h e past only))),
 )
 
 pub unmet_calm : (header : Header) (h : ℕ) (e : Event) (past : List Event) (key : PageKey) → IsCalm (effect_at header h key e past)
     → IsUnmet header h past key → IsUnmet header h (e ∷ past) key
 unmet_calm header h e past key calm unmet =
-    let is = unmet_after (λ b. is_known_absent header (place_of key.object.0 key.page.0) (record (page_on header h key.object.0 key.page.0 past) { absent = b })) header.size (effect_at header h key e past) (page_on header h key.object.0 key.page.0 past) calm
+    let is = unmet_after (λ b. is_known_absent header (place_of key.object.0 key.page.0)
+    (record (page_on header h key.object.0 key.page.0 past) { absent = b })) header.size (effect_at header h key e past)
+    (page_on header h key.object.0 key.page.0 past) calm
     (unmet.away, unmet.unasked, unmet.unknown) in
     record { away = is.0; unasked = is.1; unknown = is.2 }
 
@@ -164,7 +178,8 @@ unmet_calm header h e past key calm unmet =
 
 unreturned_at : (least h o p : ℕ) (a b c x : Bool) (object last : ℕ) → (a ≡ true → 0 < last) → ((b ≡ true) → object ≡ o) → (object ≡ o → last ≡ 0) → x ≡ false
     → ((a && (b && c)) || x) ≡ false
-unreturned_at least h o p true true c x object last some same none is = let zero_is = none (same refl) in let more = some refl in absurd (omega (arith, zero_is, more))
+unreturned_at least h o p true true c x object last some same none is =
+    let zero_is = none (same refl) in let more = some refl in absurd (omega (arith, zero_is, more))
 unreturned_at least h o p true false c x object last some same none is = is
 unreturned_at least h o p false b c x object last some same none is = is
 
@@ -183,7 +198,8 @@ last_before h o control host object last some is = by (host == h) (object == o) 
 pub unreturned : (least h o p : ℕ) (past : List Event) → OnlyReturned least h past → last_control h o past ≡ 0 → was_returned h o p past ≡ false
 unreturned least h o p [] only none = refl
 unreturned least h o p (event.Sent (Up host object) (message.Return control page dirty keep bytes) ∷ past) only none =
-    unreturned_at least h o p (host.0 == h) (object.0 == o) (page.0 == p) (was_returned h o p past) object.0 (last_control h object.0 past) (λ test. only.0 (same_of host.0 h test)) (same_of object.0 o)
+    unreturned_at least h o p (host.0 == h) (object.0 == o) (page.0 == p) (was_returned h o p past) object.0 (last_control h object.0 past)
+    (λ test. only.0 (same_of host.0 h test)) (same_of object.0 o)
     (λ same. ap (λ z. last_control h z past) same ∙ none) (unreturned least h o p past only.1 none)
 unreturned least h o p (event.Sent (Up host object) (message.Init control size) ∷ past) only none =
     unreturned least h o p past only.1 (last_before h o control host.0 object.0 (last_control h o past) only.0 none)
@@ -221,13 +237,20 @@ pub over_kept : (stays : PageKey → Type 0) (cs cs2 : ChainTable) → ((o : ℕ
     → (n : ℕ) (from to : PageKey) → LeadsOver stays cs n from to → LeadsOver stays cs2 n from to
 over_kept stays cs cs2 kept zero from to leads = leads
 over_kept stays cs cs2 kept (suc n) from to leads =
-    let under = leads.1.1 in
-    (leads.0, (leads.1.0, record { row = under.row; found = kept from.object.0 under.row under.found; is = under.is }, over_kept stays cs cs2 kept n leads.1.0 to leads.1.2))
+    let under = leads.1.1 in (
+      leads.0,
+      (
+        leads.1.0,
+        record { row = under.row; found = kept from.object.0 under.row under.found; is = under.is },
+        over_kept stays cs cs2 kept n leads.1.0 to leads.1.2,
+      ),
+    )
 
 -- what is passed over is a place of the access
 pub behind_place : {stays : PageKey → Type 0} {maps : Mapped} {chains : ChainTable} {task : ℕ} {what : Want} {key : PageKey}
     → IsPlaceBehind stays maps chains task what key → IsPlaceOf maps chains task what key
-behind_place {stays = stays} {chains = chains} {key = key} place = record { top = place.top; at = place.at; steps = place.steps; leads = over_leads stays chains place.steps place.top key place.leads }
+behind_place {stays = stays} {chains = chains} {key = key} place =
+    record { top = place.top; at = place.at; steps = place.steps; leads = over_leads stays chains place.steps place.top key place.leads }
 
 top_place_of : {stays : PageKey → Type 0} {maps : Mapped} {chains : ChainTable} {task : ℕ} {what : Want} {key : PageKey}
     → (place : IsPlaceBehind stays maps chains task what key) → IsPlaceOf maps chains task what place.top
@@ -256,16 +279,32 @@ pub passed_now : (stays stays2 unmet unmet2 : PageKey → Type 0) (maps : Mapped
     → Passed stays unmet maps cs task what why → Passed stays2 unmet2 maps cs task what why
 passed_now stays stays2 unmet unmet2 maps cs task what on.Again now met passed = tt
 passed_now stays stays2 unmet unmet2 maps cs task what (on.Ready object) now met passed =
-    let place = passed.1 in
-    (passed.0, record { top = place.top; at = place.at; steps = place.steps; leads = over_mapped stays stays2 maps cs task what passed.0 (now passed.0 (passed.2, passed.3)) place.steps place.top (top_place_of place) place.leads }, passed.2, met object refl passed.0 passed.2 (behind_place place) passed.3)
+    let place = passed.1 in (
+      passed.0,
+      record {
+        top = place.top;
+        at = place.at;
+        steps = place.steps;
+        leads = over_mapped stays stays2 maps cs task what passed.0 (now passed.0 (passed.2, passed.3)) place.steps place.top (top_place_of place)
+            place.leads;
+      },
+      passed.2,
+      met object refl passed.0 passed.2 (behind_place place) passed.3,
+    )
 passed_now stays stays2 unmet unmet2 maps cs task what (on.Page key) now met passed =
-    record { top = passed.top; at = passed.at; steps = passed.steps; leads = over_mapped stays stays2 maps cs task what key (now key refl) passed.steps passed.top (top_place_of passed) passed.leads }
+    record {
+      top = passed.top;
+      at = passed.at;
+      steps = passed.steps;
+      leads = over_mapped stays stays2 maps cs task what key (now key refl) passed.steps passed.top (top_place_of passed) passed.leads;
+    }
 passed_now stays stays2 unmet unmet2 maps cs task what on.Frame now met passed = tt
 
 -- two places under one are the same
 under_same : (chains : ChainTable) (from a b : PageKey) → IsUnder chains from a → IsUnder chains from b → a ≡ b
 under_same chains from a b one two =
-    one.is ∙ (ap (λ (z : ShadowRow). record { object = z.under; page = record { 0 = from.page.0 + z.shift } }) (some_is one.row two.row (sym one.found ∙ two.found)) ∙ sym two.is)
+    one.is ∙ (ap (λ (z : ShadowRow). record { object = z.under; page = record { 0 = from.page.0 + z.shift } })
+    (some_is one.row two.row (sym one.found ∙ two.found)) ∙ sym two.is)
 
 -- a walk that finds the page nowhere passes over each place further down
 pub sinks_over : (parts : HostParts) (chains : ChainTable) (top : PageKey) → Sinks parts chains top → (n : ℕ) (key : PageKey) → LeadsTo chains n top key

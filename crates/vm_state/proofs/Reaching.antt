@@ -12,12 +12,16 @@ use Rattle.vm_state.specs.Stands.{HasRegions}
 use Rattle.vm_state.proofs.Referring.{OfRegion, OfShadow, referrer_of, refers_region, refers_shadow, small_shadow}
 
 -- one further down at the end of a chain
-pub below_more : (backings : ℕ → Backing) (n o u v : ℕ) → Below backings n o u → (backings u).backed ≡ true → (backings u).under ≡ v → Below backings (suc n) o v
+pub below_more : (backings : ℕ → Backing) (n o u v : ℕ) → Below backings n o u → (backings u).backed ≡ true → (backings u).under ≡ v
+    → Below backings (suc n) o v
 below_more backings zero o u v is backed under =
     (subst (λ (k : ℕ). (backings k).backed ≡ true) (sym is) backed, ap (λ (k : ℕ). (backings k).under) is ∙ under)
 below_more backings (suc n) o u v is backed under = (is.0, below_more backings n (backings o).under u v is.1 backed under)
 
-up : {chains : ChainTable} {objects : ObjectTable} {ids : Ids} {region_from : ℕ → Region} {backing_from : ℕ → Backing} {regions_made objects_made marked : ℕ} → HasRegions chains objects ids region_from backing_from regions_made objects_made marked → IsOlderUnder chains → ((s : ℕ) (row : ShadowRow) → shadow_at chains s ≡ Some row → IsReferred objects s) → (used : ℕ → Bool) → ((r : ℕ) (row : RegionRow) → region_at chains r ≡ Some row → used r ≡ true)
+up : {chains : ChainTable} {objects : ObjectTable} {ids : Ids} {region_from : ℕ → Region} {backing_from : ℕ → Backing} {regions_made objects_made marked : ℕ}
+    → HasRegions chains objects ids region_from backing_from regions_made objects_made marked → IsOlderUnder chains
+    → ((s : ℕ) (row : ShadowRow) → shadow_at chains s ≡ Some row → IsReferred objects s) → (used : ℕ → Bool)
+    → ((r : ℕ) (row : RegionRow) → region_at chains r ≡ Some row → used r ≡ true)
     → (fuel o : ℕ) → objects_made ≤ o + fuel → IsReferred objects o → Reaches used region_from backing_from o
 up has older shadows used all zero o enough referred = elim (referrer_of has o referred) [
   | OfRegion r row found top ↦ (r, 0, all r row found, ap (λ (z : Region). z.top) (has.rows r row found) ∙ top)
@@ -31,31 +35,47 @@ up {backing_from = backing_from} has older shadows used all (suc fuel) o enough 
   | OfShadow s row found under ↦
       let less = older s row found in
       let above = up has older shadows used all fuel s (omega (arith, less, under, enough)) (shadows s row found) in
-      let link = has.shadows s row found in
-      (above.0, suc above.1, above.2, below_more backing_from above.1 _ s o above.3 (ap (λ (z : Backing). z.backed) link) (ap (λ (z : Backing). z.under) link ∙ under))
+      let link = has.shadows s row found in (
+        above.0,
+        suc above.1,
+        above.2,
+        below_more backing_from above.1 _ s o above.3 (ap (λ (z : Backing). z.backed) link)
+            (ap (λ (z : Backing). z.under) link ∙ under),
+      )
 ]
 
 -- what is referred to is in the chain of a region, where each shadow is referred to
-pub reach_up : {chains : ChainTable} {objects : ObjectTable} {ids : Ids} {region_from : ℕ → Region} {backing_from : ℕ → Backing} {regions_made objects_made marked : ℕ} → HasRegions chains objects ids region_from backing_from regions_made objects_made marked → IsOlderUnder chains → ((s : ℕ) (row : ShadowRow) → shadow_at chains s ≡ Some row → IsReferred objects s) → (used : ℕ → Bool) → ((r : ℕ) (row : RegionRow) → region_at chains r ≡ Some row → used r ≡ true)
+pub reach_up : {chains : ChainTable} {objects : ObjectTable} {ids : Ids} {region_from : ℕ → Region} {backing_from : ℕ → Backing}
+    {regions_made objects_made marked : ℕ} → HasRegions chains objects ids region_from backing_from regions_made objects_made marked → IsOlderUnder chains
+    → ((s : ℕ) (row : ShadowRow) → shadow_at chains s ≡ Some row → IsReferred objects s) → (used : ℕ → Bool)
+    → ((r : ℕ) (row : RegionRow) → region_at chains r ≡ Some row → used r ≡ true)
     → (o : ℕ) → IsReferred objects o → Reaches used region_from backing_from o
 reach_up {objects_made = objects_made} has older shadows used all o referred = up has older shadows used all objects_made o (omega arith) referred
 
 -- a chain from an object to which something refers leads to such objects only
-pub chain_referred : {chains : ChainTable} {objects : ObjectTable} {ids : Ids} {region_from : ℕ → Region} {backing_from : ℕ → Backing} {regions_made objects_made marked : ℕ} → HasRegions chains objects ids region_from backing_from regions_made objects_made marked → (n o u : ℕ) → IsReferred objects o → Below backing_from n o u → IsReferred objects u
+pub chain_referred : {chains : ChainTable} {objects : ObjectTable} {ids : Ids} {region_from : ℕ → Region} {backing_from : ℕ → Backing}
+    {regions_made objects_made marked : ℕ} → HasRegions chains objects ids region_from backing_from regions_made objects_made marked → (n o u : ℕ)
+    → IsReferred objects o → Below backing_from n o u → IsReferred objects u
 chain_referred {objects = objects} has zero o u referred below = subst (λ (k : ℕ). IsReferred objects k) below referred
 chain_referred {chains = chains} {objects = objects} {backing_from = backing_from} has (suc n) o u referred below =
     chain_referred has n (backing_from o).under u (next (shadow_at chains o) refl) below.1
   where
     next : (x : Option ShadowRow) → shadow_at chains o ≡ x → IsReferred objects (backing_from o).under
     next None none = absurd (let bad : true ≡ false = sym below.0 ∙ has.bottoms o referred none in cc)
-    next (Some row) found = subst (λ (k : ℕ). IsReferred objects k) (sym (ap (λ (z : Backing). z.under) (has.shadows o row found))) (refers_shadow has o row found)
+    next (Some row) found =
+        subst (λ (k : ℕ). IsReferred objects k) (sym (ap (λ (z : Backing). z.under) (has.shadows o row found))) (refers_shadow has o row found)
 
-pub chain_known : {chains : ChainTable} {objects : ObjectTable} {ids : Ids} {region_from : ℕ → Region} {backing_from : ℕ → Backing} {regions_made objects_made marked : ℕ} → HasRegions chains objects ids region_from backing_from regions_made objects_made marked → (r : ℕ) (row : RegionRow) → region_at chains r ≡ Some row → (n u : ℕ) → Below backing_from n (region_from r).top u → IsReferred objects u
+pub chain_known : {chains : ChainTable} {objects : ObjectTable} {ids : Ids} {region_from : ℕ → Region} {backing_from : ℕ → Backing}
+    {regions_made objects_made marked : ℕ} → HasRegions chains objects ids region_from backing_from regions_made objects_made marked → (r : ℕ) (row : RegionRow)
+    → region_at chains r ≡ Some row → (n u : ℕ) → Below backing_from n (region_from r).top u → IsReferred objects u
 chain_known {objects = objects} {region_from = region_from} has r row found n u below =
-    chain_referred has n (region_from r).top u (subst (λ (k : ℕ). IsReferred objects k) (sym (ap (λ (z : Region). z.top) (has.rows r row found))) (refers_region has r row found)) below
+    chain_referred has n (region_from r).top u (subst (λ (k : ℕ). IsReferred objects k) (sym (ap (λ (z : Region). z.top) (has.rows r row found)))
+    (refers_region has r row found)) below
 
 -- what is in the chain of a region in use is referred to
-pub reach_down : {chains : ChainTable} {objects : ObjectTable} {ids : Ids} {region_from : ℕ → Region} {backing_from : ℕ → Backing} {regions_made objects_made marked : ℕ} → HasRegions chains objects ids region_from backing_from regions_made objects_made marked → (used : ℕ → Bool) → ((r : ℕ) → used r ≡ true → (row : RegionRow) × (region_at chains r ≡ Some row)) → (o : ℕ) → Reaches used region_from backing_from o → IsReferred objects o
+pub reach_down : {chains : ChainTable} {objects : ObjectTable} {ids : Ids} {region_from : ℕ → Region} {backing_from : ℕ → Backing}
+    {regions_made objects_made marked : ℕ} → HasRegions chains objects ids region_from backing_from regions_made objects_made marked → (used : ℕ → Bool)
+    → ((r : ℕ) → used r ≡ true → (row : RegionRow) × (region_at chains r ≡ Some row)) → (o : ℕ) → Reaches used region_from backing_from o → IsReferred objects o
 reach_down has used known o reach =
     let row = known reach.0 reach.2 in
     chain_known has reach.0 row.0 row.1 reach.1 o reach.3

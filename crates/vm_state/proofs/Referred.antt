@@ -26,7 +26,8 @@ all_but o cs os rs all =
     }
 
 -- an object that is not in use any more need not be referred to
-pub all_ended : (o : ℕ) (cs : ChainTable) (os : ObjectTable) (rs : ResidentTable) → AllReferredBut o cs os rs → ((known : ObjectRow) → object_at os o ≡ Some known → known.live ≡ false) → ((p : ℕ) → row_at rs o p ≡ None)
+pub all_ended : (o : ℕ) (cs : ChainTable) (os : ObjectTable) (rs : ResidentTable) → AllReferredBut o cs os rs
+    → ((known : ObjectRow) → object_at os o ≡ Some known → known.live ≡ false) → ((p : ℕ) → row_at rs o p ≡ None)
     → shadow_at cs o ≡ None → AllReferred cs os rs
 all_ended o cs os rs but quiet bare bottom =
     record {
@@ -65,7 +66,8 @@ all_with o cs os rs but is =
     }
 
 -- what is a shadow now was so before, or is referred to
-pub referred_chains : (cs cs2 : ChainTable) (os : ObjectTable) (rs : ResidentTable) → ((x : ℕ) (row : ShadowRow) → shadow_at cs2 x ≡ Some row → (shadow_at cs x ≡ Some row) ⊎ IsReferred os x) → AllReferred cs os rs → AllReferred cs2 os rs
+pub referred_chains : (cs cs2 : ChainTable) (os : ObjectTable) (rs : ResidentTable)
+    → ((x : ℕ) (row : ShadowRow) → shadow_at cs2 x ≡ Some row → (shadow_at cs x ≡ Some row) ⊎ IsReferred os x) → AllReferred cs os rs → AllReferred cs2 os rs
 referred_chains cs cs2 os rs before all =
     record {
       live = all.live;
@@ -75,7 +77,8 @@ referred_chains cs cs2 os rs before all =
     }
 
 -- whose control lived, it lives still: one object is known otherwise
-pub locks_known : (o : ℕ) (new : ObjectRow) (os os2 : ObjectTable) (rs : ResidentTable) → PutsObject o (Some new) os os2 → ((p : ℕ) (row : PageRow) → row_at rs o p ≡ Some row → is_live_in (object_at os o) ≡ true → new.live ≡ true)
+pub locks_known : (o : ℕ) (new : ObjectRow) (os os2 : ObjectTable) (rs : ResidentTable) → PutsObject o (Some new) os os2
+    → ((p : ℕ) (row : PageRow) → row_at rs o p ≡ Some row → is_live_in (object_at os o) ≡ true → new.live ≡ true)
     → ((x p : ℕ) (row : PageRow) → row_at rs x p ≡ Some row → MayLock os x row) → (x p : ℕ) (row : PageRow) → row_at rs x p ≡ Some row → MayLock os2 x row
 locks_known o new os os2 rs put stays locks x p row found = elim (locks x p row found) [
   | inl open_now ↦ inl open_now
@@ -83,13 +86,15 @@ locks_known o new os os2 rs put stays locks x p row found = elim (locks x p row 
     | inl this ↦
         inr
         (ap is_live_in this.1
-        ∙ stays p row (subst (λ (z : ℕ). row_at rs z p ≡ Some row) (sym this.0) found) (subst (λ (z : ℕ). is_live_in (object_at os z) ≡ true) (sym this.0) lives))
+        ∙ stays p row (subst (λ (z : ℕ). row_at rs z p ≡ Some row) (sym this.0) found)
+        (subst (λ (z : ℕ). is_live_in (object_at os z) ≡ true) (sym this.0) lives))
     | inr other ↦ inr (ap is_live_in other.1 ∙ lives)
   ]
 ]
 
 -- one object is known otherwise, and has references still where it had some, and a control where one lived
-pub referred_known : (o : ℕ) (new : ObjectRow) (cs : ChainTable) (os os2 : ObjectTable) (rs : ResidentTable) → PutsObject o (Some new) os os2 → (IsReferred os o → 0 < new.references) → (new.live ≡ true → 0 < new.references)
+pub referred_known : (o : ℕ) (new : ObjectRow) (cs : ChainTable) (os os2 : ObjectTable) (rs : ResidentTable) → PutsObject o (Some new) os os2
+    → (IsReferred os o → 0 < new.references) → (new.live ≡ true → 0 < new.references)
     → (is_live_in (object_at os o) ≡ true → new.live ≡ true) → AllReferred cs os rs → AllReferred cs os2 rs
 referred_known o new cs os os2 rs put still lives stays all =
     record {
@@ -108,7 +113,8 @@ referred_known o new cs os os2 rs put still lives stays all =
     keeps x is = referred_still o new os os2 put x (λ e. still (subst (λ (z : ℕ). IsReferred os z) (sym e) is)) is
 
 -- one page has another row, or none
-locks_put : (o p : ℕ) (x : Option PageRow) (os : ObjectTable) (rs rs2 : ResidentTable) → PutsRow o p x rs rs2 → ((row : PageRow) → x ≡ Some row → MayLock os o row) → ((o2 p2 : ℕ) (row : PageRow) → row_at rs o2 p2 ≡ Some row → MayLock os o2 row)
+locks_put : (o p : ℕ) (x : Option PageRow) (os : ObjectTable) (rs rs2 : ResidentTable) → PutsRow o p x rs rs2
+    → ((row : PageRow) → x ≡ Some row → MayLock os o row) → ((o2 p2 : ℕ) (row : PageRow) → row_at rs o2 p2 ≡ Some row → MayLock os o2 row)
     → (o2 p2 : ℕ) (row : PageRow) → row_at rs2 o2 p2 ≡ Some row → MayLock os o2 row
 locks_put o p x os rs rs2 put may locks o2 p2 row found = elim (row_cases o p x rs rs2 put o2 p2) [
   | inl this ↦ subst (λ (z : ℕ). MayLock os z row) this.object (may row (sym this.is ∙ found))
@@ -116,7 +122,8 @@ locks_put o p x os rs rs2 put may locks o2 p2 row found = elim (row_cases o p x 
 ]
 
 -- a page comes, goes or changes: its object is referred to, and lives where the page is locked, or the page goes
-pub referred_row : (o p : ℕ) (x : Option PageRow) (cs : ChainTable) (os : ObjectTable) (rs rs2 : ResidentTable) → PutsRow o p x rs rs2 → ((row : PageRow) → x ≡ Some row → IsReferred os o × MayLock os o row) → AllReferred cs os rs → AllReferred cs os rs2
+pub referred_row : (o p : ℕ) (x : Option PageRow) (cs : ChainTable) (os : ObjectTable) (rs rs2 : ResidentTable) → PutsRow o p x rs rs2
+    → ((row : PageRow) → x ≡ Some row → IsReferred os o × MayLock os o row) → AllReferred cs os rs → AllReferred cs os rs2
 referred_row o p x cs os rs rs2 put is all =
     record {
       live = all.live;
@@ -129,7 +136,9 @@ referred_row o p x cs os rs rs2 put is all =
     }
 
 -- the same, while one object ends
-pub but_row : (one o p : ℕ) (x : Option PageRow) (cs : ChainTable) (os : ObjectTable) (rs rs2 : ResidentTable) → PutsRow o p x rs rs2 → ((row : PageRow) → (one ≡ o → ⊥) → x ≡ Some row → IsReferred os o) → ((row : PageRow) → x ≡ Some row → MayLock os o row) → AllReferredBut one cs os rs → AllReferredBut one cs os rs2
+pub but_row : (one o p : ℕ) (x : Option PageRow) (cs : ChainTable) (os : ObjectTable) (rs rs2 : ResidentTable) → PutsRow o p x rs rs2
+    → ((row : PageRow) → (one ≡ o → ⊥) → x ≡ Some row → IsReferred os o) → ((row : PageRow) → x ≡ Some row → MayLock os o row) → AllReferredBut one cs os rs
+    → AllReferredBut one cs os rs2
 but_row one o p x cs os rs rs2 put is may but =
     record {
       live = but.live;
@@ -142,14 +151,19 @@ but_row one o p x cs os rs rs2 put is may but =
     }
 
 -- a page goes
-pub referred_gone : (o p : ℕ) (cs : ChainTable) (os : ObjectTable) (rs rs2 : ResidentTable) → PutsRow o p None rs rs2 → AllReferred cs os rs → AllReferred cs os rs2
+pub referred_gone : (o p : ℕ) (cs : ChainTable) (os : ObjectTable) (rs rs2 : ResidentTable) → PutsRow o p None rs rs2 → AllReferred cs os rs
+    → AllReferred cs os rs2
 referred_gone o p cs os rs rs2 put all = referred_row o p None cs os rs rs2 put (λ row is. absurd (let bad : None ≡ Some row = is in cc)) all
 
-pub but_gone : (one o p : ℕ) (cs : ChainTable) (os : ObjectTable) (rs rs2 : ResidentTable) → PutsRow o p None rs rs2 → AllReferredBut one cs os rs → AllReferredBut one cs os rs2
-but_gone one o p cs os rs rs2 put but = but_row one o p None cs os rs rs2 put (λ row apart is. absurd (let bad : None ≡ Some row = is in cc)) (λ row is. absurd (let bad : None ≡ Some row = is in cc)) but
+pub but_gone : (one o p : ℕ) (cs : ChainTable) (os : ObjectTable) (rs rs2 : ResidentTable) → PutsRow o p None rs rs2 → AllReferredBut one cs os rs
+    → AllReferredBut one cs os rs2
+but_gone one o p cs os rs rs2 put but =
+    but_row one o p None cs os rs rs2 put (λ row apart is. absurd (let bad : None ≡ Some row = is in cc))
+    (λ row is. absurd (let bad : None ≡ Some row = is in cc)) but
 
 -- the one that ends is known otherwise
-pub but_known : (o : ℕ) (new : ObjectRow) (cs : ChainTable) (os os2 : ObjectTable) (rs : ResidentTable) → PutsObject o (Some new) os os2 → ((p : ℕ) (row : PageRow) → row_at rs o p ≡ Some row → is_live_in (object_at os o) ≡ true → new.live ≡ true) → AllReferredBut o cs os rs
+pub but_known : (o : ℕ) (new : ObjectRow) (cs : ChainTable) (os os2 : ObjectTable) (rs : ResidentTable) → PutsObject o (Some new) os os2
+    → ((p : ℕ) (row : PageRow) → row_at rs o p ≡ Some row → is_live_in (object_at os o) ≡ true → new.live ≡ true) → AllReferredBut o cs os rs
     → AllReferredBut o cs os2 rs
 but_known o new cs os os2 rs put stays but =
     record {
@@ -167,44 +181,58 @@ pub referred_recounted : (old new : ChainTable) (os : ObjectTable) (rs : Residen
 referred_recounted old new os rs same all = referred_chains old new os rs (λ x row found. inl (sym (same.shadows x) ∙ found)) all
 
 -- an object has another control
-pub referred_controlled : (o : ℕ) (row row2 : ObjectRow) (cs : ChainTable) (os os2 : ObjectTable) (rs : ResidentTable) → object_at os o ≡ Some row → PutsObject o (Some row2) os os2 → row2.references ≡ row.references
+pub referred_controlled : (o : ℕ) (row row2 : ObjectRow) (cs : ChainTable) (os os2 : ObjectTable) (rs : ResidentTable) → object_at os o ≡ Some row
+    → PutsObject o (Some row2) os os2 → row2.references ≡ row.references
     → (row2.live ≡ true → 0 < row2.references) → (row.live ≡ true → row2.live ≡ true) → AllReferred cs os rs → AllReferred cs os2 rs
 referred_controlled o row row2 cs os os2 rs found put same lives stays all =
-    referred_known o row2 cs os os2 rs put (λ is. subst (λ (z : ℕ). 0 < z) (ap (λ z. z.references) (some_is is.row row (sym is.known ∙ found)) ∙ sym same) is.some) lives (λ is. stays (sym (ap is_live_in found) ∙ is)) all
+    referred_known o row2 cs os os2 rs put (λ is. subst (λ (z : ℕ). 0 < z) (ap (λ z. z.references) (some_is is.row row (sym is.known ∙ found)) ∙ sym same)
+    is.some) lives (λ is. stays (sym (ap is_live_in found) ∙ is)) all
 
 -- a region is made over a new object, or is over one that has references
-pub referred_put : (o : ℕ) (new : ObjectRow) (r : ℕ) (row : Option RegionRow) (cs cs2 : ChainTable) (os os2 : ObjectTable) (rs : ResidentTable) → PutsRegion r row cs cs2 → PutsObject o (Some new) os os2 → 0 < new.references
+pub referred_put : (o : ℕ) (new : ObjectRow) (r : ℕ) (row : Option RegionRow) (cs cs2 : ChainTable) (os os2 : ObjectTable) (rs : ResidentTable)
+    → PutsRegion r row cs cs2 → PutsObject o (Some new) os os2 → 0 < new.references
     → (is_live_in (object_at os o) ≡ true → new.live ≡ true) → AllReferred cs os rs → AllReferred cs2 os2 rs
 referred_put o new r row cs cs2 os os2 rs put putting some stays all =
-    referred_chains cs cs2 os2 rs (λ x shadow found. inl (sym (ap (λ f. f x) put.shadows) ∙ found)) (referred_known o new cs os os2 rs putting (λ is. some) (λ live. some) stays all)
+    referred_chains cs cs2 os2 rs (λ x shadow found. inl (sym (ap (λ f. f x) put.shadows) ∙ found))
+    (referred_known o new cs os os2 rs putting (λ is. some) (λ live. some) stays all)
 
 -- a region is copied, and its top has more references
-pub referred_copied : (o : ℕ) (new : ObjectRow) (source copy offset pages : ℕ) (row : RegionRow) (cs cs2 : ChainTable) (os os2 : ObjectTable) (rs : ResidentTable) → CopiesRegion source copy offset pages row cs cs2
-    → PutsObject o (Some new) os os2 → 0 < new.references → (is_live_in (object_at os o) ≡ true → new.live ≡ true) → AllReferred cs os rs → AllReferred cs2 os2 rs
+pub referred_copied : (o : ℕ) (new : ObjectRow) (source copy offset pages : ℕ) (row : RegionRow) (cs cs2 : ChainTable) (os os2 : ObjectTable)
+    (rs : ResidentTable) → CopiesRegion source copy offset pages row cs cs2
+    → PutsObject o (Some new) os os2 → 0 < new.references → (is_live_in (object_at os o) ≡ true → new.live ≡ true) → AllReferred cs os rs
+    → AllReferred cs2 os2 rs
 referred_copied o new source copy offset pages row cs cs2 os os2 rs copies putting some stays all =
-    referred_chains cs cs2 os2 rs (λ x shadow found. inl (sym (ap (λ f. f x) copies.shadows) ∙ found)) (referred_known o new cs os os2 rs putting (λ is. some) (λ live. some) stays all)
+    referred_chains cs cs2 os2 rs (λ x shadow found. inl (sym (ap (λ f. f x) copies.shadows) ∙ found))
+    (referred_known o new cs os os2 rs putting (λ is. some) (λ live. some) stays all)
 
 -- a region gets an object of its own
-pub referred_shadowed : (region : ℕ) (object : ObjectId) (row : RegionRow) (new : ObjectRow) (cs cs2 : ChainTable) (os os2 : ObjectTable) (rs : ResidentTable) → ShadowsRegion region object row cs cs2
-    → PutsObject object.0 (Some new) os os2 → 0 < new.references → (is_live_in (object_at os object.0) ≡ true → new.live ≡ true) → AllReferred cs os rs → AllReferred cs2 os2 rs
+pub referred_shadowed : (region : ℕ) (object : ObjectId) (row : RegionRow) (new : ObjectRow) (cs cs2 : ChainTable) (os os2 : ObjectTable) (rs : ResidentTable)
+    → ShadowsRegion region object row cs cs2
+    → PutsObject object.0 (Some new) os os2 → 0 < new.references → (is_live_in (object_at os object.0) ≡ true → new.live ≡ true) → AllReferred cs os rs
+    → AllReferred cs2 os2 rs
 referred_shadowed region object row new cs cs2 os os2 rs shadows putting some stays all =
     referred_chains cs cs2 os2 rs before (referred_known object.0 new cs os os2 rs putting (λ is. some) (λ live. some) stays all)
   where
     before : (x : ℕ) (shadow : ShadowRow) → shadow_at cs2 x ≡ Some shadow → (shadow_at cs x ≡ Some shadow) ⊎ IsReferred os2 x
-    before x shadow found = elim (one_case object.0 x (Some (record { under = row.top; shift = row.shift })) (shadow_at cs x) (shadow_at cs2 x) (shadows.under x)) [
-      | inl this ↦ inr (subst (λ (z : ℕ). IsReferred os2 z) this.0 (record { row = new; known = known_put object.0 new os os2 putting; some = some }))
-      | inr other ↦ inl (sym other.1 ∙ found)
-    ]
+    before x shadow found =
+        elim (one_case object.0 x (Some (record { under = row.top; shift = row.shift })) (shadow_at cs x) (shadow_at cs2 x) (shadows.under x)) [
+          | inl this ↦ inr (subst (λ (z : ℕ). IsReferred os2 z) this.0 (record { row = new; known = known_put object.0 new os os2 putting; some = some }))
+          | inr other ↦ inl (sym other.1 ∙ found)
+        ]
 
 -- a region goes, and its top may end
-pub but_ended : (r : ℕ) (x : Option RegionRow) (o : ℕ) (new : ObjectRow) (cs cs2 : ChainTable) (os os2 : ObjectTable) (rs : ResidentTable) → PutsRegion r x cs cs2 → PutsObject o (Some new) os os2
+pub but_ended : (r : ℕ) (x : Option RegionRow) (o : ℕ) (new : ObjectRow) (cs cs2 : ChainTable) (os os2 : ObjectTable) (rs : ResidentTable)
+    → PutsRegion r x cs cs2 → PutsObject o (Some new) os os2
     → (is_live_in (object_at os o) ≡ true → new.live ≡ true) → AllReferred cs os rs → AllReferredBut o cs2 os2 rs
 but_ended r x o new cs cs2 os os2 rs put putting stays all =
-    but_known o new cs2 os os2 rs putting (λ p row found is. stays is) (all_but o cs2 os rs (referred_chains cs cs2 os rs (λ y shadow found. inl (sym (ap (λ f. f y) put.shadows) ∙ found)) all))
+    but_known o new cs2 os os2 rs putting (λ p row found is. stays is) (all_but o cs2 os rs
+    (referred_chains cs cs2 os rs (λ y shadow found. inl (sym (ap (λ f. f y) put.shadows) ∙ found)) all))
 
 -- what stood under an object that ends goes, and may end then
-pub but_dropped : (o under : ℕ) (new : ObjectRow) (cs cs2 : ChainTable) (os os2 : ObjectTable) (rs : ResidentTable) → DropsShadow o cs cs2 → PutsObject under (Some new) os os2
-    → (is_live_in (object_at os under) ≡ true → new.live ≡ true) → ((known : ObjectRow) → object_at os o ≡ Some known → known.live ≡ false) → ((p : ℕ) → row_at rs o p ≡ None) → AllReferredBut o cs os rs → AllReferredBut under cs2 os2 rs
+pub but_dropped : (o under : ℕ) (new : ObjectRow) (cs cs2 : ChainTable) (os os2 : ObjectTable) (rs : ResidentTable) → DropsShadow o cs cs2
+    → PutsObject under (Some new) os os2
+    → (is_live_in (object_at os under) ≡ true → new.live ≡ true) → ((known : ObjectRow) → object_at os o ≡ Some known → known.live ≡ false)
+    → ((p : ℕ) → row_at rs o p ≡ None) → AllReferredBut o cs os rs → AllReferredBut under cs2 os2 rs
 but_dropped o under new cs cs2 os os2 rs drop putting stays quiet bare but =
     but_known under new cs2 os os2 rs putting (λ p row found is. stays is) (all_but under cs2 os rs (all_ended o cs2 os rs dropped quiet bare gone))
   where
@@ -223,7 +251,10 @@ but_dropped o under new cs cs2 os os2 rs drop putting stays quiet bare but =
     }
 
 -- the same, where something else refers to that still
-pub referred_dropped : (o under : ℕ) (new : ObjectRow) (cs cs2 : ChainTable) (os os2 : ObjectTable) (rs : ResidentTable) → DropsShadow o cs cs2 → PutsObject under (Some new) os os2 → 0 < new.references → (is_live_in (object_at os under) ≡ true → new.live ≡ true)
-    → ((known : ObjectRow) → object_at os o ≡ Some known → known.live ≡ false) → ((p : ℕ) → row_at rs o p ≡ None) → AllReferredBut o cs os rs → AllReferred cs2 os2 rs
+pub referred_dropped : (o under : ℕ) (new : ObjectRow) (cs cs2 : ChainTable) (os os2 : ObjectTable) (rs : ResidentTable) → DropsShadow o cs cs2
+    → PutsObject under (Some new) os os2 → 0 < new.references → (is_live_in (object_at os under) ≡ true → new.live ≡ true)
+    → ((known : ObjectRow) → object_at os o ≡ Some known → known.live ≡ false) → ((p : ℕ) → row_at rs o p ≡ None) → AllReferredBut o cs os rs
+    → AllReferred cs2 os2 rs
 referred_dropped o under new cs cs2 os os2 rs drop putting some stays quiet bare but =
-    all_with under cs2 os2 rs (but_dropped o under new cs cs2 os os2 rs drop putting stays quiet bare but) (record { row = new; known = known_put under new os os2 putting; some = some })
+    all_with under cs2 os2 rs (but_dropped o under new cs cs2 os os2 rs drop putting stays quiet bare but)
+    (record { row = new; known = known_put under new os os2 putting; some = some })

@@ -29,30 +29,42 @@ small_of at made n y none found = by (nat_lt n made) refl
         let gone = none n (grind (arith, nat_tests)) in
         absurd (let bad : None ≡ Some y = sym gone ∙ found in cc)
 
-pub small_region : {chains : ChainTable} {objects : ObjectTable} {ids : Ids} {region_from : ℕ → Region} {backing_from : ℕ → Backing} {regions_made objects_made marked : ℕ} → HasRegions chains objects ids region_from backing_from regions_made objects_made marked → (r : ℕ) (row : RegionRow) → region_at chains r ≡ Some row → r < regions_made
+pub small_region : {chains : ChainTable} {objects : ObjectTable} {ids : Ids} {region_from : ℕ → Region} {backing_from : ℕ → Backing}
+    {regions_made objects_made marked : ℕ} → HasRegions chains objects ids region_from backing_from regions_made objects_made marked → (r : ℕ) (row : RegionRow)
+    → region_at chains r ≡ Some row → r < regions_made
 small_region {chains = chains} {regions_made = regions_made} has r row found = small_of (region_at chains) regions_made r row has.unmade found
 
-pub small_object : {chains : ChainTable} {objects : ObjectTable} {ids : Ids} {region_from : ℕ → Region} {backing_from : ℕ → Backing} {regions_made objects_made marked : ℕ} → HasRegions chains objects ids region_from backing_from regions_made objects_made marked → (o : ℕ) (known : ObjectRow) → object_at objects o ≡ Some known → o < objects_made
+pub small_object : {chains : ChainTable} {objects : ObjectTable} {ids : Ids} {region_from : ℕ → Region} {backing_from : ℕ → Backing}
+    {regions_made objects_made marked : ℕ} → HasRegions chains objects ids region_from backing_from regions_made objects_made marked
+    → (o : ℕ) (known : ObjectRow) → object_at objects o ≡ Some known → o < objects_made
 small_object {objects = objects} {objects_made = objects_made} has o known found = small_of (object_at objects) objects_made o known has.unknown found
 
-pub small_shadow : {chains : ChainTable} {objects : ObjectTable} {ids : Ids} {region_from : ℕ → Region} {backing_from : ℕ → Backing} {regions_made objects_made marked : ℕ} → HasRegions chains objects ids region_from backing_from regions_made objects_made marked → (o : ℕ) (row : ShadowRow) → shadow_at chains o ≡ Some row → o < objects_made
+pub small_shadow : {chains : ChainTable} {objects : ObjectTable} {ids : Ids} {region_from : ℕ → Region} {backing_from : ℕ → Backing}
+    {regions_made objects_made marked : ℕ} → HasRegions chains objects ids region_from backing_from regions_made objects_made marked → (o : ℕ) (row : ShadowRow)
+    → shadow_at chains o ≡ Some row → o < objects_made
 small_shadow {objects = objects} has o row found =
     let known = row_of (object_at objects o) (has.unders o row found).0 in
     small_object has o known.0 known.1
 
 -- what is under a shadow has such a number too
-pub small_under : {chains : ChainTable} {objects : ObjectTable} {ids : Ids} {region_from : ℕ → Region} {backing_from : ℕ → Backing} {regions_made objects_made marked : ℕ} → HasRegions chains objects ids region_from backing_from regions_made objects_made marked → (o : ℕ) (row : ShadowRow) → shadow_at chains o ≡ Some row → row.under.0 < objects_made
+pub small_under : {chains : ChainTable} {objects : ObjectTable} {ids : Ids} {region_from : ℕ → Region} {backing_from : ℕ → Backing}
+    {regions_made objects_made marked : ℕ} → HasRegions chains objects ids region_from backing_from regions_made objects_made marked → (o : ℕ) (row : ShadowRow)
+    → shadow_at chains o ≡ Some row → row.under.0 < objects_made
 small_under {objects = objects} has o row found =
     let known = row_of (object_at objects row.under.0) (has.unders o row found).1 in
     small_object has row.under.0 known.0 known.1
 
-pub objects_below : {chains : ChainTable} {objects : ObjectTable} {ids : Ids} {region_from : ℕ → Region} {backing_from : ℕ → Backing} {regions_made objects_made marked : ℕ} → HasRegions chains objects ids region_from backing_from regions_made objects_made marked → ObjectsBelow objects_made chains
+pub objects_below : {chains : ChainTable} {objects : ObjectTable} {ids : Ids} {region_from : ℕ → Region} {backing_from : ℕ → Backing}
+    {regions_made objects_made marked : ℕ} → HasRegions chains objects ids region_from backing_from regions_made objects_made marked
+    → ObjectsBelow objects_made chains
 objects_below {objects = objects} has = record {
   tops = λ r row found. let known = row_of (object_at objects row.top.0) (has.tops r row found) in small_object has row.top.0 known.0 known.1;
   shadows = λ o row found. small_shadow has o row found;
 }
 
-pub regions_below : {chains : ChainTable} {objects : ObjectTable} {ids : Ids} {region_from : ℕ → Region} {backing_from : ℕ → Backing} {regions_made objects_made marked : ℕ} → HasRegions chains objects ids region_from backing_from regions_made objects_made marked → RegionsBelow regions_made chains
+pub regions_below : {chains : ChainTable} {objects : ObjectTable} {ids : Ids} {region_from : ℕ → Region} {backing_from : ℕ → Backing}
+    {regions_made objects_made marked : ℕ} → HasRegions chains objects ids region_from backing_from regions_made objects_made marked
+    → RegionsBelow regions_made chains
 regions_below has = has.unmade
 
 -- a row over the object, and a shadow over it
@@ -82,22 +94,30 @@ backing_found o (Some row) is = (row, refl, same)
     same : row.under.0 ≡ o
     same = grind (arith, nat_tests, is)
 
-some_over : {chains : ChainTable} {objects : ObjectTable} {ids : Ids} {region_from : ℕ → Region} {backing_from : ℕ → Backing} {regions_made objects_made marked : ℕ} → HasRegions chains objects ids region_from backing_from regions_made objects_made marked → (r : ℕ) (row : RegionRow) (o : ℕ) → region_at chains r ≡ Some row → row.top.0 ≡ o → 0 < tally (λ r. is_over o (region_at chains r)) regions_made
+some_over : {chains : ChainTable} {objects : ObjectTable} {ids : Ids} {region_from : ℕ → Region} {backing_from : ℕ → Backing}
+    {regions_made objects_made marked : ℕ} → HasRegions chains objects ids region_from backing_from regions_made objects_made marked
+    → (r : ℕ) (row : RegionRow) (o : ℕ) → region_at chains r ≡ Some row → row.top.0 ≡ o → 0 < tally (λ r. is_over o (region_at chains r)) regions_made
 some_over {chains = chains} {regions_made = regions_made} has r row o found top =
     tally_some (λ r. is_over o (region_at chains r)) regions_made r (small_region has r row found) (over_is o (region_at chains r) row found top)
 
-some_backing : {chains : ChainTable} {objects : ObjectTable} {ids : Ids} {region_from : ℕ → Region} {backing_from : ℕ → Backing} {regions_made objects_made marked : ℕ} → HasRegions chains objects ids region_from backing_from regions_made objects_made marked → (s : ℕ) (row : ShadowRow) (o : ℕ) → shadow_at chains s ≡ Some row → row.under.0 ≡ o → 0 < tally (λ s. is_backing o (shadow_at chains s)) objects_made
+some_backing : {chains : ChainTable} {objects : ObjectTable} {ids : Ids} {region_from : ℕ → Region} {backing_from : ℕ → Backing}
+    {regions_made objects_made marked : ℕ} → HasRegions chains objects ids region_from backing_from regions_made objects_made marked
+    → (s : ℕ) (row : ShadowRow) (o : ℕ) → shadow_at chains s ≡ Some row → row.under.0 ≡ o → 0 < tally (λ s. is_backing o (shadow_at chains s)) objects_made
 some_backing {chains = chains} {objects_made = objects_made} has s row o found under =
     tally_some (λ s. is_backing o (shadow_at chains s)) objects_made s (small_shadow has s row found) (backing_is o (shadow_at chains s) row found under)
 
-pub refers_region : {chains : ChainTable} {objects : ObjectTable} {ids : Ids} {region_from : ℕ → Region} {backing_from : ℕ → Backing} {regions_made objects_made marked : ℕ} → HasRegions chains objects ids region_from backing_from regions_made objects_made marked → (r : ℕ) (row : RegionRow) → region_at chains r ≡ Some row → IsReferred objects row.top.0
+pub refers_region : {chains : ChainTable} {objects : ObjectTable} {ids : Ids} {region_from : ℕ → Region} {backing_from : ℕ → Backing}
+    {regions_made objects_made marked : ℕ} → HasRegions chains objects ids region_from backing_from regions_made objects_made marked → (r : ℕ) (row : RegionRow)
+    → region_at chains r ≡ Some row → IsReferred objects row.top.0
 refers_region {objects = objects} has r row found =
     let known = row_of (object_at objects row.top.0) (has.tops r row found) in
     let count = has.counts row.top.0 known.0 known.1 in
     let some = some_over has r row row.top.0 found refl in
     record { row = known.0; known = known.1; some = omega (arith, count, some) }
 
-pub refers_shadow : {chains : ChainTable} {objects : ObjectTable} {ids : Ids} {region_from : ℕ → Region} {backing_from : ℕ → Backing} {regions_made objects_made marked : ℕ} → HasRegions chains objects ids region_from backing_from regions_made objects_made marked → (s : ℕ) (row : ShadowRow) → shadow_at chains s ≡ Some row → IsReferred objects row.under.0
+pub refers_shadow : {chains : ChainTable} {objects : ObjectTable} {ids : Ids} {region_from : ℕ → Region} {backing_from : ℕ → Backing}
+    {regions_made objects_made marked : ℕ} → HasRegions chains objects ids region_from backing_from regions_made objects_made marked → (s : ℕ) (row : ShadowRow)
+    → shadow_at chains s ≡ Some row → IsReferred objects row.under.0
 refers_shadow {objects = objects} has s row found =
     let known = row_of (object_at objects row.under.0) (has.unders s row found).1 in
     let count = has.counts row.under.0 known.0 known.1 in
@@ -109,7 +129,9 @@ pub data Referrer (chains : ChainTable) (o : ℕ) : Type 0 where
   OfRegion : (r : ℕ) (row : RegionRow) → region_at chains r ≡ Some row → row.top.0 ≡ o → Referrer chains o
   OfShadow : (s : ℕ) (row : ShadowRow) → shadow_at chains s ≡ Some row → row.under.0 ≡ o → Referrer chains o
 
-pub referrer_of : {chains : ChainTable} {objects : ObjectTable} {ids : Ids} {region_from : ℕ → Region} {backing_from : ℕ → Backing} {regions_made objects_made marked : ℕ} → HasRegions chains objects ids region_from backing_from regions_made objects_made marked → (o : ℕ) → IsReferred objects o → Referrer chains o
+pub referrer_of : {chains : ChainTable} {objects : ObjectTable} {ids : Ids} {region_from : ℕ → Region} {backing_from : ℕ → Backing}
+    {regions_made objects_made marked : ℕ} → HasRegions chains objects ids region_from backing_from regions_made objects_made marked → (o : ℕ)
+    → IsReferred objects o → Referrer chains o
 referrer_of {chains = chains} {regions_made = regions_made} {objects_made = objects_made} has o referred = by (nat_lt 0 (tally overs regions_made)) refl
   where
     overs : ℕ → Bool
@@ -132,20 +154,29 @@ referrer_of {chains = chains} {regions_made = regions_made} {objects_made = obje
         OfShadow found.0 row.0 row.1 row.2
 
 -- no region is over an object to which nothing refers, and no shadow
-pub unreferred_region : {chains : ChainTable} {objects : ObjectTable} {ids : Ids} {region_from : ℕ → Region} {backing_from : ℕ → Backing} {regions_made objects_made marked : ℕ} → HasRegions chains objects ids region_from backing_from regions_made objects_made marked → (o : ℕ) (known : ObjectRow) → object_at objects o ≡ Some known → known.references ≡ 0 → (r : ℕ) (row : RegionRow) → region_at chains r ≡ Some row → row.top.0 ≡ o → ⊥
+pub unreferred_region : {chains : ChainTable} {objects : ObjectTable} {ids : Ids} {region_from : ℕ → Region} {backing_from : ℕ → Backing}
+    {regions_made objects_made marked : ℕ} → HasRegions chains objects ids region_from backing_from regions_made objects_made marked
+    → (o : ℕ) (known : ObjectRow) → object_at objects o ≡ Some known → known.references ≡ 0 → (r : ℕ) (row : RegionRow) → region_at chains r ≡ Some row
+    → row.top.0 ≡ o → ⊥
 unreferred_region has o known is none r row found top =
     let count = has.counts o known is in
     let some = some_over has r row o found top in
     omega (arith, count, some, none)
 
-pub unreferred_shadow : {chains : ChainTable} {objects : ObjectTable} {ids : Ids} {region_from : ℕ → Region} {backing_from : ℕ → Backing} {regions_made objects_made marked : ℕ} → HasRegions chains objects ids region_from backing_from regions_made objects_made marked → (o : ℕ) (known : ObjectRow) → object_at objects o ≡ Some known → known.references ≡ 0 → (s : ℕ) (row : ShadowRow) → shadow_at chains s ≡ Some row → row.under.0 ≡ o → ⊥
+pub unreferred_shadow : {chains : ChainTable} {objects : ObjectTable} {ids : Ids} {region_from : ℕ → Region} {backing_from : ℕ → Backing}
+    {regions_made objects_made marked : ℕ} → HasRegions chains objects ids region_from backing_from regions_made objects_made marked
+    → (o : ℕ) (known : ObjectRow) → object_at objects o ≡ Some known → known.references ≡ 0 → (s : ℕ) (row : ShadowRow) → shadow_at chains s ≡ Some row
+    → row.under.0 ≡ o → ⊥
 unreferred_shadow has o known is none s row found under =
     let count = has.counts o known is in
     let some = some_backing has s row o found under in
     omega (arith, count, some, none)
 
 -- over an object with one reference, that a shadow has, stands no region
-pub sole_region : {chains : ChainTable} {objects : ObjectTable} {ids : Ids} {region_from : ℕ → Region} {backing_from : ℕ → Backing} {regions_made objects_made marked : ℕ} → HasRegions chains objects ids region_from backing_from regions_made objects_made marked → (o : ℕ) (known : ObjectRow) → object_at objects o ≡ Some known → known.references ≡ 1 → (s : ℕ) (row : ShadowRow) → shadow_at chains s ≡ Some row → row.under.0 ≡ o
+pub sole_region : {chains : ChainTable} {objects : ObjectTable} {ids : Ids} {region_from : ℕ → Region} {backing_from : ℕ → Backing}
+    {regions_made objects_made marked : ℕ} → HasRegions chains objects ids region_from backing_from regions_made objects_made marked
+    → (o : ℕ) (known : ObjectRow) → object_at objects o ≡ Some known → known.references ≡ 1 → (s : ℕ) (row : ShadowRow) → shadow_at chains s ≡ Some row
+    → row.under.0 ≡ o
     → (r : ℕ) (row2 : RegionRow) → region_at chains r ≡ Some row2 → row2.top.0 ≡ o → ⊥
 sole_region has o known is single s row found under r row2 found2 top =
     let count = has.counts o known is in
@@ -154,7 +185,10 @@ sole_region has o known is single s row found under r row2 found2 top =
     omega (arith, count, some, some2, single)
 
 -- nor another shadow
-pub sole_shadow : {chains : ChainTable} {objects : ObjectTable} {ids : Ids} {region_from : ℕ → Region} {backing_from : ℕ → Backing} {regions_made objects_made marked : ℕ} → HasRegions chains objects ids region_from backing_from regions_made objects_made marked → (o : ℕ) (known : ObjectRow) → object_at objects o ≡ Some known → known.references ≡ 1 → (s : ℕ) (row : ShadowRow) → shadow_at chains s ≡ Some row → row.under.0 ≡ o
+pub sole_shadow : {chains : ChainTable} {objects : ObjectTable} {ids : Ids} {region_from : ℕ → Region} {backing_from : ℕ → Backing}
+    {regions_made objects_made marked : ℕ} → HasRegions chains objects ids region_from backing_from regions_made objects_made marked
+    → (o : ℕ) (known : ObjectRow) → object_at objects o ≡ Some known → known.references ≡ 1 → (s : ℕ) (row : ShadowRow) → shadow_at chains s ≡ Some row
+    → row.under.0 ≡ o
     → (t : ℕ) (row2 : ShadowRow) → shadow_at chains t ≡ Some row2 → row2.under.0 ≡ o → t ≡ s
 sole_shadow {chains = chains} {objects_made = objects_made} has o known is single s row found under t row2 found2 under2 = elim (eqb_tells t s) [
   | inl same ↦ same.1

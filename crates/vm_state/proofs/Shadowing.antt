@@ -27,13 +27,17 @@ use Rattle.vm_state.specs.References.{references_to}
 use Rattle.vm_state.specs.Stands.{HasRegions}
 
 -- a region gets an object of its own: the old top loses the region and gains the shadow
-pub regions_shadowed : (header : Header) (past : List Event) (region : RegionId) (object : ObjectId) (row : RegionRow) (new : ObjectRow) (cs cs2 : ChainTable) (os os2 : ObjectTable) (ids ids2 : Ids) (rm om marked marked2 : ℕ)
-    → ShadowsRegion region.0 object row cs cs2 → region_at cs region.0 ≡ Some row → object.0 ≡ om → new ≡ record { kind = Temp; pages = row.pages; state = Without; control = 0; live = false; references = 1 }
+pub regions_shadowed : (header : Header) (past : List Event) (region : RegionId) (object : ObjectId) (row : RegionRow) (new : ObjectRow) (cs cs2 : ChainTable)
+    (os os2 : ObjectTable) (ids ids2 : Ids) (rm om marked marked2 : ℕ)
+    → ShadowsRegion region.0 object row cs cs2 → region_at cs region.0 ≡ Some row → object.0 ≡ om
+    → new ≡ record { kind = Temp; pages = row.pages; state = Without; control = 0; live = false; references = 1 }
     → PutsObject object.0 (Some new) os os2 → ChainsFit cs2 os2
     → ids2.next_region ≡ ids.next_region → ids2.next_object ≡ ids.next_object + 1 → ids2.marks ≡ marked2 → om + 1 + marked2 ≤ most_objects
     → HasRegions cs os ids (λ q. region_of header q past) (λ q. backing_of header q past) rm om marked
-    → HasRegions cs2 os2 ids2 (λ q. region_of header q (event.Shadowed region object row.top ∷ past)) (λ q. backing_of header q (event.Shadowed region object row.top ∷ past)) rm (om + 1) marked2
-regions_shadowed header past region object row new cs cs2 os os2 ids ids2 rm om marked marked2 shadowing there next is_new putting fits same2 next2 marks2 few2 has =
+    → HasRegions cs2 os2 ids2 (λ q. region_of header q (event.Shadowed region object row.top ∷ past))
+    (λ q. backing_of header q (event.Shadowed region object row.top ∷ past)) rm (om + 1) marked2
+regions_shadowed header past region object row new cs cs2 os os2 ids ids2 rm om marked marked2 shadowing there next is_new putting fits same2 next2 marks2 few2
+    has =
     record {
       region = same2 ∙ has.region;
       object = next2 ∙ ap (λ z. z + 1) has.object;
@@ -42,9 +46,11 @@ regions_shadowed header past region object row new cs cs2 os os2 ids ids2 rm om 
       rows = λ q other is. elim (region_cases q) [
         | inl this ↦
             let test : (q == region.0) ≡ true = same_test q region.0 (sym this.0) in
-            let its : other ≡ record row { top = object; shift = 0; marked = false } = some_is other (record row { top = object; shift = 0; marked = false }) (sym is ∙ this.1) in
+            let its : other ≡ record row { top = object; shift = 0; marked = false } = some_is other (record row { top = object; shift = 0; marked = false })
+            (sym is ∙ this.1) in
             let was = has.rows q row (ap (region_at cs) (sym this.0) ∙ there) in
-            ap (λ b. shadowed b object.0 (region_of header q past)) test ∙ (ap (λ z. record { mark = false; top = object.0; shift = 0; pages = z.pages }) was ∙ sym (ap seen its))
+            ap (λ b. shadowed b object.0 (region_of header q past)) test
+            ∙ (ap (λ z. record { mark = false; top = object.0; shift = 0; pages = z.pages }) was ∙ sym (ap seen its))
         | inr apart ↦
             let test : (q == region.0) ≡ false = other_test q region.0 (λ e. apart.0 (sym e)) in
             ap (λ b. shadowed b object.0 (region_of header q past)) test ∙ has.rows q other (sym apart.1 ∙ is)
@@ -52,10 +58,12 @@ regions_shadowed header past region object row new cs cs2 os os2 ids ids2 rm om 
       shadows = λ q shadow is. elim (shadow_cases q) [
         | inl this ↦
             let test : (q == object.0) ≡ true = same_test q object.0 (sym this.0) in
-            let its : shadow ≡ record { under = row.top; shift = row.shift } = some_is shadow (record { under = row.top; shift = row.shift }) (sym is ∙ this.1) in
+            let its : shadow ≡ record { under = row.top; shift = row.shift } = some_is shadow (record { under = row.top; shift = row.shift })
+            (sym is ∙ this.1) in
             let was = has.rows region.0 row there in
             ap (λ b. over b (region_of header region.0 past) (backing_of header q past)) test
-            ∙ (ap (λ z. record { backed = true; under = z.top; shift = z.shift }) was ∙ sym (ap (λ z. record { backed = true; under = z.under.0; shift = z.shift }) its))
+            ∙ (ap (λ z. record { backed = true; under = z.top; shift = z.shift }) was
+            ∙ sym (ap (λ z. record { backed = true; under = z.under.0; shift = z.shift }) its))
         | inr apart ↦
             let test : (q == object.0) ≡ false = other_test q object.0 (λ e. apart.0 (sym e)) in
             ap (λ b. over b (region_of header region.0 past) (backing_of header q past)) test ∙ has.shadows q shadow (sym apart.1 ∙ is)
@@ -64,7 +72,8 @@ regions_shadowed header past region object row new cs cs2 os os2 ids ids2 rm om 
         | inl this ↦ absurd (let bad : None ≡ Some (record { under = row.top; shift = row.shift }) = sym bare ∙ this.1 in cc)
         | inr apart ↦
             let test : (q == object.0) ≡ false = other_test q object.0 (λ e. apart.0 (sym e)) in
-            ap (λ b. (over b (region_of header region.0 past) (backing_of header q past)).backed) test ∙ has.bottoms q (referred_other object.0 new os os2 putting q apart.0 referred) (sym apart.1 ∙ bare)
+            ap (λ b. (over b (region_of header region.0 past) (backing_of header q past)).backed) test
+            ∙ has.bottoms q (referred_other object.0 new os os2 putting q apart.0 referred) (sym apart.1 ∙ bare)
       ];
       unmade = λ q le. elim (region_cases q) [
         | inl this ↦ absurd (let a = this.0 in omega (arith, a, below, le))
@@ -79,9 +88,16 @@ regions_shadowed header past region object row new cs cs2 os os2 ids ids2 rm om 
       ];
       unders = λ q shadow is. elim (shadow_cases q) [
         | inl this ↦
-            let its : shadow.under ≡ row.top = ap (λ z. z.under) (some_is shadow (record { under = row.top; shift = row.shift }) (sym is ∙ this.1)) in
-            (ap (λ z. is_some (object_at os2 z)) (sym this.0) ∙ known_now, ap (λ z. is_some (object_at os2 z.0)) its ∙ known_still object.0 new os os2 putting row.top.0 (has.tops region.0 row there))
-        | inr apart ↦ let both = has.unders q shadow (sym apart.1 ∙ is) in (known_still object.0 new os os2 putting q both.0, known_still object.0 new os os2 putting shadow.under.0 both.1)
+            let its : shadow.under ≡ row.top = ap (λ z. z.under) (some_is shadow (record { under = row.top; shift = row.shift }) (sym is ∙ this.1)) in (
+              ap (λ z. is_some (object_at os2 z)) (sym this.0) ∙ known_now,
+              ap (λ z. is_some (object_at os2 z.0)) its
+                  ∙ known_still object.0 new os os2 putting row.top.0 (has.tops region.0 row there),
+            )
+        | inr apart ↦ let both =
+            has.unders q shadow (sym apart.1 ∙ is) in (
+              known_still object.0 new os os2 putting q both.0,
+              known_still object.0 new os os2 putting shadow.under.0 both.1,
+            )
       ];
       older = λ q shadow is. elim (shadow_cases q) [
         | inl this ↦
@@ -96,10 +112,12 @@ regions_shadowed header past region object row new cs cs2 os os2 ids ids2 rm om 
       counts = counts_still object.0 new os os2 (references_to cs rm om) (references_to cs2 rm (om + 1)) putting its_own others has.counts;
     }
   where
-    region_cases : (q : ℕ) → ((region.0 ≡ q) × (region_at cs2 q ≡ Some (record row { top = object; shift = 0; marked = false }))) ⊎ ((region.0 ≡ q → ⊥) × (region_at cs2 q ≡ region_at cs q))
+    region_cases : (q : ℕ) → ((region.0 ≡ q) × (region_at cs2 q ≡ Some (record row { top = object; shift = 0; marked = false })))
+        ⊎ ((region.0 ≡ q → ⊥) × (region_at cs2 q ≡ region_at cs q))
     region_cases q = one_case region.0 q (Some (record row { top = object; shift = 0; marked = false })) (region_at cs q) (region_at cs2 q) (shadowing.at q)
 
-    shadow_cases : (q : ℕ) → ((object.0 ≡ q) × (shadow_at cs2 q ≡ Some (record { under = row.top; shift = row.shift }))) ⊎ ((object.0 ≡ q → ⊥) × (shadow_at cs2 q ≡ shadow_at cs q))
+    shadow_cases : (q : ℕ) → ((object.0 ≡ q) × (shadow_at cs2 q ≡ Some (record { under = row.top; shift = row.shift })))
+        ⊎ ((object.0 ≡ q → ⊥) × (shadow_at cs2 q ≡ shadow_at cs q))
     shadow_cases q = one_case object.0 q (Some (record { under = row.top; shift = row.shift })) (shadow_at cs q) (shadow_at cs2 q) (shadowing.under q)
 
     below : region.0 < rm

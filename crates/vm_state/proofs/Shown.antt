@@ -36,14 +36,17 @@ pub record IsShown (header : Header) (h : ℕ) (parts : HostParts) (chains : Cha
   pub live : (o : ℕ) → live_control h o past ≡ live_in (object_at parts.objects o)
   pub ready : (o control : ℕ) → live_control h o past ≡ Some control → is_ready h o past ≡ ready_in (object_at parts.objects o)
   pub lives : (o : ℕ) (known : ObjectRow) → object_at parts.objects o ≡ Some known → known.live ≡ has_pager known.state
-  pub rows : (r : ℕ) (row : RegionRow) → region_at chains r ≡ Some row → region_of header r past ≡ record { mark = row.marked; top = row.top.0; shift = row.shift; pages = row.pages }
-  pub shadows : (o : ℕ) (row : ShadowRow) → shadow_at chains o ≡ Some row → backing_of header o past ≡ record { backed = true; under = row.under.0; shift = row.shift }
+  pub rows : (r : ℕ) (row : RegionRow) → region_at chains r ≡ Some row
+      → region_of header r past ≡ record { mark = row.marked; top = row.top.0; shift = row.shift; pages = row.pages }
+  pub shadows : (o : ℕ) (row : ShadowRow) → shadow_at chains o ≡ Some row
+      → backing_of header o past ≡ record { backed = true; under = row.under.0; shift = row.shift }
   pub bottoms : (o : ℕ) → IsReferred parts.objects o → shadow_at chains o ≡ None → (backing_of header o past).backed ≡ false
   pub under_referred : (o : ℕ) (row : ShadowRow) → shadow_at chains o ≡ Some row → IsReferred parts.objects row.under.0
   pub top_referred : (r : ℕ) (row : RegionRow) → region_at chains r ≡ Some row → IsReferred parts.objects row.top.0
 
 -- what the row of a page says of it is what the host has of it
-seen_as : {header : Header} {h : ℕ} {parts : HostParts} {chains : ChainTable} {past : List Event} → IsShown header h parts chains past → (o p : ℕ) (x : Option PageRow) → row_at parts.resident o p ≡ x
+seen_as : {header : Header} {h : ℕ} {parts : HostParts} {chains : ChainTable} {past : List Event} → IsShown header h parts chains past
+    → (o p : ℕ) (x : Option PageRow) → row_at parts.resident o p ≡ x
     → known_local header o p (page_on header h o p past) ≡ local_of_row parts.frames x (absent_at parts.objects o p)
 seen_as {parts = parts} s o p x found = s.pages.shown o p ∙ ap (λ z. local_of_row parts.frames z (absent_at parts.objects o p)) found
 
@@ -57,10 +60,12 @@ pub record ShowsRow (header : Header) (h : ℕ) (parts : HostParts) (past : List
   pub unlocking : (page_on header h o p past).unlocking ≡ row.unlock_sent
   pub unasked : (page_on header h o p past).asked ≡ false
 
-pub shows_row : {header : Header} {h : ℕ} {parts : HostParts} {chains : ChainTable} {past : List Event} → IsShown header h parts chains past → (o p : ℕ) (row : PageRow) → row_at parts.resident o p ≡ Some row → row.here ≡ true
+pub shows_row : {header : Header} {h : ℕ} {parts : HostParts} {chains : ChainTable} {past : List Event} → IsShown header h parts chains past
+    → (o p : ℕ) (row : PageRow) → row_at parts.resident o p ≡ Some row → row.here ≡ true
     → ShowsRow header h parts past o p row
 shows_row {header = header} {h = h} {parts = parts} {past = past} s o p row found here =
-    let is : known_local header o p (page_on header h o p past) ≡ local_of_row parts.frames (Some row) (absent_at parts.objects o p) = seen_as s o p (Some row) found in
+    let is : known_local header o p (page_on header h o p past) ≡ local_of_row parts.frames (Some row) (absent_at parts.objects o p) = seen_as s o p (Some row)
+    found in
     record {
       here = ap (λ (z : Local). z.here) is ∙ here;
       bytes = ap (λ (z : Local). z.bytes) is ∙ ap (λ b. if b then page_in parts.frames row.frame.0 else []) here;
@@ -76,9 +81,11 @@ pub record AsksRow (header : Header) (h : ℕ) (past : List Event) (o p : ℕ) :
   pub asked : (page_on header h o p past).asked ≡ true
   pub away : (page_on header h o p past).here ≡ false
 
-pub asks_row : {header : Header} {h : ℕ} {parts : HostParts} {chains : ChainTable} {past : List Event} → IsShown header h parts chains past → (o p : ℕ) (row : PageRow) → row_at parts.resident o p ≡ Some row → row.here ≡ false → AsksRow header h past o p
+pub asks_row : {header : Header} {h : ℕ} {parts : HostParts} {chains : ChainTable} {past : List Event} → IsShown header h parts chains past
+    → (o p : ℕ) (row : PageRow) → row_at parts.resident o p ≡ Some row → row.here ≡ false → AsksRow header h past o p
 asks_row {header = header} {h = h} {parts = parts} {past = past} s o p row found away =
-    let is : known_local header o p (page_on header h o p past) ≡ local_of_row parts.frames (Some row) (absent_at parts.objects o p) = seen_as s o p (Some row) found in
+    let is : known_local header o p (page_on header h o p past) ≡ local_of_row parts.frames (Some row) (absent_at parts.objects o p) = seen_as s o p (Some row)
+    found in
     record { asked = ap (λ (z : Local). z.asked) is ∙ ap not away; away = ap (λ (z : Local). z.here) is ∙ away }
 
 -- the page is neither here nor asked; and what is known of its pager
@@ -87,7 +94,8 @@ pub record Misses (header : Header) (h : ℕ) (past : List Event) (o p : ℕ) (l
   pub unasked : (page_on header h o p past).asked ≡ false
   pub known : is_known_absent header (place_of o p) (page_on header h o p past) ≡ lacked
 
-pub misses : {header : Header} {h : ℕ} {parts : HostParts} {chains : ChainTable} {past : List Event} → IsShown header h parts chains past → (o p : ℕ) → row_at parts.resident o p ≡ None → Misses header h past o p (absent_at parts.objects o p)
+pub misses : {header : Header} {h : ℕ} {parts : HostParts} {chains : ChainTable} {past : List Event} → IsShown header h parts chains past → (o p : ℕ)
+    → row_at parts.resident o p ≡ None → Misses header h past o p (absent_at parts.objects o p)
 misses {header = header} {h = h} {parts = parts} {past = past} s o p found =
     let is : known_local header o p (page_on header h o p past) ≡ local_of_row parts.frames None (absent_at parts.objects o p) = seen_as s o p None found in
     record {
@@ -97,16 +105,19 @@ misses {header = header} {h = h} {parts = parts} {past = past} s o p found =
     }
 
 -- the control of an object whose pager was told lives, and no other does
-pub told_live : {header : Header} {h : ℕ} {parts : HostParts} {chains : ChainTable} {past : List Event} → IsShown header h parts chains past → (o : ℕ) (row : ObjectRow) → object_at parts.objects o ≡ Some row → has_pager row.state ≡ true
+pub told_live : {header : Header} {h : ℕ} {parts : HostParts} {chains : ChainTable} {past : List Event} → IsShown header h parts chains past
+    → (o : ℕ) (row : ObjectRow) → object_at parts.objects o ≡ Some row → has_pager row.state ≡ true
     → live_control h o past ≡ Some row.control
 told_live s o row known told = s.live o ∙ (ap live_in known ∙ ap (λ b. if b then Some row.control else None) (s.lives o row known ∙ told))
 
-pub untold_dead : {header : Header} {h : ℕ} {parts : HostParts} {chains : ChainTable} {past : List Event} → IsShown header h parts chains past → (o : ℕ) (row : ObjectRow) → object_at parts.objects o ≡ Some row → row.state ≡ state.Without
+pub untold_dead : {header : Header} {h : ℕ} {parts : HostParts} {chains : ChainTable} {past : List Event} → IsShown header h parts chains past
+    → (o : ℕ) (row : ObjectRow) → object_at parts.objects o ≡ Some row → row.state ≡ state.Without
     → live_control h o past ≡ None
 untold_dead s o row known without = s.live o ∙ (ap live_in known ∙ ap (λ b. if b then Some row.control else None) (s.lives o row known ∙ ap has_pager without))
 
 -- whether a pager that was told is ready, by its row
-pub told_ready : {header : Header} {h : ℕ} {parts : HostParts} {chains : ChainTable} {past : List Event} → IsShown header h parts chains past → (o : ℕ) (row : ObjectRow) → object_at parts.objects o ≡ Some row → has_pager row.state ≡ true
+pub told_ready : {header : Header} {h : ℕ} {parts : HostParts} {chains : ChainTable} {past : List Event} → IsShown header h parts chains past
+    → (o : ℕ) (row : ObjectRow) → object_at parts.objects o ≡ Some row → has_pager row.state ≡ true
     → is_ready h o past ≡ is_ready_state row.state
 told_ready s o row known told = s.ready o row.control (told_live s o row known told) ∙ ap ready_in known
 
@@ -138,17 +149,22 @@ lacking live known (inr is) = ap (λ b. is_some live && not b) is ∙ never (is_
     never false = refl
 
 -- what the walk of a host passes over, the walk of the history does too
-pub passes_of : {header : Header} {h : ℕ} {parts : HostParts} {chains : ChainTable} {past : List Event} → IsShown header h parts chains past → (key : PageKey) → PassesOver parts key → Passes (sight header h key.object.0 key.page.0 past)
+pub passes_of : {header : Header} {h : ℕ} {parts : HostParts} {chains : ChainTable} {past : List Event} → IsShown header h parts chains past → (key : PageKey)
+    → PassesOver parts key → Passes (sight header h key.object.0 key.page.0 past)
 passes_of {header = header} {h = h} {parts = parts} {past = past} s key over =
     let missing = misses s key.object.0 key.page.0 over.absent in
     record {
       away = missing.away;
       unasked = missing.unasked;
-      without = lacking (live_control h key.object.0 past) (is_known_absent header (place_of key.object.0 key.page.0) (page_on header h key.object.0 key.page.0 past)) (why missing over.none);
+      without =
+          lacking (live_control h key.object.0 past) (is_known_absent header (place_of key.object.0 key.page.0) (page_on header h key.object.0 key.page.0 past))
+          (why missing over.none);
     }
   where
-    why : Misses header h past key.object.0 key.page.0 (absent_at parts.objects key.object.0 key.page.0) → (over.row.state ≡ state.Without) ⊎ (absent_at parts.objects key.object.0 key.page.0 ≡ true)
-        → (live_control h key.object.0 past ≡ None) ⊎ (is_known_absent header (place_of key.object.0 key.page.0) (page_on header h key.object.0 key.page.0 past) ≡ true)
+    why : Misses header h past key.object.0 key.page.0 (absent_at parts.objects key.object.0 key.page.0) → (over.row.state ≡ state.Without)
+        ⊎ (absent_at parts.objects key.object.0 key.page.0 ≡ true)
+        → (live_control h key.object.0 past ≡ None) ⊎ (is_known_absent header (place_of key.object.0 key.page.0)
+        (page_on header h key.object.0 key.page.0 past) ≡ true)
     why missing (inl without) = inl (untold_dead s key.object.0 over.row over.known without)
     why missing (inr lacked) = inr (missing.known ∙ lacked)
 
@@ -161,7 +177,8 @@ pub record MayAnswer (header : Header) (h : ℕ) (past : List Event) (key : Page
   pub known : is_known_absent header (place_of key.object.0 key.page.0) (page_on header h key.object.0 key.page.0 past) ≡ false
   pub may_have : (sight header h key.object.0 key.page.0 past).may_have ≡ true
 
-pub may_ask : {header : Header} {h : ℕ} {parts : HostParts} {chains : ChainTable} {past : List Event} → IsShown header h parts chains past → (steps : ℕ) (top key : PageKey) (object : ObjectRow) → MayCome parts chains steps top key object → object.state ≡ state.Ready
+pub may_ask : {header : Header} {h : ℕ} {parts : HostParts} {chains : ChainTable} {past : List Event} → IsShown header h parts chains past
+    → (steps : ℕ) (top key : PageKey) (object : ObjectRow) → MayCome parts chains steps top key object → object.state ≡ state.Ready
     → MayAnswer header h past key object.control
 may_ask {header = header} {h = h} {past = past} s steps top key object comes ready =
     let missing = misses s key.object.0 key.page.0 comes.absent in
@@ -174,16 +191,20 @@ may_ask {header = header} {h = h} {past = past} s steps top key object comes rea
       away = missing.away;
       unasked = missing.unasked;
       known = known;
-      may_have = ap (λ z. is_some z && not (is_known_absent header (place_of key.object.0 key.page.0) (page_on header h key.object.0 key.page.0 past))) live ∙ ap not known;
+      may_have =
+          ap (λ z. is_some z && not (is_known_absent header (place_of key.object.0 key.page.0) (page_on header h key.object.0 key.page.0 past))) live
+          ∙ ap not known;
     }
 
 -- an access waits for a pager that was told of its object, and isn't ready
-pub awaits_ready : {header : Header} {h : ℕ} {parts : HostParts} {chains : ChainTable} {past : List Event} → IsShown header h parts chains past → (o : ℕ) (row : ObjectRow) → object_at parts.objects o ≡ Some row → row.state ≡ state.Sent → (store : Bool) (p : ℕ)
+pub awaits_ready : {header : Header} {h : ℕ} {parts : HostParts} {chains : ChainTable} {past : List Event} → IsShown header h parts chains past
+    → (o : ℕ) (row : ObjectRow) → object_at parts.objects o ≡ Some row → row.state ≡ state.Sent → (store : Bool) (p : ℕ)
     → Awaits header h store o p past
 awaits_ready s o row known sent store p =
     let told : has_pager row.state ≡ true = ap has_pager sent in
     AReady row.control (told_live s o row known told) (told_ready s o row known told ∙ ap is_ready_state sent)
 
 -- an access waits for a page that is asked
-pub awaits_page : {header : Header} {h : ℕ} {parts : HostParts} {chains : ChainTable} {past : List Event} → IsShown header h parts chains past → (o p : ℕ) → IsAsked parts.resident o p → (store : Bool) → Awaits header h store o p past
+pub awaits_page : {header : Header} {h : ℕ} {parts : HostParts} {chains : ChainTable} {past : List Event} → IsShown header h parts chains past → (o p : ℕ)
+    → IsAsked parts.resident o p → (store : Bool) → Awaits header h store o p past
 awaits_page s o p asked store = AnAnswer (asks_row s o p asked.row asked.found asked.away).asked

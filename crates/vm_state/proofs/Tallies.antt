@@ -13,7 +13,8 @@ tally_same test test2 (suc n) same =
     omega arith
 
 -- the tests differ on one number at most
-pub tally_put : (test test2 : ℕ → Bool) (n at : ℕ) → at < n → ((m : ℕ) → (at ≡ m → ⊥) → test2 m ≡ test m) → tally test2 n + one (test at) ≡ tally test n + one (test2 at)
+pub tally_put : (test test2 : ℕ → Bool) (n at : ℕ) → at < n → ((m : ℕ) → (at ≡ m → ⊥) → test2 m ≡ test m)
+    → tally test2 n + one (test at) ≡ tally test n + one (test2 at)
 tally_put test test2 zero at less same = absurd (omega arith)
 tally_put test test2 (suc n) at less same = elim (eqb_tells at n) [
   | inl is ↦

@@ -26,20 +26,24 @@ pub record StillTold (maps : Mapped) (cs : ChainTable) (os os2 : ObjectTable) : 
 pub told_all : (maps : Mapped) (cs : ChainTable) (os os2 : ObjectTable) → ((o : ℕ) → IsPagerTold os o → IsPagerTold os2 o) → StillTold maps cs os os2
 told_all maps cs os os2 told = record { at = λ task what key place is. told key.object.0 is }
 
-reason_told : (maps : Mapped) (cs : ChainTable) (rs : ResidentTable) (os os2 : ObjectTable) (task : ℕ) (what : Want) (why : On) → StillTold maps cs os os2 → Reason maps cs rs os task what why → Reason maps cs rs os2 task what why
+reason_told : (maps : Mapped) (cs : ChainTable) (rs : ResidentTable) (os os2 : ObjectTable) (task : ℕ) (what : Want) (why : On) → StillTold maps cs os os2
+    → Reason maps cs rs os task what why → Reason maps cs rs os2 task what why
 reason_told maps cs rs os os2 task what on.Again told reason = reason
 reason_told maps cs rs os os2 task what (on.Ready object) told reason = (
   reason.0,
   reason.1,
   reason.2,
-  subst (λ (z : ObjectId). IsPagerTold os2 z.0) reason.2 (told.at task what reason.0 reason.1 (subst (λ (z : ObjectId). IsPagerTold os z.0) (sym reason.2) reason.3)),
+  subst (λ (z : ObjectId). IsPagerTold os2 z.0) reason.2 (told.at task what reason.0 reason.1
+      (subst (λ (z : ObjectId). IsPagerTold os z.0) (sym reason.2) reason.3)),
 )
 reason_told maps cs rs os os2 task what (on.Page key) told reason = reason
 reason_told maps cs rs os os2 task what on.Frame told reason = reason
 
-pub waits_told : {stays unmet : PageKey → Type 0} (maps : Mapped) (cs : ChainTable) (rs : ResidentTable) (os os2 : ObjectTable) (rows : List Waiting) (who : On → Bool) (waiting_at : ℕ → Option Access)
+pub waits_told : {stays unmet : PageKey → Type 0} (maps : Mapped) (cs : ChainTable) (rs : ResidentTable) (os os2 : ObjectTable) (rows : List Waiting)
+    (who : On → Bool) (waiting_at : ℕ → Option Access)
     → HasWaiters maps cs rs os rows who waiting_at stays unmet → StillTold maps cs os os2
-    → ((o p : ℕ) (row : PageRow) → row_at rs o p ≡ Some row → ready_in (object_at os o) ≡ true → ready_in (object_at os2 o) ≡ true) → HasWaiters maps cs rs os2 rows who waiting_at stays unmet
+    → ((o p : ℕ) (row : PageRow) → row_at rs o p ≡ Some row → ready_in (object_at os o) ≡ true → ready_in (object_at os2 o) ≡ true)
+    → HasWaiters maps cs rs os2 rows who waiting_at stays unmet
 waits_told maps cs rs os os2 rows who waiting_at has told ready =
     record {
       is = has.is;
@@ -53,37 +57,48 @@ waits_told maps cs rs os os2 rows who waiting_at has told ready =
     }
 
 -- a page that is here has gone, of which no unlock was outstanding, and its pager may have been told
-pub waiters_lost : {stays unmet : PageKey → Type 0} (maps : Mapped) (cs : ChainTable) (rs rs2 : ResidentTable) (os os2 : ObjectTable) (rows : List Waiting) (who : On → Bool) (waiting_at : ℕ → Option Access) (o p : ℕ) (row : PageRow)
-    → HasWaiters maps cs rs os rows who waiting_at stays unmet → row_at rs o p ≡ Some row → row.here ≡ true → row.unlock_sent ≡ false → PutsRow o p None rs rs2 → ((object : ℕ) → IsPagerTold os object → IsPagerTold os2 object)
-    → ((object : ℕ) → ready_in (object_at os object) ≡ true → ready_in (object_at os2 object) ≡ true) → HasWaiters maps cs rs2 os2 rows who waiting_at stays unmet
+pub waiters_lost : {stays unmet : PageKey → Type 0} (maps : Mapped) (cs : ChainTable) (rs rs2 : ResidentTable) (os os2 : ObjectTable) (rows : List Waiting)
+    (who : On → Bool) (waiting_at : ℕ → Option Access) (o p : ℕ) (row : PageRow)
+    → HasWaiters maps cs rs os rows who waiting_at stays unmet → row_at rs o p ≡ Some row → row.here ≡ true → row.unlock_sent ≡ false → PutsRow o p None rs rs2
+    → ((object : ℕ) → IsPagerTold os object → IsPagerTold os2 object)
+    → ((object : ℕ) → ready_in (object_at os object) ≡ true → ready_in (object_at os2 object) ≡ true)
+    → HasWaiters maps cs rs2 os2 rows who waiting_at stays unmet
 waiters_lost maps cs rs rs2 os os2 rows who waiting_at o p row has found here sent put told ready =
-    waits_told maps cs rs2 os os2 rows who waiting_at (waiters_page maps cs rs rs2 os rows who waiting_at o p None has put (inl (here_unawaited (row_at rs o p) row found here sent)) (none_unawaited None refl))
+    waits_told maps cs rs2 os os2 rows who waiting_at (waiters_page maps cs rs rs2 os rows who waiting_at o p None has put
+    (inl (here_unawaited (row_at rs o p) row found here sent)) (none_unawaited None refl))
     (told_all maps cs os os2 told) (λ o2 p2 r there is. ready o2 is)
 
 -- an object has another number of references
 
-told_referred_at : (r left : ℕ) (was : ObjectRow) (os os2 : ObjectTable) → object_at os r ≡ Some was → PutsObject r (Some (record was { references = left })) os os2 → (o : ℕ) → IsPagerTold os o → IsPagerTold os2 o
-told_referred_at r left was os os2 found put o told = elim (one_case r o (Some (record was { references = left })) (object_at os o) (object_at os2 o) (put.at o)) [
-  | inl this ↦
-      let same : was ≡ told.row = some_is was told.row (sym (subst (λ (z : ℕ). object_at os z ≡ Some was) this.0 found) ∙ told.found) in
-      record { row = record was { references = left }; found = this.1; sent = ap (λ z. z.state) same ∙ told.sent }
-  | inr other ↦ record { row = told.row; found = other.1 ∙ told.found; sent = told.sent }
-]
+told_referred_at : (r left : ℕ) (was : ObjectRow) (os os2 : ObjectTable) → object_at os r ≡ Some was
+    → PutsObject r (Some (record was { references = left })) os os2 → (o : ℕ) → IsPagerTold os o → IsPagerTold os2 o
+told_referred_at r left was os os2 found put o told =
+    elim (one_case r o (Some (record was { references = left })) (object_at os o) (object_at os2 o) (put.at o)) [
+      | inl this ↦
+          let same : was ≡ told.row = some_is was told.row (sym (subst (λ (z : ℕ). object_at os z ≡ Some was) this.0 found) ∙ told.found) in
+          record { row = record was { references = left }; found = this.1; sent = ap (λ z. z.state) same ∙ told.sent }
+      | inr other ↦ record { row = told.row; found = other.1 ∙ told.found; sent = told.sent }
+    ]
 
-pub told_referred : (maps : Mapped) (cs : ChainTable) (r left : ℕ) (was : ObjectRow) (os os2 : ObjectTable) → object_at os r ≡ Some was → PutsObject r (Some (record was { references = left })) os os2 → StillTold maps cs os os2
+pub told_referred : (maps : Mapped) (cs : ChainTable) (r left : ℕ) (was : ObjectRow) (os os2 : ObjectTable) → object_at os r ≡ Some was
+    → PutsObject r (Some (record was { references = left })) os os2 → StillTold maps cs os os2
 told_referred maps cs r left was os os2 found put = told_all maps cs os os2 (told_referred_at r left was os os2 found put)
 
 -- its pager is as ready as it was
-pub ready_referred : (r left : ℕ) (was : ObjectRow) (os os2 : ObjectTable) → object_at os r ≡ Some was → PutsObject r (Some (record was { references = left })) os os2 → (o : ℕ) → ready_in (object_at os2 o) ≡ ready_in (object_at os o)
+pub ready_referred : (r left : ℕ) (was : ObjectRow) (os os2 : ObjectTable) → object_at os r ≡ Some was
+    → PutsObject r (Some (record was { references = left })) os os2 → (o : ℕ) → ready_in (object_at os2 o) ≡ ready_in (object_at os o)
 ready_referred r left was os os2 found put o = elim (one_case r o (Some (record was { references = left })) (object_at os o) (object_at os2 o) (put.at o)) [
   | inl this ↦ ap ready_in this.1 ∙ sym (ap ready_in (subst (λ (z : ℕ). object_at os z ≡ Some was) this.0 found))
   | inr other ↦ ap ready_in other.1
 ]
 
-pub waits_referred : {stays unmet : PageKey → Type 0} (maps : Mapped) (cs : ChainTable) (rs : ResidentTable) (os os2 : ObjectTable) (rows : List Waiting) (who : On → Bool) (waiting_at : ℕ → Option Access) (r left : ℕ) (was : ObjectRow)
-    → HasWaiters maps cs rs os rows who waiting_at stays unmet → object_at os r ≡ Some was → PutsObject r (Some (record was { references = left })) os os2 → HasWaiters maps cs rs os2 rows who waiting_at stays unmet
+pub waits_referred : {stays unmet : PageKey → Type 0} (maps : Mapped) (cs : ChainTable) (rs : ResidentTable) (os os2 : ObjectTable) (rows : List Waiting)
+    (who : On → Bool) (waiting_at : ℕ → Option Access) (r left : ℕ) (was : ObjectRow)
+    → HasWaiters maps cs rs os rows who waiting_at stays unmet → object_at os r ≡ Some was → PutsObject r (Some (record was { references = left })) os os2
+    → HasWaiters maps cs rs os2 rows who waiting_at stays unmet
 waits_referred maps cs rs os os2 rows who waiting_at r left was has found put =
-    waits_told maps cs rs os os2 rows who waiting_at has (told_referred maps cs r left was os os2 found put) (λ o p row there is. ready_referred r left was os os2 found put o ∙ is)
+    waits_told maps cs rs os os2 rows who waiting_at has (told_referred maps cs r left was os os2 found put)
+    (λ o p row there is. ready_referred r left was os os2 found put o ∙ is)
 
 -- each object that was known is known as it was
 pub record KnowsMore (old new : ObjectTable) : Type 0 where
@@ -98,7 +113,8 @@ knows_made os os2 n row none put =
       ];
     }
 
-pub waits_known : {stays unmet : PageKey → Type 0} (maps : Mapped) (cs : ChainTable) (rs : ResidentTable) (os os2 : ObjectTable) (rows : List Waiting) (who : On → Bool) (waiting_at : ℕ → Option Access)
+pub waits_known : {stays unmet : PageKey → Type 0} (maps : Mapped) (cs : ChainTable) (rs : ResidentTable) (os os2 : ObjectTable) (rows : List Waiting)
+    (who : On → Bool) (waiting_at : ℕ → Option Access)
     → HasWaiters maps cs rs os rows who waiting_at stays unmet → KnowsMore os os2 → HasWaiters maps cs rs os2 rows who waiting_at stays unmet
 waits_known maps cs rs os os2 rows who waiting_at has more =
     waits_told maps cs rs os os2 rows who waiting_at has

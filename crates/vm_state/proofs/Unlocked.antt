@@ -4,7 +4,8 @@ use Rattle.std.specs.Prelude.{if◌then◌else◌}
 use Rattle.vm_base.specs.Pages.{little_endian_bytes}
 use Rattle.vm_legal.specs.Returned.{OnlyReturned}
 use Rattle.vm_model.specs.Controls.{is_control, live_control}
-use Rattle.vm_model.specs.Local.{Asks, Begins, Drops, Elsewhere, Ends, Local, LocalEffect, Place, Raises, Returns, Stores, TakesError, TakesLock, TakesNothing, TakesPage, Unlocks, Zeroes, effect, is_on, is_place, local, local_after, sent_effect, taken_effect}
+use Rattle.vm_model.specs.Local.{Asks, Begins, Drops, Elsewhere, Ends, Local, LocalEffect, Place, Raises, Returns, Stores, TakesError, TakesLock, TakesNothing}
+use Rattle.vm_model.specs.Local.{TakesPage, Unlocks, Zeroes, effect, is_on, is_place, local, local_after, sent_effect, taken_effect}
 use Rattle.vm_model.specs.Tasks.{host_of}
 use Rattle.vm_model.specs.Words.{in_range}
 use Rattle.vm_model.specs.declared.event.Event.{Event}
@@ -37,7 +38,8 @@ open_after size Unlocks was opens is = is
 open_after size (TakesPage lock precious bytes) was opens is = by was.asked
   where
     by : (b : Bool)
-        → (if b then record was { here = true; bytes = bytes; lock = lock; dirty = false; precious = precious; unlocking = false; asked = false } else was).lock ≡ 0
+        → (if b then record was { here = true; bytes = bytes; lock = lock; dirty = false; precious = precious; unlocking = false; asked = false } else
+        was).lock ≡ 0
     by true = opens
     by false = is
 open_after size TakesNothing was opens is = by was.asked
@@ -67,15 +69,20 @@ open_locked true true d c lock flush none = absurd (none refl refl)
 
 open_effect : (least h o p : ℕ) (others : Place → Local) (e : Event) (past : List Event) → least ≤ o → OnlyReturned least h (e ∷ past)
     → IsOpen (effect h (place_of o p) others e past)
-open_effect least h o p others (event.Zeroed at object page) past high only = open_if (at.0 == h && is_place (place_of o p) object.0 page.0) Zeroes Elsewhere tt tt
+open_effect least h o p others (event.Zeroed at object page) past high only =
+    open_if (at.0 == h && is_place (place_of o p) object.0 page.0) Zeroes Elsewhere tt tt
 open_effect least h o p others (event.Raised at lower lower_page upper upper_page) past high only =
-    open_if (at.0 == h && is_place (place_of o p) upper.0 upper_page.0) (Raises (others (record { object = lower.0; page = lower_page.0 })).bytes) Elsewhere tt tt
+    open_if (at.0 == h && is_place (place_of o p) upper.0 upper_page.0) (Raises (others (record { object = lower.0; page = lower_page.0 })).bytes) Elsewhere tt
+    tt
 open_effect least h o p others (event.CopiedPage task page object object_page target) past high only =
-    open_if (is_on h (host_of task.0 past) && is_place (place_of o p) target.0 page.0) (Raises (others (record { object = object.0; page = object_page.0 })).bytes) Elsewhere tt tt
+    open_if (is_on h (host_of task.0 past) && is_place (place_of o p) target.0 page.0)
+    (Raises (others (record { object = object.0; page = object_page.0 })).bytes) Elsewhere tt tt
 open_effect least h o p others (event.Stored task object page at size value) past high only =
     open_if (is_on h (host_of task.0 past) && is_place (place_of o p) object.0 page.0) (Stores at (little_endian_bytes size value)) Elsewhere tt tt
-open_effect least h o p others (event.Dropped at object page) past high only = open_if (at.0 == h && is_place (place_of o p) object.0 page.0) Drops Elsewhere tt tt
-open_effect least h o p others (event.Sent (Up at object) m) past high only = open_if (at.0 == h && object.0 == o) (sent_effect p (live_control h o past) m) Elsewhere (by m) tt
+open_effect least h o p others (event.Dropped at object page) past high only =
+    open_if (at.0 == h && is_place (place_of o p) object.0 page.0) Drops Elsewhere tt tt
+open_effect least h o p others (event.Sent (Up at object) m) past high only =
+    open_if (at.0 == h && object.0 == o) (sent_effect p (live_control h o past) m) Elsewhere (by m) tt
   where
     by : (m : Message) → IsOpen (sent_effect p (live_control h o past) m)
     by (message.Terminate control) = open_if (is_control control (live_control h o past)) Ends Elsewhere tt tt
@@ -90,9 +97,11 @@ open_effect least h o p others (event.Taken (Down at object control) (message.Lo
     open_locked (at.0 == h) (object.0 == o) (is_control control (live_control h o past)) (in_range p page.0 count) lock flush
     (λ on of. let low = only.0 (same_of at.0 h on) in let same = same_of object.0 o of in omega (arith, low, same, high))
 open_effect least h o p others (event.Taken (Down at object control) (message.Unavailable page)) past high only =
-    open_if (at.0 == h && (object.0 == o && is_control control (live_control h o past))) (taken_effect p (message.Unavailable page)) Elsewhere (open_if (page.0 == p) TakesNothing Elsewhere tt tt) tt
+    open_if (at.0 == h && (object.0 == o && is_control control (live_control h o past))) (taken_effect p (message.Unavailable page)) Elsewhere
+    (open_if (page.0 == p) TakesNothing Elsewhere tt tt) tt
 open_effect least h o p others (event.Taken (Down at object control) (message.Error page reason)) past high only =
-    open_if (at.0 == h && (object.0 == o && is_control control (live_control h o past))) (taken_effect p (message.Error page reason)) Elsewhere (open_if (page.0 == p) TakesError Elsewhere tt tt) tt
+    open_if (at.0 == h && (object.0 == o && is_control control (live_control h o past))) (taken_effect p (message.Error page reason)) Elsewhere
+    (open_if (page.0 == p) TakesError Elsewhere tt tt) tt
 open_effect least h o p others (event.Taken (Down at object control) m) past high only =
     open_if (at.0 == h && (object.0 == o && is_control control (live_control h o past))) Elsewhere Elsewhere tt tt
 open_effect least h o p others e past high only = tt
@@ -100,5 +109,6 @@ open_effect least h o p others e past high only = tt
 pub unlocked_temporary : (least size h o p : ℕ) (past : List Event) → least ≤ o → OnlyReturned least h past → (local size h (place_of o p) past).lock ≡ 0
 unlocked_temporary least size h o p [] high only = refl
 unlocked_temporary least size h o p (e ∷ past) high only =
-    open_after size (effect h (place_of o p) (λ source. local size h source past) e past) (local size h (place_of o p) past) (open_effect least h o p (λ source. local size h source past) e past high only)
+    open_after size (effect h (place_of o p) (λ source. local size h source past) e past) (local size h (place_of o p) past)
+    (open_effect least h o p (λ source. local size h source past) e past high only)
     (unlocked_temporary least size h o p past high (only_before least h e past only))

@@ -47,7 +47,8 @@ pub record SameOf (task : ℕ) (old new : Mapped) : Type 0 where
 pub rows_same : (task : ℕ) (old new : Mapped) → SameOf task old new → rows_in task new ≡ rows_in task old
 rows_same task old new same = ap (λ z. unwrap_or z []) same.entries
 
-pub at_kept : (maps maps2 : Mapped) (cs cs2 : ChainTable) (task : ℕ) (what : Want) (key : PageKey) → SameOf task maps maps2 → KeepsPlaces cs cs2 → IsAt maps cs task what key → IsAt maps2 cs2 task what key
+pub at_kept : (maps maps2 : Mapped) (cs cs2 : ChainTable) (task : ℕ) (what : Want) (key : PageKey) → SameOf task maps maps2 → KeepsPlaces cs cs2
+    → IsAt maps cs task what key → IsAt maps2 cs2 task what key
 at_kept maps maps2 cs cs2 task what key same tops at =
     let now = tops.tops at.entry.region.0 at.row at.region in
     record {
@@ -59,13 +60,15 @@ at_kept maps maps2 cs cs2 task what key same tops at =
     }
 
 -- the chain leads on from a place as it did
-pub leads_kept : (cs cs2 : ChainTable) → ((o : ℕ) (row : ShadowRow) → shadow_at cs o ≡ Some row → shadow_at cs2 o ≡ Some row) → (n : ℕ) (from to : PageKey) → LeadsTo cs n from to → LeadsTo cs2 n from to
+pub leads_kept : (cs cs2 : ChainTable) → ((o : ℕ) (row : ShadowRow) → shadow_at cs o ≡ Some row → shadow_at cs2 o ≡ Some row) → (n : ℕ) (from to : PageKey)
+    → LeadsTo cs n from to → LeadsTo cs2 n from to
 leads_kept cs cs2 kept zero from to leads = leads
 leads_kept cs cs2 kept (suc n) from to leads =
     let under = leads.1 in
     (leads.0, record { row = under.row; found = kept from.object.0 under.row under.found; is = under.is }, leads_kept cs cs2 kept n leads.0 to leads.2)
 
-pub place_kept : (maps maps2 : Mapped) (cs cs2 : ChainTable) (task : ℕ) (what : Want) (key : PageKey) → SameOf task maps maps2 → KeepsPlaces cs cs2 → IsPlaceOf maps cs task what key → IsPlaceOf maps2 cs2 task what key
+pub place_kept : (maps maps2 : Mapped) (cs cs2 : ChainTable) (task : ℕ) (what : Want) (key : PageKey) → SameOf task maps maps2 → KeepsPlaces cs cs2
+    → IsPlaceOf maps cs task what key → IsPlaceOf maps2 cs2 task what key
 place_kept maps maps2 cs cs2 task what key same tops place =
     record {
       top = place.top;
@@ -75,7 +78,8 @@ place_kept maps maps2 cs cs2 task what key same tops place =
     }
 
 -- with what is passed over on the way there
-behind_kept : {stays : PageKey → Type 0} (maps maps2 : Mapped) (cs cs2 : ChainTable) (task : ℕ) (what : Want) (key : PageKey) → SameOf task maps maps2 → KeepsPlaces cs cs2 → IsPlaceBehind stays maps cs task what key → IsPlaceBehind stays maps2 cs2 task what key
+behind_kept : {stays : PageKey → Type 0} (maps maps2 : Mapped) (cs cs2 : ChainTable) (task : ℕ) (what : Want) (key : PageKey) → SameOf task maps maps2
+    → KeepsPlaces cs cs2 → IsPlaceBehind stays maps cs task what key → IsPlaceBehind stays maps2 cs2 task what key
 behind_kept {stays = stays} maps maps2 cs cs2 task what key same tops place =
     record {
       top = place.top;
@@ -84,7 +88,8 @@ behind_kept {stays = stays} maps maps2 cs cs2 task what key same tops place =
       leads = over_kept stays cs cs2 tops.shadows place.steps place.top key place.leads;
     }
 
-pub allowed_kept : (maps maps2 : Mapped) (task address : ℕ) (need : Need) → SameOf task maps maps2 → IsAllowed maps task address need → IsAllowed maps2 task address need
+pub allowed_kept : (maps maps2 : Mapped) (task address : ℕ) (need : Need) → SameOf task maps maps2 → IsAllowed maps task address need
+    → IsAllowed maps2 task address need
 allowed_kept maps maps2 task address need same is =
     record {
       entry = is.entry;
@@ -93,9 +98,11 @@ allowed_kept maps maps2 task address need same is =
       allowed = is.allowed;
     }
 
-reason_kept : (maps maps2 : Mapped) (cs cs2 : ChainTable) (rs : ResidentTable) (os : ObjectTable) (task : ℕ) (what : Want) (why : On) → SameOf task maps maps2 → KeepsPlaces cs cs2 → Reason maps cs rs os task what why → Reason maps2 cs2 rs os task what why
+reason_kept : (maps maps2 : Mapped) (cs cs2 : ChainTable) (rs : ResidentTable) (os : ObjectTable) (task : ℕ) (what : Want) (why : On) → SameOf task maps maps2
+    → KeepsPlaces cs cs2 → Reason maps cs rs os task what why → Reason maps2 cs2 rs os task what why
 reason_kept maps maps2 cs cs2 rs os task what on.Again same tops reason = reason
-reason_kept maps maps2 cs cs2 rs os task what (on.Ready object) same tops reason = (reason.0, place_kept maps maps2 cs cs2 task what reason.0 same tops reason.1, reason.2, reason.3)
+reason_kept maps maps2 cs cs2 rs os task what (on.Ready object) same tops reason =
+    (reason.0, place_kept maps maps2 cs cs2 task what reason.0 same tops reason.1, reason.2, reason.3)
 reason_kept maps maps2 cs cs2 rs os task what (on.Page key) same tops reason = (place_kept maps maps2 cs cs2 task what key same tops reason.0, reason.1)
 reason_kept maps maps2 cs cs2 rs os task what on.Frame same tops reason = reason
 
@@ -104,7 +111,8 @@ abbrev pub AreTold : Mapped → List Waiting → (ℕ → Option Access) → Typ
 AreTold maps rows waiting_at = (t : ℕ) → is_some (entries_in t maps) ≡ true → waiting_at t ≡ waiting_in maps.size (entry rows t)
 
 -- who has other entries now was here before
-pub told_changed : (maps maps2 : Mapped) (rows : List Waiting) (waiting_at : ℕ → Option Access) (task : ℕ) (was : List Entry) (made : Option (List Entry)) → AreTold maps rows waiting_at → ChangesOnly maps maps2 task made → entries_in task maps ≡ Some was → AreTold maps2 rows waiting_at
+pub told_changed : (maps maps2 : Mapped) (rows : List Waiting) (waiting_at : ℕ → Option Access) (task : ℕ) (was : List Entry) (made : Option (List Entry))
+    → AreTold maps rows waiting_at → ChangesOnly maps maps2 task made → entries_in task maps ≡ Some was → AreTold maps2 rows waiting_at
 told_changed maps maps2 rows waiting_at task was made told changes lives t here = elim (eqb_tells task t) [
   | inl same ↦ told t (ap (λ z. is_some (entries_in z maps)) (sym same.1) ∙ ap is_some lives) ∙ sized t
   | inr apart ↦ told t (ap is_some (sym (changes.others t (λ e. apart.1 (sym e)))) ∙ here) ∙ sized t
@@ -114,8 +122,10 @@ told_changed maps maps2 rows waiting_at task was made told changes lives t here 
     sized u = ap (λ n. waiting_in n (entry rows u)) (sym changes.size)
 
 -- who waits has the entries that it had
-pub waits_kept : {stays unmet : PageKey → Type 0} {waiting2 : ℕ → Option Access} (maps maps2 : Mapped) (cs cs2 : ChainTable) (rs : ResidentTable) (os : ObjectTable) (rows : List Waiting) (who : On → Bool) (waiting_at : ℕ → Option Access)
-    → HasWaiters maps cs rs os rows who waiting_at stays unmet → ((t : ℕ) (w : Waiting) → entry rows t ≡ Some w → SameOf t maps maps2) → KeepsPlaces cs cs2 → AreTold maps2 rows waiting2
+pub waits_kept : {stays unmet : PageKey → Type 0} {waiting2 : ℕ → Option Access} (maps maps2 : Mapped) (cs cs2 : ChainTable) (rs : ResidentTable)
+    (os : ObjectTable) (rows : List Waiting) (who : On → Bool) (waiting_at : ℕ → Option Access)
+    → HasWaiters maps cs rs os rows who waiting_at stays unmet → ((t : ℕ) (w : Waiting) → entry rows t ≡ Some w → SameOf t maps maps2) → KeepsPlaces cs cs2
+    → AreTold maps2 rows waiting2
     → HasWaiters maps2 cs2 rs os rows who waiting2 stays unmet
 waits_kept {stays = stays} {unmet = unmet} maps maps2 cs cs2 rs os rows who waiting_at has same tops told =
     record {
@@ -124,15 +134,19 @@ waits_kept {stays = stays} {unmet = unmet} maps maps2 cs cs2 rs os rows who wait
           (allowed_kept maps maps2 t (address_in maps.size w.want) (need_in w.want) (same t w found) (has.allowed t w found));
       sized = λ t w found. subst (λ (n : ℕ). IsSizedWant n w.want) (sym (same t w found).size) (has.sized t w found);
       reasons = λ t w found apart. reason_kept maps maps2 cs cs2 rs os t w.want w.on (same t w found) tops (has.reasons t w found apart);
-      passed = λ t w found apart. passed_placed stays unmet maps maps2 cs cs2 t w.want w.on (λ key place. behind_kept maps maps2 cs cs2 t w.want key (same t w found) tops place) (has.passed t w found apart);
+      passed =
+          λ t w found apart. passed_placed stays unmet maps maps2 cs cs2 t w.want w.on
+          (λ key place. behind_kept maps maps2 cs cs2 t w.want key (same t w found) tops place) (has.passed t w found apart);
       aims = λ t w key found is. place_kept maps maps2 cs cs2 t w.want key (same t w found) tops (has.aims t w key found is);
       askers = has.askers;
       ready = has.ready;
     }
 
 -- one task's entries change, which doesn't wait
-pub waits_changed : {stays unmet : PageKey → Type 0} {waiting2 : ℕ → Option Access} (maps maps2 : Mapped) (cs cs2 : ChainTable) (rs : ResidentTable) (os : ObjectTable) (rows : List Waiting) (who : On → Bool) (waiting_at : ℕ → Option Access) (task : ℕ) (made : Option (List Entry))
-    → HasWaiters maps cs rs os rows who waiting_at stays unmet → ChangesOnly maps maps2 task made → entry rows task ≡ None → KeepsPlaces cs cs2 → AreTold maps2 rows waiting2
+pub waits_changed : {stays unmet : PageKey → Type 0} {waiting2 : ℕ → Option Access} (maps maps2 : Mapped) (cs cs2 : ChainTable) (rs : ResidentTable)
+    (os : ObjectTable) (rows : List Waiting) (who : On → Bool) (waiting_at : ℕ → Option Access) (task : ℕ) (made : Option (List Entry))
+    → HasWaiters maps cs rs os rows who waiting_at stays unmet → ChangesOnly maps maps2 task made → entry rows task ≡ None → KeepsPlaces cs cs2
+    → AreTold maps2 rows waiting2
     → HasWaiters maps2 cs2 rs os rows who waiting2 stays unmet
 waits_changed maps maps2 cs cs2 rs os rows who waiting_at task made has changes none tops told =
     waits_kept maps maps2 cs cs2 rs os rows who waiting_at has

@@ -30,9 +30,12 @@ use Rattle.vm_waits.specs.declared.waiting.Want.{Want}
 use Rattle.vm_state.proofs.Waited.{AreTold}
 
 -- where nothing has come to the places that were passed over, and to those that wait for their pager
-pub waits_seen : {stays unmet stays2 unmet2 : PageKey → Type 0} (maps : Mapped) (chains : ChainTable) (rs : ResidentTable) (os : ObjectTable) (rows : List Waiting) (who : On → Bool) (at : ℕ → Option Access) → HasWaiters maps chains rs os rows who at stays unmet
-    → ((t : ℕ) (w : Waiting) → entry rows t ≡ Some w → who w.on ≡ false → Reason maps chains rs os t w.want w.on → (to : PageKey) → StopsAt unmet w.on to → (m : ℕ) (from : PageKey) → IsPlaceOf maps chains t w.want from → LeadsOver stays chains (suc m) from to → stays2 from)
-    → ((t : ℕ) (w : Waiting) → entry rows t ≡ Some w → who w.on ≡ false → Reason maps chains rs os t w.want w.on → (object : ObjectId) → w.on ≡ on.Ready object → (to : PageKey) → to.object ≡ object → IsPlaceOf maps chains t w.want to → unmet to → unmet2 to)
+pub waits_seen : {stays unmet stays2 unmet2 : PageKey → Type 0} (maps : Mapped) (chains : ChainTable) (rs : ResidentTable) (os : ObjectTable)
+    (rows : List Waiting) (who : On → Bool) (at : ℕ → Option Access) → HasWaiters maps chains rs os rows who at stays unmet
+    → ((t : ℕ) (w : Waiting) → entry rows t ≡ Some w → who w.on ≡ false → Reason maps chains rs os t w.want w.on → (to : PageKey) → StopsAt unmet w.on to
+    → (m : ℕ) (from : PageKey) → IsPlaceOf maps chains t w.want from → LeadsOver stays chains (suc m) from to → stays2 from)
+    → ((t : ℕ) (w : Waiting) → entry rows t ≡ Some w → who w.on ≡ false → Reason maps chains rs os t w.want w.on → (object : ObjectId) → w.on ≡ on.Ready object
+    → (to : PageKey) → to.object ≡ object → IsPlaceOf maps chains t w.want to → unmet to → unmet2 to)
     → HasWaiters maps chains rs os rows who at stays2 unmet2
 waits_seen {stays = stays} {unmet = unmet} {stays2 = stays2} {unmet2 = unmet2} maps chains rs os rows who at has above there =
     record {
@@ -40,7 +43,9 @@ waits_seen {stays = stays} {unmet = unmet} {stays2 = stays2} {unmet2 = unmet2} m
       allowed = has.allowed;
       sized = has.sized;
       reasons = has.reasons;
-      passed = λ t w found asleep. passed_now stays stays2 unmet unmet2 maps chains t w.want w.on (above t w found asleep (has.reasons t w found asleep)) (there t w found asleep (has.reasons t w found asleep)) (has.passed t w found asleep);
+      passed =
+          λ t w found asleep. passed_now stays stays2 unmet unmet2 maps chains t w.want w.on (above t w found asleep (has.reasons t w found asleep))
+          (there t w found asleep (has.reasons t w found asleep)) (has.passed t w found asleep);
       aims = has.aims;
       askers = has.askers;
       ready = has.ready;
@@ -100,28 +105,32 @@ pub asked_is : (rs : ResidentTable) (what : Want) (o p : ℕ) (row : PageRow) �
 asked_is rs what o p row found away = inl (record { row = row; found = found; away = away })
 
 -- the page has a row that awaits a word
-pub awaited_row : {B : Type 0} (rs : ResidentTable) (what : Want) (o p : ℕ) → IsAwaitedBy rs what o p → ((row : PageRow) → row_at rs o p ≡ Some row → is_awaited row ≡ true → B) → B
+pub awaited_row : {B : Type 0} (rs : ResidentTable) (what : Want) (o p : ℕ) → IsAwaitedBy rs what o p
+    → ((row : PageRow) → row_at rs o p ≡ Some row → is_awaited row ≡ true → B) → B
 awaited_row rs what o p awaits go = elim awaits [
   | inl asked ↦ go asked.row asked.found (away_awaited asked.row asked.away)
   | inr locked ↦ go locked.row locked.found (sent_awaited locked.row locked.sent)
 ]
 
 -- it is so while another page has another row
-pub awaited_elsewhere : (o p : ℕ) (x : Option PageRow) (rs rs2 : ResidentTable) (what : Want) (o2 p2 : ℕ) → row_at rs2 o2 p2 ≡ row_at rs o2 p2 → IsAwaitedBy rs what o2 p2 → IsAwaitedBy rs2 what o2 p2
+pub awaited_elsewhere : (o p : ℕ) (x : Option PageRow) (rs rs2 : ResidentTable) (what : Want) (o2 p2 : ℕ) → row_at rs2 o2 p2 ≡ row_at rs o2 p2
+    → IsAwaitedBy rs what o2 p2 → IsAwaitedBy rs2 what o2 p2
 awaited_elsewhere o p x rs rs2 what o2 p2 same awaits = elim awaits [
   | inl asked ↦ inl (record { row = asked.row; found = same ∙ asked.found; away = asked.away })
   | inr locked ↦ inr (record { row = locked.row; found = same ∙ locked.found; here = locked.here; locked = locked.locked; sent = locked.sent })
 ]
 
 -- a page of which a word is outstanding stays so while another changes
-pub awaited_kept : (o p : ℕ) (x : Option PageRow) (rs rs2 : ResidentTable) (what : Want) (o2 p2 : ℕ) → PutsRow o p x rs rs2 → IsUnawaited (row_at rs o p) → IsAwaitedBy rs what o2 p2 → IsAwaitedBy rs2 what o2 p2
+pub awaited_kept : (o p : ℕ) (x : Option PageRow) (rs rs2 : ResidentTable) (what : Want) (o2 p2 : ℕ) → PutsRow o p x rs rs2 → IsUnawaited (row_at rs o p)
+    → IsAwaitedBy rs what o2 p2 → IsAwaitedBy rs2 what o2 p2
 awaited_kept o p x rs rs2 what o2 p2 put not awaits = elim (row_cases o p x rs rs2 put o2 p2) [
   | inl now ↦ awaited_row rs what o2 p2 awaits (λ row found is. awaited_apart (row_at rs o p) row not (row_moved rs o p o2 p2 now.object now.page ∙ found) is)
   | inr other ↦ awaited_elsewhere o p x rs rs2 what o2 p2 other.is awaits
 ]
 
 -- what an access waits for is so still
-pub reason_kept : (maps : Mapped) (chains : ChainTable) (rs rs2 : ResidentTable) (os : ObjectTable) (t : ℕ) (what : Want) (reason : On) → ((key : PageKey) → reason ≡ on.Page key → IsAwaitedBy rs what key.object.0 key.page.0 → IsAwaitedBy rs2 what key.object.0 key.page.0)
+pub reason_kept : (maps : Mapped) (chains : ChainTable) (rs rs2 : ResidentTable) (os : ObjectTable) (t : ℕ) (what : Want) (reason : On)
+    → ((key : PageKey) → reason ≡ on.Page key → IsAwaitedBy rs what key.object.0 key.page.0 → IsAwaitedBy rs2 what key.object.0 key.page.0)
     → Reason maps chains rs os t what reason → Reason maps chains rs2 os t what reason
 reason_kept maps chains rs rs2 os t what on.Again kept is = tt
 reason_kept maps chains rs rs2 os t what (on.Ready object) kept is = is
@@ -133,14 +142,18 @@ abbrev pub IsWokenFor : (On → Bool) → Option PageRow → ℕ → ℕ → Typ
 IsWokenFor who found o p = IsUnawaited found ⊎ (who (on.Page (page_key o p)) ≡ true)
 
 -- a page has another row, or none; no word of it is outstanding now, nor was before but for those that are to be woken
-pub waiters_page : {stays unmet : PageKey → Type 0} (maps : Mapped) (chains : ChainTable) (rs rs2 : ResidentTable) (os : ObjectTable) (rows : List Waiting) (who : On → Bool) (at : ℕ → Option Access) (o p : ℕ) (x : Option PageRow)
-    → HasWaiters maps chains rs os rows who at stays unmet → PutsRow o p x rs rs2 → IsWokenFor who (row_at rs o p) o p → IsUnawaited x → HasWaiters maps chains rs2 os rows who at stays unmet
+pub waiters_page : {stays unmet : PageKey → Type 0} (maps : Mapped) (chains : ChainTable) (rs rs2 : ResidentTable) (os : ObjectTable) (rows : List Waiting)
+    (who : On → Bool) (at : ℕ → Option Access) (o p : ℕ) (x : Option PageRow)
+    → HasWaiters maps chains rs os rows who at stays unmet → PutsRow o p x rs rs2 → IsWokenFor who (row_at rs o p) o p → IsUnawaited x
+    → HasWaiters maps chains rs2 os rows who at stays unmet
 waiters_page maps chains rs rs2 os rows who at o p x has put before now =
     record {
       is = has.is;
       allowed = has.allowed;
       sized = has.sized;
-      reasons = λ t w is asleep. reason_kept maps chains rs rs2 os t w.want w.on (λ key same awaits. stays w.want key (ap who (sym same) ∙ asleep) awaits) (has.reasons t w is asleep);
+      reasons =
+          λ t w is asleep. reason_kept maps chains rs rs2 os t w.want w.on (λ key same awaits. stays w.want key (ap who (sym same) ∙ asleep) awaits)
+          (has.reasons t w is asleep);
       passed = has.passed;
       aims = has.aims;
       askers = λ o2 p2 row found awaits. elim (row_cases o p x rs rs2 put o2 p2) [
@@ -153,12 +166,15 @@ waiters_page maps chains rs rs2 os rows who at o p x has put before now =
       ];
     }
   where
-    stays : (what : Want) (key : PageKey) → who (on.Page key) ≡ false → IsAwaitedBy rs what key.object.0 key.page.0 → IsAwaitedBy rs2 what key.object.0 key.page.0
+    stays : (what : Want) (key : PageKey) → who (on.Page key) ≡ false → IsAwaitedBy rs what key.object.0 key.page.0
+        → IsAwaitedBy rs2 what key.object.0 key.page.0
     stays what key asleep awaits = elim (row_cases o p x rs rs2 put key.object.0 key.page.0) [
       | inl here ↦ elim before [
-        | inl none ↦ awaited_row rs what key.object.0 key.page.0 awaits (λ row found is. awaited_apart (row_at rs o p) row none (row_moved rs o p key.object.0 key.page.0 here.object here.page ∙ found) is)
+        | inl none ↦ awaited_row rs what key.object.0 key.page.0 awaits (λ row found is. awaited_apart (row_at rs o p) row none
+            (row_moved rs o p key.object.0 key.page.0 here.object here.page ∙ found) is)
         | inr woken_all ↦
-            absurd (let bad : true ≡ false = sym woken_all ∙ (ap (λ z. who (on.Page (page_key z p))) here.object ∙ (ap (λ z. who (on.Page (page_key key.object.0 z))) here.page ∙ asleep)) in cc)
+            absurd (let bad : true ≡ false = sym woken_all
+            ∙ (ap (λ z. who (on.Page (page_key z p))) here.object ∙ (ap (λ z. who (on.Page (page_key key.object.0 z))) here.page ∙ asleep)) in cc)
       ]
       | inr other ↦ awaited_elsewhere o p x rs rs2 what key.object.0 key.page.0 other.is awaits
     ]
@@ -169,7 +185,8 @@ pub record Suits (maps : Mapped) (task : ℕ) (w : Waiting) : Type 0 where
   pub sized : IsSizedWant maps.size w.want
 
 -- whom the others ask for is asked for still
-pub asker_kept : (rows rows2 : List Waiting) (t : ℕ) (was : Waiting) (x : Option Waiting) (o p : ℕ) → PutsEntry t x rows rows2 → entry rows t ≡ Some was → (was.on ≡ on.Page (page_key o p) → ⊥) → Asker rows o p → Asker rows2 o p
+pub asker_kept : (rows rows2 : List Waiting) (t : ℕ) (was : Waiting) (x : Option Waiting) (o p : ℕ) → PutsEntry t x rows rows2 → entry rows t ≡ Some was
+    → (was.on ≡ on.Page (page_key o p) → ⊥) → Asker rows o p → Asker rows2 o p
 asker_kept rows rows2 t was x o p put is not asker = elim (eqb_tells t asker.task) [
   | inl same ↦
       let it : was ≡ asker.row = some_is was asker.row (sym is ∙ (ap (λ z. entry rows z) same.1 ∙ asker.is)) in
@@ -178,20 +195,24 @@ asker_kept rows rows2 t was x o p put is not asker = elim (eqb_tells t asker.tas
 ]
 
 -- one access is over, or waits for something else, and words that were outstanding are so still
-pub waiters_put : {stays unmet : PageKey → Type 0} (maps : Mapped) (chains : ChainTable) (rs rs2 : ResidentTable) (os : ObjectTable) (rows rows2 : List Waiting) (at at2 : ℕ → Option Access) (t : ℕ) (x : Option Waiting)
+pub waiters_put : {stays unmet : PageKey → Type 0} (maps : Mapped) (chains : ChainTable) (rs rs2 : ResidentTable) (os : ObjectTable) (rows rows2 : List Waiting)
+    (at at2 : ℕ → Option Access) (t : ℕ) (x : Option Waiting)
     → HasWaiters maps chains rs os rows (is_woken woken.Nobody) at stays unmet → PutsEntry t x rows rows2
     → AreTold maps rows2 at2
     → ((w : Waiting) → x ≡ Some w → Suits maps t w) → ((w : Waiting) → x ≡ Some w → Reason maps chains rs2 os t w.want w.on)
     → ((w : Waiting) → x ≡ Some w → Passed stays unmet maps chains t w.want w.on)
-    → ((what : Want) (o p : ℕ) → IsAwaitedBy rs what o p → IsAwaitedBy rs2 what o p) → ((o p : ℕ) (row : PageRow) → row_at rs2 o p ≡ Some row → is_awaited row ≡ true → Asker rows2 o p)
-    → ((o p : ℕ) (row : PageRow) → row_at rs2 o p ≡ Some row → row.here ≡ false → ready_in (object_at os o) ≡ true) → HasWaiters maps chains rs2 os rows2 (is_woken woken.Nobody) at2 stays unmet
+    → ((what : Want) (o p : ℕ) → IsAwaitedBy rs what o p → IsAwaitedBy rs2 what o p)
+    → ((o p : ℕ) (row : PageRow) → row_at rs2 o p ≡ Some row → is_awaited row ≡ true → Asker rows2 o p)
+    → ((o p : ℕ) (row : PageRow) → row_at rs2 o p ≡ Some row → row.here ≡ false → ready_in (object_at os o) ≡ true)
+    → HasWaiters maps chains rs2 os rows2 (is_woken woken.Nobody) at2 stays unmet
 waiters_put {stays = stays} {unmet = unmet} maps chains rs rs2 os rows rows2 at at2 t x has put told suits reason passed kept askers ready =
     record {
       is = told;
       allowed = λ u w is. puts_cases {P = IsAllowed maps u (address_in maps.size w.want) (need_in w.want)} t u x rows rows2 w put is
           (λ same it. subst (λ (z : ℕ). IsAllowed maps z (address_in maps.size w.want) (need_in w.want)) same (suits w it).allowed)
           (λ apart was. has.allowed u w was);
-      sized = λ u w is. puts_cases {P = IsSizedWant maps.size w.want} t u x rows rows2 w put is (λ same it. (suits w it).sized) (λ apart was. has.sized u w was);
+      sized =
+          λ u w is. puts_cases {P = IsSizedWant maps.size w.want} t u x rows rows2 w put is (λ same it. (suits w it).sized) (λ apart was. has.sized u w was);
       reasons = λ u w is asleep. puts_cases {P = Reason maps chains rs2 os u w.want w.on} t u x rows rows2 w put is
           (λ same it. subst (λ (z : ℕ). Reason maps chains rs2 os z w.want w.on) same (reason w it))
           (λ apart was. reason_kept maps chains rs rs2 os u w.want w.on (λ key why. kept w.want key.object.0 key.page.0) (has.reasons u w was refl));
@@ -206,17 +227,23 @@ waiters_put {stays = stays} {unmet = unmet} maps chains rs rs2 os rows rows2 at 
     }
   where
     aimed : (u : ℕ) (what : Want) (why : On) (key : PageKey) → why ≡ on.Page key → Reason maps chains rs2 os u what why → IsPlaceOf maps chains u what key
-    aimed u what why key same is = let so : Reason maps chains rs2 os u what (on.Page key) = subst (λ (z : On). Reason maps chains rs2 os u what z) same is in so.0
+    aimed u what why key same is =
+        let so : Reason maps chains rs2 os u what (on.Page key) = subst (λ (z : On). Reason maps chains rs2 os u what z) same is in so.0
 
-pub over_is : (maps : Mapped) (rows rows2 : List Waiting) (t : ℕ) (at at2 : ℕ → Option Access) → AreTold maps rows at → PutsEntry t None rows rows2 → ((u : ℕ) → at2 u ≡ (if t == u then None else at u)) → AreTold maps rows2 at2
+pub over_is : (maps : Mapped) (rows rows2 : List Waiting) (t : ℕ) (at at2 : ℕ → Option Access) → AreTold maps rows at → PutsEntry t None rows rows2
+    → ((u : ℕ) → at2 u ≡ (if t == u then None else at u)) → AreTold maps rows2 at2
 over_is maps rows rows2 t at at2 is put ends u here = elim (eqb_tells t u) [
-  | inl same ↦ ends u ∙ (ap (λ b. if b then None else at u) same.0 ∙ sym (ap (waiting_in maps.size) (put.at u ∙ ap (λ b. if b then None else entry rows u) same.0)))
-  | inr apart ↦ ends u ∙ (ap (λ b. if b then None else at u) apart.0 ∙ (is u here ∙ sym (ap (waiting_in maps.size) (put.at u ∙ ap (λ b. if b then None else entry rows u) apart.0))))
+  | inl same ↦ ends u ∙ (ap (λ b. if b then None else at u) same.0
+      ∙ sym (ap (waiting_in maps.size) (put.at u ∙ ap (λ b. if b then None else entry rows u) same.0)))
+  | inr apart ↦ ends u ∙ (ap (λ b. if b then None else at u) apart.0
+      ∙ (is u here ∙ sym (ap (waiting_in maps.size) (put.at u ∙ ap (λ b. if b then None else entry rows u) apart.0))))
 ]
 
 -- an access is over that waits for no page of which a word is outstanding
-pub waiters_over : {stays unmet : PageKey → Type 0} (maps : Mapped) (chains : ChainTable) (rs : ResidentTable) (os : ObjectTable) (rows rows2 : List Waiting) (at at2 : ℕ → Option Access) (t : ℕ) (was : Waiting)
-    → HasWaiters maps chains rs os rows (is_woken woken.Nobody) at stays unmet → entry rows t ≡ Some was → AsksNone rs was.on → PutsEntry t None rows rows2 → ((u : ℕ) → at2 u ≡ (if t == u then None else at u))
+pub waiters_over : {stays unmet : PageKey → Type 0} (maps : Mapped) (chains : ChainTable) (rs : ResidentTable) (os : ObjectTable) (rows rows2 : List Waiting)
+    (at at2 : ℕ → Option Access) (t : ℕ) (was : Waiting)
+    → HasWaiters maps chains rs os rows (is_woken woken.Nobody) at stays unmet → entry rows t ≡ Some was → AsksNone rs was.on → PutsEntry t None rows rows2
+    → ((u : ℕ) → at2 u ≡ (if t == u then None else at u))
     → HasWaiters maps chains rs os rows2 (is_woken woken.Nobody) at2 stays unmet
 waiters_over maps chains rs os rows rows2 at at2 t was has is none put ends =
     waiters_put maps chains rs rs os rows rows2 at at2 t None has put (over_is maps rows rows2 t at at2 has.is put ends)
@@ -227,32 +254,39 @@ waiters_over maps chains rs os rows rows2 at at2 t was has is none put ends =
     (λ o p row found away. asker_kept rows rows2 t was None o p put is (λ reason. none.at o p row found away reason) (has.askers o p row found away))
     has.ready
 
-pub turned_is : (maps : Mapped) (rows rows2 : List Waiting) (t : ℕ) (was : Waiting) (reason : On) (at : ℕ → Option Access) → AreTold maps rows at → entry rows t ≡ Some was → PutsEntry t (Some (with_on was reason)) rows rows2 → AreTold maps rows2 at
+pub turned_is : (maps : Mapped) (rows rows2 : List Waiting) (t : ℕ) (was : Waiting) (reason : On) (at : ℕ → Option Access) → AreTold maps rows at
+    → entry rows t ≡ Some was → PutsEntry t (Some (with_on was reason)) rows rows2 → AreTold maps rows2 at
 turned_is maps rows rows2 t was reason at is there put u here = elim (eqb_tells t u) [
   | inl same ↦
       let it : entry rows u ≡ Some was = ap (λ z. entry rows z) (sym same.1) ∙ there in
-      is u here ∙ (ap (waiting_in maps.size) it ∙ sym (ap (waiting_in maps.size) (put.at u ∙ ap (λ b. if b then Some (with_on was reason) else entry rows u) same.0)))
+      is u here ∙ (ap (waiting_in maps.size) it ∙ sym (ap (waiting_in maps.size) (put.at u
+      ∙ ap (λ b. if b then Some (with_on was reason) else entry rows u) same.0)))
   | inr apart ↦ is u here ∙ sym (ap (waiting_in maps.size) (put.at u ∙ ap (λ b. if b then Some (with_on was reason) else entry rows u) apart.0))
 ]
 
-turned_suits : {stays unmet : PageKey → Type 0} (maps : Mapped) (chains : ChainTable) (rs : ResidentTable) (os : ObjectTable) (rows : List Waiting) (who : On → Bool) (at : ℕ → Option Access) (t : ℕ) (was w : Waiting) (reason : On)
+turned_suits : {stays unmet : PageKey → Type 0} (maps : Mapped) (chains : ChainTable) (rs : ResidentTable) (os : ObjectTable) (rows : List Waiting)
+    (who : On → Bool) (at : ℕ → Option Access) (t : ℕ) (was w : Waiting) (reason : On)
     → HasWaiters maps chains rs os rows who at stays unmet → entry rows t ≡ Some was → Some (with_on was reason) ≡ Some w → Suits maps t w
 turned_suits maps chains rs os rows who at t was w reason has there same =
     subst (λ (z : Waiting). Suits maps t z) (some_is (with_on was reason) w same) (record { allowed = has.allowed t was there; sized = has.sized t was there })
 
-turned_reason : (maps : Mapped) (chains : ChainTable) (rs : ResidentTable) (os : ObjectTable) (t : ℕ) (was w : Waiting) (reason : On) → Reason maps chains rs os t was.want reason → Some (with_on was reason) ≡ Some w
+turned_reason : (maps : Mapped) (chains : ChainTable) (rs : ResidentTable) (os : ObjectTable) (t : ℕ) (was w : Waiting) (reason : On)
+    → Reason maps chains rs os t was.want reason → Some (with_on was reason) ≡ Some w
     → Reason maps chains rs os t w.want w.on
 turned_reason maps chains rs os t was w reason holds same =
     subst (λ (z : Waiting). Reason maps chains rs os t z.want z.on) (some_is (with_on was reason) w same) holds
 
-turned_passed : (stays unmet : PageKey → Type 0) (maps : Mapped) (chains : ChainTable) (t : ℕ) (was w : Waiting) (reason : On) → Passed stays unmet maps chains t was.want reason → Some (with_on was reason) ≡ Some w
+turned_passed : (stays unmet : PageKey → Type 0) (maps : Mapped) (chains : ChainTable) (t : ℕ) (was w : Waiting) (reason : On)
+    → Passed stays unmet maps chains t was.want reason → Some (with_on was reason) ≡ Some w
     → Passed stays unmet maps chains t w.want w.on
 turned_passed stays unmet maps chains t was w reason holds same =
     subst (λ (z : Waiting). Passed stays unmet maps chains t z.want z.on) (some_is (with_on was reason) w same) holds
 
 -- an access waits for something else; before, for no page of which a word is outstanding
-pub waiters_turned : {stays unmet : PageKey → Type 0} (maps : Mapped) (chains : ChainTable) (rs : ResidentTable) (os : ObjectTable) (rows rows2 : List Waiting) (at : ℕ → Option Access) (t : ℕ) (was : Waiting) (reason : On)
-    → HasWaiters maps chains rs os rows (is_woken woken.Nobody) at stays unmet → entry rows t ≡ Some was → AsksNone rs was.on → PutsEntry t (Some (with_on was reason)) rows rows2 → Reason maps chains rs os t was.want reason
+pub waiters_turned : {stays unmet : PageKey → Type 0} (maps : Mapped) (chains : ChainTable) (rs : ResidentTable) (os : ObjectTable) (rows rows2 : List Waiting)
+    (at : ℕ → Option Access) (t : ℕ) (was : Waiting) (reason : On)
+    → HasWaiters maps chains rs os rows (is_woken woken.Nobody) at stays unmet → entry rows t ≡ Some was → AsksNone rs was.on
+    → PutsEntry t (Some (with_on was reason)) rows rows2 → Reason maps chains rs os t was.want reason
     → Passed stays unmet maps chains t was.want reason → HasWaiters maps chains rs os rows2 (is_woken woken.Nobody) at stays unmet
 waiters_turned {stays = stays} {unmet = unmet} maps chains rs os rows rows2 at t was reason has is none put holds passed =
     waiters_put maps chains rs rs os rows rows2 at at t (Some (with_on was reason)) has put (turned_is maps rows rows2 t was reason at has.is is put)
@@ -260,11 +294,13 @@ waiters_turned {stays = stays} {unmet = unmet} maps chains rs os rows rows2 at t
     (λ w it. turned_reason maps chains rs os t was w reason holds it)
     (λ w it. turned_passed stays unmet maps chains t was w reason passed it)
     (λ what o p awaits. awaits)
-    (λ o p row found away. asker_kept rows rows2 t was (Some (with_on was reason)) o p put is (λ why. none.at o p row found away why) (has.askers o p row found away))
+    (λ o p row found away. asker_kept rows rows2 t was (Some (with_on was reason)) o p put is (λ why. none.at o p row found away why)
+    (has.askers o p row found away))
     has.ready
 
 -- an access waits for a page that is asked
-pub its_asker : (rows rows2 : List Waiting) (t : ℕ) (was : Waiting) (key : PageKey) (o p : ℕ) → PutsEntry t (Some (with_on was (on.Page key))) rows rows2 → key.object.0 ≡ o → key.page.0 ≡ p → Asker rows2 o p
+pub its_asker : (rows rows2 : List Waiting) (t : ℕ) (was : Waiting) (key : PageKey) (o p : ℕ) → PutsEntry t (Some (with_on was (on.Page key))) rows rows2
+    → key.object.0 ≡ o → key.page.0 ≡ p → Asker rows2 o p
 its_asker rows rows2 t was key o p put same also =
     record {
       task = t;
@@ -274,18 +310,26 @@ its_asker rows rows2 t was key o p put same also =
     }
 
 -- an access waits for a page of which a word was outstanding before
-pub waiters_joined : {stays unmet : PageKey → Type 0} (maps : Mapped) (chains : ChainTable) (rs : ResidentTable) (os : ObjectTable) (rows rows2 : List Waiting) (at : ℕ → Option Access) (t : ℕ) (was : Waiting) (key : PageKey)
-    → HasWaiters maps chains rs os rows (is_woken woken.Nobody) at stays unmet → entry rows t ≡ Some was → AsksNone rs was.on → IsPlaceBehind stays maps chains t was.want key → IsAwaitedBy rs was.want key.object.0 key.page.0 → PutsEntry t (Some (with_on was (on.Page key))) rows rows2
+pub waiters_joined : {stays unmet : PageKey → Type 0} (maps : Mapped) (chains : ChainTable) (rs : ResidentTable) (os : ObjectTable) (rows rows2 : List Waiting)
+    (at : ℕ → Option Access) (t : ℕ) (was : Waiting) (key : PageKey)
+    → HasWaiters maps chains rs os rows (is_woken woken.Nobody) at stays unmet → entry rows t ≡ Some was → AsksNone rs was.on
+    → IsPlaceBehind stays maps chains t was.want key → IsAwaitedBy rs was.want key.object.0 key.page.0
+    → PutsEntry t (Some (with_on was (on.Page key))) rows rows2
     → HasWaiters maps chains rs os rows2 (is_woken woken.Nobody) at stays unmet
-waiters_joined maps chains rs os rows rows2 at t was key has is none behind awaits put = waiters_turned maps chains rs os rows rows2 at t was (on.Page key) has is none put (behind_place behind, awaits) behind
+waiters_joined maps chains rs os rows rows2 at t was key has is none behind awaits put =
+    waiters_turned maps chains rs os rows rows2 at t was (on.Page key) has is none put (behind_place behind, awaits) behind
 
 -- a word of a page is asked for of which none was outstanding, for an access that waits for it now
-pub waiters_asked : {stays unmet : PageKey → Type 0} (maps : Mapped) (chains : ChainTable) (rs rs2 : ResidentTable) (os : ObjectTable) (rows rows2 : List Waiting) (at : ℕ → Option Access) (t : ℕ) (was : Waiting) (key : PageKey) (row : PageRow)
-    → HasWaiters maps chains rs os rows (is_woken woken.Nobody) at stays unmet → entry rows t ≡ Some was → AsksNone rs was.on → IsPlaceBehind stays maps chains t was.want key → IsUnawaited (row_at rs key.object.0 key.page.0)
-    → PutsRow key.object.0 key.page.0 (Some row) rs rs2 → IsAwaitedBy rs2 was.want key.object.0 key.page.0 → PutsEntry t (Some (with_on was (on.Page key))) rows rows2 → (row.here ≡ false → ready_in (object_at os key.object.0) ≡ true)
+pub waiters_asked : {stays unmet : PageKey → Type 0} (maps : Mapped) (chains : ChainTable) (rs rs2 : ResidentTable) (os : ObjectTable)
+    (rows rows2 : List Waiting) (at : ℕ → Option Access) (t : ℕ) (was : Waiting) (key : PageKey) (row : PageRow)
+    → HasWaiters maps chains rs os rows (is_woken woken.Nobody) at stays unmet → entry rows t ≡ Some was → AsksNone rs was.on
+    → IsPlaceBehind stays maps chains t was.want key → IsUnawaited (row_at rs key.object.0 key.page.0)
+    → PutsRow key.object.0 key.page.0 (Some row) rs rs2 → IsAwaitedBy rs2 was.want key.object.0 key.page.0
+    → PutsEntry t (Some (with_on was (on.Page key))) rows rows2 → (row.here ≡ false → ready_in (object_at os key.object.0) ≡ true)
     → HasWaiters maps chains rs2 os rows2 (is_woken woken.Nobody) at stays unmet
 waiters_asked {stays = stays} {unmet = unmet} maps chains rs rs2 os rows rows2 at t was key row has is none behind fresh put awaits turns ready =
-    waiters_put maps chains rs rs2 os rows rows2 at at t (Some (with_on was (on.Page key))) has turns (turned_is maps rows rows2 t was (on.Page key) at has.is is turns)
+    waiters_put maps chains rs rs2 os rows rows2 at at t (Some (with_on was (on.Page key))) has turns
+    (turned_is maps rows rows2 t was (on.Page key) at has.is is turns)
     (λ w it. turned_suits maps chains rs os rows (is_woken woken.Nobody) at t was w (on.Page key) has is it)
     (λ w it. turned_reason maps chains rs2 os t was w (on.Page key) (behind_place behind, awaits) it)
     (λ w it. turned_passed stays unmet maps chains t was w (on.Page key) behind it)
@@ -294,7 +338,8 @@ waiters_asked {stays = stays} {unmet = unmet} maps chains rs rs2 os rows rows2 a
       | inl now ↦ its_asker rows rows2 t was key o p turns now.object now.page
       | inr other ↦
           let was_found = sym other.is ∙ found in
-          asker_kept rows rows2 t was (Some (with_on was (on.Page key))) o p turns is (λ reason. none.at o p r was_found waits reason) (has.askers o p r was_found waits)
+          asker_kept rows rows2 t was (Some (with_on was (on.Page key))) o p turns is (λ reason. none.at o p r was_found waits reason)
+          (has.askers o p r was_found waits)
     ])
     (λ o p r found gone. elim (row_cases key.object.0 key.page.0 (Some row) rs rs2 put o p) [
       | inl now ↦ subst (λ (z : ℕ). ready_in (object_at os z) ≡ true) now.object (ready (ap (λ z. z.here) (some_is row r (sym now.is ∙ found)) ∙ gone))
@@ -318,7 +363,8 @@ put_now o p x rs rs2 put = elim (row_cases o p x rs rs2 put o p) [
 ]
 
 -- whose lock keeps nobody out has no unlock outstanding: for each that is, somebody waits whom the lock keeps out
-pub open_unsent : {stays unmet : PageKey → Type 0} (maps : Mapped) (chains : ChainTable) (rs : ResidentTable) (os : ObjectTable) (rows : List Waiting) (at : ℕ → Option Access) (o p : ℕ) (row : PageRow) → HasWaiters maps chains rs os rows (is_woken woken.Nobody) at stays unmet
+pub open_unsent : {stays unmet : PageKey → Type 0} (maps : Mapped) (chains : ChainTable) (rs : ResidentTable) (os : ObjectTable) (rows : List Waiting)
+    (at : ℕ → Option Access) (o p : ℕ) (row : PageRow) → HasWaiters maps chains rs os rows (is_woken woken.Nobody) at stays unmet
     → row_at rs o p ≡ Some row → row.here ≡ true → keeps_out row.lock true ≡ false → row.unlock_sent ≡ false
 open_unsent maps chains rs os rows at o p row has found here open_to = by_test row.unlock_sent refl
   where
@@ -327,7 +373,8 @@ open_unsent maps chains rs os rows at o p row has found here open_to = by_test r
       | inl asked ↦ let bad : true ≡ false = sym here ∙ (ap (λ (z : PageRow). z.here) (some_is row asked.row (sym found ∙ asked.found)) ∙ asked.away) in cc
       | inr locked ↦
           let same : row ≡ locked.row = some_is row locked.row (sym found ∙ locked.found) in
-          let bad : true ≡ false = sym (kept_out_all row.lock (is_storing what) (ap (λ (z : PageRow). keeps_out z.lock (is_storing what)) same ∙ locked.locked)) ∙ open_to in
+          let bad : true ≡ false = sym (kept_out_all row.lock (is_storing what) (ap (λ (z : PageRow). keeps_out z.lock (is_storing what)) same ∙ locked.locked))
+          ∙ open_to in
           cc
     ]
 
@@ -336,5 +383,6 @@ open_unsent maps chains rs os rows at o p row has found here open_to = by_test r
     by_test true sent =
         let asker : Asker rows o p = has.askers o p row found (sent_awaited row sent) in
         let reason : Reason maps chains rs os asker.task asker.row.want asker.row.on = has.reasons asker.task asker.row asker.is refl in
-        let so : Reason maps chains rs os asker.task asker.row.want (on.Page (page_key o p)) = subst (λ (z : On). Reason maps chains rs os asker.task asker.row.want z) asker.waits reason in
+        let so : Reason maps chains rs os asker.task asker.row.want (on.Page (page_key o p)) = subst
+        (λ (z : On). Reason maps chains rs os asker.task asker.row.want z) asker.waits reason in
         absurd (none asker.row.want so.1)

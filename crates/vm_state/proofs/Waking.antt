@@ -37,19 +37,31 @@ stays_waked test (Some was) new w wakes is asleep =
     wakes ∙ (ap (λ (z : Waiting). Some (waits.woken test z)) (some_is was w is) ∙ ap (λ (b : Bool). Some (if b then with_on w on.Again else w)) asleep)
 
 -- no page is awaited for which somebody is to be woken; so all the others have their reasons
-pub waits_woken : {stays unmet : PageKey → Type 0} (maps : Mapped) (chains : ChainTable) (rs : ResidentTable) (os : ObjectTable) (rows rows2 : List Waiting) (who : On → Bool) (at : ℕ → Option Access) → HasWaiters maps chains rs os rows who at stays unmet → ((t : ℕ) → Waked who (entry rows t) (entry rows2 t))
-    → ((o p : ℕ) (row : PageRow) → row_at rs o p ≡ Some row → is_awaited row ≡ true → who (on.Page (page_key o p)) ≡ false) → HasWaiters maps chains rs os rows2 (is_woken woken.Nobody) at stays unmet
+pub waits_woken : {stays unmet : PageKey → Type 0} (maps : Mapped) (chains : ChainTable) (rs : ResidentTable) (os : ObjectTable) (rows rows2 : List Waiting)
+    (who : On → Bool) (at : ℕ → Option Access) → HasWaiters maps chains rs os rows who at stays unmet → ((t : ℕ) → Waked who (entry rows t) (entry rows2 t))
+    → ((o p : ℕ) (row : PageRow) → row_at rs o p ≡ Some row → is_awaited row ≡ true → who (on.Page (page_key o p)) ≡ false)
+    → HasWaiters maps chains rs os rows2 (is_woken woken.Nobody) at stays unmet
 waits_woken {stays = stays} {unmet = unmet} maps chains rs os rows rows2 who at has wakes apart =
     record {
       is = λ t here. has.is t here ∙ told_same maps.size who (entry rows t) (entry rows2 t) (wakes t);
-      allowed = λ t v is. waked_cases {P = IsAllowed maps t (address_in maps.size v.want) (need_in v.want)} who (entry rows t) (entry rows2 t) v (wakes t) is (λ was asleep. has.allowed t v was)
+      allowed =
+          λ t v is. waked_cases {P = IsAllowed maps t (address_in maps.size v.want) (need_in v.want)} who (entry rows t) (entry rows2 t) v (wakes t) is
+          (λ was asleep. has.allowed t v was)
           (λ w was passes same. subst (λ (z : Waiting). IsAllowed maps t (address_in maps.size z.want) (need_in z.want)) same (has.allowed t w was));
-      sized = λ t v is. waked_cases {P = IsSizedWant maps.size v.want} who (entry rows t) (entry rows2 t) v (wakes t) is (λ was asleep. has.sized t v was) (λ w was passes same. subst (λ (z : Waiting). IsSizedWant maps.size z.want) same (has.sized t w was));
-      reasons = λ t v is asleep. waked_cases {P = Reason maps chains rs os t v.want v.on} who (entry rows t) (entry rows2 t) v (wakes t) is (λ was still. has.reasons t v was still)
+      sized =
+          λ t v is. waked_cases {P = IsSizedWant maps.size v.want} who (entry rows t) (entry rows2 t) v (wakes t) is (λ was asleep. has.sized t v was)
+          (λ w was passes same. subst (λ (z : Waiting). IsSizedWant maps.size z.want) same (has.sized t w was));
+      reasons =
+          λ t v is asleep. waked_cases {P = Reason maps chains rs os t v.want v.on} who (entry rows t) (entry rows2 t) v (wakes t) is
+          (λ was still. has.reasons t v was still)
           (λ w was passes same. subst (λ (z : Waiting). Reason maps chains rs os t z.want z.on) same tt);
-      passed = λ t v is asleep. waked_cases {P = Passed stays unmet maps chains t v.want v.on} who (entry rows t) (entry rows2 t) v (wakes t) is (λ was still. has.passed t v was still)
+      passed =
+          λ t v is asleep. waked_cases {P = Passed stays unmet maps chains t v.want v.on} who (entry rows t) (entry rows2 t) v (wakes t) is
+          (λ was still. has.passed t v was still)
           (λ w was passes same. subst (λ (z : Waiting). Passed stays unmet maps chains t z.want z.on) same tt);
-      aims = λ t v key is waits. waked_cases {P = IsPlaceOf maps chains t v.want key} who (entry rows t) (entry rows2 t) v (wakes t) is (λ was asleep. has.aims t v key was waits)
+      aims =
+          λ t v key is waits. waked_cases {P = IsPlaceOf maps chains t v.want key} who (entry rows t) (entry rows2 t) v (wakes t) is
+          (λ was asleep. has.aims t v key was waits)
           (λ w was passes same. absurd (let bad : on.Again ≡ on.Page key = ap (λ (z : Waiting). z.on) same ∙ waits in cc));
       askers = λ o p row found awaits. asks o p (apart o p row found awaits) (has.askers o p row found awaits);
       ready = has.ready;

@@ -29,9 +29,11 @@ pub record Descends (backing : Backing) (page : ℕ) (next : PageKey) : Type 0 w
   pub object : next.object.0 ≡ backing.under
   pub page_is : next.page.0 ≡ backing.shift + page
 
-pub descends_of : {header : Header} {h : ℕ} {parts : HostParts} {chains : ChainTable} {past : List Event} → IsShown header h parts chains past → (from next : PageKey) → IsUnder chains from next → Descends (backing_of header from.object.0 past) from.page.0 next
+pub descends_of : {header : Header} {h : ℕ} {parts : HostParts} {chains : ChainTable} {past : List Event} → IsShown header h parts chains past
+    → (from next : PageKey) → IsUnder chains from next → Descends (backing_of header from.object.0 past) from.page.0 next
 descends_of {header = header} {past = past} s from next under =
-    let is : backing_of header from.object.0 past ≡ record { backed = true; under = under.row.under.0; shift = under.row.shift } = s.shadows from.object.0 under.row under.found in
+    let is : backing_of header from.object.0 past ≡ record { backed = true; under = under.row.under.0; shift = under.row.shift } = s.shadows from.object.0
+    under.row under.found in
     let page : next.page.0 ≡ from.page.0 + under.row.shift = ap (λ (z : PageKey). z.page.0) under.is in
     let shift : (backing_of header from.object.0 past).shift ≡ under.row.shift = ap (λ (z : Backing). z.shift) is in
     record {
@@ -42,16 +44,22 @@ descends_of {header = header} {past = past} s from next under =
 
 -- the same chains and walks, from a place that is the same
 leads_at : (backings : ℕ → Backing) (n o p o2 p2 l lp : ℕ) → o ≡ o2 → p ≡ p2 → Leads backings n o p l lp → Leads backings n o2 p2 l lp
-leads_at backings n o p o2 p2 l lp object page leads = subst (λ (z : ℕ). Leads backings n z p2 l lp) object (subst (λ (z : ℕ). Leads backings n o z l lp) page leads)
+leads_at backings n o p o2 p2 l lp object page leads =
+    subst (λ (z : ℕ). Leads backings n z p2 l lp) object (subst (λ (z : ℕ). Leads backings n o z l lp) page leads)
 
-walks_at : (sights : ℕ → ℕ → Sight) (backings : ℕ → Backing) (n o p o2 p2 l lp : ℕ) → o ≡ o2 → p ≡ p2 → Walks sights backings n o p l lp → Walks sights backings n o2 p2 l lp
-walks_at sights backings n o p o2 p2 l lp object page walks = subst (λ (z : ℕ). Walks sights backings n z p2 l lp) object (subst (λ (z : ℕ). Walks sights backings n o z l lp) page walks)
+walks_at : (sights : ℕ → ℕ → Sight) (backings : ℕ → Backing) (n o p o2 p2 l lp : ℕ) → o ≡ o2 → p ≡ p2 → Walks sights backings n o p l lp
+    → Walks sights backings n o2 p2 l lp
+walks_at sights backings n o p o2 p2 l lp object page walks =
+    subst (λ (z : ℕ). Walks sights backings n z p2 l lp) object (subst (λ (z : ℕ). Walks sights backings n o z l lp) page walks)
 
-sinks_at : (sights : ℕ → ℕ → Sight) (backings : ℕ → Backing) (n o p o2 p2 : ℕ) → o ≡ o2 → p ≡ p2 → legal.Sinks sights backings n o p → legal.Sinks sights backings n o2 p2
-sinks_at sights backings n o p o2 p2 object page sinks = subst (λ (z : ℕ). legal.Sinks sights backings n z p2) object (subst (λ (z : ℕ). legal.Sinks sights backings n o z) page sinks)
+sinks_at : (sights : ℕ → ℕ → Sight) (backings : ℕ → Backing) (n o p o2 p2 : ℕ) → o ≡ o2 → p ≡ p2 → legal.Sinks sights backings n o p
+    → legal.Sinks sights backings n o2 p2
+sinks_at sights backings n o p o2 p2 object page sinks =
+    subst (λ (z : ℕ). legal.Sinks sights backings n z p2) object (subst (λ (z : ℕ). legal.Sinks sights backings n o z) page sinks)
 
 -- a walk of the host is one of the history
-pub walks_of : {header : Header} {h : ℕ} {parts : HostParts} {chains : ChainTable} {past : List Event} → IsShown header h parts chains past → (n : ℕ) (from to : PageKey) → WalksTo parts chains n from to
+pub walks_of : {header : Header} {h : ℕ} {parts : HostParts} {chains : ChainTable} {past : List Event} → IsShown header h parts chains past
+    → (n : ℕ) (from to : PageKey) → WalksTo parts chains n from to
     → Walks (λ k q. sight header h k q past) (λ k. backing_of header k past) n from.object.0 from.page.0 to.object.0 to.page.0
 walks_of s zero from to walks = (ap (λ (z : PageKey). z.object.0) walks, ap (λ (z : PageKey). z.page.0) walks)
 walks_of {header = header} {h = h} {past = past} s (suc n) from to walks =
@@ -60,18 +68,23 @@ walks_of {header = header} {h = h} {past = past} s (suc n) from to walks =
     let backing = backing_of header from.object.0 past in (
       passes_of s from walks.0,
       down.backed,
-      walks_at (λ k q. sight header h k q past) (λ k. backing_of header k past) n next.object.0 next.page.0 backing.under (backing.shift + from.page.0) to.object.0 to.page.0 down.object down.page_is (walks_of s n next to walks.1.2),
+      walks_at (λ k q. sight header h k q past) (λ k. backing_of header k past) n next.object.0 next.page.0 backing.under (backing.shift + from.page.0)
+          to.object.0 to.page.0 down.object down.page_is (walks_of s n next to walks.1.2),
     )
 
 -- a chain of the host is one of the history
-pub leads_of : {header : Header} {h : ℕ} {parts : HostParts} {chains : ChainTable} {past : List Event} → IsShown header h parts chains past → (n : ℕ) (from to : PageKey) → LeadsTo chains n from to
+pub leads_of : {header : Header} {h : ℕ} {parts : HostParts} {chains : ChainTable} {past : List Event} → IsShown header h parts chains past
+    → (n : ℕ) (from to : PageKey) → LeadsTo chains n from to
     → Leads (λ k. backing_of header k past) n from.object.0 from.page.0 to.object.0 to.page.0
 leads_of s zero from to leads = (ap (λ (z : PageKey). z.object.0) leads, ap (λ (z : PageKey). z.page.0) leads)
 leads_of {header = header} {past = past} s (suc n) from to leads =
     let next = leads.0 in
     let down = descends_of s from next leads.1 in
-    let backing = backing_of header from.object.0 past in
-    (down.backed, leads_at (λ k. backing_of header k past) n next.object.0 next.page.0 backing.under (backing.shift + from.page.0) to.object.0 to.page.0 down.object down.page_is (leads_of s n next to leads.2))
+    let backing = backing_of header from.object.0 past in (
+      down.backed,
+      leads_at (λ k. backing_of header k past) n next.object.0 next.page.0 backing.under (backing.shift + from.page.0) to.object.0 to.page.0
+          down.object down.page_is (leads_of s n next to leads.2),
+    )
 
 -- where a walk gets, the chain leads
 pub walks_lead : (parts : HostParts) (chains : ChainTable) (n : ℕ) (from to : PageKey) → WalksTo parts chains n from to → LeadsTo chains n from to
@@ -79,16 +92,19 @@ walks_lead parts chains zero from to walks = walks
 walks_lead parts chains (suc n) from to walks = (walks.1.0, walks.1.1, walks_lead parts chains n walks.1.0 to walks.1.2)
 
 -- something refers to each object further down a chain
-pub referred_down : {header : Header} {h : ℕ} {parts : HostParts} {chains : ChainTable} {past : List Event} → IsShown header h parts chains past → (n : ℕ) (from to : PageKey) → IsReferred parts.objects from.object.0 → LeadsTo chains n from to
+pub referred_down : {header : Header} {h : ℕ} {parts : HostParts} {chains : ChainTable} {past : List Event} → IsShown header h parts chains past
+    → (n : ℕ) (from to : PageKey) → IsReferred parts.objects from.object.0 → LeadsTo chains n from to
     → IsReferred parts.objects to.object.0
 referred_down {parts = parts} s zero from to referred leads = subst (λ (z : PageKey). IsReferred parts.objects z.object.0) leads referred
 referred_down {parts = parts} s (suc n) from to referred leads =
     let next = leads.0 in
     let under = leads.1 in
-    referred_down s n next to (subst (λ (z : ℕ). IsReferred parts.objects z) (sym (ap (λ (z : PageKey). z.object.0) under.is)) (s.under_referred from.object.0 under.row under.found)) leads.2
+    referred_down s n next to (subst (λ (z : ℕ). IsReferred parts.objects z) (sym (ap (λ (z : PageKey). z.object.0) under.is))
+    (s.under_referred from.object.0 under.row under.found)) leads.2
 
 -- a page that is nowhere for the host is nowhere in the history
-pub sinks_of : {header : Header} {h : ℕ} {parts : HostParts} {chains : ChainTable} {past : List Event} → IsShown header h parts chains past → (top : PageKey) → IsReferred parts.objects top.object.0 → (k : Sinks parts chains top)
+pub sinks_of : {header : Header} {h : ℕ} {parts : HostParts} {chains : ChainTable} {past : List Event} → IsShown header h parts chains past → (top : PageKey)
+    → IsReferred parts.objects top.object.0 → (k : Sinks parts chains top)
     → legal.Sinks (λ o q. sight header h o q past) (λ o. backing_of header o past) k.steps top.object.0 top.page.0
 sinks_of {header = header} {h = h} {parts = parts} {chains = chains} {past = past} s top referred k =
     go k.steps top k.walks
@@ -96,25 +112,31 @@ sinks_of {header = header} {h = h} {parts = parts} {chains = chains} {past = pas
     bottom : (backing_of header k.last.object.0 past).backed ≡ false
     bottom = s.bottoms k.last.object.0 (referred_down s k.steps top k.last referred (walks_lead parts chains k.steps top k.last k.walks)) k.bottom
 
-    go : (n : ℕ) (from : PageKey) → WalksTo parts chains n from k.last → legal.Sinks (λ o q. sight header h o q past) (λ o. backing_of header o past) n from.object.0 from.page.0
-    go zero from walks = subst (λ (z : PageKey). legal.Sinks (λ o q. sight header h o q past) (λ o. backing_of header o past) zero z.object.0 z.page.0) (sym walks) (passes_of s k.last k.passes, bottom)
+    go : (n : ℕ) (from : PageKey) → WalksTo parts chains n from k.last
+        → legal.Sinks (λ o q. sight header h o q past) (λ o. backing_of header o past) n from.object.0 from.page.0
+    go zero from walks =
+        subst (λ (z : PageKey). legal.Sinks (λ o q. sight header h o q past) (λ o. backing_of header o past) zero z.object.0 z.page.0) (sym walks)
+        (passes_of s k.last k.passes, bottom)
     go (suc n) from walks =
         let next = walks.1.0 in
         let down = descends_of s from next walks.1.1 in
         let backing = backing_of header from.object.0 past in (
           passes_of s from walks.0,
           down.backed,
-          sinks_at (λ o q. sight header h o q past) (λ o. backing_of header o past) n next.object.0 next.page.0 backing.under (backing.shift + from.page.0) down.object down.page_is (go n next walks.1.2),
+          sinks_at (λ o q. sight header h o q past) (λ o. backing_of header o past) n next.object.0 next.page.0 backing.under (backing.shift + from.page.0)
+              down.object down.page_is (go n next walks.1.2),
         )
 
 -- the top place of a region's page
-pub top_of : {header : Header} {h : ℕ} {parts : HostParts} {chains : ChainTable} {past : List Event} → IsShown header h parts chains past → (r : ℕ) (row : RegionRow) → region_at chains r ≡ Some row → (index : ℕ)
+pub top_of : {header : Header} {h : ℕ} {parts : HostParts} {chains : ChainTable} {past : List Event} → IsShown header h parts chains past
+    → (r : ℕ) (row : RegionRow) → region_at chains r ≡ Some row → (index : ℕ)
     → IsTop (region_of header r past) index (top_place row index).object.0 (top_place row index).page.0
 top_of s r row region index =
     record { object = ap (λ (z : Region). z.top) (s.rows r row region); page = ap (λ (z : Region). z.shift + index) (s.rows r row region) }
 
 -- how far the walk of a region's page comes
-abbrev pub comes_of : {header : Header} {h : ℕ} {parts : HostParts} {chains : ChainTable} {past : List Event} → IsShown header h parts chains past → (r : ℕ) (row : RegionRow) → region_at chains r ≡ Some row → (index n : ℕ) (key : PageKey)
+abbrev pub comes_of : {header : Header} {h : ℕ} {parts : HostParts} {chains : ChainTable} {past : List Event} → IsShown header h parts chains past
+    → (r : ℕ) (row : RegionRow) → region_at chains r ≡ Some row → (index n : ℕ) (key : PageKey)
     → WalksTo parts chains n (top_place row index) key → Comes header h r index key.object.0 key.page.0 past
 comes_of s r row region index n key walks =
     record {
@@ -125,12 +147,14 @@ comes_of s r row region index n key walks =
       walks = walks_of s n (top_place row index) key walks;
     }
 
-pub comes_steps : {header : Header} {h : ℕ} {parts : HostParts} {chains : ChainTable} {past : List Event} → (s : IsShown header h parts chains past) → (r : ℕ) (row : RegionRow) → (region : region_at chains r ≡ Some row) → (index n : ℕ) (key : PageKey)
+pub comes_steps : {header : Header} {h : ℕ} {parts : HostParts} {chains : ChainTable} {past : List Event} → (s : IsShown header h parts chains past)
+    → (r : ℕ) (row : RegionRow) → (region : region_at chains r ≡ Some row) → (index n : ℕ) (key : PageKey)
     → (walks : WalksTo parts chains n (top_place row index) key) → (comes_of s r row region index n key walks).steps ≡ n
 comes_steps s r row region index n key walks = refl
 
 -- the places of a region's page
-pub place_of_page : {header : Header} {h : ℕ} {parts : HostParts} {chains : ChainTable} {past : List Event} → IsShown header h parts chains past → (r : ℕ) (row : RegionRow) → region_at chains r ≡ Some row → (index n : ℕ) (key : PageKey)
+pub place_of_page : {header : Header} {h : ℕ} {parts : HostParts} {chains : ChainTable} {past : List Event} → IsShown header h parts chains past
+    → (r : ℕ) (row : RegionRow) → region_at chains r ≡ Some row → (index n : ℕ) (key : PageKey)
     → LeadsTo chains n (top_place row index) key → HasPlace header r index key.object.0 key.page.0 past
 place_of_page s r row region index n key leads =
     record {
@@ -148,7 +172,8 @@ one_under chains key a b under other =
     under.is ∙ (ap (λ (z : ShadowRow). record { object = z.under; page = record { 0 = key.page.0 + z.shift } }) same ∙ sym other.is)
 
 -- two walks from a place that stop, each at a place that isn't passed over, stop at the same
-pub walk_stops : (parts : HostParts) (chains : ChainTable) (n m : ℕ) (top a b : PageKey) → WalksTo parts chains n top a → WalksTo parts chains m top b → (PassesOver parts a → ⊥) → (PassesOver parts b → ⊥) → (n ≡ m) × (a ≡ b)
+pub walk_stops : (parts : HostParts) (chains : ChainTable) (n m : ℕ) (top a b : PageKey) → WalksTo parts chains n top a → WalksTo parts chains m top b
+    → (PassesOver parts a → ⊥) → (PassesOver parts b → ⊥) → (n ≡ m) × (a ≡ b)
 walk_stops parts chains zero zero top a b walks others stops ends = (refl, sym walks ∙ others)
 walk_stops parts chains zero (suc m) top a b walks others stops ends = absurd (stops (subst (λ (z : PageKey). PassesOver parts z) walks others.0))
 walk_stops parts chains (suc n) zero top a b walks others stops ends = absurd (ends (subst (λ (z : PageKey). PassesOver parts z) others walks.0))
@@ -162,7 +187,8 @@ pub stops_at_row : (parts : HostParts) (key : PageKey) (row : PageRow) → row_a
 stops_at_row parts key row found over = let bad : None ≡ Some row = sym over.absent ∙ found in cc
 
 -- nor over one that may come, of an object with a pager
-pub stops_may_come : (parts : HostParts) (chains : ChainTable) (steps : ℕ) (top key : PageKey) (object : ObjectRow) → MayCome parts chains steps top key object → object.state ≢ state.Without → PassesOver parts key → ⊥
+pub stops_may_come : (parts : HostParts) (chains : ChainTable) (steps : ℕ) (top key : PageKey) (object : ObjectRow) → MayCome parts chains steps top key object
+    → object.state ≢ state.Without → PassesOver parts key → ⊥
 stops_may_come parts chains steps top key object comes told over =
     why over.none
   where
@@ -174,12 +200,15 @@ stops_may_come parts chains steps top key object comes told over =
     why (inr lacked) = let bad : false ≡ true = sym comes.may_have ∙ lacked in cc
 
 -- two walks from a place that come to pages with rows come to the same
-pub walk_found : (parts : HostParts) (chains : ChainTable) (n m : ℕ) (top a b : PageKey) (row other : PageRow) → WalksTo parts chains n top a → WalksTo parts chains m top b → row_at parts.resident a.object.0 a.page.0 ≡ Some row
+pub walk_found : (parts : HostParts) (chains : ChainTable) (n m : ℕ) (top a b : PageKey) (row other : PageRow) → WalksTo parts chains n top a
+    → WalksTo parts chains m top b → row_at parts.resident a.object.0 a.page.0 ≡ Some row
     → row_at parts.resident b.object.0 b.page.0 ≡ Some other → (n ≡ m) × (a ≡ b)
-walk_found parts chains n m top a b row other walks others found there = walk_stops parts chains n m top a b walks others (stops_at_row parts a row found) (stops_at_row parts b other there)
+walk_found parts chains n m top a b row other walks others found there =
+    walk_stops parts chains n m top a b walks others (stops_at_row parts a row found) (stops_at_row parts b other there)
 
 -- a walk that finds a page nowhere stops at no place
-pub sunk_never : (parts : HostParts) (chains : ChainTable) (top b : PageKey) (m : ℕ) → Sinks parts chains top → WalksTo parts chains m top b → (PassesOver parts b → ⊥) → ⊥
+pub sunk_never : (parts : HostParts) (chains : ChainTable) (top b : PageKey) (m : ℕ) → Sinks parts chains top → WalksTo parts chains m top b
+    → (PassesOver parts b → ⊥) → ⊥
 sunk_never parts chains top b m sinks walks stops =
     go sinks.steps m top sinks.walks walks
   where

@@ -58,7 +58,8 @@ filled_row target pages = record { top = target; shift = 0; pages = pages; marke
 
 -- A slow copy from an address on goes into the region of its destination, over its target; the history has the same, and its next page. The target's pages from
 -- that one on have no row, and the destination is free.
-pub record IsSlow (header : Header) (maps : Mapped) (chains : ChainTable) (resident : ResidentTable) (task address pages : ℕ) (target : ObjectId) (first : ℕ) (destination : Option Destination) (next_now : ℕ) (target_now : Option Target) : Type 0 where
+pub record IsSlow (header : Header) (maps : Mapped) (chains : ChainTable) (resident : ResidentTable) (task address pages : ℕ) (target : ObjectId) (first : ℕ)
+    (destination : Option Destination) (next_now : ℕ) (target_now : Option Target) : Type 0 where
   pub to : Destination
   pub goes : destination ≡ Some to
   pub next : next_now ≡ first
@@ -77,12 +78,14 @@ FitsCopy header maps chains resident task (want.CopyTo address pages target next
     IsSlow header maps chains resident task address pages target next destination next_now target_now
 
 -- each access that waits is so, and no two fill one region
-pub record HasCopies (header : Header) (maps : Mapped) (chains : ChainTable) (resident : ResidentTable) (rows : List Waiting) (next_at : ℕ → ℕ) (target_at : ℕ → Option Target) : Type 0 where
+pub record HasCopies (header : Header) (maps : Mapped) (chains : ChainTable) (resident : ResidentTable) (rows : List Waiting) (next_at : ℕ → ℕ)
+    (target_at : ℕ → Option Target) : Type 0 where
   pub each : (t : ℕ) (w : Waiting) → entry rows t ≡ Some w → FitsCopy header maps chains resident t w.want w.destination (next_at t) (target_at t)
   pub apart : (t u r : ℕ) → fills_in r (entry rows t) ≡ true → fills_in r (entry rows u) ≡ true → t ≡ u
 
 -- each region has an entry, or is filled by an access that waits, as the history and the tables have it
-pub record AllUsed (header : Header) (maps : Mapped) (chains : ChainTable) (resident : ResidentTable) (rows : List Waiting) (next_at : ℕ → ℕ) (target_at : ℕ → Option Target) : Type 0 where
+pub record AllUsed (header : Header) (maps : Mapped) (chains : ChainTable) (resident : ResidentTable) (rows : List Waiting) (next_at : ℕ → ℕ)
+    (target_at : ℕ → Option Target) : Type 0 where
   pub regions : (r : ℕ) (row : RegionRow) → region_at chains r ≡ Some row → (0 < row.entries) ⊎ IsFilledIn rows r
   pub copies : HasCopies header maps chains resident rows next_at target_at
 

@@ -23,7 +23,8 @@ pub record IsAway (page : Local) (returned : Bool) : Type 0 where
 -- so it is at a place of a temporary object, unless its pager gives what wasn't returned
 abbrev pub StaysAway : Header → ℕ → List Event → PageKey → Type 0
 StaysAway header h past key =
-    (named header ≤ key.object.0) × (OnlyReturned (named header) h past → IsAway (page_on header h key.object.0 key.page.0 past) (was_returned h key.object.0 key.page.0 past))
+    (named header ≤ key.object.0) × (OnlyReturned (named header) h past
+    → IsAway (page_on header h key.object.0 key.page.0 past) (was_returned h key.object.0 key.page.0 past))
 
 -- nothing is at the place, nor asked, and its pager may have it
 pub record IsOpenTo (header : Header) (key : PageKey) (page : Local) : Type 0 where

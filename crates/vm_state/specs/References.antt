@@ -38,7 +38,8 @@ is_live_in (Some known) = known.live
 abbrev pub MayLock : ObjectTable → ℕ → PageRow → Type 0
 MayLock objects o row = (row.lock ≡ unlocked) ⊎ (is_live_in (object_at objects o) ≡ true)
 
--- something refers to each object whose control lives, that has a page or whose page is asked, or that is a shadow; and no page is locked whose pager isn't told
+-- something refers to each object whose control lives, that has a page or whose page is asked, or that is a shadow; and no page is locked whose pager isn't
+-- told
 pub record AllReferred (chains : ChainTable) (objects : ObjectTable) (resident : ResidentTable) : Type 0 where
   pub live : (o : ℕ) (known : ObjectRow) → object_at objects o ≡ Some known → known.live ≡ true → 0 < known.references
   pub pages : (o p : ℕ) (row : PageRow) → row_at resident o p ≡ Some row → IsReferred objects o

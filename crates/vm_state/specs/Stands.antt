@@ -1,5 +1,6 @@
 -- What a kernel's tables say of a history: each table by itself, of the facts that it stands for.
-use Rattle.std.specs.Prelude.{ℕ, All, if◌then◌else◌, ◌≢◌, ◌≡◌, ◌+◌, ◌<◌, ◌≤◌, ◌^◌, ◌==◌, ◌||◌, is_some, ◌⊎◌, Bool, true, false, List, [], ◌∷◌, length, Option, Some, None, IsSome}
+use Rattle.std.specs.Prelude.{ℕ, All, if◌then◌else◌, ◌≢◌, ◌≡◌, ◌+◌, ◌<◌, ◌≤◌, ◌^◌, ◌==◌, ◌||◌, is_some, ◌⊎◌, Bool, true, false, List, [], ◌∷◌, length, Option}
+use Rattle.std.specs.Prelude.{Some, None, IsSome}
 use Rattle.vm_base.specs.declared.entry.Entry.{Entry}
 use Rattle.vm_base.specs.declared.ids.FrameNo.{FrameNo}
 use Rattle.vm_base.specs.declared.ids.Inherit.TheVariants.{Copy}
@@ -58,8 +59,8 @@ pub record IsOfKind (header : Header) (o : ℕ) (known : ObjectRow) : Type 0 whe
   pub temporary : named header ≤ o → IsTemporary known
   pub declared : o < named header → IsDeclared header o known
 
--- The objects are of their kinds; a page of a declared object is never known to be missing; and what is not declared is over nothing that is, and under no shadow
--- is anything declared.
+-- The objects are of their kinds; a page of a declared object is never known to be missing; and what is not declared is over nothing that is, and under no
+-- shadow is anything declared.
 pub record HasKinds (header : Header) (objects : ObjectTable) (chains : ChainTable) : Type 0 where
   pub kinds : (o : ℕ) (known : ObjectRow) → object_at objects o ≡ Some known → IsOfKind header o known
   pub present : (o p : ℕ) → o < named header → absent_at objects o p ≡ false
@@ -74,13 +75,16 @@ abbrev pub AreShared : ℕ → Mapped → Type 0
 AreShared declared maps = (task : ℕ) → AllRows (IsShared declared) (rows_in task maps)
 
 -- The regions, the objects and what stands under them, and the next numbers. What a region or a shadow is over is known, and a shadow has the greater number of
--- the two. Of an object to which something refers and that is no shadow the history says so too. An object has as many references as regions and shadows are over it.
-pub record HasRegions (chains : ChainTable) (objects : ObjectTable) (ids : Ids) (region_from : ℕ → Region) (backing_from : ℕ → Backing) (regions_made objects_made marked : ℕ) : Type 0 where
+-- the two. Of an object to which something refers and that is no shadow the history says so too. An object has as many references as regions and shadows are
+-- over it.
+pub record HasRegions (chains : ChainTable) (objects : ObjectTable) (ids : Ids) (region_from : ℕ → Region) (backing_from : ℕ → Backing)
+    (regions_made objects_made marked : ℕ) : Type 0 where
   pub region : ids.next_region ≡ regions_made
   pub object : ids.next_object ≡ objects_made
   pub marks : ids.marks ≡ marked
   pub few : objects_made + marked ≤ most_objects
-  pub rows : (r : ℕ) (row : RegionRow) → region_at chains r ≡ Some row → region_from r ≡ record { mark = row.marked; top = row.top.0; shift = row.shift; pages = row.pages }
+  pub rows : (r : ℕ) (row : RegionRow) → region_at chains r ≡ Some row
+      → region_from r ≡ record { mark = row.marked; top = row.top.0; shift = row.shift; pages = row.pages }
   pub shadows : (o : ℕ) (row : ShadowRow) → shadow_at chains o ≡ Some row → backing_from o ≡ record { backed = true; under = row.under.0; shift = row.shift }
   pub bottoms : (o : ℕ) → IsReferred objects o → shadow_at chains o ≡ None → (backing_from o).backed ≡ false
   pub unmade : (r : ℕ) → regions_made ≤ r → region_at chains r ≡ None
@@ -126,16 +130,18 @@ abbrev pub is_among : ℕ → List ℕ → Bool
 is_among n [] = false
 is_among n (m ∷ more) = m == n || is_among n more
 
--- The temporary regions in use are those on which some task here has an entry, or that it fills by a slow copy that waits, and a file's region is one of them if
--- some has an entry; all tasks that live here were made. Tasks elsewhere hold none of the regions in use, and none that isn't made yet.
-pub record HasUse (header : Header) (maps : Mapped) (rows : List Waiting) (used_at : ℕ → Bool) (made : List ℕ) (held_at : ℕ → ℕ → Bool) (regions_made : ℕ) : Type 0 where
+-- The temporary regions in use are those on which some task here has an entry, or that it fills by a slow copy that waits, and a file's region is one of them
+-- if some has an entry; all tasks that live here were made. Tasks elsewhere hold none of the regions in use, and none that isn't made yet.
+pub record HasUse (header : Header) (maps : Mapped) (rows : List Waiting) (used_at : ℕ → Bool) (made : List ℕ) (held_at : ℕ → ℕ → Bool) (regions_made : ℕ) :
+    Type 0 where
   pub used : (r : ℕ) → named header ≤ r → IsUsed maps rows r (used_at r)
   pub files : (r : ℕ) → is_file header r ≡ true → 0 < count_by all_tasks r maps → used_at r ≡ true
   pub among : (task : ℕ) (rows : List Entry) → entries_in task maps ≡ Some rows → is_among task made ≡ true
   pub apart : (task r : ℕ) → entries_in task maps ≡ None → (used_at r ≡ true) ⊎ (regions_made ≤ r) → held_at task r ≡ false
 
 -- the controls of objects: the last one, the one that lives, and whether that is ready; temporary objects were made for regions of this host
-pub record HasControls (declared h : ℕ) (objects : ObjectTable) (last_at : ℕ → ℕ) (live_at : ℕ → Option ℕ) (ready_at : ℕ → Bool) (home_at : ℕ → Option ℕ) : Type 0 where
+pub record HasControls (declared h : ℕ) (objects : ObjectTable) (last_at : ℕ → ℕ) (live_at : ℕ → Option ℕ) (ready_at : ℕ → Bool) (home_at : ℕ → Option ℕ) : Type
+    0 where
   pub last : (o : ℕ) → last_at o ≡ last_in (object_at objects o)
   pub live : (o : ℕ) → live_at o ≡ live_in (object_at objects o)
   pub ready : (o control : ℕ) → live_at o ≡ Some control → ready_at o ≡ ready_in (object_at objects o)

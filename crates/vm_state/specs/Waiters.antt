@@ -74,8 +74,10 @@ pub record IsPagerTold (objects : ObjectTable) (o : ℕ) : Type 0 where
 -- what holds while an access waits for this
 abbrev pub Reason : Mapped → ChainTable → ResidentTable → ObjectTable → ℕ → Want → On → Type 0
 Reason maps chains resident objects task what on.Again = Unit {0}
-Reason maps chains resident objects task what (on.Ready object) = (key : PageKey) × IsPlaceOf maps chains task what key × (key.object ≡ object) × IsPagerTold objects object.0
-Reason maps chains resident objects task what (on.Page key) = IsPlaceOf maps chains task what key × (IsAsked resident key.object.0 key.page.0 ⊎ IsLockedFor resident what key.object.0 key.page.0)
+Reason maps chains resident objects task what (on.Ready object) =
+    (key : PageKey) × IsPlaceOf maps chains task what key × (key.object ≡ object) × IsPagerTold objects object.0
+Reason maps chains resident objects task what (on.Page key) =
+    IsPlaceOf maps chains task what key × (IsAsked resident key.object.0 key.page.0 ⊎ IsLockedFor resident what key.object.0 key.page.0)
 Reason maps chains resident objects task what on.Frame = Unit {0}
 
 -- the accesses of the rows began one behind the other, from an event on
@@ -101,10 +103,11 @@ is_woken (woken.ReadyOf object) reason = woken_ready object.0 reason
 is_woken (woken.Page key) reason = woken_page key reason
 is_woken (woken.Fails key) reason = woken_page key reason
 
--- The accesses of tasks here that wait in the history wait here, each with an entry that allows it, within a page; each has a reason, but those that are to be woken
--- may have lost theirs, and the others have passed over places where nothing has come since; and somebody waits for each page that is asked, whose pager is ready, and for
--- each unlock that is outstanding.
-pub record HasWaiters (maps : Mapped) (chains : ChainTable) (resident : ResidentTable) (objects : ObjectTable) (rows : List Waiting) (who : On → Bool) (waiting_at : ℕ → Option Access) (stays unmet : PageKey → Type 0) : Type 0 where
+-- The accesses of tasks here that wait in the history wait here, each with an entry that allows it, within a page; each has a reason, but those that are to be
+-- woken may have lost theirs, and the others have passed over places where nothing has come since; and somebody waits for each page that is asked, whose pager
+-- is ready, and for each unlock that is outstanding.
+pub record HasWaiters (maps : Mapped) (chains : ChainTable) (resident : ResidentTable) (objects : ObjectTable) (rows : List Waiting) (who : On → Bool)
+    (waiting_at : ℕ → Option Access) (stays unmet : PageKey → Type 0) : Type 0 where
   pub is : (t : ℕ) → is_some (entries_in t maps) ≡ true → waiting_at t ≡ waiting_in maps.size (entry rows t)
   pub allowed : (t : ℕ) (w : Waiting) → entry rows t ≡ Some w → IsAllowed maps t (address_in maps.size w.want) (need_in w.want)
   pub sized : (t : ℕ) (w : Waiting) → entry rows t ≡ Some w → IsSizedWant maps.size w.want

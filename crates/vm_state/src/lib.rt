@@ -19,12 +19,20 @@ ghost use Rattle.vm_state.specs.Stands.{HasRegions};
 /// counting references, and by no look through regions.
 #[tactic(auto, using(crate::proofs::Chains::leads_up, crate::proofs::Chains::leads_down))]
 pub fn references_are_chains()
-    ensures up { (chains : ChainTable) (objects : ObjectTable) (ids : Ids) (region_from : ℕ → Region) (backing_from : ℕ → Backing) (regions_made objects_made marked : ℕ) → HasRegions chains objects ids region_from backing_from regions_made objects_made marked → IsOlderUnder chains → ((s : ℕ) (row : ShadowRow) → shadow_at chains s ≡ Some row → IsReferred objects s) → (used : ℕ → Bool) → ((r : ℕ) (row : RegionRow) → region_at chains r ≡ Some row → used r ≡ true) → (o : ℕ) → IsReferred objects o → Reaches used region_from backing_from o }
-    ensures down { (chains : ChainTable) (objects : ObjectTable) (ids : Ids) (region_from : ℕ → Region) (backing_from : ℕ → Backing) (regions_made objects_made marked : ℕ) → HasRegions chains objects ids region_from backing_from regions_made objects_made marked → (used : ℕ → Bool) → ((r : ℕ) → used r ≡ true → (row : RegionRow) × (region_at chains r ≡ Some row)) → (o : ℕ) → Reaches used region_from backing_from o → IsReferred objects o }
+    ensures up { (chains : ChainTable) (objects : ObjectTable) (ids : Ids) (region_from : ℕ → Region) (backing_from : ℕ → Backing)
+        (regions_made objects_made marked : ℕ) → HasRegions chains objects ids region_from backing_from regions_made objects_made marked → IsOlderUnder chains
+        → ((s : ℕ) (row : ShadowRow) → shadow_at chains s ≡ Some row → IsReferred objects s) → (used : ℕ → Bool)
+        → ((r : ℕ) (row : RegionRow) → region_at chains r ≡ Some row → used r ≡ true) → (o : ℕ) → IsReferred objects o
+        → Reaches used region_from backing_from o }
+    ensures down { (chains : ChainTable) (objects : ObjectTable) (ids : Ids) (region_from : ℕ → Region) (backing_from : ℕ → Backing)
+        (regions_made objects_made marked : ℕ) → HasRegions chains objects ids region_from backing_from regions_made objects_made marked → (used : ℕ → Bool)
+        → ((r : ℕ) → used r ≡ true → (row : RegionRow) × (region_at chains r ≡ Some row)) → (o : ℕ) → Reaches used region_from backing_from o
+        → IsReferred objects o }
 {}
 
 /// A walk down a chain stops at one place.
 #[tactic(auto, using(crate::proofs::Walks::walk_stops))]
 pub fn walks_stop_once()
-    ensures { (parts : HostParts) (chains : ChainTable) (n m : ℕ) (top a b : PageKey) → WalksTo parts chains n top a → WalksTo parts chains m top b → (PassesOver parts a → ⊥) → (PassesOver parts b → ⊥) → (n ≡ m) × (a ≡ b) }
+    ensures { (parts : HostParts) (chains : ChainTable) (n m : ℕ) (top a b : PageKey) → WalksTo parts chains n top a → WalksTo parts chains m top b
+        → (PassesOver parts a → ⊥) → (PassesOver parts b → ⊥) → (n ≡ m) × (a ≡ b) }
 {}

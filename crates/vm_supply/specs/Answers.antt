@@ -135,7 +135,8 @@ key_of object page = record { object = object; page = page }
 abbrev pub AnswerEffects : HostId → ObjectId → AnswerOutcome → Woken → HostParts → HostParts → List Event → List Event → Type 0
 AnswerEffects host object Discarded who old new before after = (who ≡ woken.Nobody) × (new ≡ old) × (after ≡ before)
 AnswerEffects host object Readied who old new before after = Readies object who old new before after
-AnswerEffects host object (Supplied page lock precious bytes) who old new before after = Supplies (key_of object page) lock precious bytes who old new before after
+AnswerEffects host object (Supplied page lock precious bytes) who old new before after =
+    Supplies (key_of object page) lock precious bytes who old new before after
 AnswerEffects host object (Zeroed page) who old new before after = Zeroes host (key_of object page) who old new before after
 AnswerEffects host object (Lacked page) who old new before after = Lacks (key_of object page) who old new before after
 AnswerEffects host object (Failed page) who old new before after = FailsPage (key_of object page) who old new before after

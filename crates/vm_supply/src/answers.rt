@@ -56,7 +56,8 @@ pub fn answer(
     requires fit { Fit parts.old }
     requires answer { IsAnswer parts.old.buffers.size message.now }
     ensures fit { Fit parts.new }
-    ensures answered { IfOk result (λ woken. AnswerEffects host object (outcome_on parts.old object control message.now) woken parts.old parts.new log.old.items log.new.items) }
+    ensures answered { IfOk result (λ woken. AnswerEffects host object (outcome_on parts.old object control message.now) woken parts.old parts.new log.old.items
+        log.new.items) }
     ensures spare { parts.old.resident.spare ≤ parts.new.resident.spare }
     ensures buffers { parts.new.buffers ≡ parts.old.buffers }
     ensures err { OnErr result ((parts.new ≡ parts.old) × (log.new.items ≡ log.old.items)) }

@@ -81,7 +81,8 @@ pub settled_more : (header : Header) (outside : Outside) (count line : ℕ) (run
 settled_more header outside count line run old new stretch is follows licensed (past, group, was, made, done, before) =
     let licensed_on : AllInTurn header outside (command.Settle count) stretch (group ++ event.Line line ∷ past) = subst
     (λ (z : List Event). AllInTurn header outside (command.Settle count) stretch z) was licensed in
-    let follows_on : EachIn IsConsequence stretch (group ++ event.Line line ∷ past) = subst (λ (z : List Event). EachIn IsConsequence stretch z) was follows in (
+    let follows_on : EachIn IsConsequence stretch (group ++ event.Line line ∷ past) = subst (λ (z : List Event). EachIn IsConsequence stretch z) was
+    follows in (
       past,
       stretch ++ group,
       is ∙ ap (λ (z : List Event). stretch ++ z) was ∙ sym (append_assoc stretch group (event.Line line ∷ past)),

@@ -11,8 +11,8 @@ use Rattle.vm_system.specs.Stands.{FilesAreKept, PagingIsKept}
 use Rattle.vm_system.specs.Steps.{DevicesHaveCause}
 use Rattle.vm_system.specs.declared.state.State.{State}
 
--- What the backings tell fits the system: each page that was returned and not lost stands at its slot, the pagers know what their files have, and each declared file has
--- what was returned, and else what it had at the start.
+-- What the backings tell fits the system: each page that was returned and not lost stands at its slot, the pagers know what their files have, and each declared
+-- file has what was returned, and else what it had at the start.
 pub record BackingsFit (header : Header) (outside : Outside) (start files paging : List ℕ → Told) (system : State) : Type 0 where
   pub kept : PagingIsKept header outside paging system
   pub files_kept : FilesAreKept header outside files system

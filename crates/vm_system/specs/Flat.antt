@@ -24,7 +24,8 @@ files_failed (e ∷ past) = files_failed past
 abbrev pub HasFlatPages : Header → Outside → (List ℕ → Told) → ℕ → List Event → Type 0
 HasFlatPages header outside areas object history =
     (now : Option (List ℕ)) × (areas (name_of header object) ≡ Some now)
-    × ((page : ℕ) → page < declared_pages header object → read_at (unwrap_or now []) (page * header.size) header.size ≡ flat_page header outside object page history)
+    × ((page : ℕ) → page < declared_pages header object
+    → read_at (unwrap_or now []) (page * header.size) header.size ≡ flat_page header outside object page history)
 
 -- What stands past the object's end is as it was, byte by byte, and the file ends there where it did. And where nothing is undelivered, no call of
 -- the files has failed, and no control of a file lives on its host, a file that is told has the flat map's pages.
@@ -32,5 +33,6 @@ pub record FilesAreFlat (header : Header) (outside : Outside) (start areas : Lis
   pub beyond : (object : ℕ) (was : Option (List ℕ)) → is_file header object ≡ true → start (name_of header object) ≡ Some was
       → (now : Option (List ℕ)) × (areas (name_of header object) ≡ Some now)
       × (drop (declared_pages header object * header.size) (unwrap_or now []) ≡ drop (declared_pages header object * header.size) (unwrap_or was []))
-  pub pages : undelivered history ≡ [] → files_failed history ≡ false → (host object : ℕ) → host < length header.frames.items → MayHave host object history → live_control host object history ≡ None
+  pub pages : undelivered history ≡ [] → files_failed history ≡ false → (host object : ℕ) → host < length header.frames.items → MayHave host object history
+      → live_control host object history ≡ None
       → is_file header object ≡ true → tells header outside object ≡ true → HasFlatPages header outside areas object history

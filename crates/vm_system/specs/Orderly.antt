@@ -48,8 +48,10 @@ IsHostLetter header past letter = IsOn letter.channel letter.message
   where
     IsOn : Channel → Message → Type 0
     IsOn (Up host object) m =
-        (host.0 < length header.frames.items) × IsWordUp header.size (λ control. is_made (Down host object control) past) m × (is_shared header object.0 ≡ true → IsSharedWord m)
-    IsOn (Down host object control) m = (host.0 < length header.frames.items) × IsWord header.size m × (is_shared header object.0 ≡ true → IsServerWord header.size m)
+        (host.0 < length header.frames.items) × IsWordUp header.size (λ control. is_made (Down host object control) past) m
+        × (is_shared header object.0 ≡ true → IsSharedWord m)
+    IsOn (Down host object control) m =
+        (host.0 < length header.frames.items) × IsWord header.size m × (is_shared header object.0 ≡ true → IsServerWord header.size m)
 
 abbrev pub AllLetters : Header → List Event → List Letter → Type 0
 AllLetters header past [] = Unit {0}
@@ -88,7 +90,8 @@ pub record Ending (live : Option ℕ) (ended : Bool) (messages : List Message) :
 
 -- the controls of an object on a host and the channels that were made; nothing is on the way up where there is no channel
 pub record HasMade (h o : ℕ) (past : List Event) : Type 0 where
-  pub live : (control : ℕ) → live_control h o past ≡ Some control → (is_made (up h o) past ≡ true) × (is_made (Down (host_id h) (record { 0 = o }) control) past ≡ true)
+  pub live : (control : ℕ) → live_control h o past ≡ Some control → (is_made (up h o) past ≡ true)
+      × (is_made (Down (host_id h) (record { 0 = o }) control) past ≡ true)
   pub never : last_control h o past ≡ 0 → (is_made (up h o) past ≡ false) × ((control : ℕ) → is_made (Down (host_id h) (record { 0 = o }) control) past ≡ false)
   pub ended : is_ended h o past ≡ true → last_control h o past ≡ 0 → ⊥
   pub quiet : is_made (up h o) past ≡ false → queue (up h o) past ≡ []

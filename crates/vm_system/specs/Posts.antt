@@ -25,7 +25,8 @@ IsSent history index channel m = slice_get (reverse history) index ≡ Some (eve
 abbrev pub AreSame : List Channel → List (Posted ℕ) → List Letter → List Event → Type 0
 AreSame made [] [] history = Unit {0}
 AreSame made (posted ∷ more) (letter ∷ letters) history =
-    (channel_number letter.channel made ≡ Some posted.channel.0) × IsSent history posted.message letter.channel letter.message × AreSame made more letters history
+    (channel_number letter.channel made ≡ Some posted.channel.0) × IsSent history posted.message letter.channel letter.message
+    × AreSame made more letters history
 AreSame made posted letters history = ⊥
 
 -- each page among the letters has so many bytes

@@ -28,4 +28,5 @@ channel_code channel made letters = code_at (channel_number channel made) letter
 
 -- the code of a clean of pages of a declared object
 abbrev pub clean_code : Header → ObjectId → PageNo → ℕ → Option Code
-clean_code header object page count = code_where (not (is_file header object.0) || (count == 0 || nat_lt (declared_pages header object.0) (page.0 + count))) InvalidArgument None
+clean_code header object page count =
+    code_where (not (is_file header object.0) || (count == 0 || nat_lt (declared_pages header object.0) (page.0 + count))) InvalidArgument None

@@ -16,7 +16,8 @@ opened false up down = up ∷ down ∷ []
 
 -- the channels that a message makes, where these were made
 abbrev pub made_by : List Channel → Channel → Message → List Channel
-made_by made (Up host object) (message.Create control size) = opened (is_some (channel_number (Up host object) made)) (Up host object) (Down host object control)
+made_by made (Up host object) (message.Create control size) =
+    opened (is_some (channel_number (Up host object) made)) (Up host object) (Down host object control)
 made_by made (Up host object) (message.Init control size) = opened (is_some (channel_number (Up host object) made)) (Up host object) (Down host object control)
 made_by made channel m = []
 

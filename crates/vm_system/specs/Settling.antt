@@ -19,7 +19,9 @@ pub record HasLeft (doing : Command) (n : ℕ) (history : List Event) : Type 0 w
 
 -- canonical with these commands, of which the settle is the last, it stays so
 abbrev pub StaysOpen : Header → Outside → Command → List Event → List Event → Type 0
-StaysOpen header outside doing old new = (line : ℕ) (run : List Numbered) → CanonicalOpen header outside (record { line = line; command = doing } ∷ run) old → CanonicalOpen header outside (record { line = line; command = doing } ∷ run) new
+StaysOpen header outside doing old new =
+    (line : ℕ) (run : List Numbered) → CanonicalOpen header outside (record { line = line; command = doing } ∷ run) old
+    → CanonicalOpen header outside (record { line = line; command = doing } ∷ run) new
 
 -- the failures that are told are at most as many as the count of faults rose, unless that stands at its last value; and where none is told the count stays
 pub record DevicesCounted (who : Device) (before now : ℕ) (old new : List Event) : Type 0 where

@@ -29,7 +29,8 @@ pub record AreNumbered (header : Header) (pagers : List SlotTable) : Type 0 wher
 
 -- nothing was returned to them yet
 abbrev pub AreEmpty : Header → List SlotTable → Type 0
-AreEmpty header pagers = (h : ℕ) (pager : SlotTable) → slice_get pagers h ≡ Some pager → pager ≡ record { host = h; size = header.size; count = header.slots; rows = [] }
+AreEmpty header pagers =
+    (h : ℕ) (pager : SlotTable) → slice_get pagers h ≡ Some pager → pager ≡ record { host = h; size = header.size; count = header.slots; rows = [] }
 
 -- they stand for the history
 pub record AllServe (header : Header) (pagers : List SlotTable) (past : List Event) : Type 0 where
@@ -85,7 +86,8 @@ StandsStill header outside old new = SystemStands header outside new × (new.his
 pub record PagingIsKept (header : Header) (outside : Outside) (areas : List ℕ → Told) (s : State) : Type 0 where
   pub pagers : AllServe header s.pagers.items s.history.items
   pub told : outside.paging ≡ true → AllTold areas s.pagers.items
-  pub fits : outside.paging ≡ true → (h : ℕ) (pager : SlotTable) → slice_get s.pagers.items h ≡ Some pager → SlotsFit areas pager (content_of header h s.history.items)
+  pub fits : outside.paging ≡ true → (h : ℕ) (pager : SlotTable) → slice_get s.pagers.items h ≡ Some pager
+      → SlotsFit areas pager (content_of header h s.history.items)
 
 -- The files' pagers stand for the history; and from what the files held at the start, which is what is told of them, they have what was returned. This holds
 -- inside a step too.

@@ -203,7 +203,8 @@ impl State {
         ensures posts { Posts self.new self.new.history.items }
         ensures hosts { SameHosts self.old self.new }
         ensures history { (channel : Channel) → slice_get self.old.channels.made number.0 ≡ Some channel
-            → (m : Message) × (first (queue channel self.old.history.items) ≡ Some m) × (self.new.history.items ≡ event.Taken channel m ∷ lined line self.old.history.items) }
+            → (m : Message) × (first (queue channel self.old.history.items) ≡ Some m)
+            × (self.new.history.items ≡ event.Taken channel m ∷ lined line self.old.history.items) }
         ensures room { (n : ℕ) → HasRoom (n + 2) self.old → HasRoom n self.new }
     {
         let channel = self.channels.channel(number);

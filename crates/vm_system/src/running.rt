@@ -39,7 +39,12 @@ impl State {
     // A command of a host that isn't refused.
     pub fn begin(&mut self, line: u32, command: &Command) -> Result<(), NoMemory>
         ghost given: { Step }
-        requires given { given ≡ record { header = given.header; outside = given.outside; command = command.now; past = event.Line line ∷ self.old.history.items } }
+        requires given { given ≡ record {
+          header = given.header;
+          outside = given.outside;
+          command = command.now;
+          past = event.Line line ∷ self.old.history.items;
+        } }
         requires stands { SystemStands given.header given.outside self.old }
         requires range { InRange given.header command.now }
         requires run { is_run command.now ≡ true }
@@ -59,7 +64,12 @@ impl State {
     // script says, and the frame queues are served.
     pub fn pass(&mut self, line: u32, command: &Command) -> Result<(), NoMemory>
         ghost given: { Step }
-        requires given { given ≡ record { header = given.header; outside = given.outside; command = command.now; past = event.Line line ∷ self.old.history.items } }
+        requires given { given ≡ record {
+          header = given.header;
+          outside = given.outside;
+          command = command.now;
+          past = event.Line line ∷ self.old.history.items;
+        } }
         requires stands { SystemStands given.header given.outside self.old }
         requires range { InRange given.header command.now }
         requires idle { is_idle command.now ≡ true }

@@ -41,10 +41,15 @@ pub fn settle<F: Backing, P: Backing>(
     ensures grew { GrowsWithinLimit system.old.history.items system.new.history.items }
     ensures full { IsErrOf result SystemStop.EventLimit → (most_events ≤ length system.new.history.items) × (undelivered system.new.history.items ≢ []) }
     ensures left { IsErrOf result SystemStop.EventLimit → takings system.new.history.items < takings system.old.history.items + n }
-    ensures stood { OnErr result (SystemStands given.header given.outside system.new × StaysOpen given.header given.outside given.command system.old.history.items system.new.history.items × LeavesAtRest given.header system.old.history.items system.new.history.items) }
-    ensures backings { (start : List ℕ → Told) → BackingsFit given.header given.outside start (F.area files.old.inner) (P.area paging.old.inner) system.old → BackingsFit given.header given.outside start (F.area files.new.inner) (P.area paging.new.inner) system.new }
-    ensures files_went { BackingWent device.Files (⟦<Armed<F> as Backing>⟧.later files.old files.new) (⟦<Armed<F> as Backing>⟧.faults files.old) (⟦<Armed<F> as Backing>⟧.faults files.new) system.old.history.items system.new.history.items }
-    ensures paging_went { BackingWent device.Paging (⟦<Armed<P> as Backing>⟧.later paging.old paging.new) (⟦<Armed<P> as Backing>⟧.faults paging.old) (⟦<Armed<P> as Backing>⟧.faults paging.new) system.old.history.items system.new.history.items }
+    ensures stood { OnErr result (SystemStands given.header given.outside system.new
+        × StaysOpen given.header given.outside given.command system.old.history.items system.new.history.items
+        × LeavesAtRest given.header system.old.history.items system.new.history.items) }
+    ensures backings { (start : List ℕ → Told) → BackingsFit given.header given.outside start (F.area files.old.inner) (P.area paging.old.inner) system.old
+        → BackingsFit given.header given.outside start (F.area files.new.inner) (P.area paging.new.inner) system.new }
+    ensures files_went { BackingWent device.Files (⟦<Armed<F> as Backing>⟧.later files.old files.new) (⟦<Armed<F> as Backing>⟧.faults files.old)
+        (⟦<Armed<F> as Backing>⟧.faults files.new) system.old.history.items system.new.history.items }
+    ensures paging_went { BackingWent device.Paging (⟦<Armed<P> as Backing>⟧.later paging.old paging.new) (⟦<Armed<P> as Backing>⟧.faults paging.old)
+        (⟦<Armed<P> as Backing>⟧.faults paging.new) system.old.history.items system.new.history.items }
 {
     'all: for taken in 0..n {
         match system.take_oldest(files, paging) {

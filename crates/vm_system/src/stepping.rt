@@ -36,13 +36,17 @@ impl State {
         ensures grew { GrowsWithinLimit self.old.history.items self.new.history.items }
         ensures err { OnErr result (StandsStill given.header given.outside self.old self.new) }
         ensures unmoved { OnErr result (KeepsArming files.old files.new × KeepsArming paging.old paging.new) }
-        ensures backings { (start : List ℕ → Told) → BackingsFit given.header given.outside start (F.area files.old.inner) (P.area paging.old.inner) self.old → BackingsFit given.header given.outside start (F.area files.new.inner) (P.area paging.new.inner) self.new }
+        ensures backings { (start : List ℕ → Told) → BackingsFit given.header given.outside start (F.area files.old.inner) (P.area paging.old.inner) self.old
+            → BackingsFit given.header given.outside start (F.area files.new.inner) (P.area paging.new.inner) self.new }
         ensures alone { OnOk result ((count : ℕ) → command.now ≡ Command.Settle count → self.new.history.items ≡ event.Line line ∷ self.old.history.items) }
         ensures files { OnOk result (LeavesBacking given.header device.Files command.now self.new.history.items files.old files.new) }
         ensures paging { OnOk result (LeavesBacking given.header device.Paging command.now self.new.history.items paging.old paging.new) }
-        ensures calm { OnErr result (takes_any command.now ≡ false → (self.new.history.items ≡ self.old.history.items) × (files.new ≡ files.old) × (paging.new ≡ paging.old)) }
-        ensures files_go { BackingGoes device.Files (arms device.Files command.now ≡ None → ⟦<Armed<F> as Backing>⟧.later files.old files.new) (⟦<Armed<F> as Backing>⟧.faults files.old) (⟦<Armed<F> as Backing>⟧.faults files.new) self.old.history.items self.new.history.items }
-        ensures paging_goes { BackingGoes device.Paging (arms device.Paging command.now ≡ None → ⟦<Armed<P> as Backing>⟧.later paging.old paging.new) (⟦<Armed<P> as Backing>⟧.faults paging.old) (⟦<Armed<P> as Backing>⟧.faults paging.new) self.old.history.items self.new.history.items }
+        ensures calm { OnErr result (takes_any command.now ≡ false → (self.new.history.items ≡ self.old.history.items) × (files.new ≡ files.old)
+            × (paging.new ≡ paging.old)) }
+        ensures files_go { BackingGoes device.Files (arms device.Files command.now ≡ None → ⟦<Armed<F> as Backing>⟧.later files.old files.new)
+            (⟦<Armed<F> as Backing>⟧.faults files.old) (⟦<Armed<F> as Backing>⟧.faults files.new) self.old.history.items self.new.history.items }
+        ensures paging_goes { BackingGoes device.Paging (arms device.Paging command.now ≡ None → ⟦<Armed<P> as Backing>⟧.later paging.old paging.new)
+            (⟦<Armed<P> as Backing>⟧.faults paging.old) (⟦<Armed<P> as Backing>⟧.faults paging.new) self.old.history.items self.new.history.items }
     {
         if let Some(code) = self.refusal(command) {
             return self.refuse(line, command, code);
@@ -75,7 +79,12 @@ impl State {
         paging: &mut Armed<P>,
     ) -> Result<(), NoMemory>
         ghost given: { Step }
-        requires given { given ≡ record { header = given.header; outside = given.outside; command = command.Take channel; past = event.Line line ∷ self.old.history.items } }
+        requires given { given ≡ record {
+          header = given.header;
+          outside = given.outside;
+          command = command.Take channel;
+          past = event.Line line ∷ self.old.history.items;
+        } }
         requires stands { SystemStands given.header given.outside self.old }
         requires backings { (start : List ℕ → Told) × BackingsFit given.header given.outside start (F.area files.old.inner) (P.area paging.old.inner) self.old }
         requires accepted { refusal given.header self.old.history.items (command.Take channel) ≡ None }
@@ -83,14 +92,18 @@ impl State {
         ensures grew { GrowsWithinLimit self.old.history.items self.new.history.items }
         ensures err { OnErr result (StandsStill given.header given.outside self.old self.new) }
         ensures unmoved { OnErr result (KeepsArming files.old files.new × KeepsArming paging.old paging.new) }
-        ensures backings { (start : List ℕ → Told) → BackingsFit given.header given.outside start (F.area files.old.inner) (P.area paging.old.inner) self.old → BackingsFit given.header given.outside start (F.area files.new.inner) (P.area paging.new.inner) self.new }
+        ensures backings { (start : List ℕ → Told) → BackingsFit given.header given.outside start (F.area files.old.inner) (P.area paging.old.inner) self.old
+            → BackingsFit given.header given.outside start (F.area files.new.inner) (P.area paging.new.inner) self.new }
         ensures files { takes_up given.header device.Files (command.Take channel) ≡ false → files.new ≡ files.old }
         ensures paging { takes_up given.header device.Paging (command.Take channel) ≡ false → paging.new ≡ paging.old }
         ensures files_unasked { OnOk result (took_up given.header device.Files self.new.history.items ≡ false → files.new ≡ files.old) }
         ensures unasked { OnOk result (took_up given.header device.Paging self.new.history.items ≡ false → paging.new ≡ paging.old) }
-        ensures calm { OnErr result (takes_any (command.Take channel) ≡ false → (self.new.history.items ≡ self.old.history.items) × (files.new ≡ files.old) × (paging.new ≡ paging.old)) }
-        ensures files_go { BackingGoes device.Files (⟦<Armed<F> as Backing>⟧.later files.old files.new) (⟦<Armed<F> as Backing>⟧.faults files.old) (⟦<Armed<F> as Backing>⟧.faults files.new) self.old.history.items self.new.history.items }
-        ensures paging_goes { BackingGoes device.Paging (⟦<Armed<P> as Backing>⟧.later paging.old paging.new) (⟦<Armed<P> as Backing>⟧.faults paging.old) (⟦<Armed<P> as Backing>⟧.faults paging.new) self.old.history.items self.new.history.items }
+        ensures calm { OnErr result (takes_any (command.Take channel) ≡ false → (self.new.history.items ≡ self.old.history.items) × (files.new ≡ files.old)
+            × (paging.new ≡ paging.old)) }
+        ensures files_go { BackingGoes device.Files (⟦<Armed<F> as Backing>⟧.later files.old files.new) (⟦<Armed<F> as Backing>⟧.faults files.old)
+            (⟦<Armed<F> as Backing>⟧.faults files.new) self.old.history.items self.new.history.items }
+        ensures paging_goes { BackingGoes device.Paging (⟦<Armed<P> as Backing>⟧.later paging.old paging.new) (⟦<Armed<P> as Backing>⟧.faults paging.old)
+            (⟦<Armed<P> as Backing>⟧.faults paging.new) self.old.history.items self.new.history.items }
     {
         let Some(number) = self.channels.number(channel) else {
             unreachable!()

@@ -1,5 +1,6 @@
 // The whole system.
-ghost use Rattle.std.specs.Prelude.{◌≡◌, ◌≢◌, ◌+◌, ◌≤◌, ◌<◌, ◌↔◌, ◌⊎◌, ◌^◌, ◌∷◌, ℕ, List, [], true, false, None, Ok, Some, IfOk, IsErrOf, IsOkAnd, IsTrue, OnOk, OnErr, length, nat_le, reverse};
+ghost use Rattle.std.specs.Prelude.{◌≡◌, ◌≢◌, ◌+◌, ◌≤◌, ◌<◌, ◌↔◌, ◌⊎◌, ◌^◌, ◌∷◌, ℕ, List, [], true, false, None, Ok, Some, IfOk, IsErrOf, IsOkAnd, IsTrue};
+ghost use Rattle.std.specs.Prelude.{OnOk, OnErr, length, nat_le, reverse};
 ghost use Rattle.vm_base.specs.Limits.{most_slots};
 ghost use Rattle.vm_base.specs.declared.code.Code.{Code};
 ghost use Rattle.vm_model.specs.Limits.{most_events};
@@ -60,8 +61,10 @@ impl System {
         requires built { IsServable header.now }
         requires few { header.now.slots ≤ most_slots }
         ensures stands { (outside : Outside) → IfOk result (λ system. SystemStands header.now outside system) }
-        ensures kept { (outside : Outside) → (areas : List ℕ → Told) → IfOk result (λ system. (outside.paging ≡ true → AllTold areas system.pagers.items) → PagingIsKept header.now outside areas system) }
-        ensures files { (outside : Outside) → (areas : List ℕ → Told) → IfOk result (λ system. FilesAreTold header.now outside areas → FilesAreKept header.now outside areas system) }
+        ensures kept { (outside : Outside) → (areas : List ℕ → Told)
+            → IfOk result (λ system. (outside.paging ≡ true → AllTold areas system.pagers.items) → PagingIsKept header.now outside areas system) }
+        ensures files { (outside : Outside) → (areas : List ℕ → Told)
+            → IfOk result (λ system. FilesAreTold header.now outside areas → FilesAreKept header.now outside areas system) }
         ensures carried { (areas : List ℕ → Told) → FilesCarry header.now areas areas [] }
         ensures nothing { IfOk result (λ system. system.history.items ≡ []) }
         ensures pagers { IfOk result (λ system. AreNumbered header.now system.pagers.items) }
@@ -114,7 +117,8 @@ impl System {
         requires backings { (start : List ℕ → Told) × BackingsFit given.header given.outside start (F.area files.old.inner) (P.area paging.old.inner) self.old }
         requires range { InRange given.header command.now }
         ensures stands { OnOk result (SystemStands given.header given.outside self.new) }
-        ensures legal { OnOk result (KeepsCanonical given.header given.outside (record { line = line; command = command.now }) self.old.history.items self.new.history.items) }
+        ensures legal { OnOk result (KeepsCanonical given.header given.outside (record { line = line; command = command.now }) self.old.history.items
+            self.new.history.items) }
         ensures rests { OnOk result (LeavesAtRest given.header self.old.history.items self.new.history.items) }
         ensures count { IfOk result (λ n. length self.new.history.items ≡ length self.old.history.items + n) }
         ensures full { IsErrOf result SystemStop.EventLimit ↔ (most_events ≤ length self.old.history.items) }
@@ -122,8 +126,10 @@ impl System {
         ensures grew { GrowsWithinLimit self.old.history.items self.new.history.items }
         ensures front { OnOk result (before_last_line self.new.history.items ≡ self.old.history.items) }
         ensures unchanged { IsErrOf result SystemStop.EventLimit → (self.new ≡ self.old) × (files.new ≡ files.old) × (paging.new ≡ paging.old) }
-        ensures refused { IsErrOf result SystemStop.NoMemory → SystemStands given.header given.outside self.new × ((self.new.history.items ≡ self.old.history.items) × (KeepsArming files.old files.new × KeepsArming paging.old paging.new)) }
-        ensures backings { (start : List ℕ → Told) → BackingsFit given.header given.outside start (F.area files.old.inner) (P.area paging.old.inner) self.old → BackingsFit given.header given.outside start (F.area files.new.inner) (P.area paging.new.inner) self.new }
+        ensures refused { IsErrOf result SystemStop.NoMemory → SystemStands given.header given.outside self.new
+            × ((self.new.history.items ≡ self.old.history.items) × (KeepsArming files.old files.new × KeepsArming paging.old paging.new)) }
+        ensures backings { (start : List ℕ → Told) → BackingsFit given.header given.outside start (F.area files.old.inner) (P.area paging.old.inner) self.old
+            → BackingsFit given.header given.outside start (F.area files.new.inner) (P.area paging.new.inner) self.new }
         ensures alone { OnOk result ((count : ℕ) → command.now ≡ Command.Settle count → self.new.history.items ≡ event.Line line ∷ self.old.history.items) }
 
         // The backings; at an error all is as it was, unless the command takes a message that goes to a pager, which may have asked its own.
@@ -131,9 +137,12 @@ impl System {
         ensures paging { OnOk result (LeavesBacking given.header device.Paging command.now self.new.history.items paging.old paging.new) }
         ensures files_reached { ReachesOne files.old files.new }
         ensures reached { ReachesOne paging.old paging.new }
-        ensures calm { OnErr result (takes_any command.now ≡ false → (self.new.history.items ≡ self.old.history.items) × (files.new ≡ files.old) × (paging.new ≡ paging.old)) }
-        ensures files_go { BackingGoes device.Files (arms device.Files command.now ≡ None → ⟦<Armed<F> as Backing>⟧.later files.old files.new) (⟦<Armed<F> as Backing>⟧.faults files.old) (⟦<Armed<F> as Backing>⟧.faults files.new) self.old.history.items self.new.history.items }
-        ensures paging_goes { BackingGoes device.Paging (arms device.Paging command.now ≡ None → ⟦<Armed<P> as Backing>⟧.later paging.old paging.new) (⟦<Armed<P> as Backing>⟧.faults paging.old) (⟦<Armed<P> as Backing>⟧.faults paging.new) self.old.history.items self.new.history.items }
+        ensures calm { OnErr result (takes_any command.now ≡ false → (self.new.history.items ≡ self.old.history.items) × (files.new ≡ files.old)
+            × (paging.new ≡ paging.old)) }
+        ensures files_go { BackingGoes device.Files (arms device.Files command.now ≡ None → ⟦<Armed<F> as Backing>⟧.later files.old files.new)
+            (⟦<Armed<F> as Backing>⟧.faults files.old) (⟦<Armed<F> as Backing>⟧.faults files.new) self.old.history.items self.new.history.items }
+        ensures paging_goes { BackingGoes device.Paging (arms device.Paging command.now ≡ None → ⟦<Armed<P> as Backing>⟧.later paging.old paging.new)
+            (⟦<Armed<P> as Backing>⟧.faults paging.old) (⟦<Armed<P> as Backing>⟧.faults paging.new) self.old.history.items self.new.history.items }
     {
         if self.is_full() {
             return Err(SystemStop::EventLimit);
@@ -161,7 +170,8 @@ impl System {
         ensures stands { OnOk result (SystemStands given.header given.outside self.new) }
         ensures legal { IfOk result (λ took. took ≡ true → KeepsOpen given.header given.outside given.command self.old.history.items self.new.history.items) }
         ensures rests { OnOk result (LeavesAtRest given.header self.old.history.items self.new.history.items) }
-        ensures quiet { IfOk result (λ took. took ≡ false → (undelivered self.old.history.items ≡ []) × (self.new ≡ self.old) × (files.new ≡ files.old) × (paging.new ≡ paging.old)) }
+        ensures quiet { IfOk result (λ took. took ≡ false → (undelivered self.old.history.items ≡ []) × (self.new ≡ self.old) × (files.new ≡ files.old)
+            × (paging.new ≡ paging.old)) }
         ensures some { IfOk result (λ took. took ≡ true → undelivered self.old.history.items ≢ []) }
         ensures calm { undelivered self.old.history.items ≡ [] → result ≡ Ok false }
         ensures count { IfOk result (λ took. took ≡ true → takings self.new.history.items ≡ takings self.old.history.items + 1) }
@@ -172,12 +182,16 @@ impl System {
         ensures unasked { IfOk result (λ took. took ≡ true → took_up given.header device.Paging self.new.history.items ≡ false → paging.new ≡ paging.old) }
         ensures full { IsErrOf result SystemStop.EventLimit ↔ ((most_events ≤ length self.old.history.items) × (undelivered self.old.history.items ≢ [])) }
         ensures unchanged { IsErrOf result SystemStop.EventLimit → (self.new ≡ self.old) × (files.new ≡ files.old) × (paging.new ≡ paging.old) }
-        ensures refused { IsErrOf result SystemStop.NoMemory → SystemStands given.header given.outside self.new × ((self.new.history.items ≡ self.old.history.items) × (KeepsArming files.old files.new × KeepsArming paging.old paging.new)) }
-        ensures backings { (start : List ℕ → Told) → BackingsFit given.header given.outside start (F.area files.old.inner) (P.area paging.old.inner) self.old → BackingsFit given.header given.outside start (F.area files.new.inner) (P.area paging.new.inner) self.new }
+        ensures refused { IsErrOf result SystemStop.NoMemory → SystemStands given.header given.outside self.new
+            × ((self.new.history.items ≡ self.old.history.items) × (KeepsArming files.old files.new × KeepsArming paging.old paging.new)) }
+        ensures backings { (start : List ℕ → Told) → BackingsFit given.header given.outside start (F.area files.old.inner) (P.area paging.old.inner) self.old
+            → BackingsFit given.header given.outside start (F.area files.new.inner) (P.area paging.new.inner) self.new }
         ensures files_reached { ReachesOne files.old files.new }
         ensures reached { ReachesOne paging.old paging.new }
-        ensures files_go { BackingGoes device.Files (⟦<Armed<F> as Backing>⟧.later files.old files.new) (⟦<Armed<F> as Backing>⟧.faults files.old) (⟦<Armed<F> as Backing>⟧.faults files.new) self.old.history.items self.new.history.items }
-        ensures paging_goes { BackingGoes device.Paging (⟦<Armed<P> as Backing>⟧.later paging.old paging.new) (⟦<Armed<P> as Backing>⟧.faults paging.old) (⟦<Armed<P> as Backing>⟧.faults paging.new) self.old.history.items self.new.history.items }
+        ensures files_go { BackingGoes device.Files (⟦<Armed<F> as Backing>⟧.later files.old files.new) (⟦<Armed<F> as Backing>⟧.faults files.old)
+            (⟦<Armed<F> as Backing>⟧.faults files.new) self.old.history.items self.new.history.items }
+        ensures paging_goes { BackingGoes device.Paging (⟦<Armed<P> as Backing>⟧.later paging.old paging.new) (⟦<Armed<P> as Backing>⟧.faults paging.old)
+            (⟦<Armed<P> as Backing>⟧.faults paging.new) self.old.history.items self.new.history.items }
     {
         let Some(number) = self.state.ports.oldest() else {
             return Ok(false);

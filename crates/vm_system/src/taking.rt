@@ -56,12 +56,17 @@ impl State {
         requires backings { (start : List ℕ → Told) × BackingsFit given.header given.outside start (F.area files.old.inner) (P.area paging.old.inner) self.old }
         ensures took { OnOk result (Took given self.new) }
         ensures err { OnErr result (StandsStill given.header given.outside self.old self.new) }
-        ensures backings { (start : List ℕ → Told) → BackingsFit given.header given.outside start (F.area files.old.inner) (P.area paging.old.inner) self.old → BackingsFit given.header given.outside start (F.area files.new.inner) (P.area paging.new.inner) self.new }
-        ensures paging { (channel : Channel) → slice_get self.old.channels.made number.0 ≡ Some channel → takes_up given.header device.Paging (command.Take channel) ≡ false → paging.new ≡ paging.old }
-        ensures files { (channel : Channel) → slice_get self.old.channels.made number.0 ≡ Some channel → takes_up given.header device.Files (command.Take channel) ≡ false → files.new ≡ files.old }
+        ensures backings { (start : List ℕ → Told) → BackingsFit given.header given.outside start (F.area files.old.inner) (P.area paging.old.inner) self.old
+            → BackingsFit given.header given.outside start (F.area files.new.inner) (P.area paging.new.inner) self.new }
+        ensures paging { (channel : Channel) → slice_get self.old.channels.made number.0 ≡ Some channel
+            → takes_up given.header device.Paging (command.Take channel) ≡ false → paging.new ≡ paging.old }
+        ensures files { (channel : Channel) → slice_get self.old.channels.made number.0 ≡ Some channel
+            → takes_up given.header device.Files (command.Take channel) ≡ false → files.new ≡ files.old }
         ensures unmoved { OnErr result (KeepsArming files.old files.new × KeepsArming paging.old paging.new) }
-        ensures files_go { BackingGoes device.Files (⟦<Armed<F> as Backing>⟧.later files.old files.new) (⟦<Armed<F> as Backing>⟧.faults files.old) (⟦<Armed<F> as Backing>⟧.faults files.new) self.old.history.items self.new.history.items }
-        ensures paging_goes { BackingGoes device.Paging (⟦<Armed<P> as Backing>⟧.later paging.old paging.new) (⟦<Armed<P> as Backing>⟧.faults paging.old) (⟦<Armed<P> as Backing>⟧.faults paging.new) self.old.history.items self.new.history.items }
+        ensures files_go { BackingGoes device.Files (⟦<Armed<F> as Backing>⟧.later files.old files.new) (⟦<Armed<F> as Backing>⟧.faults files.old)
+            (⟦<Armed<F> as Backing>⟧.faults files.new) self.old.history.items self.new.history.items }
+        ensures paging_goes { BackingGoes device.Paging (⟦<Armed<P> as Backing>⟧.later paging.old paging.new) (⟦<Armed<P> as Backing>⟧.faults paging.old)
+            (⟦<Armed<P> as Backing>⟧.faults paging.new) self.old.history.items self.new.history.items }
     {
         let channel = self.channels.channel(number);
         match channel {
@@ -119,12 +124,15 @@ impl State {
         requires backings { (start : List ℕ → Told) × BackingsFit given.header given.outside start (F.area files.old.inner) (P.area paging.old.inner) self.old }
         ensures took { OnOk result (Took given self.new) }
         ensures err { OnErr result (StandsStill given.header given.outside self.old self.new) }
-        ensures backings { (start : List ℕ → Told) → BackingsFit given.header given.outside start (F.area files.old.inner) (P.area paging.old.inner) self.old → BackingsFit given.header given.outside start (F.area files.new.inner) (P.area paging.new.inner) self.new }
+        ensures backings { (start : List ℕ → Told) → BackingsFit given.header given.outside start (F.area files.old.inner) (P.area paging.old.inner) self.old
+            → BackingsFit given.header given.outside start (F.area files.new.inner) (P.area paging.new.inner) self.new }
         ensures paging { takes_up given.header device.Paging (command.Take (channels.Up host object)) ≡ false → paging.new ≡ paging.old }
         ensures files { takes_up given.header device.Files (command.Take (channels.Up host object)) ≡ false → files.new ≡ files.old }
         ensures unmoved { OnErr result (KeepsArming files.old files.new × KeepsArming paging.old paging.new) }
-        ensures files_go { BackingGoes device.Files (⟦<Armed<F> as Backing>⟧.later files.old files.new) (⟦<Armed<F> as Backing>⟧.faults files.old) (⟦<Armed<F> as Backing>⟧.faults files.new) self.old.history.items self.new.history.items }
-        ensures paging_goes { BackingGoes device.Paging (⟦<Armed<P> as Backing>⟧.later paging.old paging.new) (⟦<Armed<P> as Backing>⟧.faults paging.old) (⟦<Armed<P> as Backing>⟧.faults paging.new) self.old.history.items self.new.history.items }
+        ensures files_go { BackingGoes device.Files (⟦<Armed<F> as Backing>⟧.later files.old files.new) (⟦<Armed<F> as Backing>⟧.faults files.old)
+            (⟦<Armed<F> as Backing>⟧.faults files.new) self.old.history.items self.new.history.items }
+        ensures paging_goes { BackingGoes device.Paging (⟦<Armed<P> as Backing>⟧.later paging.old paging.new) (⟦<Armed<P> as Backing>⟧.faults paging.old)
+            (⟦<Armed<P> as Backing>⟧.faults paging.new) self.old.history.items self.new.history.items }
     {
         match self.kind(object) {
             ObjectKind::Temp => self.take_paged(line, number, host, object, paging),
@@ -164,7 +172,8 @@ impl State {
         ensures kept { PagingIsKept given.header given.outside (P.area paging.new.inner) self.new }
         ensures spares { SparesFiles given.header given.outside self.old self.new }
         ensures unmoved { OnErr result (KeepsArming paging.old paging.new) }
-        ensures paging_goes { BackingGoes device.Paging (⟦<Armed<P> as Backing>⟧.later paging.old paging.new) (⟦<Armed<P> as Backing>⟧.faults paging.old) (⟦<Armed<P> as Backing>⟧.faults paging.new) self.old.history.items self.new.history.items }
+        ensures paging_goes { BackingGoes device.Paging (⟦<Armed<P> as Backing>⟧.later paging.old paging.new) (⟦<Armed<P> as Backing>⟧.faults paging.old)
+            (⟦<Armed<P> as Backing>⟧.faults paging.new) self.old.history.items self.new.history.items }
     {
         self.prepare(Breadth::Few, 4)?;
         let Some(index) = self.ports.head(number) else {
@@ -196,10 +205,12 @@ impl State {
         ensures took { OnOk result (Took given self.new) }
         ensures err { OnErr result (StandsStill given.header given.outside self.old self.new) }
         ensures files_kept { FilesAreKept given.header given.outside (F.area files.new.inner) self.new }
-        ensures carried { (start : List ℕ → Told) → FilesCarry given.header start (F.area files.old.inner) self.old.history.items → FilesCarry given.header start (F.area files.new.inner) self.new.history.items }
+        ensures carried { (start : List ℕ → Told) → FilesCarry given.header start (F.area files.old.inner) self.old.history.items
+            → FilesCarry given.header start (F.area files.new.inner) self.new.history.items }
         ensures spares { SparesPaging given.header given.outside self.old self.new }
         ensures unmoved { OnErr result (KeepsArming files.old files.new) }
-        ensures files_go { BackingGoes device.Files (⟦<Armed<F> as Backing>⟧.later files.old files.new) (⟦<Armed<F> as Backing>⟧.faults files.old) (⟦<Armed<F> as Backing>⟧.faults files.new) self.old.history.items self.new.history.items }
+        ensures files_go { BackingGoes device.Files (⟦<Armed<F> as Backing>⟧.later files.old files.new) (⟦<Armed<F> as Backing>⟧.faults files.old)
+            (⟦<Armed<F> as Backing>⟧.faults files.new) self.old.history.items self.new.history.items }
     {
         self.prepare(Breadth::Few, 4)?;
         let Some(index) = self.ports.head(number) else {

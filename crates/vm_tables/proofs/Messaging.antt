@@ -8,7 +8,8 @@ use Rattle.vm_tables.specs.declared.acts.PageState.{PageState}
 use Rattle.vm_tables.specs.declared.acts.PageState.TheVariants as state
 use Rattle.vm_tables.specs.declared.acts.TheConstants.{MESSAGE_ROWS}
 
-each_state : (P : PageState → Type 0) → P state.Dead → P state.Absent → P state.Asked → P state.Unlocked → P state.WriteLocked → P state.ReadLocked → (s : PageState) → P s
+each_state : (P : PageState → Type 0) → P state.Dead → P state.Absent → P state.Asked → P state.Unlocked → P state.WriteLocked → P state.ReadLocked
+    → (s : PageState) → P s
 each_state P dead absent asked unlocked write_locked read_locked state.Dead = dead
 each_state P dead absent asked unlocked write_locked read_locked state.Absent = absent
 each_state P dead absent asked unlocked write_locked read_locked state.Asked = asked
@@ -31,5 +32,7 @@ message_cell kind.ChangeAttributes = each_state (IsCell kind.ChangeAttributes) r
 message_cell kind.Destroy = each_state (IsCell kind.Destroy) refl refl refl refl refl refl
 
 -- what the table says in a row and a column of these numbers
-pub message_found : (kind : MessageKind) (state : PageState) (row column : ℕ) (act : Act) → row ≡ kind_number kind → column ≡ state_number state → act ≡ cell MESSAGE_ROWS.rows row column → act ≡ act_at kind state
-message_found kind state row column act at across is = is ∙ ap (λ r. cell MESSAGE_ROWS.rows r column) at ∙ ap (λ c. cell MESSAGE_ROWS.rows (kind_number kind) c) across ∙ message_cell kind state
+pub message_found : (kind : MessageKind) (state : PageState) (row column : ℕ) (act : Act) → row ≡ kind_number kind → column ≡ state_number state
+    → act ≡ cell MESSAGE_ROWS.rows row column → act ≡ act_at kind state
+message_found kind state row column act at across is =
+    is ∙ ap (λ r. cell MESSAGE_ROWS.rows r column) at ∙ ap (λ c. cell MESSAGE_ROWS.rows (kind_number kind) c) across ∙ message_cell kind state

@@ -46,7 +46,8 @@ make returns flush dirty precious = record { returns = returns; flush = flush; d
 
 cases_same : (one other : LockCase) → is_case one other ≡ true → one ≡ other
 cases_same one other is =
-    let rest = and_right (both_return one.returns other.returns) (beq one.flush other.flush && (beq one.dirty other.dirty && beq one.precious other.precious)) is in
+    let rest = and_right (both_return one.returns other.returns) (beq one.flush other.flush && (beq one.dirty other.dirty && beq one.precious other.precious))
+    is in
     let marks = and_right (beq one.flush other.flush) (beq one.dirty other.dirty && beq one.precious other.precious) rest in
     ap (λ r. make r one.flush one.dirty one.precious) (returns_same one.returns other.returns (and_left _ _ is))
     ∙ ap (λ f. make other.returns f one.dirty one.precious) (bools_same one.flush other.flush (and_left _ _ rest))
@@ -73,14 +74,16 @@ counts_on row case rows apart =
 pub nobody : (case : LockCase) (rows : List LockRow) → count_of case rows ≡ 0 → (i : ℕ) (row : LockRow) → slice_get rows i ≡ Some row → row.case ≡ case → ⊥
 nobody case [] none i row found same = none-some row found
 nobody case (head ∷ rows) none zero row found same =
-    let more : count_of case (head ∷ rows) ≡ 1 + count_of case rows = counts_here head case rows (ap (λ (r : LockRow). r.case) (same_Some head row found) ∙ same) in omega arith
+    let more : count_of case (head ∷ rows) ≡ 1 + count_of case rows = counts_here head case rows
+    (ap (λ (r : LockRow). r.case) (same_Some head row found) ∙ same) in omega arith
 nobody case (head ∷ rows) none (suc i) row found same = nobody case rows (omega arith) i row found same
 
 counts_nobody : (case : LockCase) (rows : List LockRow) → ((i : ℕ) (row : LockRow) → slice_get rows i ≡ Some row → row.case ≡ case → ⊥) → count_of case rows ≡ 0
 counts_nobody case [] none = refl
 counts_nobody case (head ∷ rows) none = counts_on head case rows (none 0 head refl) ∙ counts_nobody case rows (λ i row found. none (suc i) row found)
 
-first_alone : (case : LockCase) (head : LockRow) (rows : List LockRow) → count_of case rows ≡ 0 → (other : ℕ) (another : LockRow) → slice_get (head ∷ rows) other ≡ Some another → another.case ≡ case → other ≡ 0
+first_alone : (case : LockCase) (head : LockRow) (rows : List LockRow) → count_of case rows ≡ 0 → (other : ℕ) (another : LockRow)
+    → slice_get (head ∷ rows) other ≡ Some another → another.case ≡ case → other ≡ 0
 first_alone case head rows none zero another found same = refl
 first_alone case head rows none (suc other) another found same = absurd (nobody case rows none other another found same)
 
@@ -91,7 +94,8 @@ later_alone case head rows place apart alone zero another found same = absurd (a
 later_alone case head rows place apart alone (suc other) another found same = ap suc (alone other another found same)
 
 once_later : (case : LockCase) (head : LockRow) (rows : List LockRow) → (head.case ≡ case → ⊥) → StandsOnce rows case → StandsOnce (head ∷ rows) case
-once_later case head rows apart once = record { place = suc once.place; row = once.row; found = once.found; is = once.is; alone = later_alone case head rows once.place apart once.alone }
+once_later case head rows apart once =
+    record { place = suc once.place; row = once.row; found = once.found; is = once.is; alone = later_alone case head rows once.place apart once.alone }
 
 row_fails : (row : LockRow) (case : LockCase) → is_case row.case case ≡ false → row.case ≡ case → ⊥
 row_fails row case fails same = let yes : is_case row.case case ≡ true = row_passes row case same in grind arith
@@ -132,11 +136,13 @@ picked case (head ∷ rows) zero row found same alone =
 picked case (head ∷ rows) (suc place) row found same alone =
     ⊎_elim
     (λ (yes : is_case head.case case ≡ true). let off : 0 ≡ suc place = alone 0 head refl (cases_same head.case case yes) in absurd (omega arith))
-    (λ (fails : is_case head.case case ≡ false). rw fails (picked case rows place row found same (λ other another at also. let next : suc other ≡ suc place = alone (suc other) another at also in omega arith)))
+    (λ (fails : is_case head.case case ≡ false). rw fails (picked case rows place row found same
+    (λ other another at also. let next : suc other ≡ suc place = alone (suc other) another at also in omega arith)))
     (cases_Bool (is_case head.case case))
 
 -- in a table that has each case once the first row of a case is its row
-pub picks : (case : LockCase) (rows : List LockRow) → Covers rows → (i : ℕ) (row : LockRow) → slice_get rows i ≡ Some row → row.case ≡ case → act_in case rows ≡ Some row.act
+pub picks : (case : LockCase) (rows : List LockRow) → Covers rows → (i : ℕ) (row : LockRow) → slice_get rows i ≡ Some row → row.case ≡ case
+    → act_in case rows ≡ Some row.act
 picks case rows covers i row found same =
     let once = covers case in
     picked case rows i row found same (λ other another at also. once.alone other another at also ∙ sym (once.alone i row found same))
@@ -145,7 +151,8 @@ tested_once : (case : LockCase) (rows : List LockRow) → is_once rows case ≡ 
 tested_once case rows is = counted_once case rows (grind (arith, nat_tests))
 
 once_tested : (case : LockCase) (rows : List LockRow) → StandsOnce rows case → is_once rows case ≡ true
-once_tested case rows once = let one : count_of case rows ≡ 1 = once_counted case rows once.place once.row once.found once.is once.alone in grind (arith, nat_tests)
+once_tested case rows once =
+    let one : count_of case rows ≡ 1 = once_counted case rows once.place once.row once.found once.is once.alone in grind (arith, nat_tests)
 
 either : (p : Bool → Bool) → p false && p true ≡ true → (b : Bool) → p b ≡ true
 either p is false = and_left (p false) (p true) is
@@ -154,15 +161,24 @@ either p is true = and_right (p false) (p true) is
 or_each : (p : Bool → Bool) → ((b : Bool) → p b ≡ true) → p false && p true ≡ true
 or_each p is = rw (is false, is true) refl
 
-marked : (rows : List LockRow) (returns : Returns) (flush dirty precious : Bool) → once_marked rows returns flush dirty ≡ true → StandsOnce rows (make returns flush dirty precious)
-marked rows returns flush dirty precious is = tested_once (make returns flush dirty precious) rows (either (λ p. is_once rows (make returns flush dirty p)) is precious)
+marked : (rows : List LockRow) (returns : Returns) (flush dirty precious : Bool) → once_marked rows returns flush dirty ≡ true
+    → StandsOnce rows (make returns flush dirty precious)
+marked rows returns flush dirty precious is =
+    tested_once (make returns flush dirty precious) rows (either (λ p. is_once rows (make returns flush dirty p)) is precious)
 
-kind : (rows : List LockRow) (returns : Returns) (flush dirty precious : Bool) → once_kind rows returns ≡ true → StandsOnce rows (make returns flush dirty precious)
-kind rows returns flush dirty precious is = marked rows returns flush dirty precious (either (λ d. once_marked rows returns flush d) (either (λ f. once_marked rows returns f false && once_marked rows returns f true) is flush) dirty)
+kind : (rows : List LockRow) (returns : Returns) (flush dirty precious : Bool) → once_kind rows returns ≡ true
+    → StandsOnce rows (make returns flush dirty precious)
+kind rows returns flush dirty precious is =
+    marked rows returns flush dirty precious (either (λ d. once_marked rows returns flush d)
+    (either (λ f. once_marked rows returns f false && once_marked rows returns f true) is flush) dirty)
 
 of_kind : (rows : List LockRow) (returns : Returns) → once_each rows ≡ true → once_kind rows returns ≡ true
-of_kind rows returns.Nothing is = and_left (once_kind rows returns.Nothing) (once_kind rows returns.Dirty) (and_left (once_kind rows returns.Nothing && once_kind rows returns.Dirty) (once_kind rows returns.All) is)
-of_kind rows returns.Dirty is = and_right (once_kind rows returns.Nothing) (once_kind rows returns.Dirty) (and_left (once_kind rows returns.Nothing && once_kind rows returns.Dirty) (once_kind rows returns.All) is)
+of_kind rows returns.Nothing is =
+    and_left (once_kind rows returns.Nothing) (once_kind rows returns.Dirty) (and_left (once_kind rows returns.Nothing && once_kind rows returns.Dirty)
+    (once_kind rows returns.All) is)
+of_kind rows returns.Dirty is =
+    and_right (once_kind rows returns.Nothing) (once_kind rows returns.Dirty) (and_left (once_kind rows returns.Nothing && once_kind rows returns.Dirty)
+    (once_kind rows returns.All) is)
 of_kind rows returns.All is = and_right (once_kind rows returns.Nothing && once_kind rows returns.Dirty) (once_kind rows returns.All) is
 
 -- where each test is passed, each case stands in one row, and in no other
@@ -172,7 +188,8 @@ once_covers rows is case = kind rows case.returns case.flush case.dirty case.pre
 kind_covered : (rows : List LockRow) (returns : Returns) → Covers rows → once_kind rows returns ≡ true
 kind_covered rows returns covers =
     or_each (λ f. once_marked rows returns f false && once_marked rows returns f true)
-    (λ f. or_each (λ d. once_marked rows returns f d) (λ d. or_each (λ p. is_once rows (make returns f d p)) (λ p. once_tested (make returns f d p) rows (covers (make returns f d p)))))
+    (λ f. or_each (λ d. once_marked rows returns f d) (λ d. or_each (λ p. is_once rows (make returns f d p))
+    (λ p. once_tested (make returns f d p) rows (covers (make returns f d p)))))
 
 -- and the other way round
 pub covers_once : (rows : List LockRow) → Covers rows → once_each rows ≡ true

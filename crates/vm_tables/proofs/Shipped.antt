@@ -22,10 +22,35 @@ row_right (head ∷ rows) right zero row found = subst (λ (r : LockRow). r.act 
 row_right (head ∷ rows) right (suc i) row found = row_right rows right.1 i row found
 
 shipped_right : EachRight LOCK_ROWS
-shipped_right = (refl, (refl, (refl, (refl, (refl, (refl, (refl, (refl, (refl, (refl, (refl, (refl, (refl, (refl, (refl, (refl, (refl, (refl, (refl, (refl, (refl, (refl, (refl, (refl, tt))))))))))))))))))))))))
+shipped_right = (
+  refl,
+  (
+    refl,
+    (
+      refl,
+      (
+        refl,
+        (
+          refl,
+          (
+            refl,
+            (
+              refl,
+              (
+                refl,
+                (refl, (refl, (refl, (refl, (refl, (refl, (refl, (refl, (refl, (refl, (refl, (refl, (refl, (refl, (refl, (refl, tt)))))))))))))))),
+              ),
+            ),
+          ),
+        ),
+      ),
+    ),
+  ),
+)
 
 -- what a pick from the shipped table gives
-pub shipped_act : (case : LockCase) (act : LockAct) → ((i : ℕ) (row : LockRow) → slice_get LOCK_ROWS i ≡ Some row → row.case ≡ case → act ≡ row.act) → act ≡ act_of case
+pub shipped_act : (case : LockCase) (act : LockAct) → ((i : ℕ) (row : LockRow) → slice_get LOCK_ROWS i ≡ Some row → row.case ≡ case → act ≡ row.act)
+    → act ≡ act_of case
 shipped_act case act picked =
     let once = shipped_covers case in
     picked once.place once.row once.found once.is ∙ row_right LOCK_ROWS shipped_right once.place once.row once.found ∙ ap act_of once.is

@@ -31,11 +31,13 @@ is_once rows case = count_of case rows == 1
 -- the tests of the cases, precious or not
 abbrev pub once_marked : List LockRow → Returns → Bool → Bool → Bool
 once_marked rows returns flush dirty =
-    is_once rows (record { returns = returns; flush = flush; dirty = dirty; precious = false }) && is_once rows (record { returns = returns; flush = flush; dirty = dirty; precious = true })
+    is_once rows (record { returns = returns; flush = flush; dirty = dirty; precious = false }) && is_once rows
+    (record { returns = returns; flush = flush; dirty = dirty; precious = true })
 
 -- the tests of the cases of a return kind
 abbrev pub once_kind : List LockRow → Returns → Bool
-once_kind rows returns = (once_marked rows returns false false && once_marked rows returns false true) && (once_marked rows returns true false && once_marked rows returns true true)
+once_kind rows returns =
+    (once_marked rows returns false false && once_marked rows returns false true) && (once_marked rows returns true false && once_marked rows returns true true)
 
 -- the tests of all cases
 abbrev pub once_each : List LockRow → Bool

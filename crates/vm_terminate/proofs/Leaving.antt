@@ -21,7 +21,8 @@ pub record HasGone (o p : ℕ) (old new : FinishState) : Type 0 where
   pub lists : listed_pages new.parts.queues + 1 ≤ listed_pages old.parts.queues
   pub room : old.room ≤ new.room + 1
 
-pub has_gone : (host : HostId) (key : PageKey) (known : ObjectRow) (row : PageRow) (old new : FinishState) → row.here ≡ true → PageLeaves host key known row old new → HasGone key.object.0 key.page.0 old new
+pub has_gone : (host : HostId) (key : PageKey) (known : ObjectRow) (row : PageRow) (old new : FinishState) → row.here ≡ true
+    → PageLeaves host key known row old new → HasGone key.object.0 key.page.0 old new
 has_gone host key known row old new here (IsDropped why page objects held room events) =
     record {
       rows = page.row;
@@ -38,8 +39,10 @@ has_gone host key known row old new here (GoesBack declared wanted page objects 
     }
 
 -- a page of an object leaves, and the others behind it
-pub one_more : (host : HostId) (object : ObjectId) (known : ObjectRow) (from : ℕ) (page : PageNo) (row : PageRow) (old mid end : FinishState) → IsNextPage old.parts.resident object.0 from page.0
-    → row_at old.parts.resident object.0 page.0 ≡ Some row → row.here ≡ true → mid.chains ≡ old.chains → PageLeaves host (record { object = object; page = page }) known row old mid
+pub one_more : (host : HostId) (object : ObjectId) (known : ObjectRow) (from : ℕ) (page : PageNo) (row : PageRow) (old mid end : FinishState)
+    → IsNextPage old.parts.resident object.0 from page.0
+    → row_at old.parts.resident object.0 page.0 ≡ Some row → row.here ≡ true → mid.chains ≡ old.chains
+    → PageLeaves host (record { object = object; page = page }) known row old mid
     → PagesLeave host object known (page.0 + 1) mid end → PagesLeave host object known from old end
 one_more host object known from page row old mid end next found here chains leaves more =
     let rest = subst (λ (n : ℕ). PagesLeave host object known n mid end) (let e : page.0 + 1 ≡ suc page.0 = omega arith in e) more in

@@ -30,9 +30,11 @@ is_there objects o referred = found_some (object_at objects o) referred.row refe
 pub has_some : (objects : ObjectTable) (o : ℕ) → IsReferred objects o → IfSome (object_at objects o) (λ row. 0 < row.references)
 has_some objects o referred = subst (λ z. IfSome z (λ row. 0 < row.references)) (sym referred.known) referred.some
 
-loses : (object : ObjectId) (row : ShadowRow) (left : ℕ) (parts : HostParts) (objects : ObjectTable) (old new : ChainTable) (unrefers : Unrefers object row left parts objects old new)
+loses : (object : ObjectId) (row : ShadowRow) (left : ℕ) (parts : HostParts) (objects : ObjectTable) (old new : ChainTable)
+    (unrefers : Unrefers object row left parts objects old new)
     → (held : List FrameNo) (room : ℕ) (events : List Event)
-    → LosesUnder object row unrefers.referred.row left (finish_state parts old held room events) (finish_state (record parts { objects = objects }) new held room events)
+    → LosesUnder object row unrefers.referred.row left (finish_state parts old held room events)
+    (finish_state (record parts { objects = objects }) new held room events)
 loses object row left parts objects old new unrefers held room events =
     let known = unrefers.referred in
     record {
@@ -40,32 +42,39 @@ loses object row left parts objects old new unrefers held room events =
       chains = unrefers.dropped;
       under = known.known;
       less = MatchOption-at_some _ (λ other. left + 1 ≡ other.references) known.row known.known unrefers.left_is;
-      objects = MatchOption-at_some _ (λ other. PutsObject row.under.0 (Some (record other { references = left })) parts.objects objects) known.row known.known unrefers.put;
+      objects =
+          MatchOption-at_some _ (λ other. PutsObject row.under.0 (Some (record other { references = left })) parts.objects objects) known.row known.known
+          unrefers.put;
       marks = unrefers.marks;
       rest = refl;
     }
 
 -- something else refers to it
-pub stays : (object : ObjectId) (row : ShadowRow) (left : ℕ) (parts : HostParts) (objects : ObjectTable) (old new : ChainTable) → Unrefers object row left parts objects old new → 0 < left
+pub stays : (object : ObjectId) (row : ShadowRow) (left : ℕ) (parts : HostParts) (objects : ObjectTable) (old new : ChainTable)
+    → Unrefers object row left parts objects old new → 0 < left
     → (held : List FrameNo) (room : ℕ) (events : List Event)
     → LeavesUnder object None (finish_state parts old held room events) (finish_state (record parts { objects = objects }) new held room events)
 stays object row left parts objects old new unrefers some held room events =
     Stays row unrefers.referred.row left refl (loses object row left parts objects old new unrefers held room events) some
 
 -- that was the last reference
-pub ends : (object : ObjectId) (row : ShadowRow) (left : ℕ) (parts : HostParts) (objects : ObjectTable) (old new : ChainTable) → Unrefers object row left parts objects old new → left ≤ 0 → row.under.0 < object.0
+pub ends : (object : ObjectId) (row : ShadowRow) (left : ℕ) (parts : HostParts) (objects : ObjectTable) (old new : ChainTable)
+    → Unrefers object row left parts objects old new → left ≤ 0 → row.under.0 < object.0
     → (held : List FrameNo) (room : ℕ) (events : List Event)
     → LeavesUnder object (Some row.under) (finish_state parts old held room events) (finish_state (record parts { objects = objects }) new held room events)
 ends object row left parts objects old new unrefers none older held room events =
     let zero : left ≡ 0 = omega arith in
     let old_state = finish_state parts old held room events in
     let new_state = finish_state (record parts { objects = objects }) new held room events in
-    let lost = subst (λ (n : ℕ). LosesUnder object row unrefers.referred.row n old_state new_state) zero (loses object row left parts objects old new unrefers held room events) in
+    let lost = subst (λ (n : ℕ). LosesUnder object row unrefers.referred.row n old_state new_state) zero
+    (loses object row left parts objects old new unrefers held room events) in
     Ends row unrefers.referred.row refl lost older
 
-pub fit_unreferred : (object : ObjectId) (row : ShadowRow) (left : ℕ) (parts : HostParts) (objects : ObjectTable) (old new : ChainTable) → Unrefers object row left parts objects old new → Fit parts
+pub fit_unreferred : (object : ObjectId) (row : ShadowRow) (left : ℕ) (parts : HostParts) (objects : ObjectTable) (old new : ChainTable)
+    → Unrefers object row left parts objects old new → Fit parts
     → Fit (record parts { objects = objects })
 fit_unreferred object row left parts objects old new unrefers fit =
     let known = unrefers.referred in
-    let put = MatchOption-at_some _ (λ other. PutsObject row.under.0 (Some (record other { references = left })) parts.objects objects) known.row known.known unrefers.put in
+    let put = MatchOption-at_some _ (λ other. PutsObject row.under.0 (Some (record other { references = left })) parts.objects objects) known.row known.known
+    unrefers.put in
     fit_objects parts objects fit (same_pages parts.objects objects row.under.0 known.row (record known.row { references = left }) known.known refl put)

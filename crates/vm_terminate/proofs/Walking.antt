@@ -11,7 +11,8 @@ use Rattle.vm_resident.specs.Resident.{row_at}
 use Rattle.vm_shadow.specs.Chains.{shadow_at}
 use Rattle.vm_shadow.specs.declared.shadow_row.ShadowRow.{ShadowRow}
 use Rattle.vm_terminate.proofs.Leaving.{HasGone, has_gone}
-use Rattle.vm_terminate.specs.Finishes.{CanFinish, ControlEnds, EndsWith, FinishState, Finishes, Further, IsReferred, IsTold, Itself, LosesUnder, Next, NoControl, NoMore, PagesLeave}
+use Rattle.vm_terminate.specs.Finishes.{CanFinish, ControlEnds, EndsWith, FinishState, Finishes, Further, IsReferred, IsTold, Itself, LosesUnder, Next}
+use Rattle.vm_terminate.specs.Finishes.{NoControl, NoMore, PagesLeave}
 use Rattle.vm_terminate.specs.Finishes.{Alone, Downward, OverOne}
 use Rattle.vm_terminate.specs.Steps.{AllHere, Ends, LeavesUnder, Nothing, Stays}
 
@@ -25,16 +26,20 @@ pub record PagesHaveLeft (object : ℕ) (old new : FinishState) : Type 0 where
 left_before : (o p : ℕ) (old mid new : FinishState) → HasGone o p old mid → mid.chains ≡ old.chains → PagesHaveLeft o mid new → PagesHaveLeft o old new
 left_before o p old mid new gone chains more =
     record {
-      others = λ other q apart. more.others other q apart ∙ (elim (row_cases o p None old.parts.resident mid.parts.resident gone.rows other q) [ inl put ↦ absurd (apart put.object) | inr that ↦ that.is ]);
+      others =
+          λ other q apart. more.others other q apart ∙ (elim (row_cases o p None old.parts.resident mid.parts.resident gone.rows other q)
+          [ inl put ↦ absurd (apart put.object) | inr that ↦ that.is ]);
       objects = λ other. more.objects other ∙ gone.objects.at other;
       chains = more.chains ∙ chains;
       room = λ fits. more.room (let lists = gone.lists in let room = gone.room in omega arith);
     }
 
-pub pages_have_left : (host : HostId) (object : ObjectId) (known : ObjectRow) (from : ℕ) (old new : FinishState) → PagesLeave host object known from old new → PagesHaveLeft object.0 old new
+pub pages_have_left : (host : HostId) (object : ObjectId) (known : ObjectRow) (from : ℕ) (old new : FinishState) → PagesLeave host object known from old new
+    → PagesHaveLeft object.0 old new
 pages_have_left host object known _ _ _ (NoMore from s none) = record { others = λ o p apart. refl; objects = λ o. refl; chains = refl; room = λ fits. fits }
 pages_have_left host object known _ _ _ (Next from page row old mid new low first found here chains leaves more) =
-    left_before object.0 page.0 old mid new (has_gone host (record { object = object; page = page }) known row old mid here leaves) chains (pages_have_left host object known (suc page.0) mid new more)
+    left_before object.0 page.0 old mid new (has_gone host (record { object = object; page = page }) known row old mid here leaves) chains
+    (pages_have_left host object known (suc page.0) mid new more)
 
 -- what an object's control leaves as it was
 pub record ControlHasEnded (object : ℕ) (old new : FinishState) : Type 0 where
@@ -44,12 +49,16 @@ pub record ControlHasEnded (object : ℕ) (old new : FinishState) : Type 0 where
   pub queues : new.parts.queues ≡ old.parts.queues
   pub room : new.room ≡ old.room
 
-pub control_has_ended : (host : HostId) (object : ObjectId) (known : ObjectRow) (old new : FinishState) → ControlEnds host object known old new → ControlHasEnded object.0 old new
-control_has_ended host object known old new (NoControl dead same) = rw same record { pages = λ o p. refl; objects = λ o apart. refl; chains = refl; queues = refl; room = refl }
+pub control_has_ended : (host : HostId) (object : ObjectId) (known : ObjectRow) (old new : FinishState) → ControlEnds host object known old new
+    → ControlHasEnded object.0 old new
+control_has_ended host object known old new (NoControl dead same) =
+    rw same record { pages = λ o p. refl; objects = λ o apart. refl; chains = refl; queues = refl; room = refl }
 control_has_ended host object known old new (IsTold live keeps put events) =
     record {
       pages = λ o p. ap (λ z. row_at z.parts.resident o p) keeps.is;
-      objects = λ o apart. elim (one_case object.0 o _ (object_at old.parts.objects o) (object_at new.parts.objects o) (put.at o)) [ inl same ↦ absurd (apart same.0) | inr that ↦ that.1 ];
+      objects =
+          λ o apart. elim (one_case object.0 o _ (object_at old.parts.objects o) (object_at new.parts.objects o) (put.at o))
+          [ inl same ↦ absurd (apart same.0) | inr that ↦ that.1 ];
       chains = ap (λ z. z.chains) keeps.is;
       queues = ap (λ z. z.parts.queues) keeps.is;
       room = ap (λ z. z.room) keeps.is;
@@ -99,7 +108,8 @@ pub record IsBare (host : HostId) (object : ObjectId) (known : ObjectRow) (now b
   pub control : ControlEnds host object known bare quiet
 
 -- what is known of the object is known still when its pages have left
-pub still_known : (host : HostId) (object : ObjectId) (known : ObjectRow) (now bare : FinishState) → object_at now.parts.objects object.0 ≡ Some known → PagesLeave host object known 0 now bare
+pub still_known : (host : HostId) (object : ObjectId) (known : ObjectRow) (now bare : FinishState) → object_at now.parts.objects object.0 ≡ Some known
+    → PagesLeave host object known 0 now bare
     → object_at bare.parts.objects object.0 ≡ Some known
 still_known host object known now bare is pages = (pages_have_left host object known 0 now bare pages).objects object.0 ∙ is
 
@@ -107,10 +117,12 @@ still_known host object known now bare is pages = (pages_have_left host object k
 lower_objects : (host : HostId) (object : ObjectId) (known : ObjectRow) (now bare quiet : FinishState) → IsBare host object known now bare quiet
     → (other : ℕ) → other < object.0 → object_at quiet.parts.objects other ≡ object_at now.parts.objects other
 lower_objects host object known now bare quiet ends other less =
-    (control_has_ended host object known bare quiet ends.control).objects other (λ same. omega arith) ∙ (pages_have_left host object known 0 now bare ends.pages).objects other
+    (control_has_ended host object known bare quiet ends.control).objects other (λ same. omega arith)
+    ∙ (pages_have_left host object known 0 now bare ends.pages).objects other
 
 -- what stands under it is referred to
-pub under_referred : (host : HostId) (object : ℕ) (ending : ObjectId) (known : ObjectRow) (start now bare quiet : FinishState) → CanFinish start object → HasComeTo object start now ending.0 → IsBare host ending known now bare quiet
+pub under_referred : (host : HostId) (object : ℕ) (ending : ObjectId) (known : ObjectRow) (start now bare quiet : FinishState) → CanFinish start object
+    → HasComeTo object start now ending.0 → IsBare host ending known now bare quiet
     → (row : ShadowRow) → shadow_at now.chains ending.0 ≡ Some row → row.under.0 < ending.0 → IsReferred quiet.parts.objects row.under.0
 under_referred host object ending known start now bare quiet can come ends row is less =
     let there = can.under ending.0 row come.ends (sym (come.shadows ending.0 (omega arith)) ∙ is) in
@@ -120,27 +132,34 @@ under_referred host object ending known start now bare quiet can come ends row i
       some = there.some;
     }
 
-chains_are : (host : HostId) (object : ObjectId) (known : ObjectRow) (now bare quiet : FinishState) → IsBare host object known now bare quiet → quiet.chains ≡ now.chains
-chains_are host object known now bare quiet ends = (control_has_ended host object known bare quiet ends.control).chains ∙ (pages_have_left host object known 0 now bare ends.pages).chains
+chains_are : (host : HostId) (object : ObjectId) (known : ObjectRow) (now bare quiet : FinishState) → IsBare host object known now bare quiet
+    → quiet.chains ≡ now.chains
+chains_are host object known now bare quiet ends =
+    (control_has_ended host object known bare quiet ends.control).chains ∙ (pages_have_left host object known 0 now bare ends.pages).chains
 
 -- the lists are those that the object's pages left
-pub queues_are : (host : HostId) (object : ObjectId) (known under : ObjectRow) (row : ShadowRow) (bare quiet next : FinishState) → ControlEnds host object known bare quiet → LosesUnder object row under 0 quiet next
+pub queues_are : (host : HostId) (object : ObjectId) (known under : ObjectRow) (row : ShadowRow) (bare quiet next : FinishState)
+    → ControlEnds host object known bare quiet → LosesUnder object row under 0 quiet next
     → next.parts.queues ≡ bare.parts.queues
-queues_are host object known under row bare quiet next ends loses = ap (λ z. z.parts.queues) loses.rest ∙ (control_has_ended host object known bare quiet ends).queues
+queues_are host object known under row bare quiet next ends loses =
+    ap (λ z. z.parts.queues) loses.rest ∙ (control_has_ended host object known bare quiet ends).queues
 
 -- what stood under the object at the start
-pub shadow_stood : (host : HostId) (object : ℕ) (ending : ObjectId) (known under : ObjectRow) (row : ShadowRow) (start now bare quiet next : FinishState) → HasComeTo object start now ending.0 → IsBare host ending known now bare quiet
+pub shadow_stood : (host : HostId) (object : ℕ) (ending : ObjectId) (known under : ObjectRow) (row : ShadowRow) (start now bare quiet next : FinishState)
+    → HasComeTo object start now ending.0 → IsBare host ending known now bare quiet
     → LosesUnder ending row under 0 quiet next → shadow_at start.chains ending.0 ≡ Some row
 shadow_stood host object ending known under row start now bare quiet next come ends loses =
     sym (come.shadows ending.0 (omega arith)) ∙ (sym (ap (λ z. shadow_at z ending.0) (chains_are host ending known now bare quiet ends)) ∙ loses.found)
 
-pub under_stood : (host : HostId) (object : ℕ) (ending : ObjectId) (known under : ObjectRow) (row : ShadowRow) (start now bare quiet next : FinishState) → HasComeTo object start now ending.0 → IsBare host ending known now bare quiet
+pub under_stood : (host : HostId) (object : ℕ) (ending : ObjectId) (known under : ObjectRow) (row : ShadowRow) (start now bare quiet next : FinishState)
+    → HasComeTo object start now ending.0 → IsBare host ending known now bare quiet
     → LosesUnder ending row under 0 quiet next → row.under.0 < ending.0 → object_at start.parts.objects row.under.0 ≡ Some under
 under_stood host object ending known under row start now bare quiet next come ends loses less =
     sym (come.below row.under.0 less) ∙ (sym (lower_objects host ending known now bare quiet ends row.under.0 less) ∙ loses.under)
 
 -- the end comes down to what stands under the object
-pub come_down : (host : HostId) (object : ℕ) (ending : ObjectId) (known under : ObjectRow) (row : ShadowRow) (start now bare quiet next : FinishState) → HasComeTo object start now ending.0 → IsBare host ending known now bare quiet
+pub come_down : (host : HostId) (object : ℕ) (ending : ObjectId) (known under : ObjectRow) (row : ShadowRow) (start now bare quiet next : FinishState)
+    → HasComeTo object start now ending.0 → IsBare host ending known now bare quiet
     → LosesUnder ending row under 0 quiet next → row.under.0 < ending.0 → Fit next.parts → HasComeTo object start next row.under.0
 come_down host object ending known under row start now bare quiet next come ends loses less fit =
     record {
@@ -173,12 +192,16 @@ come_down host object ending known under row start now bare quiet next come ends
     }
 
 -- the end stops at an object
-pub ends_there : (host : HostId) (object : ObjectId) (known : ObjectRow) (next : Option ObjectId) (now bare quiet new : FinishState) → IsBare host object known now bare quiet → LeavesUnder object next quiet new → next ≡ None
+pub ends_there : (host : HostId) (object : ObjectId) (known : ObjectRow) (next : Option ObjectId) (now bare quiet new : FinishState)
+    → IsBare host object known now bare quiet → LeavesUnder object next quiet new → next ≡ None
     → Finishes host object now new
 ends_there host object known next now bare quiet new ends (Nothing none no_shadow same) stops =
-    Alone object known now bare new ends.known_is ends.pages (subst (λ (z : FinishState). ControlEnds host object known bare z) (sym same) ends.control) (ap (λ z. shadow_at z.chains object.0) same ∙ no_shadow)
-ends_there host object known next now bare quiet new ends (Stays row under left none loses some) stops = OverOne object known under row left now bare quiet new ends.known_is ends.pages ends.control loses some
-ends_there host object known next now bare quiet new ends (Ends row under goes loses less) stops = absurd (let bad : None ≡ Some row.under = sym stops ∙ goes in cc)
+    Alone object known now bare new ends.known_is ends.pages (subst (λ (z : FinishState). ControlEnds host object known bare z) (sym same) ends.control)
+    (ap (λ z. shadow_at z.chains object.0) same ∙ no_shadow)
+ends_there host object known next now bare quiet new ends (Stays row under left none loses some) stops =
+    OverOne object known under row left now bare quiet new ends.known_is ends.pages ends.control loses some
+ends_there host object known next now bare quiet new ends (Ends row under goes loses less) stops =
+    absurd (let bad : None ≡ Some row.under = sym stops ∙ goes in cc)
 
 -- the end goes on with what stood under the object
 pub record GoesOn (object : ObjectId) (next : ObjectId) (old new : FinishState) : Type 0 where
@@ -188,16 +211,22 @@ pub record GoesOn (object : ObjectId) (next : ObjectId) (old new : FinishState) 
   pub loses : LosesUnder object row known 0 old new
   pub less : row.under.0 < object.0
 
-pub goes_on : (object : ObjectId) (next : Option ObjectId) (under : ObjectId) (old new : FinishState) → LeavesUnder object next old new → next ≡ Some under → GoesOn object under old new
+pub goes_on : (object : ObjectId) (next : Option ObjectId) (under : ObjectId) (old new : FinishState) → LeavesUnder object next old new → next ≡ Some under
+    → GoesOn object under old new
 goes_on object next under old new (Nothing none no_shadow same) goes = absurd (let bad : None ≡ Some under = sym none ∙ goes in cc)
 goes_on object next under old new (Stays row known left none loses some) goes = absurd (let bad : None ≡ Some under = sym none ∙ goes in cc)
-goes_on object next under old new (Ends row known is loses less) goes = record { row = row; known = known; is = (let both : Some under ≡ Some row.under = sym goes ∙ is in cc); loses = loses; less = less }
+goes_on object next under old new (Ends row known is loses less) goes =
+    record { row = row; known = known; is = (let both : Some under ≡ Some row.under = sym goes ∙ is in cc); loses = loses; less = less }
 
-pub come_on : (host : HostId) (object : ℕ) (ending next : ObjectId) (known : ObjectRow) (start now bare quiet new : FinishState) → HasComeTo object start now ending.0 → IsBare host ending known now bare quiet → GoesOn ending next quiet new → Fit new.parts
+pub come_on : (host : HostId) (object : ℕ) (ending next : ObjectId) (known : ObjectRow) (start now bare quiet new : FinishState)
+    → HasComeTo object start now ending.0 → IsBare host ending known now bare quiet → GoesOn ending next quiet new → Fit new.parts
     → HasComeTo object start new next.0
 come_on host object ending next known start now bare quiet new come ends on fit =
-    subst (λ (z : ObjectId). HasComeTo object start new z.0) (sym on.is) (come_down host object ending known on.known on.row start now bare quiet new come ends on.loses on.less fit)
+    subst (λ (z : ObjectId). HasComeTo object start new z.0) (sym on.is) (come_down host object ending known on.known on.row start now bare quiet new come ends
+    on.loses on.less fit)
 
-pub ends_further : (host : HostId) (ending next : ObjectId) (known : ObjectRow) (now bare quiet new end : FinishState) → IsBare host ending known now bare quiet → GoesOn ending next quiet new → Finishes host next new end → Finishes host ending now end
+pub ends_further : (host : HostId) (ending next : ObjectId) (known : ObjectRow) (now bare quiet new end : FinishState) → IsBare host ending known now bare quiet
+    → GoesOn ending next quiet new → Finishes host next new end → Finishes host ending now end
 ends_further host ending next known now bare quiet new end ends on more =
-    Downward ending known on.known on.row now bare quiet new end ends.known_is ends.pages ends.control on.loses (subst (λ (z : ObjectId). Finishes host z new end) on.is more)
+    Downward ending known on.known on.row now bare quiet new end ends.known_is ends.pages ends.control on.loses
+    (subst (λ (z : ObjectId). Finishes host z new end) on.is more)

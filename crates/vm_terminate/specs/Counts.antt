@@ -18,7 +18,8 @@ abbrev pub live_below : ObjectTable → ℕ → ℕ
 live_below objects zero = 0
 live_below objects (suc o) = (if is_live_row (object_at objects o) then 1 else 0) + live_below objects o
 
--- what an end uses of the room: a place in the log for each page that leaves and each control that ends, a buffer for a page at most; as many regions are marked as before
+-- what an end uses of the room: a place in the log for each page that leaves and each control that ends, a buffer for a page at most; as many regions are
+-- marked as before
 pub record UsesRoom (n : ℕ) (old new : HostParts) (chains_old chains_new : ChainTable) (before after : ℕ) : Type 0 where
   pub log : before + (listed_pages new.queues + live_below new.objects n) ≤ after + (listed_pages old.queues + live_below old.objects n)
   pub buffers : old.buffers.count + listed_pages new.queues ≤ new.buffers.count + listed_pages old.queues
@@ -32,4 +33,5 @@ pub record UsesRoom (n : ℕ) (old new : HostParts) (chains_old chains_new : Cha
 -- there is a buffer for each page that is here, where an object that ends isn't temporary: its pages may go back, and those of a temporary one are dropped
 abbrev pub HasBuffers : ChainTable → HostParts → ℕ → Type 0
 HasBuffers chains parts object =
-    (o : ℕ) (row : ObjectRow) → EndsWith chains parts.objects object o → object_at parts.objects o ≡ Some row → row.kind ≢ Temp → listed_pages parts.queues ≤ parts.buffers.count
+    (o : ℕ) (row : ObjectRow) → EndsWith chains parts.objects object o → object_at parts.objects o ≡ Some row → row.kind ≢ Temp
+    → listed_pages parts.queues ≤ parts.buffers.count

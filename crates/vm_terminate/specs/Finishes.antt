@@ -33,7 +33,8 @@ pub record FinishState : Type 0 where
 -- the object itself, or one under it to which nothing else refers, and so on
 pub data EndsWith (chains : ChainTable) (objects : ObjectTable) (object : ℕ) : ℕ → Type 0 where
   Itself : EndsWith chains objects object object
-  Further : (o : ℕ) → (row : ShadowRow) → (known : ObjectRow) → EndsWith chains objects object o → shadow_at chains o ≡ Some row → object_at objects row.under.0 ≡ Some known
+  Further : (o : ℕ) → (row : ShadowRow) → (known : ObjectRow) → EndsWith chains objects object o → shadow_at chains o ≡ Some row
+      → object_at objects row.under.0 ≡ Some known
       → known.references ≡ 1 → EndsWith chains objects object row.under.0
 
 -- an object is known, and something refers to it
@@ -49,24 +50,29 @@ pub record CanFinish (s : FinishState) (object : ℕ) : Type 0 where
   pub row : ObjectRow
   pub known : object_at s.parts.objects object ≡ Some row
   pub none : row.references ≡ 0
-  pub under : (o : ℕ) (shadow : ShadowRow) → EndsWith s.chains s.parts.objects object o → shadow_at s.chains o ≡ Some shadow → IsReferred s.parts.objects shadow.under.0
+  pub under : (o : ℕ) (shadow : ShadowRow) → EndsWith s.chains s.parts.objects object o → shadow_at s.chains o ≡ Some shadow
+      → IsReferred s.parts.objects shadow.under.0
   pub here : (o p : ℕ) (page : PageRow) → EndsWith s.chains s.parts.objects object o → row_at s.parts.resident o p ≡ Some page → page.here ≡ true
   pub room : length s.parts.queues.active + length s.parts.queues.inactive ≤ s.room
 
 -- a page that is here leaves an object that ends: of a declared object a changed or precious one goes to the pager, without a copy, and its frame is held;
 -- each other is dropped
 pub data PageLeaves (host : HostId) (key : PageKey) (known : ObjectRow) (row : PageRow) (old new : FinishState) : Type 0 where
-  IsDropped : (known.kind ≡ Temp) ⊎ ((row.dirty || row.precious) ≡ false) → Discards key row old.parts new.parts → new.parts.objects ≡ old.parts.objects → new.held ≡ old.held → new.room ≡ old.room
+  IsDropped : (known.kind ≡ Temp) ⊎ ((row.dirty || row.precious) ≡ false) → Discards key row old.parts new.parts → new.parts.objects ≡ old.parts.objects
+      → new.held ≡ old.held → new.room ≡ old.room
       → new.events ≡ event.Dropped host key.object key.page ∷ old.events → PageLeaves host key known row old new
   GoesBack : known.kind ≢ Temp → (row.dirty || row.precious) ≡ true → Removes key row old.parts new.parts → SameObjects old.parts.objects new.parts.objects
       → PutsAbsent key.object.0 key.page.0 false old.parts.objects new.parts.objects → new.held ≡ old.held ++ row.frame ∷ [] → new.room + 1 ≡ old.room
-      → new.events ≡ event.Sent (Up host key.object) (message.Return known.control key.page row.dirty false (page_in old.parts.frames row.frame.0)) ∷ old.events → PageLeaves host key known row old new
+      → new.events ≡ event.Sent (Up host key.object) (message.Return known.control key.page row.dirty false (page_in old.parts.frames row.frame.0)) ∷ old.events
+      → PageLeaves host key known row old new
 
 -- its pages leave from one on, by rising number, until none is left
 pub data PagesLeave (host : HostId) (object : ObjectId) (known : ObjectRow) : ℕ → FinishState → FinishState → Type 0 where
   NoMore : (from : ℕ) → (s : FinishState) → ((p : ℕ) → from ≤ p → row_at s.parts.resident object.0 p ≡ None) → PagesLeave host object known from s s
-  Next : (from : ℕ) → (page : PageNo) → (row : PageRow) → (old mid new : FinishState) → from ≤ page.0 → ((p : ℕ) → from ≤ p → p < page.0 → row_at old.parts.resident object.0 p ≡ None)
-      → row_at old.parts.resident object.0 page.0 ≡ Some row → row.here ≡ true → mid.chains ≡ old.chains → PageLeaves host (record { object = object; page = page }) known row old mid
+  Next : (from : ℕ) → (page : PageNo) → (row : PageRow) → (old mid new : FinishState) → from ≤ page.0
+      → ((p : ℕ) → from ≤ p → p < page.0 → row_at old.parts.resident object.0 p ≡ None)
+      → row_at old.parts.resident object.0 page.0 ≡ Some row → row.here ≡ true → mid.chains ≡ old.chains
+      → PageLeaves host (record { object = object; page = page }) known row old mid
       → PagesLeave host object known (suc page.0) mid new → PagesLeave host object known from old new
 
 -- nothing but what is known of objects, and the events, has changed
@@ -77,7 +83,8 @@ pub record KeepsPages (old new : FinishState) : Type 0 where
 -- its control ends, where it has one, and the pager is told
 pub data ControlEnds (host : HostId) (object : ObjectId) (known : ObjectRow) (old new : FinishState) : Type 0 where
   NoControl : known.live ≡ false → new ≡ old → ControlEnds host object known old new
-  IsTold : known.live ≡ true → KeepsPages old new → PutsObject object.0 (Some (record known { live = false; state = state.Without })) old.parts.objects new.parts.objects
+  IsTold : known.live ≡ true → KeepsPages old new → PutsObject object.0 (Some (record known { live = false; state = state.Without })) old.parts.objects
+      new.parts.objects
       → new.events ≡ event.Sent (Up host object) (message.Terminate known.control) ∷ old.events → ControlEnds host object known old new
 
 -- its shadow goes, and what stood under it has one reference less
@@ -92,9 +99,14 @@ pub record LosesUnder (object : ObjectId) (row : ShadowRow) (known : ObjectRow) 
 
 -- an object ends, and with it each one under it that loses its last reference by that
 pub data Finishes (host : HostId) : ObjectId → FinishState → FinishState → Type 0 where
-  Alone : (object : ObjectId) → (known : ObjectRow) → (old bare new : FinishState) → object_at old.parts.objects object.0 ≡ Some known → PagesLeave host object known 0 old bare
+  Alone : (object : ObjectId) → (known : ObjectRow) → (old bare new : FinishState) → object_at old.parts.objects object.0 ≡ Some known
+      → PagesLeave host object known 0 old bare
       → ControlEnds host object known bare new → shadow_at new.chains object.0 ≡ None → Finishes host object old new
-  OverOne : (object : ObjectId) → (known under : ObjectRow) → (row : ShadowRow) → (left : ℕ) → (old bare quiet new : FinishState) → object_at old.parts.objects object.0 ≡ Some known
-      → PagesLeave host object known 0 old bare → ControlEnds host object known bare quiet → LosesUnder object row under left quiet new → 0 < left → Finishes host object old new
-  Downward : (object : ObjectId) → (known under : ObjectRow) → (row : ShadowRow) → (old bare quiet next new : FinishState) → object_at old.parts.objects object.0 ≡ Some known
-      → PagesLeave host object known 0 old bare → ControlEnds host object known bare quiet → LosesUnder object row under 0 quiet next → Finishes host row.under next new → Finishes host object old new
+  OverOne : (object : ObjectId) → (known under : ObjectRow) → (row : ShadowRow) → (left : ℕ) → (old bare quiet new : FinishState)
+      → object_at old.parts.objects object.0 ≡ Some known
+      → PagesLeave host object known 0 old bare → ControlEnds host object known bare quiet → LosesUnder object row under left quiet new → 0 < left
+      → Finishes host object old new
+  Downward : (object : ObjectId) → (known under : ObjectRow) → (row : ShadowRow) → (old bare quiet next new : FinishState)
+      → object_at old.parts.objects object.0 ≡ Some known
+      → PagesLeave host object known 0 old bare → ControlEnds host object known bare quiet → LosesUnder object row under 0 quiet next
+      → Finishes host row.under next new → Finishes host object old new

@@ -22,5 +22,7 @@ AllHere table o = (p : ℕ) (page : PageRow) → row_at table o p ≡ Some page 
 -- smaller number.
 pub data LeavesUnder (object : ObjectId) (next : Option ObjectId) (old new : FinishState) : Type 0 where
   Nothing : next ≡ None → shadow_at old.chains object.0 ≡ None → new ≡ old → LeavesUnder object next old new
-  Stays : (row : ShadowRow) → (known : ObjectRow) → (left : ℕ) → next ≡ None → LosesUnder object row known left old new → 0 < left → LeavesUnder object next old new
-  Ends : (row : ShadowRow) → (known : ObjectRow) → next ≡ Some row.under → LosesUnder object row known 0 old new → row.under.0 < object.0 → LeavesUnder object next old new
+  Stays : (row : ShadowRow) → (known : ObjectRow) → (left : ℕ) → next ≡ None → LosesUnder object row known left old new → 0 < left
+      → LeavesUnder object next old new
+  Ends : (row : ShadowRow) → (known : ObjectRow) → next ≡ Some row.under → LosesUnder object row known 0 old new → row.under.0 < object.0
+      → LeavesUnder object next old new

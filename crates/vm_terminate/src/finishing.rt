@@ -32,7 +32,8 @@ pub fn finish<L: Holder>(
     laundry: &mut L,
     log: &mut Events,
 ) -> Result<(), NoMemory>
-    requires { CanFinish (record { parts = parts.old; chains = chains.old; held = L.held laundry.old; room = L.room laundry.old; events = log.old.items }) object.0 }
+    requires { CanFinish (record { parts = parts.old; chains = chains.old; held = L.held laundry.old; room = L.room laundry.old; events = log.old.items })
+        object.0 }
     ensures finished { OnOk result (Finishes host object
         (record { parts = parts.old; chains = chains.old; held = L.held laundry.old; room = L.room laundry.old; events = log.old.items })
         (record { parts = parts.new; chains = chains.new; held = L.held laundry.new; room = L.room laundry.new; events = log.new.items })) }

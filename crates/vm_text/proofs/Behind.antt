@@ -5,4 +5,5 @@ use Rattle.vm_text.specs.Fields.{with_fields}
 
 pub behind_front : (front word numbers : List ℕ) → with_fields (front ++ word) numbers ≡ front ++ with_fields word numbers
 behind_front front word [] = refl
-behind_front front word (number ∷ numbers) = ap (λ z. with_fields z numbers) (append_assoc front word (field number)) ∙ behind_front front (word ++ field number) numbers
+behind_front front word (number ∷ numbers) =
+    ap (λ z. with_fields z numbers) (append_assoc front word (field number)) ∙ behind_front front (word ++ field number) numbers

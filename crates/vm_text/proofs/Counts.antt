@@ -19,5 +19,6 @@ one_more a (b ∷ c ∷ d ∷ e ∷ []) = refl
 one_more a (b ∷ c ∷ d ∷ e ∷ f ∷ []) = refl
 one_more a (b ∷ c ∷ d ∷ e ∷ f ∷ g ∷ more) = refl
 
-pub six_from : (words line : List (List ℕ)) (a : List ℕ) (w : Five) → words ≡ a ∷ line → five_words line ≡ Ok w → six_words words ≡ Ok (a, w.0, w.1, w.2, w.3, w.4)
+pub six_from : (words line : List (List ℕ)) (a : List ℕ) (w : Five) → words ≡ a ∷ line → five_words line ≡ Ok w
+    → six_words words ≡ Ok (a, w.0, w.1, w.2, w.3, w.4)
 six_from words line a w is five = ap six_words is ∙ (one_more a line ∙ ap (with_first a) five)

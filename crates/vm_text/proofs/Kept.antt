@@ -1,5 +1,6 @@
 -- What the header lines and the lines of a whole script keep, once they are read.
-use Rattle.std.proofs.Common.{◌≡◌, ◌≢◌, ℕ, suc, ◌+◌, ◌-◌, ◌<◌, ◌≤◌, ◌==◌, ◌||◌, inr, Bool, true, false, nat_le, nat_lt, List, [], ◌∷◌, length, length-set, get_or, reverse, slice_set, Option, Some, None, is_some, Result, Ok, Err, IfOk, refl, sym, ◌∙◌, cond, subst, arith}
+use Rattle.std.proofs.Common.{◌≡◌, ◌≢◌, ℕ, suc, ◌+◌, ◌-◌, ◌<◌, ◌≤◌, ◌==◌, ◌||◌, inr, Bool, true, false, nat_le, nat_lt, List, [], ◌∷◌, length, length-set}
+use Rattle.std.proofs.Common.{get_or, reverse, slice_set, Option, Some, None, is_some, Result, Ok, Err, IfOk, refl, sym, ◌∙◌, cond, subst, arith}
 use Rattle.std.proofs.lemmas.Bool.{or_parts, true≢false}
 use Rattle.std.proofs.lemmas.Bool.Decides.{nat_tests}
 use Rattle.std.proofs.lemmas.Grind.{get_or-set_at}
@@ -28,7 +29,8 @@ use Rattle.vm_text.specs.declared.meaning.HeaderWord.TheVariants as heads
 use Rattle.vm_text.specs.declared.meaning.CommandWord.{CommandWord}
 use Rattle.vm_text.specs.Words.{is_comment, word_in, words_of, lines_of, one_word, two_words}
 use Rattle.vm_text.specs.Forms.{Heading, size_of, declared_at, new_name, header_words, command_words, stands_already, object_line, header_form}
-use Rattle.vm_text.specs.Script.{Reading, Whole, nothing_read, header_line, command_line, line_read, lines_read, script_of, whole_script, DeclaresNoTemporary, IsRead}
+use Rattle.vm_text.specs.Script.{Reading, Whole, nothing_read, header_line, command_line, line_read, lines_read, script_of, whole_script, DeclaresNoTemporary}
+use Rattle.vm_text.specs.Script.{IsRead}
 use Rattle.vm_text.proofs.Ranges.{Reads, read, stopped, ◌andthen◌, any, tested, untested, either, between, upto, page_sized, hosted, InReach, command_kept}
 
 record HeadingKept (heading : Heading) : Type 0 where
@@ -67,26 +69,76 @@ undeclared name (object ∷ objects) isnt = by_test (bytes_eq object.name name) 
     by_test : (t : Bool) → bytes_eq object.name name ≡ t → is_some (cond t (Some (length objects)) (declared_at name objects)) ≡ false
         → (is_some (declared_at name objects) ≡ false → All (λ older. name ≢ older.name) objects) → All (λ older. name ≢ older.name) (object ∷ objects)
     by_test true is found rest = absurd (true≢false found)
-    by_test false is none rest = All-cons (λ older. name ≢ older.name) object objects (λ same. true≢false (sym ((bytes_eq-Decides object.name name).1 (sym same)) ∙ is)) (rest none)
+    by_test false is none rest =
+        All-cons (λ older. name ≢ older.name) object objects (λ same. true≢false (sym ((bytes_eq-Decides object.name name).1 (sym same)) ∙ is)) (rest none)
 
-new_kept : (heading : Heading) (word : List ℕ) → Reads (λ name. (length heading.objects < 8192) × All (λ older. name ≢ older.name) heading.objects) (new_name heading word)
+new_kept : (heading : Heading) (word : List ℕ) → Reads (λ name. (length heading.objects < 8192) × All (λ older. name ≢ older.name) heading.objects)
+    (new_name heading word)
 new_kept heading word = tested (is_name word) _ _ λ _. untested (is_some (declared_at word heading.objects) || nat_le 8192 (length heading.objects)) _ _ λ isnt.
     let parts = or_parts (is_some (declared_at word heading.objects)) (nat_le 8192 (length heading.objects)) isnt in
     read (few (length heading.objects) parts.1, undeclared word heading.objects parts.0)
 
-object_kept : (kind : ObjectKind) (heading : Heading) (line : List (List ℕ)) → kind ≢ kinds.Temp → HeadingKept heading → Reads HeadingKept (object_line kind heading line)
+object_kept : (kind : ObjectKind) (heading : Heading) (line : List (List ℕ)) → kind ≢ kinds.Temp → HeadingKept heading
+    → Reads HeadingKept (object_line kind heading line)
 object_kept kind heading line made kept = any (two_words line) andthen λ w _. new_kept heading w.0 andthen λ name room. between 1 4096 w.1 andthen λ pages is.
-    read (record { size = kept.size; slots = kept.slots; hosts = kept.hosts; frames = kept.frames; objects = room.0; pages = All-cons (λ object. IsBetween 1 4096 object.pages) _ _ is kept.pages; kinds = All-cons (λ object. object.kind ≢ kinds.Temp) _ _ made kept.kinds; names = AllPairs-cons (λ newer older. newer.name ≢ older.name) _ heading.objects room.1 kept.names })
+    read (record {
+      size = kept.size;
+      slots = kept.slots;
+      hosts = kept.hosts;
+      frames = kept.frames;
+      objects = room.0;
+      pages = All-cons (λ object. IsBetween 1 4096 object.pages) _ _ is kept.pages;
+      kinds = All-cons (λ object. object.kind ≢ kinds.Temp) _ _ made kept.kinds;
+      names = AllPairs-cons (λ newer older. newer.name ≢ older.name) _ heading.objects room.1 kept.names;
+    })
 
 header_kept : (heading : Heading) (word : HeaderWord) (line : List (List ℕ)) → HeadingKept heading → Reads HeadingKept (header_form heading word line)
 header_kept heading heads.Hosts line kept = any (two_words line) andthen λ w _. between 1 8 w.0 andthen λ hosts one. between 2 4096 w.1 andthen λ frames two.
-    read (record { size = kept.size; slots = kept.slots; hosts = rw length-replicate one.1; frames = All-replicate (IsBetween 2 4096) hosts frames two; objects = kept.objects; pages = kept.pages; kinds = kept.kinds; names = kept.names })
-header_kept heading heads.Frames line kept = tested (nat_lt 0 (length heading.frames)) _ _ λ _. any (two_words line) andthen λ w _. hosted heading w.0 andthen λ host one. between 2 4096 w.1 andthen λ frames two.
-    read (record { size = kept.size; slots = kept.slots; hosts = rw length-set kept.hosts; frames = All-set (IsBetween 2 4096) heading.frames host.0 frames kept.frames two; objects = kept.objects; pages = kept.pages; kinds = kept.kinds; names = kept.names })
+    read (record {
+      size = kept.size;
+      slots = kept.slots;
+      hosts = rw length-replicate one.1;
+      frames = All-replicate (IsBetween 2 4096) hosts frames two;
+      objects = kept.objects;
+      pages = kept.pages;
+      kinds = kept.kinds;
+      names = kept.names;
+    })
+header_kept heading heads.Frames line kept =
+    tested (nat_lt 0 (length heading.frames)) _ _ λ _. any (two_words line) andthen λ w _. hosted heading w.0 andthen λ host one. between 2 4096 w.1 andthen
+    λ frames two.
+    read (record {
+      size = kept.size;
+      slots = kept.slots;
+      hosts = rw length-set kept.hosts;
+      frames = All-set (IsBetween 2 4096) heading.frames host.0 frames kept.frames two;
+      objects = kept.objects;
+      pages = kept.pages;
+      kinds = kept.kinds;
+      names = kept.names;
+    })
 header_kept heading heads.Page line kept = any (one_word line) andthen λ w _. page_sized w andthen λ size is.
-    read (record { size = is; slots = kept.slots; hosts = kept.hosts; frames = kept.frames; objects = kept.objects; pages = kept.pages; kinds = kept.kinds; names = kept.names })
+    read (record {
+      size = is;
+      slots = kept.slots;
+      hosts = kept.hosts;
+      frames = kept.frames;
+      objects = kept.objects;
+      pages = kept.pages;
+      kinds = kept.kinds;
+      names = kept.names;
+    })
 header_kept heading heads.Slots line kept = any (one_word line) andthen λ w _. upto 65536 w andthen λ slots is.
-    read (record { size = kept.size; slots = is; hosts = kept.hosts; frames = kept.frames; objects = kept.objects; pages = kept.pages; kinds = kept.kinds; names = kept.names })
+    read (record {
+      size = kept.size;
+      slots = is;
+      hosts = kept.hosts;
+      frames = kept.frames;
+      objects = kept.objects;
+      pages = kept.pages;
+      kinds = kept.kinds;
+      names = kept.names;
+    })
 header_kept heading heads.File line kept = object_kept kinds.File heading line (λ is. absurd (cc)) kept
 header_kept heading heads.Shared line kept = object_kept kinds.Shared heading line (λ is. absurd (cc)) kept
 header_kept heading heads.Wild line kept = object_kept kinds.Wild heading line (λ is. absurd (cc)) kept
@@ -109,11 +161,18 @@ later number (command ∷ commands) rising = (rising.0, omega (arith, rising.1),
 passed : (number : ℕ) (reading : Reading) → ReadingKept number reading → ReadingKept (number + 1) reading
 passed number reading kept = record { heading = kept.heading; commands = kept.commands; rising = later number reading.commands kept.rising }
 
-command_line_kept : (number : ℕ) (reading : Reading) (word : CommandWord) (line : List (List ℕ)) → 0 < number → ReadingKept number reading → Reads (ReadingKept (number + 1)) (command_line number reading word line)
-command_line_kept number reading word line some kept = tested (nat_lt 0 (length reading.heading.frames)) _ _ λ _. command_kept reading.heading word line andthen λ command is.
-    read (record { heading = kept.heading; commands = All-cons (λ numbered. InReach reading.heading numbered.command) _ _ is kept.commands; rising = (some, omega arith, kept.rising) })
+command_line_kept : (number : ℕ) (reading : Reading) (word : CommandWord) (line : List (List ℕ)) → 0 < number → ReadingKept number reading
+    → Reads (ReadingKept (number + 1)) (command_line number reading word line)
+command_line_kept number reading word line some kept =
+    tested (nat_lt 0 (length reading.heading.frames)) _ _ λ _. command_kept reading.heading word line andthen λ command is.
+    read (record {
+      heading = kept.heading;
+      commands = All-cons (λ numbered. InReach reading.heading numbered.command) _ _ is kept.commands;
+      rising = (some, omega arith, kept.rising);
+    })
 
-worded : (number : ℕ) (reading : Reading) (header : Option HeaderWord) (command : Option CommandWord) (line : List (List ℕ)) → 0 < number → ReadingKept number reading
+worded : (number : ℕ) (reading : Reading) (header : Option HeaderWord) (command : Option CommandWord) (line : List (List ℕ)) → 0 < number
+    → ReadingKept number reading
     → Reads (ReadingKept (number + 1)) (elim header as (λ _. Result Reading ScriptFault) [
       | Some meaning ↦ header_line reading meaning line
       | None ↦ elim command as (λ _. Result Reading ScriptFault) [
@@ -125,7 +184,8 @@ worded number reading (Some meaning) command line some kept = late_kept (number 
 worded number reading None (Some meaning) line some kept = command_line_kept number reading meaning line some kept
 worded number reading None None line some kept = stopped
 
-line_kept : (number : ℕ) (reading : Reading) (line : List (List ℕ)) → 0 < number → ReadingKept number reading → Reads (ReadingKept (number + 1)) (line_read number reading line)
+line_kept : (number : ℕ) (reading : Reading) (line : List (List ℕ)) → 0 < number → ReadingKept number reading
+    → Reads (ReadingKept (number + 1)) (line_read number reading line)
 line_kept number reading [] some kept = read (passed number reading kept)
 line_kept number reading (word ∷ line) some kept = either (is_comment word) _ _ (read (passed number reading kept))
     (worded number reading (word_in header_words word) (word_in command_words word) line some kept)
@@ -151,7 +211,8 @@ followed : (number : ℕ) (lines : List (List ℕ)) (line : Result Reading Scrip
 followed number lines (Ok more) (read kept) next = next more kept
 followed number lines (Err fault) stopped next = stopped
 
-lines_kept : (lines : List (List ℕ)) (number : ℕ) (reading : Reading) → 0 < number → number ≤ 20001 → ReadingKept number reading → Reads WholeKept (lines_read number reading lines)
+lines_kept : (lines : List (List ℕ)) (number : ℕ) (reading : Reading) → 0 < number → number ≤ 20001 → ReadingKept number reading
+    → Reads WholeKept (lines_read number reading lines)
 lines_kept [] number reading some few kept = tested (nat_lt 0 (length reading.heading.frames)) _ _ λ is.
     let same : number - 1 + 1 ≡ number = omega arith in
     let least : 1 ≤ length reading.heading.frames = grind (arith, nat_tests) in
@@ -170,7 +231,8 @@ lines_kept [] number reading some few kept = tested (nat_lt 0 (length reading.he
     })
 lines_kept (line ∷ lines) number reading some few kept = untested (nat_lt 20000 number) _ _ λ isnt.
     let room : number + 1 ≤ 20001 = grind (arith, nat_tests) in
-    followed number lines (line_read number reading (words_of line)) (line_kept number reading (words_of line) some kept) λ more is. lines_kept lines (number + 1) more (omega arith) room is
+    followed number lines (line_read number reading (words_of line)) (line_kept number reading (words_of line) some kept) λ more is. lines_kept lines
+    (number + 1) more (omega arith) room is
 
 none_kept : ReadingKept 1 nothing_read
 none_kept = record {
@@ -200,7 +262,8 @@ value_of : {A E : Type 0} {P : A → Type 0} {x : A} → Reads {E = E} P (Ok x) 
 value_of (read is) = is
 
 -- each declared object has a pager of its own
-pub script_declares : (read : Result Script ScriptError) (bytes : List ℕ) → IsRead read (script_of bytes) → IfOk read (λ script. DeclaresNoTemporary script.header)
+pub script_declares : (read : Result Script ScriptError) (bytes : List ℕ) → IsRead read (script_of bytes)
+    → IfOk read (λ script. DeclaresNoTemporary script.header)
 script_declares (Ok script) bytes is =
     let kept : WholeKept (whole_script script) = value_of (subst (λ r. Reads WholeKept r) is (whole_kept bytes)) in
     kept.kinds
@@ -215,11 +278,15 @@ script_kept (Ok script) bytes is =
       size = kept.size;
       slots = kept.slots;
       hosts = subst (IsBetween 1 8) hosts kept.hosts;
-      frames = subst (All (IsBetween 2 4096)) (reverse-reverse script.header.frames.items) (All-reverse (IsBetween 2 4096) (reverse script.header.frames.items) kept.frames);
+      frames =
+          subst (All (IsBetween 2 4096)) (reverse-reverse script.header.frames.items)
+          (All-reverse (IsBetween 2 4096) (reverse script.header.frames.items) kept.frames);
       objects = kept.objects;
       pages = kept.pages;
       names = kept.names;
-      commands = subst (λ n. All (λ numbered. IsCommand n (length script.header.objects.items) script.header.size numbered.command) script.commands.items) hosts kept.commands;
+      commands =
+          subst (λ n. All (λ numbered. IsCommand n (length script.header.objects.items) script.header.size numbered.command) script.commands.items) hosts
+          kept.commands;
       rising = kept.rising;
       lines = kept.lines;
     }

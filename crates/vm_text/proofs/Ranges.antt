@@ -1,5 +1,6 @@
 -- What the fields and the commands of a line keep, once they are read.
-use Rattle.std.proofs.Common.{◌≡◌, ℕ, suc, ◌-◌, ◌<◌, ◌≤◌, ◌^◌, ◌==◌, ◌&&◌, ◌⊎◌, inl, inr, Bool, true, false, cond, nat_le, nat_lt, List, [], ◌∷◌, length, replicate, length-append, Option, Some, None, IfSome, Result, Ok, Err, refl, subst, arith}
+use Rattle.std.proofs.Common.{◌≡◌, ℕ, suc, ◌-◌, ◌<◌, ◌≤◌, ◌^◌, ◌==◌, ◌&&◌, ◌⊎◌, inl, inr, Bool, true, false, cond, nat_le, nat_lt, List, [], ◌∷◌, length}
+use Rattle.std.proofs.Common.{replicate, length-append, Option, Some, None, IfSome, Result, Ok, Err, refl, subst, arith}
 use Rattle.std.proofs.lemmas.Bool.{and_parts}
 use Rattle.std.proofs.lemmas.Bool.Decides.{nat_tests}
 use Rattle.std.proofs.lemmas.List.{length-replicate}
@@ -18,9 +19,12 @@ use Rattle.vm_text.specs.declared.meaning.CommandWord.TheVariants as says
 use Rattle.vm_text.specs.declared.meaning.MessageWord.{MessageWord}
 use Rattle.vm_text.specs.declared.meaning.MessageWord.TheVariants as sends
 use Rattle.vm_text.specs.Words
-use Rattle.vm_text.specs.Words.{◌>>=◌, pieces, is_dot, number_of, within, number_between, number_below, page_with, pair_bytes, are_pairs, page_bytes_of, word_in}
+use Rattle.vm_text.specs.Words.{◌>>=◌, pieces, is_dot, number_of, within, number_between, number_below, page_with, pair_bytes, are_pairs, page_bytes_of}
+use Rattle.vm_text.specs.Words.{word_in}
 use Rattle.vm_text.specs.Forms
-use Rattle.vm_text.specs.Forms.{Heading, size_of, declared_at, object_of, host_in_word, task_of, new_name, one_of, page_size, access_size, lock_in_words, range_of, page_number, two_parts, three_parts, up_of, down_of, channel_of, receiver_of, message_words, message_form, nothing_said, command_form, host_count}
+use Rattle.vm_text.specs.Forms.{Heading, size_of, declared_at, object_of, host_in_word, task_of, new_name, one_of, page_size, access_size, lock_in_words}
+use Rattle.vm_text.specs.Forms.{range_of, page_number, two_parts, three_parts, up_of, down_of, channel_of, receiver_of, message_words, message_form}
+use Rattle.vm_text.specs.Forms.{nothing_said, command_form, host_count}
 
 -- what is read, if anything is, is so
 pub data Reads {A E : Type 0} (P : A → Type 0) : Result A E → Type 0 where
@@ -28,7 +32,8 @@ pub data Reads {A E : Type 0} (P : A → Type 0) : Result A E → Type 0 where
   stopped : {fault : E} → Reads P (Err fault)
 
 infixr 10 ◌andthen◌
-pub ◌andthen◌ : {A B : Type 0} {P : A → Type 0} {Q : B → Type 0} {r : Result A ScriptFault} {f : A → Result B ScriptFault} → Reads P r → ((x : A) → P x → Reads Q (f x)) → Reads Q (r >>= f)
+pub ◌andthen◌ : {A B : Type 0} {P : A → Type 0} {Q : B → Type 0} {r : Result A ScriptFault} {f : A → Result B ScriptFault} → Reads P r
+    → ((x : A) → P x → Reads Q (f x)) → Reads Q (r >>= f)
 (read p) andthen next = next _ p
 stopped andthen next = stopped
 
@@ -86,7 +91,10 @@ page_sized word = any (number_of word) andthen λ number _. listed IsPageSize (1
           inr (inr (inr (inr (inl refl)))),
           (
             inr (inr (inr (inr (inr (inl refl))))),
-            (inr (inr (inr (inr (inr (inr (inl refl)))))), (inr (inr (inr (inr (inr (inr (inr (inl refl))))))), (inr (inr (inr (inr (inr (inr (inr (inr refl))))))), tt))),
+            (
+              inr (inr (inr (inr (inr (inr (inl refl)))))),
+              (inr (inr (inr (inr (inr (inr (inr (inl refl))))))), (inr (inr (inr (inr (inr (inr (inr (inr refl))))))), tt)),
+            ),
           ),
         ),
       ),
@@ -95,7 +103,9 @@ page_sized word = any (number_of word) andthen λ number _. listed IsPageSize (1
 )
 
 pub access_sized : (word : List ℕ) → Reads IsAccessSize (access_size word)
-access_sized word = any (number_of word) andthen λ number _. listed IsAccessSize (1 ∷ 2 ∷ 4 ∷ 8 ∷ []) number (inl refl, (inr (inl refl), (inr (inr (inl refl)), (inr (inr (inr refl)), tt))))
+access_sized word =
+    any (number_of word) andthen λ number _. listed IsAccessSize (1 ∷ 2 ∷ 4 ∷ 8 ∷ []) number
+    (inl refl, (inr (inl refl), (inr (inr (inl refl)), (inr (inr (inr refl)), tt))))
 
 pub locked : (word : List ℕ) → Reads (λ lock. (lock ≤ 3) ⊎ (lock ≡ 8)) (lock_in_words word)
 locked word = any (number_of word) andthen λ number _. listed (λ lock. (lock ≤ 3) ⊎ (lock ≡ 8)) (0 ∷ 1 ∷ 2 ∷ 3 ∷ 8 ∷ []) number
@@ -125,23 +135,28 @@ longer (Some k) n less = omega arith
 
 found : (name : List ℕ) (objects : List Declared) → IfSome (declared_at name objects) (λ k. k < length objects)
 found name [] = tt
-found name (object ∷ objects) = elim (bytes_eq object.name name) as (λ t. IfSome (cond t (Some (length objects)) (declared_at name objects)) (λ k. k < length (object ∷ objects))) [
-  | true ↦ omega arith
-  | false ↦ longer (declared_at name objects) (length objects) (found name objects)
-]
+found name (object ∷ objects) =
+    elim (bytes_eq object.name name) as (λ t. IfSome (cond t (Some (length objects)) (declared_at name objects)) (λ k. k < length (object ∷ objects))) [
+      | true ↦ omega arith
+      | false ↦ longer (declared_at name objects) (length objects) (found name objects)
+    ]
 
 named : (heading : Heading) (word : List ℕ) → Reads (IsDeclared (length heading.objects)) (object_of heading word)
-named heading word = elim (declared_at word heading.objects) as (λ o. IfSome o (λ k. k < length heading.objects) → Reads (IsDeclared (length heading.objects)) (elim o as (λ _. Result ObjectId ScriptFault) [ None ↦ Err UnknownWord | Some object ↦ Ok (record { 0 = object }) ])) [
-  | None ↦ λ is. stopped
-  | Some object ↦ λ is. read is
-] (found word heading.objects)
+named heading word =
+    elim (declared_at word heading.objects) as (λ o. IfSome o (λ k. k < length heading.objects)
+    → Reads (IsDeclared (length heading.objects)) (elim o as (λ _. Result ObjectId ScriptFault)
+    [ None ↦ Err UnknownWord | Some object ↦ Ok (record { 0 = object }) ])) [
+      | None ↦ λ is. stopped
+      | Some object ↦ λ is. read is
+    ] (found word heading.objects)
 
 ranged : (task address bytes : List ℕ) → Reads (λ range. IsRange range.0 range.1 range.2) (range_of task address bytes)
 ranged task address bytes = tasked task andthen λ owner one. below (2 ^ 32) address andthen λ start two. upto (2 ^ 32) bytes andthen λ size three.
     read (record { task = one; address = two; bytes = three })
 
 raised : (heading : Heading) (word : List ℕ) → Reads (IsChannel (length heading.frames)) (up_of heading word)
-raised heading word = any (two_parts (pieces is_dot word)) andthen λ p _. hosted heading p.0 andthen λ host one. below 8192 p.1 andthen λ object two. read (one, two)
+raised heading word =
+    any (two_parts (pieces is_dot word)) andthen λ p _. hosted heading p.0 andthen λ host one. below 8192 p.1 andthen λ object two. read (one, two)
 
 lowered : (heading : Heading) (word : List ℕ) → Reads (IsChannel (length heading.frames)) (down_of heading word)
 lowered heading word = any (three_parts (pieces is_dot word)) andthen λ p _. hosted heading p.0 andthen λ host one. below 8192 p.1 andthen λ object two.
@@ -151,7 +166,8 @@ channelled : (heading : Heading) (word : List ℕ) → Reads (IsChannel (length 
 channelled heading [] = stopped
 channelled heading (letter ∷ word) = either (letter == 117) _ _ (raised heading word) (either (letter == 100) _ _ (lowered heading word) stopped)
 
-received : (heading : Heading) (host name : List ℕ) → Reads (λ to. IsHost (length heading.frames) to.0 × IsDeclared (length heading.objects) to.1) (receiver_of heading host name)
+received : (heading : Heading) (host name : List ℕ) → Reads (λ to. IsHost (length heading.frames) to.0 × IsDeclared (length heading.objects) to.1)
+    (receiver_of heading host name)
 received heading host name = hosted heading host andthen λ h one. named heading name andthen λ o two. read (one, two)
 
 padded : (size : ℕ) (bytes : List ℕ) → length bytes ≤ size → length (page_with size bytes) ≡ size
@@ -170,15 +186,18 @@ counted : (heading : Heading) (line : List (List ℕ)) → Reads (λ of. IsHost 
 counted heading line = any (Words.two_words line) andthen λ w _. hosted heading w.0 andthen λ host one. upto 4096 w.1 andthen λ count two. read (one, two)
 
 ready_kept : (heading : Heading) (host name : List ℕ) (line : List (List ℕ)) → Reads (InReach heading) (Forms.ready_said heading host name line)
-ready_kept heading host name line = any (Words.two_words line) andthen λ w _. received heading host name andthen λ to is. any (Words.flag_of w.0) andthen λ cache _.
+ready_kept heading host name line =
+    any (Words.two_words line) andthen λ w _. received heading host name andthen λ to is. any (Words.flag_of w.0) andthen λ cache _.
     upto 3 w.1 andthen λ strategy one. read (is.0, is.1, one)
 
 supply_kept : (heading : Heading) (host name : List ℕ) (line : List (List ℕ)) → Reads (InReach heading) (Forms.supply_said heading host name line)
 supply_kept heading host name line = any (Words.four_words line) andthen λ w _. received heading host name andthen λ to is. paged 4095 w.0 andthen λ page one.
-    upto 3 w.1 andthen λ lock two. any (Words.flag_of w.2) andthen λ precious _. whole_page (size_of heading) w.3 andthen λ bytes three. read (is.0, is.1, (one, two, three))
+    upto 3 w.1 andthen λ lock two. any (Words.flag_of w.2) andthen λ precious _. whole_page (size_of heading) w.3 andthen λ bytes three. read
+    (is.0, is.1, (one, two, three))
 
 unavailable_kept : (heading : Heading) (host name : List ℕ) (line : List (List ℕ)) → Reads (InReach heading) (Forms.unavailable_said heading host name line)
-unavailable_kept heading host name line = any (Words.one_word line) andthen λ w _. received heading host name andthen λ to is. paged 4095 w andthen λ page one. read (is.0, is.1, one)
+unavailable_kept heading host name line =
+    any (Words.one_word line) andthen λ w _. received heading host name andthen λ to is. paged 4095 w andthen λ page one. read (is.0, is.1, one)
 
 error_kept : (heading : Heading) (host name : List ℕ) (line : List (List ℕ)) → Reads (InReach heading) (Forms.error_said heading host name line)
 error_kept heading host name line = any (Words.two_words line) andthen λ w _. received heading host name andthen λ to is. paged 4095 w.0 andthen λ page one.
@@ -189,7 +208,8 @@ lock_kept heading host name line = any (Words.six_words line) andthen λ w _. re
     upto 4096 w.1 andthen λ count two. upto 2 w.2 andthen λ returns three. any (Words.flag_of w.3) andthen λ flush _. locked w.4 andthen λ lock four.
     any (Words.flag_of w.5) andthen λ reply _. read (is.0, is.1, (one, two, three, four))
 
-message_kept : (heading : Heading) (word : MessageWord) (host name : List ℕ) (line : List (List ℕ)) → Reads (InReach heading) (message_form heading word host name line)
+message_kept : (heading : Heading) (word : MessageWord) (host name : List ℕ) (line : List (List ℕ))
+    → Reads (InReach heading) (message_form heading word host name line)
 message_kept heading sends.Ready host name line = ready_kept heading host name line
 message_kept heading sends.Supply host name line = supply_kept heading host name line
 message_kept heading sends.Unavailable host name line = unavailable_kept heading host name line
@@ -208,27 +228,33 @@ say_kept heading (host ∷ name ∷ word ∷ line) = elim (word_in message_words
   | Some meaning ↦ message_kept heading meaning host name line
 ]
 
-armed : (heading : Heading) (files : Bool) (count : ℕ) → IsBetween 1 1000000 count → Reads {E = ScriptFault} (InReach heading) (Ok (cond files (commands.FailFiles count) (commands.FailPaging count)))
+armed : (heading : Heading) (files : Bool) (count : ℕ) → IsBetween 1 1000000 count
+    → Reads {E = ScriptFault} (InReach heading) (Ok (cond files (commands.FailFiles count) (commands.FailPaging count)))
 armed heading true count is = read is
 armed heading false count is = read is
 
 fail_kept : (heading : Heading) (line : List (List ℕ)) → Reads (InReach heading) (Forms.fail_line line)
-fail_kept heading line = any (Words.two_words line) andthen λ w _. any (Forms.is_files w.0) andthen λ files _. between 1 1000000 w.1 andthen λ count is. armed heading files count is
+fail_kept heading line =
+    any (Words.two_words line) andthen λ w _. any (Forms.is_files w.0) andthen λ files _. between 1 1000000 w.1 andthen λ count is. armed heading files count is
 
 pub command_kept : (heading : Heading) (word : CommandWord) (line : List (List ℕ)) → Reads (InReach heading) (command_form heading word line)
-command_kept heading says.Task line = any (Words.two_words line) andthen λ w _. tasked w.0 andthen λ task one. hosted heading w.1 andthen λ host two. read (one, two)
+command_kept heading says.Task line =
+    any (Words.two_words line) andthen λ w _. tasked w.0 andthen λ task one. hosted heading w.1 andthen λ host two. read (one, two)
 command_kept heading says.Fork line = any (Words.two_words line) andthen λ w _. tasked w.0 andthen λ task one. tasked w.1 andthen λ child two. read (one, two)
 command_kept heading says.Exit line = any (Words.one_word line) andthen λ w _. tasked w andthen λ task one. read one
 command_kept heading says.Allocate line = any (Words.three_words line) andthen λ w _. ranged w.0 w.1 w.2 andthen λ range one. read one
 command_kept heading says.Map line = any (Words.five_words line) andthen λ w _. ranged w.0 w.1 w.2 andthen λ range one. named heading w.3 andthen λ object two.
     upto 4096 w.4 andthen λ offset three. read (one, two, three)
 command_kept heading says.Deallocate line = any (Words.three_words line) andthen λ w _. ranged w.0 w.1 w.2 andthen λ range one. read one
-command_kept heading says.Protect line = any (Words.four_words line) andthen λ w _. ranged w.0 w.1 w.2 andthen λ range one. any (Forms.prot_of w.3) andthen λ prot _. read one
-command_kept heading says.Inherit line = any (Words.four_words line) andthen λ w _. ranged w.0 w.1 w.2 andthen λ range one. any (Forms.inherit_of w.3) andthen λ inherit _. read one
+command_kept heading says.Protect line =
+    any (Words.four_words line) andthen λ w _. ranged w.0 w.1 w.2 andthen λ range one. any (Forms.prot_of w.3) andthen λ prot _. read one
+command_kept heading says.Inherit line =
+    any (Words.four_words line) andthen λ w _. ranged w.0 w.1 w.2 andthen λ range one. any (Forms.inherit_of w.3) andthen λ inherit _. read one
 command_kept heading says.Load line = any (Words.three_words line) andthen λ w _. tasked w.0 andthen λ task one. below (2 ^ 32) w.1 andthen λ address two.
     access_sized w.2 andthen λ size three. read (record { task = one; address = two; size = three })
 command_kept heading says.Store line = any (Words.four_words line) andthen λ w _. tasked w.0 andthen λ task one. below (2 ^ 32) w.1 andthen λ address two.
-    access_sized w.2 andthen λ size three. upto (256 ^ size - 1) w.3 andthen λ value four. read (record { task = one; address = two; size = three }, spellable size value three four)
+    access_sized w.2 andthen λ size three. upto (256 ^ size - 1) w.3 andthen λ value four. read
+    (record { task = one; address = two; size = three }, spellable size value three four)
 command_kept heading says.Copy line = any (Words.five_words line) andthen λ w _. ranged w.0 w.1 w.2 andthen λ range one. tasked w.3 andthen λ target two.
     below (2 ^ 32) w.4 andthen λ to three. read (one, two, three)
 command_kept heading says.Take line = any (Words.one_word line) andthen λ w _. channelled heading w andthen λ channel one. read one

@@ -1,5 +1,6 @@
 -- Trimming from the end.
-use Rattle.std.proofs.Common.{ℕ, ◌≡◌, ◌≢◌, ◌+◌, List, [], ◌∷◌, ◌++◌, refl, ap, sym, ◌∙◌, arith, false, ◌==◌, ◌-◌, ◌<◌, ◌≤◌, take, drop, length, get_or, append_assoc, append-nil}
+use Rattle.std.proofs.Common.{ℕ, ◌≡◌, ◌≢◌, ◌+◌, List, [], ◌∷◌, ◌++◌, refl, ap, sym, ◌∙◌, arith, false, ◌==◌, ◌-◌, ◌<◌, ◌≤◌, take, drop, length, get_or}
+use Rattle.std.proofs.Common.{append_assoc, append-nil}
 use Rattle.std.specs.Prelude.{fold, bit_or, slice_range}
 use Rattle.std.proofs.Math.Seq.{take-add}
 use Rattle.std.proofs.lemmas.Nat.{le_or_l, le_or_r}
@@ -18,12 +19,14 @@ trimmed_whole (y ∷ (z ∷ xs)) x nonzero = rw (trimmed_whole (z ∷ xs) x nonz
 
 pub shorter : (xs : List ℕ) (n : ℕ) → 0 < n → n ≤ length xs → get_or xs (n - 1) 0 ≡ 0 → trimmed (take (n - 1) xs) ≡ trimmed (take n xs)
 shorter xs n positive inside is_zero =
-    let e : take n xs ≡ take (n - 1) xs ++ get_or xs (n - 1) 0 ∷ [] = ap (λ z. take z xs) (let q : n ≡ (n - 1) + 1 = omega arith in q) ∙ take_more xs (n - 1) 0 (omega arith) in
+    let e : take n xs ≡ take (n - 1) xs ++ get_or xs (n - 1) 0 ∷ [] = ap (λ z. take z xs) (let q : n ≡ (n - 1) + 1 = omega arith in q)
+    ∙ take_more xs (n - 1) 0 (omega arith) in
     sym (ap trimmed e ∙ ap (λ z. trimmed (take (n - 1) xs ++ z ∷ [])) is_zero ∙ trimmed_zero (take (n - 1) xs))
 
 pub whole : (xs : List ℕ) (n : ℕ) → 0 < n → n ≤ length xs → get_or xs (n - 1) 0 ≢ 0 → trimmed (take n xs) ≡ take n xs
 whole xs n positive inside nonzero =
-    let e : take n xs ≡ take (n - 1) xs ++ get_or xs (n - 1) 0 ∷ [] = ap (λ z. take z xs) (let q : n ≡ (n - 1) + 1 = omega arith in q) ∙ take_more xs (n - 1) 0 (omega arith) in
+    let e : take n xs ≡ take (n - 1) xs ++ get_or xs (n - 1) 0 ∷ [] = ap (λ z. take z xs) (let q : n ≡ (n - 1) + 1 = omega arith in q)
+    ∙ take_more xs (n - 1) 0 (omega arith) in
     let b : (get_or xs (n - 1) 0 == 0) ≡ false = grind (arith, nat_tests) in
     ap trimmed e ∙ trimmed_whole (take (n - 1) xs) (get_or xs (n - 1) 0) b ∙ sym e
 

@@ -1,5 +1,6 @@
 -- The form of each line of a script: its words, from left to right.
-use Rattle.std.specs.Prelude.{ℕ, ◌≡◌, ◌-◌, ◌^◌, ◌%◌, ◌==◌, ◌||◌, Bool, true, false, nat_le, nat_lt, List, [], ◌∷◌, length, replicate, reverse, slice_set, codes, Option, Some, None, is_some, Result, Ok, Err, if◌then◌else◌}
+use Rattle.std.specs.Prelude.{ℕ, ◌≡◌, ◌-◌, ◌^◌, ◌%◌, ◌==◌, ◌||◌, Bool, true, false, nat_le, nat_lt, List, [], ◌∷◌, length, replicate, reverse, slice_set, codes}
+use Rattle.std.specs.Prelude.{Option, Some, None, is_some, Result, Ok, Err, if◌then◌else◌}
 use Rattle.std.specs.Option.{unwrap_or}
 use Rattle.std.specs.Str.{bytes_eq}
 use Rattle.vm_base.specs.Limits.{address_end, last_page, least_frames, most_frames, most_hosts, most_objects, most_pages, most_slots, most_tasks}
@@ -29,7 +30,8 @@ use Rattle.vm_text.specs.declared.meaning.HeaderWord.{HeaderWord}
 use Rattle.vm_text.specs.declared.meaning.HeaderWord.TheVariants as heads
 use Rattle.vm_text.specs.declared.meaning.MessageWord.{MessageWord}
 use Rattle.vm_text.specs.declared.meaning.MessageWord.TheVariants as sends
-use Rattle.vm_text.specs.Words.{◌>>=◌, pieces, is_dot, one_word, two_words, three_words, four_words, five_words, six_words, number_of, number_between, number_below, flag_of, page_bytes_of, word_in}
+use Rattle.vm_text.specs.Words.{◌>>=◌, pieces, is_dot, one_word, two_words, three_words, four_words, five_words, six_words, number_of, number_between}
+use Rattle.vm_text.specs.Words.{number_below, flag_of, page_bytes_of, word_in}
 
 -- What the header lines have said so far. The frames are those of each host, from host 0 on, and none
 -- before the line with the hosts. The objects have the newest first.

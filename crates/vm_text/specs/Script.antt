@@ -34,7 +34,8 @@ header_line reading word line =
 abbrev pub command_line : ℕ → Reading → CommandWord → List (List ℕ) → Result Reading ScriptFault
 command_line number reading word line =
     if nat_lt 0 (length reading.heading.frames)
-    then (command_form reading.heading word line >>= λ command. Ok (record reading { commands = record { line = number; command = command } ∷ reading.commands }))
+    then (command_form reading.heading word line >>= λ command. Ok (record reading
+    { commands = record { line = number; command = command } ∷ reading.commands }))
     else Err NoHosts
 
 -- a line of this number

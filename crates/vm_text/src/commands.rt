@@ -1,6 +1,8 @@
 // The command that a line says.
 ghost use Rattle.std.specs.Prelude.{◌≡◌};
-ghost use Rattle.vm_text.specs.Forms.{task_line, fork_line, exit_line, allocate_line, map_line, deallocate_line, protect_line, inherit_line, load_line, store_line, copy_line, take_line, settle_line, host_count, pageout_line, clean_line, wire_line, unwire_line, is_files, fail_line, command_form};
+ghost use Rattle.vm_text.specs.Forms.{task_line, fork_line, exit_line, allocate_line, map_line, deallocate_line, protect_line, inherit_line, load_line};
+ghost use Rattle.vm_text.specs.Forms.{store_line, copy_line, take_line, settle_line, host_count, pageout_line, clean_line, wire_line, unwire_line, is_files};
+ghost use Rattle.vm_text.specs.Forms.{fail_line, command_form};
 ghost use Rattle.vm_text.specs.Stops.{Gives};
 ghost use Rattle.vm_text.specs.Words.{words_of};
 

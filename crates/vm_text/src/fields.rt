@@ -2,7 +2,8 @@
 ghost use Rattle.std.specs.Prelude.{◌≡◌, ◌<◌, ◌≤◌, ◌++◌, [], ◌∷◌, length, take, fold, bit_or, decimal, OnOk, IfOk};
 ghost use Rattle.std.specs.List.{flat_map};
 ghost use Rattle.vm_base.specs.Pages.{little_endian_bytes};
-ghost use Rattle.vm_model.specs.Text.{field, flag as flag_of, prot_number as prot_of, inherit_number as inherit_of, hex_digit as digit_of, byte_hex as hex_of, trimmed, page_field, newline};
+ghost use Rattle.vm_model.specs.Text.{field, flag as flag_of, prot_number as prot_of, inherit_number as inherit_of, hex_digit as digit_of, byte_hex as hex_of};
+ghost use Rattle.vm_model.specs.Text.{trimmed, page_field, newline};
 ghost use Rattle.vm_text.specs.Fields.{with_fields};
 
 use itoa::Buffer;

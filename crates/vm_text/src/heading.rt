@@ -1,6 +1,7 @@
 // What the header lines of a script say.
 ghost use Rattle.std.specs.Prelude.{◌≡◌, [], None, nat_lt, length, reverse, IfOk};
-ghost use Rattle.vm_text.specs.Forms.{host_in_word, object_of, size_of, hosts_line, frames_line, page_line, slots_line, new_name, object_line, stands_already, header_form, IsHeader};
+ghost use Rattle.vm_text.specs.Forms.{host_in_word, object_of, size_of, hosts_line, frames_line, page_line, slots_line, new_name, object_line, stands_already};
+ghost use Rattle.vm_text.specs.Forms.{header_form, IsHeader};
 ghost use Rattle.vm_text.specs.Stops.{LeavesValue};
 ghost use Rattle.vm_text.specs.Words.{words_of};
 

@@ -1,6 +1,7 @@
 // The lines and words of a script.
 ghost use Rattle.std.specs.Prelude.{◌≡◌, ◌==◌, ◌<◌, ◌∷◌, [], length, not, position, MatchOption};
-ghost use Rattle.vm_text.specs.Words.{HasNoSpaceInFront, Sees, one_word, two_words, three_words, four_words, five_words, six_words, is_space, pieces, lines_of, words_of};
+ghost use Rattle.vm_text.specs.Words.{HasNoSpaceInFront, Sees, one_word, two_words, three_words, four_words, five_words, six_words, is_space, pieces, lines_of};
+ghost use Rattle.vm_text.specs.Words.{words_of};
 
 use vm_model::ScriptFault;
 

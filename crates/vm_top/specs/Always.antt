@@ -35,24 +35,25 @@ pub record BackingKept {B : Type 0} (who : Device) (script : Option Script) (his
 pub record HoldsAlways (files files_after paging paging_after : List ℕ → Told) (script : Option Script) (history : List Event) : Type 0 where
   -- no step began where the history was full
   pub limit : IsBelowLimit history
-  -- Wherever a script is held, the history ends with a whole step. Once nothing is undelivered there no access waits while frames are reclaimable, but on a wild
-  -- object; and whoever is asked has a message on its way.
+  -- Wherever a script is held, the history ends with a whole step. Once nothing is undelivered there no access waits while frames are reclaimable, but on a
+  -- wild object; and whoever is asked has a message on its way.
   pub quiet : WaitsForFramesAlone script history
   pub carried : CarriesAll script history
   -- where the paging area told before it tells now, and each page that was returned and not lost stands at its slot
   pub kept : KeptAt (outside_of files paging) paging paging_after script history
   -- each declared file has what was returned, and else what it had
   pub files_kept : FilesKeptAt files files_after script history
-  -- Where nothing is undelivered, no `device files` event stands in the history, and no control of a declared file lives on its host, the file, with zeros past its
-  -- end, begins with the bytes of the flat map, as far as its object goes. What stands past its object's end is as it was.
+  -- Where nothing is undelivered, no `device files` event stands in the history, and no control of a declared file lives on its host, the file, with zeros past
+  -- its end, begins with the bytes of the flat map, as far as its object goes. What stands past its object's end is as it was.
   pub files_flat : FilesFlatAt (outside_of files paging) files files_after script history
   -- memory is one: each load and each store takes effect at one moment between its beginning and its end, and a load reads what was stored last in the order of
   -- these moments, which keeps the order of each task
   pub linear : MemoryIsOne (outside_of files paging) script history
 
--- Where neither backing within failed and no `fail` was run, unless a whole count stands at its last value, no event tells of a device that failed, and each access
--- that fails, but for one to a wild object, is to a page of temporary memory for which there was no slot.
+-- Where neither backing within failed and no `fail` was run, unless a whole count stands at its last value, no event tells of a device that failed, and each
+-- access that fails, but for one to a wild object, is to a page of temporary memory for which there was no slot.
 abbrev pub LosesNothingElse : Counts → Counts → Option Script → List Event → Type 0
 LosesNothingElse files paging script history =
-    HasNotFailed device.Files (commands_run script history) files.own_old files.own_new files.new → HasNotFailed device.Paging (commands_run script history) paging.own_old paging.own_new paging.new
+    HasNotFailed device.Files (commands_run script history) files.own_old files.own_new files.new
+    → HasNotFailed device.Paging (commands_run script history) paging.own_old paging.own_new paging.new
     → LosesUnslotted script history

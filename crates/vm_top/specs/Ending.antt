@@ -37,6 +37,7 @@ EndsAs report run outside history before after NoMemory =
 EndsAs report run outside history before after other = ⊥
 
 -- the script is held
-pub record RunHasEnded (report : Report) (run : Script) (outside : Outside) (script : Option Script) (history : List Event) (before after : Option (List ℕ)) (status : Status) : Type 0 where
+pub record RunHasEnded (report : Report) (run : Script) (outside : Outside) (script : Option Script) (history : List Event) (before after : Option (List ℕ))
+    (status : Status) : Type 0 where
   pub held : script ≡ Some run
   pub ends : EndsAs report run outside history before after status

@@ -12,7 +12,8 @@ use Rattle.vm_top.specs.declared.top.Status.TheVariants as ends
 use Rattle.vm_top.specs.declared.words.Report.TheVariants.{Summary}
 
 -- the script of that number was made with so many drawn lines, and run for its summary
-pub record MadeHasEnded (number lines : ℕ) (outside : Header → Outside) (script : Option Script) (history : List Event) (before after : Option (List ℕ)) (status : Status) : Type 0 where
+pub record MadeHasEnded (number lines : ℕ) (outside : Header → Outside) (script : Option Script) (history : List Event) (before after : Option (List ℕ))
+    (status : Status) : Type 0 where
   pub run : Script
   pub made : IsMade number lines run
   pub ended : RunHasEnded Summary run (outside run.header) script history before after status

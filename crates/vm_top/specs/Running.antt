@@ -61,26 +61,30 @@ pub record Arms {F P : Type 0} (given : Running F P) (history : List Event) (f :
   pub paging : BackingRuns given.script.header device.Paging (ran_of given.script history) history given.paging p
 
 -- what holds between two steps, inside a settle too
-pub record Keeps {F P : Type 0} (report : Report) (given : Running F P) (history : List Event) (now : Option (List ℕ)) (f : Arming F) (p : Arming P) (faults : FaultCounts) : Type 0 where
+pub record Keeps {F P : Type 0} (report : Report) (given : Running F P) (history : List Event) (now : Option (List ℕ)) (f : Arming F) (p : Arming P)
+    (faults : FaultCounts) : Type 0 where
   pub below : IsBelowLimit history
   pub written : Appends given.start now (text_so_far report history)
   pub arms : Arms given history f p
   pub failed : (who : Device) → FailuresCounted who (counted who given.faults) (counted who faults) history
 
 -- what holds between two commands
-pub record IsBetweenCommands {F P : Type 0} (report : Report) (given : Running F P) (history : List Event) (now : Option (List ℕ)) (f : Arming F) (p : Arming P) (faults : FaultCounts) : Type 0 where
+pub record IsBetweenCommands {F P : Type 0} (report : Report) (given : Running F P) (history : List Event) (now : Option (List ℕ)) (f : Arming F) (p : Arming P)
+    (faults : FaultCounts) : Type 0 where
   pub keeps : Keeps report given history now f p faults
   pub legal : CanonicalFor given.script.header given.outside (ran_of given.script history) history
 
 -- what holds behind the step of a command, which for a settle is its line alone
-pub record Turned {F P : Type 0} (report : Report) (given : Running F P) (numbered : Numbered) (history : List Event) (now : Option (List ℕ)) (f : Arming F) (p : Arming P) (faults : FaultCounts) : Type 0 where
+pub record Turned {F P : Type 0} (report : Report) (given : Running F P) (numbered : Numbered) (history : List Event) (now : Option (List ℕ)) (f : Arming F)
+    (p : Arming P) (faults : FaultCounts) : Type 0 where
   pub keeps : Keeps report given history now f p faults
   pub run : List Numbered
   pub here : ran_of given.script history ≡ numbered ∷ run
   pub next : IsNextCanonical given.script.header given.outside numbered run history
 
 -- what holds inside a settle
-pub record Settles {F P : Type 0} (report : Report) (given : RunTaking F P) (history : List Event) (now : Option (List ℕ)) (f : Arming F) (p : Arming P) (faults : FaultCounts) : Type 0 where
+pub record Settles {F P : Type 0} (report : Report) (given : RunTaking F P) (history : List Event) (now : Option (List ℕ)) (f : Arming F) (p : Arming P)
+    (faults : FaultCounts) : Type 0 where
   pub keeps : Keeps report given.running history now f p faults
   pub line : ℕ
   pub run : List Numbered
@@ -88,7 +92,8 @@ pub record Settles {F P : Type 0} (report : Report) (given : RunTaking F P) (his
   pub legal : CanonicalOpen given.running.script.header given.running.outside (record { line = line; command = given.command } ∷ run) history
 
 -- how a run stops, and what it leaves
-pub record RunStops {F P : Type 0} (report : Report) (given : Running F P) (history : List Event) (now : Option (List ℕ)) (f : Arming F) (p : Arming P) (faults : FaultCounts) (how : RunEnd) : Type 0 where
+pub record RunStops {F P : Type 0} (report : Report) (given : Running F P) (history : List Event) (now : Option (List ℕ)) (f : Arming F) (p : Arming P)
+    (faults : FaultCounts) (how : RunEnd) : Type 0 where
   pub ran : RanAs report given.script given.outside history how given.start now
   pub below : IsBelowLimit history
   pub arms : Arms given history f p

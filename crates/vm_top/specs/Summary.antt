@@ -1,7 +1,8 @@
 -- The numbers of a summary are those of a history.
 use Rattle.std.specs.Prelude.{◌≡◌, List}
 use Rattle.vm_model.specs.declared.event.Event.{Event}
-use Rattle.vm_model.specs.Summary.{count_of, is_line, is_refused, is_begun, is_loaded, is_stored, is_copy_ended, is_failed, is_sent, is_taken_event, is_dropped, sum_of}
+use Rattle.vm_model.specs.Summary.{count_of, is_line, is_refused, is_begun, is_loaded, is_stored, is_copy_ended, is_failed, is_sent, is_taken_event, is_dropped}
+use Rattle.vm_model.specs.Summary.{sum_of}
 use Rattle.vm_top.specs.declared.summary.Summary.{Summary}
 
 pub record IsSummary (summary : Summary) (history : List Event) : Type 0 where

@@ -65,21 +65,24 @@ pub record IsHeld (told : Option (List ℕ)) (run : Script) (script : Option Scr
   pub read : IsReadFrom told run
 
 -- the whole script was run: its history is legal, and its report was written and nothing else
-pub record IsRunDone (told : Option (List ℕ)) (outside : Header → Outside) (report : Report) (script : Option Script) (history : List Event) (before after : Option (List ℕ)) : Type 0 where
+pub record IsRunDone (told : Option (List ℕ)) (outside : Header → Outside) (report : Report) (script : Option Script) (history : List Event)
+    (before after : Option (List ℕ)) : Type 0 where
   pub run : Script
   pub held : IsHeld told run script
   pub whole : IsWholeRun run (outside run.header) history
   pub written : Appends before after (report_text report history)
 
 -- the history is full while a step is left: it is legal as far as it goes, and its report was written and nothing else
-pub record IsEventLimit (told : Option (List ℕ)) (outside : Header → Outside) (report : Report) (script : Option Script) (history : List Event) (before after : Option (List ℕ)) : Type 0 where
+pub record IsEventLimit (told : Option (List ℕ)) (outside : Header → Outside) (report : Report) (script : Option Script) (history : List Event)
+    (before after : Option (List ℕ)) : Type 0 where
   pub run : Script
   pub held : IsHeld told run script
   pub full : IsOutOfEvents run (outside run.header) history
   pub written : Appends before after (report_text report history)
 
 -- the script has a fault: nothing was run, and its first fault was written
-pub record IsBad (told : Option (List ℕ)) (line : ℕ) (kind : ScriptFault) (script : Option Script) (history : List Event) (before after : Option (List ℕ)) : Type 0 where
+pub record IsBad (told : Option (List ℕ)) (line : ℕ) (kind : ScriptFault) (script : Option Script) (history : List Event) (before after : Option (List ℕ)) :
+    Type 0 where
   pub nothing : NothingRun script history
   pub bad : IsBadFrom told line kind
   pub written : Appends before after (bad_text line kind)
@@ -91,7 +94,8 @@ WroteFailed Summary run outside history before after =
     CanonicalSoFar run outside history × WroteStart before after (report_text Summary history)
 
 -- a script was run, and a write of its report failed
-pub record IsFailed (told : Option (List ℕ)) (outside : Header → Outside) (report : Report) (script : Option Script) (history : List Event) (before after : Option (List ℕ)) : Type 0 where
+pub record IsFailed (told : Option (List ℕ)) (outside : Header → Outside) (report : Report) (script : Option Script) (history : List Event)
+    (before after : Option (List ℕ)) : Type 0 where
   pub run : Script
   pub held : IsHeld told run script
   pub failed : WroteFailed report run (outside run.header) history before after
@@ -124,7 +128,8 @@ IsNoMemory told outside report script history before after =
 -- each host's paging area goes on telling, and each page that was returned and not lost stands at its slot
 abbrev pub KeptAt : (Header → Outside) → (List ℕ → Told) → (List ℕ → Told) → Option Script → List Event → Type 0
 KeptAt outside before after None history = SameAreas before after
-KeptAt outside before after (Some script) history = (host : ℕ) → host < length script.header.frames.items → PagingKeepsPages script.header host (outside script.header) after history
+KeptAt outside before after (Some script) history =
+    (host : ℕ) → host < length script.header.frames.items → PagingKeepsPages script.header host (outside script.header) after history
 
 -- each declared file that told has what was returned, and else what it had, and all else is as it was
 abbrev pub FilesKeptAt : (List ℕ → Told) → (List ℕ → Told) → Option Script → List Event → Type 0

@@ -74,7 +74,8 @@ fn show<K: Sink>(
         → OnOk result (Appends start (K.written out.new) (text_so_far report system.now.history.items)) }
     ensures failed { (start : Option (List ℕ))
         → Appends start (K.written out.old) (text_so_far report (oldest_items from system.now.history.items))
-        → IsErrOf result RunEnd.Failed → (report ≡ Report.History) × WroteBeyond start (K.written out.new) (text (oldest_items from system.now.history.items)) (text system.now.history.items) }
+        → IsErrOf result RunEnd.Failed → (report ≡ Report.History)
+        × WroteBeyond start (K.written out.new) (text (oldest_items from system.now.history.items)) (text system.now.history.items) }
     ensures memory { (start : Option (List ℕ))
         → Appends start (K.written out.old) (text_so_far report (oldest_items from system.now.history.items))
         → IsErrOf result RunEnd.NoMemory
@@ -106,14 +107,18 @@ fn turn<K: Sink, F: Backing, P: Backing>(
     requires backings { BackingsFit given.script.header given.outside (F.area given.files.inner) (F.area files.old.inner) (P.area paging.old.inner) system.old }
     requires range { InRange given.script.header numbered.now.command }
     requires below { length system.old.history.items < most_events }
-    requires runs { IsBetweenCommands report given system.old.history.items (K.written out.old) files.old paging.old (record { files = ⟦<Armed<F> as Backing>⟧.faults files.old; paging = ⟦<Armed<P> as Backing>⟧.faults paging.old }) }
+    requires runs { IsBetweenCommands report given system.old.history.items (K.written out.old) files.old paging.old
+        (record { files = ⟦<Armed<F> as Backing>⟧.faults files.old; paging = ⟦<Armed<P> as Backing>⟧.faults paging.old }) }
     requires next { IsNextOf given.script numbered.now system.old.history.items }
     ensures stands { OnOk result (SystemStands given.script.header given.outside system.new) }
     ensures backings { BackingsFit given.script.header given.outside (F.area given.files.inner) (F.area files.new.inner) (P.area paging.new.inner) system.new }
-    ensures turned { OnOk result (Turned report given numbered.now system.new.history.items (K.written out.new) files.new paging.new (record { files = ⟦<Armed<F> as Backing>⟧.faults files.new; paging = ⟦<Armed<P> as Backing>⟧.faults paging.new })) }
+    ensures turned { OnOk result (Turned report given numbered.now system.new.history.items (K.written out.new) files.new paging.new
+        (record { files = ⟦<Armed<F> as Backing>⟧.faults files.new; paging = ⟦<Armed<P> as Backing>⟧.faults paging.new })) }
     ensures lines { OnOk result (count_of is_line system.new.history.items
         ≡ count_of is_line system.old.history.items + 1) }
-    ensures stops { (end : RunEnd) → IsErrOf result end → RunStops report given system.new.history.items (K.written out.new) files.new paging.new (record { files = ⟦<Armed<F> as Backing>⟧.faults files.new; paging = ⟦<Armed<P> as Backing>⟧.faults paging.new }) end }
+    ensures stops { (end : RunEnd) → IsErrOf result end
+        → RunStops report given system.new.history.items (K.written out.new) files.new paging.new
+        (record { files = ⟦<Armed<F> as Backing>⟧.faults files.new; paging = ⟦<Armed<P> as Backing>⟧.faults paging.new }) end }
     ensures later { K.faults out.old ≤ K.faults out.new }
     ensures cause { IsErrOf result RunEnd.Failed → CountRises (K.faults out.old) (K.faults out.new) }
 {
@@ -136,18 +141,24 @@ fn take_one<K: Sink, F: Backing, P: Backing>(
 ) -> Result<bool, RunEnd>
     ghost given: { RunTaking F P }
     requires stands { SystemStands given.running.script.header given.running.outside system.old }
-    requires backings { BackingsFit given.running.script.header given.running.outside (F.area given.running.files.inner) (F.area files.old.inner) (P.area paging.old.inner) system.old }
-    requires settles { Settles report given system.old.history.items (K.written out.old) files.old paging.old (record { files = ⟦<Armed<F> as Backing>⟧.faults files.old; paging = ⟦<Armed<P> as Backing>⟧.faults paging.old }) }
+    requires backings { BackingsFit given.running.script.header given.running.outside (F.area given.running.files.inner) (F.area files.old.inner)
+        (P.area paging.old.inner) system.old }
+    requires settles { Settles report given system.old.history.items (K.written out.old) files.old paging.old
+        (record { files = ⟦<Armed<F> as Backing>⟧.faults files.old; paging = ⟦<Armed<P> as Backing>⟧.faults paging.old }) }
     requires more { HasMore given.command system.old.history.items }
     ensures stands { OnOk result (SystemStands given.running.script.header given.running.outside system.new) }
-    ensures backings { BackingsFit given.running.script.header given.running.outside (F.area given.running.files.inner) (F.area files.new.inner) (P.area paging.new.inner) system.new }
-    ensures settles { OnOk result (Settles report given system.new.history.items (K.written out.new) files.new paging.new (record { files = ⟦<Armed<F> as Backing>⟧.faults files.new; paging = ⟦<Armed<P> as Backing>⟧.faults paging.new })) }
+    ensures backings { BackingsFit given.running.script.header given.running.outside (F.area given.running.files.inner) (F.area files.new.inner)
+        (P.area paging.new.inner) system.new }
+    ensures settles { OnOk result (Settles report given system.new.history.items (K.written out.new) files.new paging.new
+        (record { files = ⟦<Armed<F> as Backing>⟧.faults files.new; paging = ⟦<Armed<P> as Backing>⟧.faults paging.new })) }
     ensures more { IfOk result (λ took. took ≡ true
         → takings system.new.history.items ≡ takings system.old.history.items + 1) }
     ensures quiet { IfOk result (λ took. took ≡ false → undelivered system.new.history.items ≡ []) }
     ensures lines { OnOk result (count_of is_line system.new.history.items
         ≡ count_of is_line system.old.history.items) }
-    ensures stops { (end : RunEnd) → IsErrOf result end → RunStops report given.running system.new.history.items (K.written out.new) files.new paging.new (record { files = ⟦<Armed<F> as Backing>⟧.faults files.new; paging = ⟦<Armed<P> as Backing>⟧.faults paging.new }) end }
+    ensures stops { (end : RunEnd) → IsErrOf result end
+        → RunStops report given.running system.new.history.items (K.written out.new) files.new paging.new
+        (record { files = ⟦<Armed<F> as Backing>⟧.faults files.new; paging = ⟦<Armed<P> as Backing>⟧.faults paging.new }) end }
     ensures later { K.faults out.old ≤ K.faults out.new }
     ensures cause { IsErrOf result RunEnd.Failed → CountRises (K.faults out.old) (K.faults out.new) }
 {
@@ -174,16 +185,22 @@ fn settle<K: Sink, F: Backing, P: Backing>(
 ) -> Result<(), RunEnd>
     ghost given: { RunTaking F P }
     requires stands { SystemStands given.running.script.header given.running.outside system.old }
-    requires backings { BackingsFit given.running.script.header given.running.outside (F.area given.running.files.inner) (F.area files.old.inner) (P.area paging.old.inner) system.old }
-    requires settles { Settles report given system.old.history.items (K.written out.old) files.old paging.old (record { files = ⟦<Armed<F> as Backing>⟧.faults files.old; paging = ⟦<Armed<P> as Backing>⟧.faults paging.old }) }
+    requires backings { BackingsFit given.running.script.header given.running.outside (F.area given.running.files.inner) (F.area files.old.inner)
+        (P.area paging.old.inner) system.old }
+    requires settles { Settles report given system.old.history.items (K.written out.old) files.old paging.old
+        (record { files = ⟦<Armed<F> as Backing>⟧.faults files.old; paging = ⟦<Armed<P> as Backing>⟧.faults paging.old }) }
     requires command { given.command ≡ Command.Settle count }
     requires none { takings system.old.history.items ≡ 0 }
     ensures stands { OnOk result (SystemStands given.running.script.header given.running.outside system.new) }
-    ensures backings { BackingsFit given.running.script.header given.running.outside (F.area given.running.files.inner) (F.area files.new.inner) (P.area paging.new.inner) system.new }
-    ensures runs { OnOk result (IsBetweenCommands report given.running system.new.history.items (K.written out.new) files.new paging.new (record { files = ⟦<Armed<F> as Backing>⟧.faults files.new; paging = ⟦<Armed<P> as Backing>⟧.faults paging.new })) }
+    ensures backings { BackingsFit given.running.script.header given.running.outside (F.area given.running.files.inner) (F.area files.new.inner)
+        (P.area paging.new.inner) system.new }
+    ensures runs { OnOk result (IsBetweenCommands report given.running system.new.history.items (K.written out.new) files.new paging.new
+        (record { files = ⟦<Armed<F> as Backing>⟧.faults files.new; paging = ⟦<Armed<P> as Backing>⟧.faults paging.new })) }
     ensures lines { OnOk result (count_of is_line system.new.history.items
         ≡ count_of is_line system.old.history.items) }
-    ensures stops { (end : RunEnd) → IsErrOf result end → RunStops report given.running system.new.history.items (K.written out.new) files.new paging.new (record { files = ⟦<Armed<F> as Backing>⟧.faults files.new; paging = ⟦<Armed<P> as Backing>⟧.faults paging.new }) end }
+    ensures stops { (end : RunEnd) → IsErrOf result end
+        → RunStops report given.running system.new.history.items (K.written out.new) files.new paging.new
+        (record { files = ⟦<Armed<F> as Backing>⟧.faults files.new; paging = ⟦<Armed<P> as Backing>⟧.faults paging.new }) end }
     ensures later { K.faults out.old ≤ K.faults out.new }
     ensures cause { IsErrOf result RunEnd.Failed → CountRises (K.faults out.old) (K.faults out.new) }
 {
@@ -208,16 +225,31 @@ pub fn run_script<K: Sink, F: Backing, P: Backing>(
     requires run { IsRunnable script.now }
     requires files { files.old.left ≡ 0 }
     requires paging { paging.old.left ≡ 0 }
-    ensures ran { RanAs report script.now (outside_of (F.area files.old.inner) (P.area paging.old.inner) script.now.header) result.history.items result.end (K.written out.old) (K.written out.new) }
+    ensures ran { RanAs report script.now (outside_of (F.area files.old.inner) (P.area paging.old.inner) script.now.header) result.history.items result.end
+        (K.written out.old) (K.written out.new) }
     ensures limit { IsBelowLimit result.history.items }
     ensures later { K.faults out.old ≤ K.faults out.new }
     ensures cause { result.end ≡ RunEnd.Failed → CountRises (K.faults out.old) (K.faults out.new) }
 
     // What the backings keep, and how they are armed.
-    ensures kept { (host : ℕ) → host < length script.now.header.frames.items → PagingKeepsPages script.now.header host (outside_of (F.area files.old.inner) (P.area paging.old.inner) script.now.header) (P.area paging.new.inner) result.history.items }
+    ensures kept { (host : ℕ) → host < length script.now.header.frames.items
+        → PagingKeepsPages script.now.header host (outside_of (F.area files.old.inner) (P.area paging.old.inner) script.now.header) (P.area paging.new.inner)
+        result.history.items }
     ensures carried { FilesCarry script.now.header (F.area files.old.inner) (F.area files.new.inner) result.history.items }
-    ensures files { BackingKept device.Files (Some script.now) result.history.items files.old files.new (record { old = ⟦<Armed<F> as Backing>⟧.faults files.old; new = ⟦<Armed<F> as Backing>⟧.faults files.new; own_old = F.faults files.old.inner; own_new = F.faults files.new.inner }) }
-    ensures paging { BackingKept device.Paging (Some script.now) result.history.items paging.old paging.new (record { old = ⟦<Armed<P> as Backing>⟧.faults paging.old; new = ⟦<Armed<P> as Backing>⟧.faults paging.new; own_old = P.faults paging.old.inner; own_new = P.faults paging.new.inner }) }
+    ensures files { BackingKept device.Files (Some script.now) result.history.items files.old files.new
+        (record {
+          old = ⟦<Armed<F> as Backing>⟧.faults files.old;
+          new = ⟦<Armed<F> as Backing>⟧.faults files.new;
+          own_old = F.faults files.old.inner;
+          own_new = F.faults files.new.inner;
+        }) }
+    ensures paging { BackingKept device.Paging (Some script.now) result.history.items paging.old paging.new
+        (record {
+          old = ⟦<Armed<P> as Backing>⟧.faults paging.old;
+          new = ⟦<Armed<P> as Backing>⟧.faults paging.new;
+          own_old = P.faults paging.old.inner;
+          own_new = P.faults paging.new.inner;
+        }) }
 {
     let Ok(mut system) = System::new(alloc, &script.header) else {
         return Ran {
@@ -247,10 +279,12 @@ fn run_all<K: Sink, F: Backing, P: Backing>(
     requires run { IsRunnable script.now }
     requires stands { SystemStands given.script.header given.outside system.old }
     requires backings { BackingsFit given.script.header given.outside (F.area given.files.inner) (F.area files.old.inner) (P.area paging.old.inner) system.old }
-    requires runs { IsBetweenCommands report given system.old.history.items (K.written out.old) files.old paging.old (record { files = ⟦<Armed<F> as Backing>⟧.faults files.old; paging = ⟦<Armed<P> as Backing>⟧.faults paging.old }) }
+    requires runs { IsBetweenCommands report given system.old.history.items (K.written out.old) files.old paging.old
+        (record { files = ⟦<Armed<F> as Backing>⟧.faults files.old; paging = ⟦<Armed<P> as Backing>⟧.faults paging.old }) }
     requires none { system.old.history.items ≡ [] }
     ensures backings { BackingsFit given.script.header given.outside (F.area given.files.inner) (F.area files.new.inner) (P.area paging.new.inner) system.new }
-    ensures stops { RunStops report given system.new.history.items (K.written out.new) files.new paging.new (record { files = ⟦<Armed<F> as Backing>⟧.faults files.new; paging = ⟦<Armed<P> as Backing>⟧.faults paging.new }) result }
+    ensures stops { RunStops report given system.new.history.items (K.written out.new) files.new paging.new
+        (record { files = ⟦<Armed<F> as Backing>⟧.faults files.new; paging = ⟦<Armed<P> as Backing>⟧.faults paging.new }) result }
     ensures later { K.faults out.old ≤ K.faults out.new }
     ensures cause { result ≡ RunEnd.Failed → CountRises (K.faults out.old) (K.faults out.new) }
 {
@@ -277,14 +311,18 @@ fn run_one<K: Sink, F: Backing, P: Backing>(
     requires stands { SystemStands given.script.header given.outside system.old }
     requires backings { BackingsFit given.script.header given.outside (F.area given.files.inner) (F.area files.old.inner) (P.area paging.old.inner) system.old }
     requires range { InRange given.script.header numbered.now.command }
-    requires runs { IsBetweenCommands report given system.old.history.items (K.written out.old) files.old paging.old (record { files = ⟦<Armed<F> as Backing>⟧.faults files.old; paging = ⟦<Armed<P> as Backing>⟧.faults paging.old }) }
+    requires runs { IsBetweenCommands report given system.old.history.items (K.written out.old) files.old paging.old
+        (record { files = ⟦<Armed<F> as Backing>⟧.faults files.old; paging = ⟦<Armed<P> as Backing>⟧.faults paging.old }) }
     requires next { IsNextOf given.script numbered.now system.old.history.items }
     ensures stands { OnOk result (SystemStands given.script.header given.outside system.new) }
     ensures backings { BackingsFit given.script.header given.outside (F.area given.files.inner) (F.area files.new.inner) (P.area paging.new.inner) system.new }
-    ensures runs { OnOk result (IsBetweenCommands report given system.new.history.items (K.written out.new) files.new paging.new (record { files = ⟦<Armed<F> as Backing>⟧.faults files.new; paging = ⟦<Armed<P> as Backing>⟧.faults paging.new })) }
+    ensures runs { OnOk result (IsBetweenCommands report given system.new.history.items (K.written out.new) files.new paging.new
+        (record { files = ⟦<Armed<F> as Backing>⟧.faults files.new; paging = ⟦<Armed<P> as Backing>⟧.faults paging.new })) }
     ensures lines { OnOk result (count_of is_line system.new.history.items
         ≡ count_of is_line system.old.history.items + 1) }
-    ensures stops { (end : RunEnd) → IsErrOf result end → RunStops report given system.new.history.items (K.written out.new) files.new paging.new (record { files = ⟦<Armed<F> as Backing>⟧.faults files.new; paging = ⟦<Armed<P> as Backing>⟧.faults paging.new }) end }
+    ensures stops { (end : RunEnd) → IsErrOf result end
+        → RunStops report given system.new.history.items (K.written out.new) files.new paging.new
+        (record { files = ⟦<Armed<F> as Backing>⟧.faults files.new; paging = ⟦<Armed<P> as Backing>⟧.faults paging.new }) end }
     ensures later { K.faults out.old ≤ K.faults out.new }
     ensures cause { IsErrOf result RunEnd.Failed → CountRises (K.faults out.old) (K.faults out.new) }
 {

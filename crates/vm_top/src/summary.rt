@@ -1,7 +1,8 @@
 // What a run came to, in numbers.
 ghost use Rattle.std.specs.Prelude.{◌≡◌, [], ◌∷◌, ◌++◌, ◌<◌, ◌-◌, ◌+◌, ◌^◌, List, length, IfOk, OnOk};
 ghost use Rattle.vm_model.specs.declared.event.Event.{Event};
-ghost use Rattle.vm_model.specs.Summary.{is_line, is_refused, is_begun, is_loaded, is_stored, is_copy_ended, is_failed, is_sent, is_taken_event, is_dropped, value_of, waiting_of, row, summary_text};
+ghost use Rattle.vm_model.specs.Summary.{is_line, is_refused, is_begun, is_loaded, is_stored, is_copy_ended, is_failed, is_sent, is_taken_event, is_dropped};
+ghost use Rattle.vm_model.specs.Summary.{value_of, waiting_of, row, summary_text};
 ghost use Rattle.vm_model.specs.Text.{flag};
 ghost use Rattle.vm_top.specs.Summary.{IsSummary};
 

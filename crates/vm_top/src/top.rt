@@ -156,13 +156,38 @@ fn run_read<K: Sink, F: Backing, P: Backing>(
     requires run { IsRunnable script }
     requires files { files.old.left ≡ 0 }
     requires paging { paging.old.left ≡ 0 }
-    ensures ended { RunHasEnded report script (outside_of (F.area files.old.inner) (P.area paging.old.inner) script.header) result.script result.history.items (K.written out.old) (K.written out.new) result.status }
+    ensures ended { RunHasEnded report script (outside_of (F.area files.old.inner) (P.area paging.old.inner) script.header) result.script result.history.items
+        (K.written out.old) (K.written out.new) result.status }
     ensures cause { result.status ≡ Status.OutputFault → CountRises (K.faults out.old) (K.faults out.new) }
     ensures later { K.faults out.old ≤ K.faults out.new }
-    ensures always { HoldsAlways (F.area files.old.inner) (F.area files.new.inner) (P.area paging.old.inner) (P.area paging.new.inner) result.script result.history.items }
-    ensures files { BackingKept device.Files result.script result.history.items files.old files.new (record { old = ⟦<Armed<F> as Backing>⟧.faults files.old; new = ⟦<Armed<F> as Backing>⟧.faults files.new; own_old = F.faults files.old.inner; own_new = F.faults files.new.inner }) }
-    ensures paging { BackingKept device.Paging result.script result.history.items paging.old paging.new (record { old = ⟦<Armed<P> as Backing>⟧.faults paging.old; new = ⟦<Armed<P> as Backing>⟧.faults paging.new; own_old = P.faults paging.old.inner; own_new = P.faults paging.new.inner }) }
-    ensures losses { LosesNothingElse (record { old = ⟦<Armed<F> as Backing>⟧.faults files.old; new = ⟦<Armed<F> as Backing>⟧.faults files.new; own_old = F.faults files.old.inner; own_new = F.faults files.new.inner }) (record { old = ⟦<Armed<P> as Backing>⟧.faults paging.old; new = ⟦<Armed<P> as Backing>⟧.faults paging.new; own_old = P.faults paging.old.inner; own_new = P.faults paging.new.inner }) result.script result.history.items }
+    ensures always { HoldsAlways (F.area files.old.inner) (F.area files.new.inner) (P.area paging.old.inner) (P.area paging.new.inner) result.script
+        result.history.items }
+    ensures files { BackingKept device.Files result.script result.history.items files.old files.new
+        (record {
+          old = ⟦<Armed<F> as Backing>⟧.faults files.old;
+          new = ⟦<Armed<F> as Backing>⟧.faults files.new;
+          own_old = F.faults files.old.inner;
+          own_new = F.faults files.new.inner;
+        }) }
+    ensures paging { BackingKept device.Paging result.script result.history.items paging.old paging.new
+        (record {
+          old = ⟦<Armed<P> as Backing>⟧.faults paging.old;
+          new = ⟦<Armed<P> as Backing>⟧.faults paging.new;
+          own_old = P.faults paging.old.inner;
+          own_new = P.faults paging.new.inner;
+        }) }
+    ensures losses { LosesNothingElse (record {
+      old = ⟦<Armed<F> as Backing>⟧.faults files.old;
+      new = ⟦<Armed<F> as Backing>⟧.faults files.new;
+      own_old = F.faults files.old.inner;
+      own_new = F.faults files.new.inner;
+    })
+        (record {
+          old = ⟦<Armed<P> as Backing>⟧.faults paging.old;
+          new = ⟦<Armed<P> as Backing>⟧.faults paging.new;
+          own_old = P.faults paging.old.inner;
+          own_new = P.faults paging.new.inner;
+        }) result.script result.history.items }
 {
     let ran = run_script(alloc, report, &script, out, files, paging);
     let status = finish(alloc, report, &ran, out);
@@ -184,24 +209,54 @@ fn run<S: Source, K: Sink, F: Backing, P: Backing>(
 ) -> Outcome
     requires files { files.old.left ≡ 0 }
     requires paging { paging.old.left ≡ 0 }
-    ensures done { result.status ≡ Status.Done → IsRunDone (S.left source.old) (outside_of (F.area files.old.inner) (P.area paging.old.inner)) report result.script result.history.items (K.written out.old) (K.written out.new) }
-    ensures bad { (line : ℕ) → (kind : ScriptFault) → result.status ≡ Status.BadScript line kind → IsBad (S.left source.old) line kind result.script result.history.items (K.written out.old) (K.written out.new) }
+    ensures done { result.status ≡ Status.Done → IsRunDone (S.left source.old) (outside_of (F.area files.old.inner) (P.area paging.old.inner)) report
+        result.script result.history.items (K.written out.old) (K.written out.new) }
+    ensures bad { (line : ℕ) → (kind : ScriptFault) → result.status ≡ Status.BadScript line kind
+        → IsBad (S.left source.old) line kind result.script result.history.items (K.written out.old) (K.written out.new) }
     ensures usage { ¬ (result.status ≡ Status.Usage) }
     ensures read { result.status ≡ Status.ReadFault
         → NothingDone result.script result.history.items (K.written out.old) (K.written out.new) }
-    ensures output { result.status ≡ Status.OutputFault → IsOutputFault (S.left source.old) (outside_of (F.area files.old.inner) (P.area paging.old.inner)) report result.script result.history.items (K.written out.old) (K.written out.new) }
-    ensures memory { result.status ≡ Status.NoMemory → IsNoMemory (S.left source.old) (outside_of (F.area files.old.inner) (P.area paging.old.inner)) report result.script result.history.items (K.written out.old) (K.written out.new) }
-    ensures full { result.status ≡ Status.EventLimit → IsEventLimit (S.left source.old) (outside_of (F.area files.old.inner) (P.area paging.old.inner)) report result.script result.history.items (K.written out.old) (K.written out.new) }
+    ensures output { result.status ≡ Status.OutputFault
+        → IsOutputFault (S.left source.old) (outside_of (F.area files.old.inner) (P.area paging.old.inner)) report result.script result.history.items
+        (K.written out.old) (K.written out.new) }
+    ensures memory { result.status ≡ Status.NoMemory → IsNoMemory (S.left source.old) (outside_of (F.area files.old.inner) (P.area paging.old.inner)) report
+        result.script result.history.items (K.written out.old) (K.written out.new) }
+    ensures full { result.status ≡ Status.EventLimit → IsEventLimit (S.left source.old) (outside_of (F.area files.old.inner) (P.area paging.old.inner)) report
+        result.script result.history.items (K.written out.old) (K.written out.new) }
     ensures ranges { IfSome result.script KeepsRanges }
     ensures source { OfBytes (S.left source.old) (λ bytes. LeavesBytes result.status result.script bytes (S.left source.new)) }
     ensures read_cause { result.status ≡ Status.ReadFault → CountRises (S.faults source.old) (S.faults source.new) }
     ensures output_cause { result.status ≡ Status.OutputFault → CountRises (K.faults out.old) (K.faults out.new) }
     ensures source_later { S.faults source.old ≤ S.faults source.new }
     ensures sink_later { K.faults out.old ≤ K.faults out.new }
-    ensures always { HoldsAlways (F.area files.old.inner) (F.area files.new.inner) (P.area paging.old.inner) (P.area paging.new.inner) result.script result.history.items }
-    ensures files { BackingKept device.Files result.script result.history.items files.old files.new (record { old = ⟦<Armed<F> as Backing>⟧.faults files.old; new = ⟦<Armed<F> as Backing>⟧.faults files.new; own_old = F.faults files.old.inner; own_new = F.faults files.new.inner }) }
-    ensures paging { BackingKept device.Paging result.script result.history.items paging.old paging.new (record { old = ⟦<Armed<P> as Backing>⟧.faults paging.old; new = ⟦<Armed<P> as Backing>⟧.faults paging.new; own_old = P.faults paging.old.inner; own_new = P.faults paging.new.inner }) }
-    ensures losses { LosesNothingElse (record { old = ⟦<Armed<F> as Backing>⟧.faults files.old; new = ⟦<Armed<F> as Backing>⟧.faults files.new; own_old = F.faults files.old.inner; own_new = F.faults files.new.inner }) (record { old = ⟦<Armed<P> as Backing>⟧.faults paging.old; new = ⟦<Armed<P> as Backing>⟧.faults paging.new; own_old = P.faults paging.old.inner; own_new = P.faults paging.new.inner }) result.script result.history.items }
+    ensures always { HoldsAlways (F.area files.old.inner) (F.area files.new.inner) (P.area paging.old.inner) (P.area paging.new.inner) result.script
+        result.history.items }
+    ensures files { BackingKept device.Files result.script result.history.items files.old files.new
+        (record {
+          old = ⟦<Armed<F> as Backing>⟧.faults files.old;
+          new = ⟦<Armed<F> as Backing>⟧.faults files.new;
+          own_old = F.faults files.old.inner;
+          own_new = F.faults files.new.inner;
+        }) }
+    ensures paging { BackingKept device.Paging result.script result.history.items paging.old paging.new
+        (record {
+          old = ⟦<Armed<P> as Backing>⟧.faults paging.old;
+          new = ⟦<Armed<P> as Backing>⟧.faults paging.new;
+          own_old = P.faults paging.old.inner;
+          own_new = P.faults paging.new.inner;
+        }) }
+    ensures losses { LosesNothingElse (record {
+      old = ⟦<Armed<F> as Backing>⟧.faults files.old;
+      new = ⟦<Armed<F> as Backing>⟧.faults files.new;
+      own_old = F.faults files.old.inner;
+      own_new = F.faults files.new.inner;
+    })
+        (record {
+          old = ⟦<Armed<P> as Backing>⟧.faults paging.old;
+          new = ⟦<Armed<P> as Backing>⟧.faults paging.new;
+          own_old = P.faults paging.old.inner;
+          own_new = P.faults paging.new.inner;
+        }) result.script result.history.items }
 {
     let bytes = match read_all(alloc, source) {
         Ok(bytes) => bytes,
@@ -231,17 +286,42 @@ fn generate<K: Sink, F: Backing, P: Backing>(
     requires lines { IsBetween 1 10000 lines }
     requires files { files.old.left ≡ 0 }
     requires paging { paging.old.left ≡ 0 }
-    ensures generates { Generates number lines (outside_of (F.area files.old.inner) (P.area paging.old.inner)) result.script result.history.items (K.written out.old) (K.written out.new) result.status }
+    ensures generates { Generates number lines (outside_of (F.area files.old.inner) (P.area paging.old.inner)) result.script result.history.items
+        (K.written out.old) (K.written out.new) result.status }
     ensures bad { (line : ℕ) → (kind : ScriptFault) → ¬ (result.status ≡ Status.BadScript line kind) }
     ensures usage { ¬ (result.status ≡ Status.Usage) }
     ensures read { ¬ (result.status ≡ Status.ReadFault) }
     ensures ranges { IfSome result.script KeepsRanges }
     ensures output_cause { result.status ≡ Status.OutputFault → CountRises (K.faults out.old) (K.faults out.new) }
     ensures sink_later { K.faults out.old ≤ K.faults out.new }
-    ensures always { HoldsAlways (F.area files.old.inner) (F.area files.new.inner) (P.area paging.old.inner) (P.area paging.new.inner) result.script result.history.items }
-    ensures files { BackingKept device.Files result.script result.history.items files.old files.new (record { old = ⟦<Armed<F> as Backing>⟧.faults files.old; new = ⟦<Armed<F> as Backing>⟧.faults files.new; own_old = F.faults files.old.inner; own_new = F.faults files.new.inner }) }
-    ensures paging { BackingKept device.Paging result.script result.history.items paging.old paging.new (record { old = ⟦<Armed<P> as Backing>⟧.faults paging.old; new = ⟦<Armed<P> as Backing>⟧.faults paging.new; own_old = P.faults paging.old.inner; own_new = P.faults paging.new.inner }) }
-    ensures losses { LosesNothingElse (record { old = ⟦<Armed<F> as Backing>⟧.faults files.old; new = ⟦<Armed<F> as Backing>⟧.faults files.new; own_old = F.faults files.old.inner; own_new = F.faults files.new.inner }) (record { old = ⟦<Armed<P> as Backing>⟧.faults paging.old; new = ⟦<Armed<P> as Backing>⟧.faults paging.new; own_old = P.faults paging.old.inner; own_new = P.faults paging.new.inner }) result.script result.history.items }
+    ensures always { HoldsAlways (F.area files.old.inner) (F.area files.new.inner) (P.area paging.old.inner) (P.area paging.new.inner) result.script
+        result.history.items }
+    ensures files { BackingKept device.Files result.script result.history.items files.old files.new
+        (record {
+          old = ⟦<Armed<F> as Backing>⟧.faults files.old;
+          new = ⟦<Armed<F> as Backing>⟧.faults files.new;
+          own_old = F.faults files.old.inner;
+          own_new = F.faults files.new.inner;
+        }) }
+    ensures paging { BackingKept device.Paging result.script result.history.items paging.old paging.new
+        (record {
+          old = ⟦<Armed<P> as Backing>⟧.faults paging.old;
+          new = ⟦<Armed<P> as Backing>⟧.faults paging.new;
+          own_old = P.faults paging.old.inner;
+          own_new = P.faults paging.new.inner;
+        }) }
+    ensures losses { LosesNothingElse (record {
+      old = ⟦<Armed<F> as Backing>⟧.faults files.old;
+      new = ⟦<Armed<F> as Backing>⟧.faults files.new;
+      own_old = F.faults files.old.inner;
+      own_new = F.faults files.new.inner;
+    })
+        (record {
+          old = ⟦<Armed<P> as Backing>⟧.faults paging.old;
+          new = ⟦<Armed<P> as Backing>⟧.faults paging.new;
+          own_old = P.faults paging.old.inner;
+          own_new = P.faults paging.new.inner;
+        }) result.script result.history.items }
 {
     match make_script(alloc, number, lines) {
         Ok(script) => run_read(alloc, Report::Summary, script, out, files, paging),
@@ -268,11 +348,13 @@ pub fn pagers_main<S: Source, K: Sink, F: Backing, P: Backing>(
 ) -> Outcome
     // The whole script of the source was run: the history is legal for it, and canonical, and its report was written and nothing else.
     ensures done { result.status ≡ Status.Done → (report : Report) → asked_by words.now ≡ Some (jobs.Run report)
-        → IsRunDone (S.left script.old) (outside_of (F.area files.old.inner) (P.area paging.old.inner)) report result.script result.history.items (K.written out.old) (K.written out.new) }
+        → IsRunDone (S.left script.old) (outside_of (F.area files.old.inner) (P.area paging.old.inner)) report result.script result.history.items
+        (K.written out.old) (K.written out.new) }
 
     // The source's bytes are no script: their first fault was written.
     ensures bad { (line : ℕ) → (kind : ScriptFault) → result.status ≡ Status.BadScript line kind
-        → (report : Report) × (asked_by words.now ≡ Some (jobs.Run report)) × IsBad (S.left script.old) line kind result.script result.history.items (K.written out.old) (K.written out.new) }
+        → (report : Report) × (asked_by words.now ≡ Some (jobs.Run report))
+        × IsBad (S.left script.old) line kind result.script result.history.items (K.written out.old) (K.written out.new) }
 
     // The words are no command, and then nothing else can come of them but a fault of the sink or want of memory.
     ensures usage { result.status ≡ Status.Usage
@@ -284,7 +366,8 @@ pub fn pagers_main<S: Source, K: Sink, F: Backing, P: Backing>(
 
     // A script was made, and run: the history is legal for it in the same way, and its summary was written and nothing else.
     ensures generate { (number : ℕ) → (lines : ℕ) → asked_by words.now ≡ Some (jobs.Generate number lines)
-        → Generates number lines (outside_of (F.area files.old.inner) (P.area paging.old.inner)) result.script result.history.items (K.written out.old) (K.written out.new) result.status }
+        → Generates number lines (outside_of (F.area files.old.inner) (P.area paging.old.inner)) result.script result.history.items (K.written out.old)
+        (K.written out.new) result.status }
 
     // The source failed, or the sink.
     ensures read { result.status ≡ Status.ReadFault
@@ -293,17 +376,20 @@ pub fn pagers_main<S: Source, K: Sink, F: Backing, P: Backing>(
     ensures read_cause { result.status ≡ Status.ReadFault → CountRises (S.faults script.old) (S.faults script.new) }
     ensures output { result.status ≡ Status.OutputFault → (report : Report)
         → asked_by words.now ≡ Some (jobs.Run report)
-        → IsOutputFault (S.left script.old) (outside_of (F.area files.old.inner) (P.area paging.old.inner)) report result.script result.history.items (K.written out.old) (K.written out.new) }
+        → IsOutputFault (S.left script.old) (outside_of (F.area files.old.inner) (P.area paging.old.inner)) report result.script result.history.items
+        (K.written out.old) (K.written out.new) }
     ensures output_cause { result.status ≡ Status.OutputFault → CountRises (K.faults out.old) (K.faults out.new) }
 
     // Memory ended.
     ensures memory { result.status ≡ Status.NoMemory → (report : Report) → asked_by words.now ≡ Some (jobs.Run report)
-        → IsNoMemory (S.left script.old) (outside_of (F.area files.old.inner) (P.area paging.old.inner)) report result.script result.history.items (K.written out.old) (K.written out.new) }
+        → IsNoMemory (S.left script.old) (outside_of (F.area files.old.inner) (P.area paging.old.inner)) report result.script result.history.items
+        (K.written out.old) (K.written out.new) }
 
     // The history is full while a step is left.
     ensures full { result.status ≡ Status.EventLimit → (report : Report)
         → asked_by words.now ≡ Some (jobs.Run report)
-        → IsEventLimit (S.left script.old) (outside_of (F.area files.old.inner) (P.area paging.old.inner)) report result.script result.history.items (K.written out.old) (K.written out.new) }
+        → IsEventLimit (S.left script.old) (outside_of (F.area files.old.inner) (P.area paging.old.inner)) report result.script result.history.items
+        (K.written out.old) (K.written out.new) }
 
     // Words that ask for no run leave the source as it was; a run reads it to its end, or beyond what a script may have. Whatever it tells, the script
     // that is held keeps the grammar's ranges. Counts of faults never fall.
@@ -314,10 +400,34 @@ pub fn pagers_main<S: Source, K: Sink, F: Backing, P: Backing>(
 
     // At every status: what holds of the history, and of what files and paging area tell; how each of them is armed, and how often it failed; and what
     // alone is lost.
-    ensures always { HoldsAlways (F.area files.old.inner) (F.area files.new.inner) (P.area paging.old.inner) (P.area paging.new.inner) result.script result.history.items }
-    ensures files { BackingKept device.Files result.script result.history.items files.old files.new (record { old = ⟦<Armed<F> as Backing>⟧.faults files.old; new = ⟦<Armed<F> as Backing>⟧.faults files.new; own_old = F.faults files.old.inner; own_new = F.faults files.new.inner }) }
-    ensures paging { BackingKept device.Paging result.script result.history.items paging.old paging.new (record { old = ⟦<Armed<P> as Backing>⟧.faults paging.old; new = ⟦<Armed<P> as Backing>⟧.faults paging.new; own_old = P.faults paging.old.inner; own_new = P.faults paging.new.inner }) }
-    ensures losses { LosesNothingElse (record { old = ⟦<Armed<F> as Backing>⟧.faults files.old; new = ⟦<Armed<F> as Backing>⟧.faults files.new; own_old = F.faults files.old.inner; own_new = F.faults files.new.inner }) (record { old = ⟦<Armed<P> as Backing>⟧.faults paging.old; new = ⟦<Armed<P> as Backing>⟧.faults paging.new; own_old = P.faults paging.old.inner; own_new = P.faults paging.new.inner }) result.script result.history.items }
+    ensures always { HoldsAlways (F.area files.old.inner) (F.area files.new.inner) (P.area paging.old.inner) (P.area paging.new.inner) result.script
+        result.history.items }
+    ensures files { BackingKept device.Files result.script result.history.items files.old files.new
+        (record {
+          old = ⟦<Armed<F> as Backing>⟧.faults files.old;
+          new = ⟦<Armed<F> as Backing>⟧.faults files.new;
+          own_old = F.faults files.old.inner;
+          own_new = F.faults files.new.inner;
+        }) }
+    ensures paging { BackingKept device.Paging result.script result.history.items paging.old paging.new
+        (record {
+          old = ⟦<Armed<P> as Backing>⟧.faults paging.old;
+          new = ⟦<Armed<P> as Backing>⟧.faults paging.new;
+          own_old = P.faults paging.old.inner;
+          own_new = P.faults paging.new.inner;
+        }) }
+    ensures losses { LosesNothingElse (record {
+      old = ⟦<Armed<F> as Backing>⟧.faults files.old;
+      new = ⟦<Armed<F> as Backing>⟧.faults files.new;
+      own_old = F.faults files.old.inner;
+      own_new = F.faults files.new.inner;
+    })
+        (record {
+          old = ⟦<Armed<P> as Backing>⟧.faults paging.old;
+          new = ⟦<Armed<P> as Backing>⟧.faults paging.new;
+          own_old = P.faults paging.old.inner;
+          own_new = P.faults paging.new.inner;
+        }) result.script result.history.items }
 {
     files.disarm();
     paging.disarm();

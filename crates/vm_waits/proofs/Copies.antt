@@ -47,7 +47,8 @@ copies_rewanted t what (x ∷ xs) was once is =
     (λ (no : (x.task.0 == t) ≡ false) (more : entry xs t ≡ Some was). rw no (omega (arith, copies_rewanted t what xs was once.1 more)))
 
 -- it goes
-pub copies_without : (t : ℕ) (rows : List Waiting) (was : Waiting) → EachOnce rows → entry rows t ≡ Some was → count_copies (rows_without t rows) + one (is_copying was.want) ≡ count_copies rows
+pub copies_without : (t : ℕ) (rows : List Waiting) (was : Waiting) → EachOnce rows → entry rows t ≡ Some was
+    → count_copies (rows_without t rows) + one (is_copying was.want) ≡ count_copies rows
 copies_without t [] was once is = absurd (none-some was is)
 copies_without t (x ∷ xs) was once is =
     some_split (x.task.0 == t) x was (entry xs t) is

@@ -25,7 +25,8 @@ puts_cases t u row old new w puts is here elsewhere =
     (λ (apart : (t == u) ≡ false). elsewhere (grind (arith, nat_tests)) (sym (rw apart at (puts.at u)) ∙ is))
     (cases_Bool (t == u))
 
-woken_cases : {P : Type 0} (test : On → Bool) (was w : Waiting) → woken test was ≡ w → (test was.on ≡ false → was ≡ w → P) → (test was.on ≡ true → with_on was on.Again ≡ w → P) → P
+woken_cases : {P : Type 0} (test : On → Bool) (was w : Waiting) → woken test was ≡ w → (test was.on ≡ false → was ≡ w → P)
+    → (test was.on ≡ true → with_on was on.Again ≡ w → P) → P
 woken_cases test was w is stays turns =
     ⊎_elim
     (λ (passes : test was.on ≡ true). turns passes (rw passes at is))

@@ -7,7 +7,9 @@ use Rattle.vm_base.specs.declared.ids.TaskId.{TaskId}
 use Rattle.vm_waits.specs.Kept.{EachListedOnce}
 use Rattle.vm_waits.specs.Waits.{is_listed, one, queue_without}
 
-filter_step : (test : Bool) (t : ℕ) (x : TaskId) (xs : List TaskId) → (x.0 == t) ≡ test → filter (λ (other : TaskId). not (other.0 == t)) xs ≡ queue_without t xs → filter (λ (other : TaskId). not (other.0 == t)) (x ∷ xs) ≡ queue_without t (x ∷ xs)
+filter_step : (test : Bool) (t : ℕ) (x : TaskId) (xs : List TaskId) → (x.0 == t) ≡ test
+    → filter (λ (other : TaskId). not (other.0 == t)) xs ≡ queue_without t xs
+    → filter (λ (other : TaskId). not (other.0 == t)) (x ∷ xs) ≡ queue_without t (x ∷ xs)
 filter_step true t x xs is rest = rw is rest
 filter_step false t x xs is rest = rw (is, rest) refl
 

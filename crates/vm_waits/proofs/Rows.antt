@@ -1,5 +1,6 @@
 -- The rows by their tasks: what a change of one, or of all, leaves of each.
-use Rattle.std.proofs.Common.{ℕ, ◌≡◌, ◌+◌, ◌≤◌, ◌==◌, Bool, true, false, List, [], ◌∷◌, ◌++◌, length, map, Option, Some, None, refl, sym, ◌∙◌, ap, subst, ⊎_elim, arith}
+use Rattle.std.proofs.Common.{ℕ, ◌≡◌, ◌+◌, ◌≤◌, ◌==◌, Bool, true, false, List, [], ◌∷◌, ◌++◌, length, map, Option, Some, None, refl, sym, ◌∙◌, ap, subst}
+use Rattle.std.proofs.Common.{⊎_elim, arith}
 use Rattle.std.proofs.lemmas.Bool.{cases_Bool}
 use Rattle.std.proofs.lemmas.Bool.Decides.{nat_tests}
 use Rattle.std.proofs.lemmas.Option.{none-some, same_Some}
@@ -15,7 +16,8 @@ none_split true x o none = absurd (none-some x (sym none))
 none_split false x o none = (refl, none)
 
 -- where a test is passed, or what is left
-pub some_split : {A : Type 0} {P : Type 0} (b : Bool) (x y : A) (o : Option A) → (if b then Some x else o) ≡ Some y → (b ≡ true → x ≡ y → P) → (b ≡ false → o ≡ Some y → P) → P
+pub some_split : {A : Type 0} {P : Type 0} (b : Bool) (x y : A) (o : Option A) → (if b then Some x else o) ≡ Some y → (b ≡ true → x ≡ y → P)
+    → (b ≡ false → o ≡ Some y → P) → P
 some_split true x y o some here later = here refl (same_Some x y some)
 some_split false x y o some here later = later refl some
 
@@ -28,7 +30,8 @@ entry_task (x ∷ xs) t w is =
     (λ (no : (x.task.0 == t) ≡ false) (more : entry xs t ≡ Some w). entry_task xs t w more)
 
 -- a row behind the others
-pub entry_push : (rows : List Waiting) (w : Waiting) (t : ℕ) → entry rows w.task.0 ≡ None → entry (rows ++ w ∷ []) t ≡ (if w.task.0 == t then Some w else entry rows t)
+pub entry_push : (rows : List Waiting) (w : Waiting) (t : ℕ) → entry rows w.task.0 ≡ None
+    → entry (rows ++ w ∷ []) t ≡ (if w.task.0 == t then Some w else entry rows t)
 entry_push [] w t none = refl
 entry_push (x ∷ xs) w t none =
     let apart = none_split (x.task.0 == w.task.0) x (entry xs w.task.0) none in
@@ -92,7 +95,8 @@ absent_behind x xs t here none = let same : x.task.0 ≡ t = grind (arith, nat_t
 unturned : (t : ℕ) (reason : On) (rows : List Waiting) → entry rows t ≡ None → map (turned t reason) rows ≡ rows
 unturned t reason rows none = unchanged t (λ x. with_on x reason) rows none
 
-pub counted_turned : (test : On → Bool) (t : ℕ) (reason : On) (rows : List Waiting) (was : Waiting) → EachOnce rows → entry rows t ≡ Some was → count_rows test (map (turned t reason) rows) + one (test was.on) ≡ count_rows test rows + one (test reason)
+pub counted_turned : (test : On → Bool) (t : ℕ) (reason : On) (rows : List Waiting) (was : Waiting) → EachOnce rows → entry rows t ≡ Some was
+    → count_rows test (map (turned t reason) rows) + one (test was.on) ≡ count_rows test rows + one (test reason)
 counted_turned test t reason [] was once is = absurd (none-some was is)
 counted_turned test t reason (x ∷ xs) was once is =
     some_split (x.task.0 == t) x was (entry xs t) is
@@ -104,7 +108,8 @@ rewanted_step : (test : Bool) (what : Want) (w : Waiting) → (if test then with
 rewanted_step true what w = refl
 rewanted_step false what w = refl
 
-counted_same : (test : On → Bool) (f : Waiting → Waiting) (rows : List Waiting) → ((w : Waiting) → (f w).on ≡ w.on) → count_rows test (map f rows) ≡ count_rows test rows
+counted_same : (test : On → Bool) (f : Waiting → Waiting) (rows : List Waiting) → ((w : Waiting) → (f w).on ≡ w.on)
+    → count_rows test (map f rows) ≡ count_rows test rows
 counted_same test f [] keeps = refl
 counted_same test f (x ∷ xs) keeps = rw (keeps x, counted_same test f xs keeps) refl
 
@@ -140,7 +145,8 @@ once_without t (x ∷ xs) once =
     rw no (rw (entry_without t xs x.task.0, other) once.0, once_without t xs once.1))
     (cases_Bool (x.task.0 == t))
 
-pub counted_without : (test : On → Bool) (t : ℕ) (rows : List Waiting) (was : Waiting) → EachOnce rows → entry rows t ≡ Some was → count_rows test (rows_without t rows) + one (test was.on) ≡ count_rows test rows
+pub counted_without : (test : On → Bool) (t : ℕ) (rows : List Waiting) (was : Waiting) → EachOnce rows → entry rows t ≡ Some was
+    → count_rows test (rows_without t rows) + one (test was.on) ≡ count_rows test rows
 counted_without test t [] was once is = absurd (none-some was is)
 counted_without test t (x ∷ xs) was once is =
     some_split (x.task.0 == t) x was (entry xs t) is
@@ -148,12 +154,14 @@ counted_without test t (x ∷ xs) was once is =
     (λ (no : (x.task.0 == t) ≡ false) (more : entry xs t ≡ Some was). rw no (omega (arith, counted_without test t xs was once.1 more)))
 
 -- rows that are woken
-pub counted_woken : (test count : On → Bool) (n : Bool) (rows : List Waiting) → ((reason : On) → test reason ≡ true → count reason ≡ false) → count on.Again ≡ n → count_rows count (map (woken test) rows) ≡ count_rows count rows + (if n then count_rows test rows else 0)
+pub counted_woken : (test count : On → Bool) (n : Bool) (rows : List Waiting) → ((reason : On) → test reason ≡ true → count reason ≡ false) → count on.Again ≡ n
+    → count_rows count (map (woken test) rows) ≡ count_rows count rows + (if n then count_rows test rows else 0)
 counted_woken test count n [] apart is = grind (arith, nat_tests)
 counted_woken test count n (x ∷ xs) apart is =
     let more = counted_woken test count n xs apart is in
     ⊎_elim
-    (λ (yes : test x.on ≡ true). let other = apart x.on yes in rw (yes, is, other, more) (⊎_elim (λ (a : n ≡ true). rw a (omega arith)) (λ (a : n ≡ false). rw a (omega arith)) (cases_Bool n)))
+    (λ (yes : test x.on ≡ true). let other = apart x.on yes in rw (yes, is, other, more)
+    (⊎_elim (λ (a : n ≡ true). rw a (omega arith)) (λ (a : n ≡ false). rw a (omega arith)) (cases_Bool n)))
     (λ (no : test x.on ≡ false). rw (no, more) (⊎_elim (λ (a : n ≡ true). rw a (omega arith)) (λ (a : n ≡ false). rw a (omega arith)) (cases_Bool n)))
     (cases_Bool (test x.on))
 

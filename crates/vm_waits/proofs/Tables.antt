@@ -1,5 +1,6 @@
 -- What each call leaves of the rows and the queue.
-use Rattle.std.proofs.Common.{ℕ, ◌≡◌, ◌==◌, Bool, true, false, List, [], ◌∷◌, ◌++◌, map, Option, Some, None, MatchOption, refl, sym, ◌∙◌, ap, ⊎_elim, arith, length-append}
+use Rattle.std.proofs.Common.{ℕ, ◌≡◌, ◌==◌, Bool, true, false, List, [], ◌∷◌, ◌++◌, map, Option, Some, None, MatchOption, refl, sym, ◌∙◌, ap, ⊎_elim, arith}
+use Rattle.std.proofs.Common.{length-append}
 use Rattle.std.proofs.lemmas.Bool.{cases_Bool, false≢true}
 use Rattle.std.proofs.lemmas.Bool.Decides.{nat_tests}
 use Rattle.std.proofs.lemmas.Option.{none-some, same_Some}
@@ -8,9 +9,11 @@ use Rattle.vm_base.specs.declared.ids.PageKey.{PageKey}
 use Rattle.vm_base.specs.declared.ids.TaskId.{TaskId}
 use Rattle.vm_waits.proofs.Lines.{length_others, listed_others, listed_push, once_others}
 use Rattle.vm_waits.proofs.Lines as line
-use Rattle.vm_waits.proofs.Rows.{Keeps, changed, changed_keeps, counted_push, counted_rewanted, counted_turned, counted_without, counted_woken, entry_map, entry_push, entry_task, entry_without, none_passes, oldest_none, oldest_some, rewanted_keeps, woken_keeps}
+use Rattle.vm_waits.proofs.Rows.{Keeps, changed, changed_keeps, counted_push, counted_rewanted, counted_turned, counted_without, counted_woken, entry_map}
+use Rattle.vm_waits.proofs.Rows.{entry_push, entry_task, entry_without, none_passes, oldest_none, oldest_some, rewanted_keeps, woken_keeps}
 use Rattle.vm_waits.specs.Kept.{AreQueued}
-use Rattle.vm_waits.specs.Waits.{EachOnce, PutsEntry, Waked, count_rows, entry, first_in_queue, is_again, is_frame, is_listed, oldest_row, one, queue_without, queued, rewanted, rows_without, turned, waits_for_frame, with_on, with_want, woken, woken_page, woken_ready}
+use Rattle.vm_waits.specs.Waits.{EachOnce, PutsEntry, Waked, count_rows, entry, first_in_queue, is_again, is_frame, is_listed, oldest_row, one, queue_without}
+use Rattle.vm_waits.specs.Waits.{queued, rewanted, rows_without, turned, waits_for_frame, with_on, with_want, woken, woken_page, woken_ready}
 use Rattle.vm_waits.specs.declared.waiting.On.{On}
 use Rattle.vm_waits.specs.declared.waiting.On.TheVariants as on
 use Rattle.vm_waits.specs.declared.waiting.Waiting.{Waiting}
@@ -38,7 +41,8 @@ holds_there None x P is some = absurd some
 holds_there (Some y) x P is some = let same = same_Some y x is in rw (← same) some
 
 -- an access begins
-pub lined_begun : (rows : List Waiting) (queue : List TaskId) (w : Waiting) → AreQueued rows queue → entry rows w.task.0 ≡ None → is_frame w.on ≡ false → AreQueued (rows ++ w ∷ []) queue
+pub lined_begun : (rows : List Waiting) (queue : List TaskId) (w : Waiting) → AreQueued rows queue → entry rows w.task.0 ≡ None → is_frame w.on ≡ false
+    → AreQueued (rows ++ w ∷ []) queue
 lined_begun rows queue w kept absent other = record {
   listed = λ t. ⊎_elim
       (λ (here : (w.task.0 == t) ≡ true).
@@ -55,14 +59,16 @@ lined_begun rows queue w kept absent other = record {
 changed_here : (t : ℕ) (f : Waiting → Waiting) (w : Waiting) → w.task.0 ≡ t → changed t f w ≡ f w
 changed_here t f w same = let here : (w.task.0 == t) ≡ true = grind (arith, nat_tests) in rw here refl
 
-changed_apart : (t u : ℕ) (f : Waiting → Waiting) (o : Option Waiting) → ((w : Waiting) → o ≡ Some w → w.task.0 ≡ u) → (t == u) ≡ false → option_map (changed t f) o ≡ o
+changed_apart : (t u : ℕ) (f : Waiting → Waiting) (o : Option Waiting) → ((w : Waiting) → o ≡ Some w → w.task.0 ≡ u) → (t == u) ≡ false
+    → option_map (changed t f) o ≡ o
 changed_apart t u f None named apart = refl
 changed_apart t u f (Some w) named apart =
     let is = named w refl in
     let no : (w.task.0 == t) ≡ false = grind (arith, nat_tests) in
     rw no refl
 
-entry_changed : (t : ℕ) (f : Waiting → Waiting) (rows : List Waiting) (was : Waiting) (u : ℕ) → Keeps f → entry rows t ≡ Some was → entry (map (changed t f) rows) u ≡ (if t == u then Some (f was) else entry rows u)
+entry_changed : (t : ℕ) (f : Waiting → Waiting) (rows : List Waiting) (was : Waiting) (u : ℕ) → Keeps f → entry rows t ≡ Some was
+    → entry (map (changed t f) rows) u ≡ (if t == u then Some (f was) else entry rows u)
 entry_changed t f rows was u keeps is =
     rw (entry_map (changed t f) rows u (changed_keeps t f keeps))
     (⊎_elim
@@ -74,14 +80,17 @@ entry_changed t f rows was u keeps is =
     (cases_Bool (t == u)))
 
 -- its row has another reason
-entry_turned : (t : ℕ) (reason : On) (rows : List Waiting) (was : Waiting) (u : ℕ) → entry rows t ≡ Some was → entry (map (turned t reason) rows) u ≡ (if t == u then Some (with_on was reason) else entry rows u)
+entry_turned : (t : ℕ) (reason : On) (rows : List Waiting) (was : Waiting) (u : ℕ) → entry rows t ≡ Some was
+    → entry (map (turned t reason) rows) u ≡ (if t == u then Some (with_on was reason) else entry rows u)
 entry_turned t reason rows was u is = entry_changed t (λ w. with_on w reason) rows was u (λ w. refl) is
 
-pub puts_turned : (t : ℕ) (reason : On) (rows : List Waiting) (was : Waiting) → entry rows t ≡ Some was → PutsEntry t (Some (with_on was reason)) rows (map (turned t reason) rows)
+pub puts_turned : (t : ℕ) (reason : On) (rows : List Waiting) (was : Waiting) → entry rows t ≡ Some was
+    → PutsEntry t (Some (with_on was reason)) rows (map (turned t reason) rows)
 puts_turned t reason rows was is = record { at = λ u. entry_turned t reason rows was u is }
 
 -- it is to do something else
-pub puts_rewanted : (t : ℕ) (what : Want) (rows : List Waiting) (was : Waiting) → entry rows t ≡ Some was → PutsEntry t (Some (with_want was what)) rows (map (rewanted t what) rows)
+pub puts_rewanted : (t : ℕ) (what : Want) (rows : List Waiting) (was : Waiting) → entry rows t ≡ Some was
+    → PutsEntry t (Some (with_want was what)) rows (map (rewanted t what) rows)
 puts_rewanted t what rows was is = record { at = λ u. entry_changed t (λ w. with_want w what) rows was u (λ w. refl) is }
 
 rewanted_step : (test : Bool) (what : Want) (w : Waiting) → is_frame (if test then with_want w what else w).on ≡ is_frame w.on
@@ -99,7 +108,8 @@ lined_rewanted t what rows queue kept = record {
   even = kept.even ∙ sym (counted_rewanted is_frame t what rows);
 }
 
-pub lined_off : (t : ℕ) (reason : On) (rows : List Waiting) (queue : List TaskId) (was : Waiting) → AreQueued rows queue → EachOnce rows → entry rows t ≡ Some was → is_frame reason ≡ false
+pub lined_off : (t : ℕ) (reason : On) (rows : List Waiting) (queue : List TaskId) (was : Waiting) → AreQueued rows queue → EachOnce rows
+    → entry rows t ≡ Some was → is_frame reason ≡ false
     → AreQueued (map (turned t reason) rows) (queue_without t queue)
 lined_off t reason rows queue was kept once is other = record {
   listed = λ u. rw (listed_others t queue u, entry_turned t reason rows was u is)
@@ -116,7 +126,8 @@ lined_off t reason rows queue was kept once is other = record {
       omega (arith, gone, stood, count, none, kept.even);
 }
 
-pub lined_on : (task : TaskId) (rows : List Waiting) (queue : List TaskId) (was : Waiting) → AreQueued rows queue → EachOnce rows → entry rows task.0 ≡ Some was → is_frame was.on ≡ false
+pub lined_on : (task : TaskId) (rows : List Waiting) (queue : List TaskId) (was : Waiting) → AreQueued rows queue → EachOnce rows → entry rows task.0 ≡ Some was
+    → is_frame was.on ≡ false
     → AreQueued (map (turned task.0 on.Frame) rows) (queue ++ task ∷ [])
 lined_on task rows queue was kept once is other = record {
   listed = λ u. rw (listed_push queue task u, entry_turned task.0 on.Frame rows was u is)
@@ -133,7 +144,8 @@ lined_on task rows queue was kept once is other = record {
 }
 
 -- a row is taken out
-pub lined_without : (t : ℕ) (rows : List Waiting) (queue : List TaskId) (was : Waiting) → AreQueued rows queue → EachOnce rows → entry rows t ≡ Some was → AreQueued (rows_without t rows) (queue_without t queue)
+pub lined_without : (t : ℕ) (rows : List Waiting) (queue : List TaskId) (was : Waiting) → AreQueued rows queue → EachOnce rows → entry rows t ≡ Some was
+    → AreQueued (rows_without t rows) (queue_without t queue)
 lined_without t rows queue was kept once is = record {
   listed = λ u. rw (listed_others t queue u, entry_without t rows u)
       (⊎_elim
@@ -149,7 +161,8 @@ lined_without t rows queue was kept once is = record {
 }
 
 -- rows are woken
-woken_frame : (test : On → Bool) (o : Option Waiting) → ((reason : On) → test reason ≡ true → is_frame reason ≡ false) → waits_for_frame o ≡ waits_for_frame (option_map (woken test) o)
+woken_frame : (test : On → Bool) (o : Option Waiting) → ((reason : On) → test reason ≡ true → is_frame reason ≡ false)
+    → waits_for_frame o ≡ waits_for_frame (option_map (woken test) o)
 woken_frame test None apart = refl
 woken_frame test (Some w) apart =
     ⊎_elim
@@ -157,7 +170,8 @@ woken_frame test (Some w) apart =
     (λ (fails : test w.on ≡ false). rw fails refl)
     (cases_Bool (test w.on))
 
-pub lined_woken : (test : On → Bool) (rows : List Waiting) (queue : List TaskId) → ((reason : On) → test reason ≡ true → is_frame reason ≡ false) → AreQueued rows queue → AreQueued (map (woken test) rows) queue
+pub lined_woken : (test : On → Bool) (rows : List Waiting) (queue : List TaskId) → ((reason : On) → test reason ≡ true → is_frame reason ≡ false)
+    → AreQueued rows queue → AreQueued (map (woken test) rows) queue
 lined_woken test rows queue apart kept = record {
   listed = λ t. rw (entry_map (woken test) rows t (woken_keeps test)) (kept.listed t ∙ woken_frame test (entry rows t) apart);
   once = kept.once;
@@ -172,7 +186,8 @@ pub waked : (test : On → Bool) (rows : List Waiting) (t : ℕ) → Waked test 
 waked test rows t = rw (entry_map (woken test) rows t (woken_keeps test)) (waked_by test (entry rows t))
 
 -- the oldest row that passes a test
-pub matched : (test : On → Bool) (rows : List Waiting) (o : Option Waiting) → EachOnce rows → o ≡ oldest_row test rows → MatchOption o (count_rows test rows ≡ 0) (λ w. (entry rows w.task.0 ≡ Some w) × (test w.on ≡ true))
+pub matched : (test : On → Bool) (rows : List Waiting) (o : Option Waiting) → EachOnce rows → o ≡ oldest_row test rows
+    → MatchOption o (count_rows test rows ≡ 0) (λ w. (entry rows w.task.0 ≡ Some w) × (test w.on ≡ true))
 matched test rows None once is = oldest_none test rows (sym is)
 matched test rows (Some w) once is = let row = oldest_some test rows w once (sym is) in (row.row, row.passes)
 
@@ -202,8 +217,10 @@ front rows (x ∷ xs) task kept is =
     itself task = grind (arith, nat_tests)
 
 -- what is got of the first task is the front of the queue
-pub fronted : (rows : List Waiting) (queue : List TaskId) (task : TaskId) (o : Option Waiting) → AreQueued rows queue → first_in_queue queue ≡ Some task → o ≡ entry rows task.0
-    → MatchOption o (queue ≡ []) (λ w. first_in_queue queue ≡ Some w.task) × MatchOption o (queued rows ≡ 0) (λ w. (entry rows w.task.0 ≡ Some w) × (is_frame w.on ≡ true))
+pub fronted : (rows : List Waiting) (queue : List TaskId) (task : TaskId) (o : Option Waiting) → AreQueued rows queue → first_in_queue queue ≡ Some task
+    → o ≡ entry rows task.0
+    → MatchOption o (queue ≡ []) (λ w. first_in_queue queue ≡ Some w.task)
+    × MatchOption o (queued rows ≡ 0) (λ w. (entry rows w.task.0 ≡ Some w) × (is_frame w.on ≡ true))
 fronted rows queue task None kept is got = let row = front rows queue task kept is in absurd (none-some row.it (got ∙ row.row))
 fronted rows queue task (Some w) kept is got =
     let row = front rows queue task kept is in
@@ -218,7 +235,8 @@ first_read (x ∷ xs) = refl
 
 pub next_matched : (test : On → Bool) (rows : List Waiting) (o : Option Waiting) → EachOnce rows → o ≡ oldest_row test rows
     → MatchOption o ((t : ℕ) → IfSome (entry rows t) (λ w. test w.on ≡ false)) (λ w. (entry rows w.task.0 ≡ Some w) × (test w.on ≡ true))
-next_matched test rows None once is = λ t. if_some (entry rows t) (λ w. test w.on ≡ false) (λ w row. none_passes test rows t w (oldest_none test rows (sym is)) row)
+next_matched test rows None once is =
+    λ t. if_some (entry rows t) (λ w. test w.on ≡ false) (λ w row. none_passes test rows t w (oldest_none test rows (sym is)) row)
 next_matched test rows (Some w) once is = let row = oldest_some test rows w once (sym is) in (row.row, row.passes)
 
 -- who waits for a page or a pager waits for nothing else

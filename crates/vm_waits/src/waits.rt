@@ -1,6 +1,9 @@
 // The waiting accesses of a host, and the queue for its frames.
-ghost use Rattle.std.specs.Prelude.{ℕ, ◌≡◌, ◌+◌, ◌<◌, ◌≤◌, ◌++◌, ◌∷◌, [], true, false, length, map, nat_lt, IfSome, IsOk, IsSome, IsSomeAnd, MatchOption, None, OnErr, OnOk, Some};
-ghost use Rattle.vm_waits.specs.Waits.{EachOnce, PutsEntry, Waked, count_again, count_copies, count_rows, entry, first_in_queue, is_again, is_frame, is_listed, oldest_row, one, one_again, one_frame, queue_without, queued, rewanted, rows_without, turned, waits_for_frame, with_on, with_want, woken, woken_page, woken_ready};
+ghost use Rattle.std.specs.Prelude.{ℕ, ◌≡◌, ◌+◌, ◌<◌, ◌≤◌, ◌++◌, ◌∷◌, [], true, false, length, map, nat_lt, IfSome, IsOk, IsSome, IsSomeAnd, MatchOption, None};
+ghost use Rattle.std.specs.Prelude.{OnErr, OnOk, Some};
+ghost use Rattle.vm_waits.specs.Waits.{EachOnce, PutsEntry, Waked, count_again, count_copies, count_rows, entry, first_in_queue, is_again, is_frame, is_listed};
+ghost use Rattle.vm_waits.specs.Waits.{oldest_row, one, one_again, one_frame, queue_without, queued, rewanted, rows_without, turned, waits_for_frame, with_on};
+ghost use Rattle.vm_waits.specs.Waits.{with_want, woken, woken_page, woken_ready};
 ghost use Rattle.vm_waits.specs.Kept.{AreQueued};
 ghost use Rattle.vm_waits.specs.Wants.{is_copying};
 ghost use Rattle.vm_waits.specs.declared.waiting.On.TheVariants.{Again, Frame};
@@ -42,7 +45,8 @@ impl Model for Waits {
 
     ghost view = { λ s. record { rows = values s.rows; queue = s.queue.items; room = s.room } };
 
-    ghost invariant = { λ s. AreKept s.rows.entries × IsEmpty s.second × AreQueued (values s.rows) s.queue.items × HasRoom s.room (length (values s.rows)) (spare s.rows) (spare s.second) (vec_capacity s.queue) × (s.copies ≡ count_copies (values s.rows)) };
+    ghost invariant = { λ s. AreKept s.rows.entries × IsEmpty s.second × AreQueued (values s.rows) s.queue.items
+        × HasRoom s.room (length (values s.rows)) (spare s.rows) (spare s.second) (vec_capacity s.queue) × (s.copies ≡ count_copies (values s.rows)) };
 }
 
 // 1 for a slow copy, and 0 for another access.

@@ -13,7 +13,8 @@ use Rattle.vm_worked.specs.Beside.{header, history, host, object, page}
 nobody : (t : ℕ) (access : Access) → waiting t history ≡ Some access → HasPageLeft 16 access (next_page t history) → ⊥
 nobody t access is left = by (0 == t) is left
   where
-    by : (b : Bool) → (if b then Some (Copying 0 16 48) else if b then None else None) ≡ Some access → HasPageLeft 16 access (if b then 0 + 1 else if b then 0 else 0) → ⊥
+    by : (b : Bool) → (if b then Some (Copying 0 16 48) else if b then None else None) ≡ Some access
+        → HasPageLeft 16 access (if b then 0 + 1 else if b then 0 else 0) → ⊥
     by true is left =
         let same : Copying 0 16 48 ≡ access = cc in
         let more : 1 < 16 / 16 = subst (λ (a : Access). HasPageLeft 16 a (0 + 1)) (sym same) left in

@@ -34,7 +34,8 @@ use Rattle.vm_quiet.proofs.Letters.{never}
 use Rattle.vm_quiet.specs.Unended.{copied, down, file, filled, host, mapped, page, task, up, zero_page}
 use Rattle.vm_quiet.specs.Unended as unended
 use Rattle.vm_worked.specs.Worked.{both, commands, header, history, outside}
-use Rattle.vm_worked.proofs.Steps.{awake_bare, awake_idle, clash, each_step, ends_nobody, nobody, number_is, one_host, one_writer, owes_nothing, recalls, served, suffice, not_shared}
+use Rattle.vm_worked.proofs.Steps.{awake_bare, awake_idle, clash, each_step, ends_nobody, nobody, number_is, one_host, one_writer, owes_nothing, recalls}
+use Rattle.vm_worked.proofs.Steps.{served, suffice, not_shared}
 
 -- the moments at which a step has ended
 
@@ -71,7 +72,9 @@ own_bytes : EachEvent (OwnBytes header) history
 own_bytes = (tt, (tt, (copies, (tt, (tt, (tt, (tt, (tt, (tt, (tt, (tt, (tt, (tt, (tt, (tt, (tt, (tt, (tt, (tt, (tt, tt))))))))))))))))))))
   where
     copies : OwnBytes header (event.CopiedPage task page file page copied) (event.Taken down (message.Supply page 0 false zero_page) ∷ supplied)
-    copies h lives = subst (λ (k : ℕ). CanRead (page_on header k 0 0 (event.Taken down (message.Supply page 0 false zero_page) ∷ supplied))) (number_is 0 h lives) (record { here = refl; unlocked = inl refl })
+    copies h lives =
+        subst (λ (k : ℕ). CanRead (page_on header k 0 0 (event.Taken down (message.Supply page 0 false zero_page) ∷ supplied))) (number_is 0 h lives)
+        (record { here = refl; unlocked = inl refl })
 
 flat_bytes : EachEvent (FlatBytes header outside) history
 flat_bytes = (tt, (tt, (tt, (tt, (tt, (tt, (tt, (tt, (tt, (tt, (tt, (tt, (tt, (tt, (tt, (tt, (tt, (tt, (tt, (tt, tt))))))))))))))))))))
@@ -95,7 +98,9 @@ bare past pages controls =
     }
 
 -- the task holds the file, and beside it there is nothing on the host to which no region leads
-held : (past : List Event) → (IsUnheld header 0 0 past → ⊥) → ((o p : ℕ) → (0 == o) ≡ false → (Reach header 0 o past → ⊥) → (page_on header 0 o p past).here ≡ false) → ((o : ℕ) → (0 == o) ≡ false → live_control 0 o past ≡ None)
+held : (past : List Event) → (IsUnheld header 0 0 past → ⊥)
+    → ((o p : ℕ) → (0 == o) ≡ false → (Reach header 0 o past → ⊥) → (page_on header 0 o p past).here ≡ false)
+    → ((o : ℕ) → (0 == o) ≡ false → live_control 0 o past ≡ None)
     → IsSwept header 0 past
 held past holds pages controls =
     record {
@@ -134,12 +139,14 @@ nothing_supplied = held supplied (λ unheld. clash (unheld 0 refl)) (λ o p othe
 
 -- of other objects than the file and that of the filled region nothing is here
 elsewhere : (o p : ℕ) → (0 == o) ≡ false → (1 == o) ≡ false → (page_on header 0 o p unended.history).here ≡ false
-elsewhere o p other also = passes (1 == o) also (page_on header 0 o p (event.Taken down (message.Supply page 0 false zero_page) ∷ supplied)) zero_page (taken o p other)
+elsewhere o p other also =
+    passes (1 == o) also (page_on header 0 o p (event.Taken down (message.Supply page 0 false zero_page) ∷ supplied)) zero_page (taken o p other)
   where
     taken : (q r : ℕ) → (0 == q) ≡ false → (page_on header 0 q r (event.Taken down (message.Supply page 0 false zero_page) ∷ supplied)).here ≡ false
     taken q r apart = rw apart refl
 
-    passes : (b : Bool) → b ≡ false → (seen : Local) (bytes : List ℕ) → seen.here ≡ false → (local_after 16 (if b && (0 == p) then Raises bytes else Elsewhere) seen).here ≡ false
+    passes : (b : Bool) → b ≡ false → (seen : Local) (bytes : List ℕ) → seen.here ≡ false
+        → (local_after 16 (if b && (0 == p) then Raises bytes else Elsewhere) seen).here ≡ false
     passes true is seen bytes gone = absurd (clash is)
     passes false is seen bytes gone = gone
 
@@ -165,7 +172,8 @@ ended true = refl
 ended false = refl
 
 -- the copy is the only access that waits
-only : (t : ℕ) (access : Access) → (if 0 == t then Some (Copying 0 16 32) else (if 0 == t then None else None)) ≡ Some access → (0 ≡ t) × (Copying 0 16 32 ≡ access)
+only : (t : ℕ) (access : Access) → (if 0 == t then Some (Copying 0 16 32) else (if 0 == t then None else None)) ≡ Some access → (0 ≡ t)
+    × (Copying 0 16 32 ≡ access)
 only t access is = by (0 == t) refl is
   where
     by : (b : Bool) → (0 == t) ≡ b → (if b then Some (Copying 0 16 32) else (if b then None else None)) ≡ Some access → (0 ≡ t) × (Copying 0 16 32 ≡ access)
@@ -173,7 +181,8 @@ only t access is = by (0 == t) refl is
     by false other e = absurd (let bad : ◌≡◌ {A = Option Access} None (Some access) = e in cc)
 
 -- it waits for the page of the file, which is asked
-copying : (past : List Event) → ((t : ℕ) (access : Access) → waiting t past ≡ Some access → (0 ≡ t) × (Copying 0 16 32 ≡ access)) → Waits header 0 (Copying 0 16 32) past → WaitsForPager header 0 0 (Copying 0 16 32) past
+copying : (past : List Event) → ((t : ℕ) (access : Access) → waiting t past ≡ Some access → (0 ≡ t) × (Copying 0 16 32 ≡ access))
+    → Waits header 0 (Copying 0 16 32) past → WaitsForPager header 0 0 (Copying 0 16 32) past
     → IsSwept header 0 past → PromptAt header 0 past
 copying past one waits pager swept =
     record {
@@ -200,21 +209,42 @@ waits_supplied = record { waits = refl; at = record { host = 0; entry = entry; l
 prompt_asked : Prompt header asked
 prompt_asked =
     one_host header refl asked
-    (copying asked only waits_asked (record { waits = waits_asked; on_host = refl; object = 0; page = 0; place = record { top = 0; top_page = 0; steps = 0; is_top = record { object = refl; page = refl }; leads = (refl, refl) }; what = AnAnswer refl })
+    (copying asked only waits_asked (record {
+      waits = waits_asked;
+      on_host = refl;
+      object = 0;
+      page = 0;
+      place = record { top = 0; top_page = 0; steps = 0; is_top = record { object = refl; page = refl }; leads = (refl, refl) };
+      what = AnAnswer refl;
+    })
     nothing_asked)
 
 prompt_settles_again : Prompt header settles_again
 prompt_settles_again =
     one_host header refl settles_again
     (copying settles_again only waits_settles_again
-    (record { waits = waits_settles_again; on_host = refl; object = 0; page = 0; place = record { top = 0; top_page = 0; steps = 0; is_top = record { object = refl; page = refl }; leads = (refl, refl) }; what = AnAnswer refl })
+    (record {
+      waits = waits_settles_again;
+      on_host = refl;
+      object = 0;
+      page = 0;
+      place = record { top = 0; top_page = 0; steps = 0; is_top = record { object = refl; page = refl }; leads = (refl, refl) };
+      what = AnAnswer refl;
+    })
     nothing_settles_again)
 
 prompt_supplied : Prompt header supplied
 prompt_supplied =
     one_host header refl supplied
     (copying supplied only waits_supplied
-    (record { waits = waits_supplied; on_host = refl; object = 0; page = 0; place = record { top = 0; top_page = 0; steps = 0; is_top = record { object = refl; page = refl }; leads = (refl, refl) }; what = AnAnswer refl })
+    (record {
+      waits = waits_supplied;
+      on_host = refl;
+      object = 0;
+      page = 0;
+      place = record { top = 0; top_page = 0; steps = 0; is_top = record { object = refl; page = refl }; leads = (refl, refl) };
+      what = AnAnswer refl;
+    })
     nothing_supplied)
 
 prompts : BeforeSteps (Prompt header) history
@@ -232,7 +262,10 @@ prompts = (
             nobody header refl settles (λ t. neither (0 == t)) nothing_settles,
             (
               nobody header refl opened (λ t. neither (0 == t)) nothing_opened,
-              (nobody header refl made (λ t. neither (0 == t)) (bare made (λ o p. refl) (λ o. refl)), (nobody header refl [] (λ t. refl) (bare [] (λ o p. refl) (λ o. refl)), tt)),
+              (
+                nobody header refl made (λ t. neither (0 == t)) (bare made (λ o p. refl) (λ o. refl)),
+                (nobody header refl [] (λ t. refl) (bare [] (λ o p. refl) (λ o. refl)), tt),
+              ),
             ),
           ),
         ),
@@ -302,7 +335,9 @@ paid_supplied =
       none_owed = refl;
       init = λ h o k size ours is. no_init k size (ap message_in is);
       create = λ h o k size ours is. no_create k size (ap message_in is);
-      request = λ h o k p access ours is. subst (λ (x : ℕ). since (answers x p) supplied ≡ true) (ap object_in is) (subst (λ (y : ℕ). since (answers 0 y) supplied ≡ true) (ap asked_page is) refl);
+      request =
+          λ h o k p access ours is. subst (λ (x : ℕ). since (answers x p) supplied ≡ true) (ap object_in is)
+          (subst (λ (y : ℕ). since (answers 0 y) supplied ≡ true) (ap asked_page is) refl);
       error = λ h o p is. absurd (cc);
       absence = λ h o p ours is. absurd (cc);
       lock = λ request is. no_request request supplied refl is;
@@ -331,7 +366,10 @@ all_paid = (
           paid_readied,
           (
             owes_nothing header settles refl refl refl refl refl,
-            (owes_nothing header opened refl refl refl refl refl, (owes_nothing header made refl refl refl refl refl, (owes_nothing header [] refl refl refl refl refl, tt))),
+            (
+              owes_nothing header opened refl refl refl refl refl,
+              (owes_nothing header made refl refl refl refl refl, (owes_nothing header [] refl refl refl refl refl, tt)),
+            ),
           ),
         ),
       ),
@@ -374,20 +412,26 @@ away_again o p = away_asked o p
 away_supplied : (o p : ℕ) → (page_on header 0 o p supplied).here ≡ false
 away_supplied o p = away_asked o p
 
-idle : (past : List Event) → ((b : Bool) → ◌≡◌ {A = Option Access} (if b then None else None) None) → ((task : ℕ) → waiting task past ≡ (if 0 == task then None else None)) → NoneSleeps header past
+idle : (past : List Event) → ((b : Bool) → ◌≡◌ {A = Option Access} (if b then None else None) None)
+    → ((task : ℕ) → waiting task past ≡ (if 0 == task then None else None)) → NoneSleeps header past
 idle past none is = awake_idle header past (λ task. is task ∙ none (0 == task))
 
 turn_supplied : StepIsInTurn header supplied
-turn_supplied = in_turn supplied refl (one_served header 1 (event.Sent down (message.Supply page 0 false zero_page) ∷ []) (event.Taken up (message.Request 1 page 1) ∷ settles_again) tt refl (tt, tt) (nobodys, tt))
+turn_supplied =
+    in_turn supplied refl (one_served header 1 (event.Sent down (message.Supply page 0 false zero_page) ∷ [])
+    (event.Taken up (message.Request 1 page 1) ∷ settles_again) tt refl (tt, tt) (nobodys, tt))
     (awake_bare header refl supplied away_supplied)
 
 turn_asked : StepIsInTurn header asked
 turn_asked =
-    in_turn asked refl (one_served header 0 (event.Sent up (message.Request 1 page 1) ∷ event.RegionMade filled copied 1 ∷ event.BegunCopy task 0 16 32 ∷ []) (event.Line 7 ∷ settled) tt tt (tt, (tt, (tt, tt))) (own, (own, (own, tt))))
+    in_turn asked refl (one_served header 0 (event.Sent up (message.Request 1 page 1) ∷ event.RegionMade filled copied 1 ∷ event.BegunCopy task 0 16 32 ∷ [])
+    (event.Line 7 ∷ settled) tt tt (tt, (tt, (tt, tt))) (own, (own, (own, tt))))
     (awake_bare header refl asked away_asked)
 
 turn_readied : StepIsInTurn header readied
-turn_readied = in_turn readied refl (one_served header 1 (event.Sent down (message.Ready false 0) ∷ []) (event.Taken up (message.Init 1 16) ∷ settles) tt refl (tt, tt) (nobodys, tt))
+turn_readied =
+    in_turn readied refl (one_served header 1 (event.Sent down (message.Ready false 0) ∷ []) (event.Taken up (message.Init 1 16) ∷ settles) tt refl (tt, tt)
+    (nobodys, tt))
     (idle readied neither (λ task. refl))
 
 turn_opened : StepIsInTurn header opened
@@ -397,7 +441,8 @@ turn_opened = in_turn opened refl (one_served header 0 map_group (event.Line 5 �
 turn_now : StepIsInTurn header history
 turn_now =
     in_turn history refl
-    (one_served header 0 (event.Entered task 32 16 filled 0 both Copy ∷ event.CopyEnded task ∷ event.CopiedPage task page file page copied ∷ []) (event.Taken down (message.Supply page 0 false zero_page) ∷ supplied) tt refl (tt, (tt, (tt, tt)))
+    (one_served header 0 (event.Entered task 32 16 filled 0 both Copy ∷ event.CopyEnded task ∷ event.CopiedPage task page file page copied ∷ [])
+    (event.Taken down (message.Supply page 0 false zero_page) ∷ supplied) tt refl (tt, (tt, (tt, tt)))
     (own, (own, (own, tt))))
     (awake_idle header history (λ task. ended (0 == task)))
 
@@ -417,7 +462,8 @@ all_in_turn = (
             (
               turn_opened,
               (
-                in_turn made refl (one_served header 0 (event.TaskMade task host ∷ []) (event.Line 4 ∷ []) tt tt (tt, tt) (made_own, tt)) (idle made neither (λ task. refl)),
+                in_turn made refl (one_served header 0 (event.TaskMade task host ∷ []) (event.Line 4 ∷ []) tt tt (tt, tt) (made_own, tt))
+                    (idle made neither (λ task. refl)),
                 (in_turn [] refl (one_served header 0 [] [] tt tt tt tt) (awake_idle header [] (λ task. refl)), tt),
               ),
             ),
@@ -432,8 +478,37 @@ all_in_turn = (
 
 map_in_turn : AllInTurn header outside (command.Map task 0 16 file 0) map_group (event.Line 5 ∷ made)
 map_in_turn = (
-  (record { number = refl; sized = refl; declared = omega arith; none = refl; task = 0; address = 0; at = record { host = 0; entry = entry; lives = refl; found = refl }; on_host = refl; region = refl }, tt),
-  ((record { idle = refl; host = 0; lives = refl; whole = refl; inside = omega arith; made = omega arith; used = λ above. refl; file = λ is. refl; unfilled = refl }, tt), tt),
+  (
+    record {
+      number = refl;
+      sized = refl;
+      declared = omega arith;
+      none = refl;
+      task = 0;
+      address = 0;
+      at = record { host = 0; entry = entry; lives = refl; found = refl };
+      on_host = refl;
+      region = refl;
+    },
+    tt,
+  ),
+  (
+    (
+      record {
+        idle = refl;
+        host = 0;
+        lives = refl;
+        whole = refl;
+        inside = omega arith;
+        made = omega arith;
+        used = λ above. refl;
+        file = λ is. refl;
+        unfilled = refl;
+      },
+      tt,
+    ),
+    tt,
+  ),
 )
 
 abbrev ready_group : List Event
@@ -447,7 +522,27 @@ copy_group = event.Sent up (message.Request 1 page 1) ∷ event.RegionMade fille
 
 copy_in_turn : AllInTurn header outside (command.Copy task 0 16 task 32) copy_group (event.Line 7 ∷ settled)
 copy_in_turn = (
-  (record { task = 0; access = Copying 0 16 32; waits = record { waits = refl; at = record { host = 0; entry = entry; lives = refl; found = refl }; left = omega arith }; on_host = refl; unmarked = λ store. refl; comes = record { top = 0; top_page = 0; steps = 0; is_top = record { object = refl; page = refl }; walks = (refl, refl) }; number = refl; live = refl; ready = refl; away = refl; unasked = refl; known = refl }, tt),
+  (
+    record {
+      task = 0;
+      access = Copying 0 16 32;
+      waits = record {
+        waits = refl;
+        at = record { host = 0; entry = entry; lives = refl; found = refl };
+        left = omega arith;
+      };
+      on_host = refl;
+      unmarked = λ store. refl;
+      comes = record { top = 0; top_page = 0; steps = 0; is_top = record { object = refl; page = refl }; walks = (refl, refl) };
+      number = refl;
+      live = refl;
+      ready = refl;
+      away = refl;
+      unasked = refl;
+      known = refl;
+    },
+    tt,
+  ),
   (((refl, refl), tt), ((refl, tt), tt)),
 )
 
@@ -464,15 +559,60 @@ page_group =
 
 page_in_turn : AllInTurn header outside (command.Settle 100) page_group settles_again
 page_in_turn = (
-  (record { idle = refl; host = 0; lives = refl; whole = refl; inside = omega arith; made = omega arith; used = λ above. refl; file = λ is. refl; unfilled = refl }, refl),
+  (
+    record {
+      idle = refl;
+      host = 0;
+      lives = refl;
+      whole = refl;
+      inside = omega arith;
+      made = omega arith;
+      used = λ above. refl;
+      file = λ is. refl;
+      unfilled = refl;
+    },
+    refl,
+  ),
   (
     (record { address = 0; bytes = 16; to = 32; waits = refl; all = refl }, tt),
     (
-      (record { address = 0; bytes = 16; to = 32; waits = record { waits = refl; at = record { host = 0; entry = entry; lives = refl; found = refl }; left = omega arith }; next = refl; declared = omega arith; supplied = refl; is_top = record { object = refl; page = refl }; here = refl; region = 1; filled = refl; inside = omega arith; away = refl; unasked = refl }, tt),
+      (
+        record {
+          address = 0;
+          bytes = 16;
+          to = 32;
+          waits = record {
+            waits = refl;
+            at = record { host = 0; entry = entry; lives = refl; found = refl };
+            left = omega arith;
+          };
+          next = refl;
+          declared = omega arith;
+          supplied = refl;
+          is_top = record { object = refl; page = refl };
+          here = refl;
+          region = 1;
+          filled = refl;
+          inside = omega arith;
+          away = refl;
+          unasked = refl;
+        },
+        tt,
+      ),
       (
         ((refl, (refl, omega arith)), tt),
         (
-          ((record { access = 1; taken = refl; unanswered = refl }, record { kept = refl; read = refl }, refl, refl, λ temporary. never (sym temporary), λ told. never told), tt),
+          (
+            (
+              record { access = 1; taken = refl; unanswered = refl },
+              record { kept = refl; read = refl },
+              refl,
+              refl,
+              λ temporary. never (sym temporary),
+              λ told. never told,
+            ),
+            tt,
+          ),
           (((refl, (refl, omega arith)), tt), tt),
         ),
       ),

@@ -65,11 +65,13 @@ abbrev pub uses_few : ℕ → ℕ → List Event → Bool
 uses_few size frames [] = true
 uses_few size frames (e ∷ past) = nat_lt (frames_used size 0 (e ∷ past)) frames && uses_few size frames past
 
-pub suffice : (header : Header) (frames : ℕ) → ((past : List Event) → frames_used header.size 0 past ≤ frames → FramesSuffice header past) → (past : List Event) → uses_few header.size frames past ≡ true
+pub suffice : (header : Header) (frames : ℕ) → ((past : List Event) → frames_used header.size 0 past ≤ frames → FramesSuffice header past) → (past : List Event)
+    → uses_few header.size frames past ≡ true
     → EachMoment (FramesSuffice header) past
 suffice header frames enough [] few = enough [] (omega arith)
 suffice header frames enough (e ∷ past) few = (
-  enough (e ∷ past) (below (frames_used header.size 0 (e ∷ past)) (first_of (nat_lt (frames_used header.size 0 (e ∷ past)) frames) (uses_few header.size frames past) few)),
+  enough (e ∷ past) (below (frames_used header.size 0 (e ∷ past)) (first_of (nat_lt (frames_used header.size 0 (e ∷ past)) frames)
+      (uses_few header.size frames past) few)),
   suffice header frames enough past (second_of (nat_lt (frames_used header.size 0 (e ∷ past)) frames) (uses_few header.size frames past) few),
 )
   where
@@ -87,7 +89,8 @@ came_up (Some letter) = up letter.channel
     up (Down host object control) = false
 
 -- a step owes nothing that took nothing of a host, nor an error, nor the word that there is no page, nor a lock_request
-pub owes_nothing : (header : Header) (past : List Event) → owed past ≡ None → came_up (taken_letter past) ≡ false → error_taken header.size past ≡ None → absence_taken header.size past ≡ None
+pub owes_nothing : (header : Header) (past : List Event) → owed past ≡ None → came_up (taken_letter past) ≡ false → error_taken header.size past ≡ None
+    → absence_taken header.size past ≡ None
     → lock_taken past ≡ None → IsPaid header past
 owes_nothing header past made down failed lacked unlocked =
     record {
@@ -116,7 +119,8 @@ one_host header one past at zero below = at
 one_host header one past at (suc h) below = absurd (omega (arith, below, one))
 
 -- where nobody waits nobody waits in vain
-pub nobody : (header : Header) → length header.frames.items ≡ 1 → (past : List Event) → ((task : ℕ) → waiting task past ≡ None) → IsSwept header 0 past → Prompt header past
+pub nobody : (header : Header) → length header.frames.items ≡ 1 → (past : List Event) → ((task : ℕ) → waiting task past ≡ None) → IsSwept header 0 past
+    → Prompt header past
 nobody header one past none swept =
     one_host header one past
     (record {
@@ -132,6 +136,7 @@ pub awake_idle : (header : Header) (past : List Event) → ((task : ℕ) → wai
 awake_idle header past none host known task sleeper = no_access sleeper.access (sym (none task) ∙ sleeper.waits.waits)
 
 -- or where no page is here
-pub awake_bare : (header : Header) → length header.frames.items ≡ 1 → (past : List Event) → ((object page : ℕ) → (page_on header 0 object page past).here ≡ false) → NoneSleeps header past
+pub awake_bare : (header : Header) → length header.frames.items ≡ 1 → (past : List Event)
+    → ((object page : ℕ) → (page_on header 0 object page past).here ≡ false) → NoneSleeps header past
 awake_bare header one past none zero known task sleeper = never (sym (none sleeper.object sleeper.page) ∙ sleeper.here)
 awake_bare header one past none (suc host) known task sleeper = absurd (omega (arith, known, one))

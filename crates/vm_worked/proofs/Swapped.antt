@@ -103,7 +103,8 @@ frames = suffice header 4 enough history refl
 
 -- nothing is left behind
 
-swept : (past : List Event) → ((o p : ℕ) → (Reach header 0 o past → ⊥) → (page_on header 0 o p past).here ≡ false) → ((o : ℕ) → live_control 0 o past ≡ None) → IsSwept header 0 past
+swept : (past : List Event) → ((o p : ℕ) → (Reach header 0 o past → ⊥) → (page_on header 0 o p past).here ≡ false) → ((o : ℕ) → live_control 0 o past ≡ None)
+    → IsSwept header 0 past
 swept past pages controls =
     record {
       pages = λ o p ours unreached. pages o p unreached;
@@ -117,14 +118,16 @@ apart_one : (a b : Bool) → a ≡ false → (local_after 16 (if a && b then Zer
 apart_one true b is = absurd (clash is)
 apart_one false b is = refl
 
-apart_both : (a b c : Bool) → a ≡ false → (local_after 16 (if a && c then Zeroes else Elsewhere) (local_after 16 (if a && b then Zeroes else Elsewhere) away)).here ≡ false
+apart_both : (a b c : Bool) → a ≡ false → (local_after 16 (if a && c then Zeroes else Elsewhere)
+    (local_after 16 (if a && b then Zeroes else Elsewhere) away)).here ≡ false
 apart_both true b c is = absurd (clash is)
 apart_both false b c is = refl
 
 -- whatever was zeroed has gone
 gone : (a b c : Bool)
     → (local_after 16 (if a && b then Drop else Elsewhere)
-    (local_after 16 (if a && c then Drop else Elsewhere) (local_after 16 (if a && c then Zeroes else Elsewhere) (local_after 16 (if a && b then Zeroes else Elsewhere) away)))).here ≡ false
+    (local_after 16 (if a && c then Drop else Elsewhere) (local_after 16 (if a && c then Zeroes else Elsewhere)
+    (local_after 16 (if a && b then Zeroes else Elsewhere) away)))).here ≡ false
 gone true true true = refl
 gone true true false = refl
 gone true false true = refl
@@ -165,12 +168,14 @@ idle_loaded : (b : Bool) → ◌≡◌ {A = Option Access} (if b then None else 
 idle_loaded true = refl
 idle_loaded false = refl
 
-idle_both : (b : Bool) → ◌≡◌ {A = Option Access} (if b then None else (if b then Some (Loading 16 1) else (if b then None else (if b then Some (Loading 0 1) else (if b then None else None))))) None
+idle_both : (b : Bool) → ◌≡◌ {A = Option Access} (if b then None else (if b then Some (Loading 16 1) else
+    (if b then None else (if b then Some (Loading 0 1) else (if b then None else None))))) None
 idle_both true = refl
 idle_both false = refl
 
 idle_ended : (b : Bool)
-    → ◌≡◌ {A = Option Access} (if b then None else (if b then None else (if b then Some (Loading 16 1) else (if b then None else (if b then Some (Loading 0 1) else (if b then None else None)))))) None
+    → ◌≡◌ {A = Option Access} (if b then None else (if b then None else (if b then Some (Loading 16 1) else
+    (if b then None else (if b then Some (Loading 0 1) else (if b then None else None)))))) None
 idle_ended true = refl
 idle_ended false = refl
 
@@ -181,7 +186,10 @@ prompts = (
     nobody header refl loaded (λ t. idle_loaded (0 == t)) nothing_loaded,
     (
       nobody header refl allocated (λ t. idle_made (0 == t)) (swept allocated (λ o p unreached. refl) (λ o. refl)),
-      (nobody header refl made (λ t. idle_made (0 == t)) (swept made (λ o p unreached. refl) (λ o. refl)), (nobody header refl [] (λ t. refl) (swept [] (λ o p unreached. refl) (λ o. refl)), tt)),
+      (
+        nobody header refl made (λ t. idle_made (0 == t)) (swept made (λ o p unreached. refl) (λ o. refl)),
+        (nobody header refl [] (λ t. refl) (swept [] (λ o p unreached. refl) (λ o. refl)), tt),
+      ),
     ),
   ),
 )
@@ -196,7 +204,10 @@ all_paid = (
   owes_nothing header loaded_both refl refl refl refl refl,
   (
     owes_nothing header loaded refl refl refl refl refl,
-    (owes_nothing header allocated refl refl refl refl refl, (owes_nothing header made refl refl refl refl refl, (owes_nothing header [] refl refl refl refl refl, tt))),
+    (
+      owes_nothing header allocated refl refl refl refl refl,
+      (owes_nothing header made refl refl refl refl refl, (owes_nothing header [] refl refl refl refl refl, tt)),
+    ),
   ),
 )
 
@@ -210,7 +221,20 @@ allocate_group = event.Entered task 0 32 region 0 (record { read = true; write =
 
 allocate_licensed : AllLicensed header outside (command.Allocate task 0 32) allocate_group (event.Line 4 ∷ made)
 allocate_licensed = (
-  (record { idle = refl; host = 0; lives = refl; whole = refl; inside = omega arith; made = omega arith; used = λ above. refl; file = λ is. refl; unfilled = refl }, tt),
+  (
+    record {
+      idle = refl;
+      host = 0;
+      lives = refl;
+      whole = refl;
+      inside = omega arith;
+      made = omega arith;
+      used = λ above. refl;
+      file = λ is. refl;
+      unfilled = refl;
+    },
+    tt,
+  ),
   (((refl, refl), tt), tt),
 )
 
@@ -219,9 +243,31 @@ first_group = event.Loaded task object first 0 ∷ event.Zeroed host object firs
 
 first_licensed : AllLicensed header outside (command.Load task 0 1) first_group (event.Line 5 ∷ allocated)
 first_licensed = (
-  (record { address = 0; bytes = 1; waits = first_still; comes = record { top = 0; top_page = 0; steps = 0; is_top = record { object = refl; page = refl }; walks = (refl, refl) }; here = refl }, tt),
   (
-    (inr (record { task = 0; access = Loading 0 1; waits = first_waits; on_host = refl; temporary = omega arith; unmarked = λ store. refl; is_top = record { object = refl; page = refl }; steps = 0; sinks = (record { away = refl; unasked = refl; without = refl }, refl) }), tt),
+    record {
+      address = 0;
+      bytes = 1;
+      waits = first_still;
+      comes = record { top = 0; top_page = 0; steps = 0; is_top = record { object = refl; page = refl }; walks = (refl, refl) };
+      here = refl;
+    },
+    tt,
+  ),
+  (
+    (
+      inr (record {
+        task = 0;
+        access = Loading 0 1;
+        waits = first_waits;
+        on_host = refl;
+        temporary = omega arith;
+        unmarked = λ store. refl;
+        is_top = record { object = refl; page = refl };
+        steps = 0;
+        sinks = (record { away = refl; unasked = refl; without = refl }, refl);
+      }),
+      tt,
+    ),
     ((refl, tt), tt),
   ),
 )
@@ -231,9 +277,31 @@ second_group = event.Loaded task object second 0 ∷ event.Zeroed host object se
 
 second_licensed : AllLicensed header outside (command.Load task 16 1) second_group (event.Line 6 ∷ loaded)
 second_licensed = (
-  (record { address = 16; bytes = 1; waits = second_still; comes = record { top = 0; top_page = 1; steps = 0; is_top = record { object = refl; page = refl }; walks = (refl, refl) }; here = refl }, tt),
   (
-    (inr (record { task = 0; access = Loading 16 1; waits = second_waits; on_host = refl; temporary = omega arith; unmarked = λ store. refl; is_top = record { object = refl; page = refl }; steps = 0; sinks = (record { away = refl; unasked = refl; without = refl }, refl) }), tt),
+    record {
+      address = 16;
+      bytes = 1;
+      waits = second_still;
+      comes = record { top = 0; top_page = 1; steps = 0; is_top = record { object = refl; page = refl }; walks = (refl, refl) };
+      here = refl;
+    },
+    tt,
+  ),
+  (
+    (
+      inr (record {
+        task = 0;
+        access = Loading 16 1;
+        waits = second_waits;
+        on_host = refl;
+        temporary = omega arith;
+        unmarked = λ store. refl;
+        is_top = record { object = refl; page = refl };
+        steps = 0;
+        sinks = (record { away = refl; unasked = refl; without = refl }, refl);
+      }),
+      tt,
+    ),
     ((refl, tt), tt),
   ),
 )

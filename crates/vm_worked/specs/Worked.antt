@@ -1,4 +1,5 @@
--- A whole history with a slow copy: page 16 / hosts 1 4 / file f 1 / task 0 0 / map 0 0 16 f 0 / settle 100 / copy 0 0 16 0 32 / settle 100, where f holds zeros.
+-- A whole history with a slow copy: page 16 / hosts 1 4 / file f 1 / task 0 0 / map 0 0 16 f 0 / settle 100 / copy 0 0 16 0 32 / settle 100, where f holds
+-- zeros.
 use Rattle.std.specs.Prelude.{◌∷◌, [], List, true}
 use Rattle.vm_base.specs.declared.ids.Inherit.TheVariants.{Copy}
 use Rattle.vm_base.specs.declared.ids.Prot.{Prot}

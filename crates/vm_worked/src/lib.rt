@@ -55,5 +55,6 @@ pub fn an_access_beside_its_page_may_not_sleep()
 /// Behind the last page of a slow copy lies memory that nobody has touched. The copy has no page left, so it is no access to that
 /// memory, and under no command have zeros a cause to come there.
 pub fn zeros_for_nobody_have_no_cause()
-    ensures { (outside : Outside) (doing : Command) → Caused beside.header outside doing (event.Zeroed beside.host (beside.object 1) beside.page) beside.history → ⊥ }
+    ensures { (outside : Outside) (doing : Command) → Caused beside.header outside doing (event.Zeroed beside.host (beside.object 1) beside.page) beside.history
+        → ⊥ }
 {}

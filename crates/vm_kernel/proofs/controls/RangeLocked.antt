@@ -40,8 +40,7 @@ use Rattle.vm_state.proofs.Passing.{quiet_if}
 use Rattle.vm_model.specs.Local.{Elsewhere}
 
 -- A lock request that a host took for the live control of an object, of which it knows this. The kernel is that in front of it, but for those that are to be
--- run
--- again, and the past ends with its taking.
+-- run again, and the past ends with its taking.
 pub record Request : Type 0 where
   pub header : Header
   pub host : ℕ

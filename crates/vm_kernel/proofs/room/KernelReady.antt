@@ -1,5 +1,6 @@
 -- A kernel that has room for a step.
-use Rattle.vm_kernel.proofs.Common.{Err, Event, Header, List, Mapped, Ok, OnOk, Parts, Result, Rests, Starts, ap, arith, frame_count, length, refl, rows_in, subst, sym, ℕ, ◌*◌, ◌+◌}
+use Rattle.vm_kernel.proofs.Common.{Err, Event, Header, List, Mapped, Ok, OnOk, Parts, Result, Rests, Starts, ap, arith, frame_count, length, refl, rows_in}
+use Rattle.vm_kernel.proofs.Common.{subst, sym, ℕ, ◌*◌, ◌+◌}
 use Rattle.vm_kernel.proofs.Common.{◌∙◌, ◌≡◌, ◌≤◌}
 use Rattle.vm_kernel.proofs.room.OtherRoom.{rests_roomier}
 use Rattle.vm_kernel.specs.declared.breadth.Breadth.{Breadth}
@@ -19,7 +20,8 @@ front_same wide.Frames k new maps frames known = omega (arith, frames)
 front_same wide.Pages k new maps frames known = omega (arith, frames, known)
 
 -- and as much is made
-pub making_same : (breadth : Breadth) (k new : Parts) → new.maps ≡ k.maps → frame_count new.memory.frames ≡ frame_count k.memory.frames → making breadth new ≡ making breadth k
+pub making_same : (breadth : Breadth) (k new : Parts) → new.maps ≡ k.maps → frame_count new.memory.frames ≡ frame_count k.memory.frames
+    → making breadth new ≡ making breadth k
 making_same wide.Few k new maps frames = refl
 making_same (wide.Entries task) k new maps frames = ap (λ (z : Mapped). 1 + 4 * length (rows_in task.0 z)) maps
 making_same wide.Frames k new maps frames = omega (arith, frames)

@@ -188,7 +188,8 @@ filled_copy source copy offset pages region old mid new c some r object count wa
       elim (other_now source copy offset pages region old mid new c r (λ same. let bad : None ≡ Some (filled_row object count) = sym c.free
           ∙ (ap (region_at old) same ∙ was) in cc)) [
             | inl this ↦
-                let none : region.entries ≡ 0 = ap (λ z. z.entries) (some_is region (filled_row object count) (sym c.there ∙ (ap (region_at old) this.0 ∙ was))) in
+                let none : region.entries ≡ 0 = ap (λ z. z.entries) (some_is region (filled_row object count)
+                (sym c.there ∙ (ap (region_at old) this.0 ∙ was))) in
                 absurd (omega (arith, some, none))
             | inr other ↦ other.1 ∙ was
           ],

@@ -114,7 +114,8 @@ rests_made header h task past k ids maps rests changes free below =
           record {
             regions = rests.used.regions;
             copies = copies_kept k.maps maps k.chains k.chains k.memory.resident k.memory.resident rests.used.copies
-                (same_waiting k.maps maps task.0 (Some []) k.waits.rows changes (no_waiter k.maps k.chains k.memory.resident k.memory.objects k.waits.rows _ _ task.0
+                (same_waiting k.maps maps task.0 (Some []) k.waits.rows changes (no_waiter k.maps k.chains k.memory.resident k.memory.objects k.waits.rows _ _
+                task.0
                 rests.waits free)) (chains_filled k.chains) (rows_unmade k.chains k.memory.resident);
           };
       referred = rests.referred;

@@ -10,6 +10,7 @@ abbrev pub invariant-loop-g : goal.invariant-loop-g
 invariant-loop-g l =
     record {
       same : length l.kernels.items ≡ length l.fn.kernels.items;
-      each : (size : ℕ) (history : List Event) → ((g : ℕ) → StandsAt size g history (slice_get l.fn.kernels.items g)) → (g : ℕ) → StandsAt size g history (slice_get l.kernels.items g);
+      each : (size : ℕ) (history : List Event) → ((g : ℕ) → StandsAt size g history (slice_get l.fn.kernels.items g)) → (g : ℕ)
+          → StandsAt size g history (slice_get l.kernels.items g);
       places : (g : ℕ) (k : Kernel) → g < l.g → slice_get l.kernels.items g ≡ Some k → deque_len k.down + l.count ≤ deque_capacity k.down;
     }

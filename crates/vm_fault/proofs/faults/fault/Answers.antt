@@ -13,7 +13,8 @@ returns-then-not-goes_on-clause-runs c =
     let step = c.in_ok-step.step in
     let ends : goes_on step c.pages.want ≡ false = search rules in
     let left : c.left_after.result ≡ want_after step c.pages.want = c.left_after.ensures in
-    subst (λ (z : Want). Runs c.args.maps.now c.args.host c.args.task c.args.may_claim step c.args.want.now z (record { parts = c.args.parts.now; chains = c.args.chains.now; ids = c.args.ids.now; events = c.args.log.now.items }) end) (sym left)
+    subst (λ (z : Want). Runs c.args.maps.now c.args.host c.args.task c.args.may_claim step c.args.want.now z
+    (record { parts = c.args.parts.now; chains = c.args.chains.now; ids = c.args.ids.now; events = c.args.log.now.items }) end) (sym left)
     (c.pages.invariant.runs step _ end (Stops c.pages.want now end c.in_ok-step.ensures.faulted ends))
 
 pub pages-preserved : goal.pages-preserved
@@ -33,13 +34,16 @@ pages-preserved c =
     record {
       can = subst (λ (z : Want). CanFault maps mid task.0 z) (sym left) (can_then maps host task claim step want now mid can faulted more);
       runs = λ answer last end rest. c.pages.invariant.runs answer last end
-          (runs_then maps host task claim step want now mid faulted more answer last end (subst (λ (z : Want). Runs maps host task claim answer z last mid end) left rest));
+          (runs_then maps host task claim step want now mid faulted more answer last end
+          (subst (λ (z : Want). Runs maps host task claim answer z last mid end) left rest));
       still = λ none. c.in_ok-step.ensures.still none ∙ c.pages.invariant.still none;
       takes = takes_then _ now mid _ c.pages.log.room c.once.new.log.room c.pages.invariant.takes c.in_ok-step.ensures.takes;
       room = λ has. subst (λ (z : Want). HasRoom z mid.parts mid.chains c.once.new.log.room) (sym left)
-          (room_then maps host task claim step want now mid c.pages.log.room c.once.new.log.room faulted more c.in_ok-step.ensures.takes (c.pages.invariant.room has));
+          (room_then maps host task claim step want now mid c.pages.log.room c.once.new.log.room faulted more c.in_ok-step.ensures.takes
+          (c.pages.invariant.room has));
     }
 
 pub returns-then-not-goes_on-clause-takes : goal.returns-then-not-goes_on-clause-takes
 returns-then-not-goes_on-clause-takes c =
-    takes_then _ (record { parts = c.pages.parts; chains = c.pages.chains; ids = c.pages.ids; events = c.pages.log.items }) _ _ c.pages.log.room c.once.new.log.room c.pages.invariant.takes c.in_ok-step.ensures.takes
+    takes_then _ (record { parts = c.pages.parts; chains = c.pages.chains; ids = c.pages.ids; events = c.pages.log.items }) _ _ c.pages.log.room
+    c.once.new.log.room c.pages.invariant.takes c.in_ok-step.ensures.takes

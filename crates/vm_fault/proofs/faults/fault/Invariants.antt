@@ -11,9 +11,15 @@ invariant-pages l = record {
   can : CanFault l.maps (record { parts = l.parts; chains = l.chains; ids = l.ids; events = l.log.items }) l.task.0 l.want;
   runs : (answer : FaultStep) (last : Want) (end : FaultState)
       → Runs l.maps l.host l.task l.may_claim answer l.want last (record { parts = l.parts; chains = l.chains; ids = l.ids; events = l.log.items }) end
-      → Runs l.maps l.host l.task l.may_claim answer l.fn.want last (record { parts = l.fn.parts; chains = l.fn.chains; ids = l.fn.ids; events = l.fn.log.items }) end;
+      → Runs l.maps l.host l.task l.may_claim answer l.fn.want last (record {
+        parts = l.fn.parts;
+        chains = l.fn.chains;
+        ids = l.fn.ids;
+        events = l.fn.log.items;
+      }) end;
   still : l.may_claim ≡ false → free l.parts.frames ≡ free l.fn.parts.frames;
-  takes : TakesRoom (record { parts = l.fn.parts; chains = l.fn.chains; ids = l.fn.ids; events = l.fn.log.items }) (record { parts = l.parts; chains = l.chains; ids = l.ids; events = l.log.items }) l.fn.log.room l.log.room;
+  takes : TakesRoom (record { parts = l.fn.parts; chains = l.fn.chains; ids = l.fn.ids; events = l.fn.log.items })
+      (record { parts = l.parts; chains = l.chains; ids = l.ids; events = l.log.items }) l.fn.log.room l.log.room;
   room : HasRoom l.fn.want l.fn.parts l.fn.chains l.fn.log.room → HasRoom l.want l.parts l.chains l.log.room;
 }
 

@@ -25,18 +25,29 @@ go-requires-clause-can c =
     let address = c.address_of-address.result in
     let s : FaultState = record { parts = c.args.parts.now; chains = c.args.chains.now; ids = c.args.ids.now; events = c.args.log.now.items } in
     let mid : FaultState = record { parts = c.prepare.new.parts; chains = c.prepare.new.chains; ids = c.prepare.new.ids; events = c.prepare.new.log.items } in
-    let run : Running = record { host = c.args.host; task = c.args.task; want = want; may_claim = c.args.may_claim; top = c.top_of-top.result.key; at = c.offset_of.result } in
+    let run : Running = record {
+      host = c.args.host;
+      task = c.args.task;
+      want = want;
+      may_claim = c.args.may_claim;
+      top = c.top_of-top.result.key;
+      at = c.offset_of.result;
+    } in
     let its : address ≡ address_in maps.size want = c.address_of-address.ensures ∙ ap (λ n. address_in n want) (c.size.ensures ∙ sym can.size) in
     let led = leads maps s task address want place can its c.find-place.ensures in
     let was = subst (λ (z : List Event). WasPrepared want place (record s { events = z }) mid) c.in_ok-reserve.ensures.same c.in_ok-prepare.ensures.ok in
     let prepares = place_prepared maps task want place s mid can led was in
     let ready = prepared (is_storing want && can.row.marked) can.entry.region can.row s mid can.fit can.chains can.region prepares in
     let sizes = ap (λ (z : BufferStore). z.size) ready.buffers in
-    let at = offset_is c.offset_of.result address c.size.result c.size-2.result mid.parts.buffers.size want c.offset_of.ensures.value c.address_of-address.ensures (c.size.ensures ∙ sym sizes) c.size-2.ensures in
-    let key : c.top_of-top.result.key ≡ top_place ready.row (page_at maps.size (address_in maps.size want) can.entry) = MatchOption-at_some _ _ ready.row ready.found (subst (λ (z : Place). IsTop z mid c.top_of-top.result.key) led c.top_of-top.ensures.key) in
-    let copies = subst (λ (z : PageKey). CopiesFrom want z mid.parts) (sym key) (copies_prepared want can.entry.region can.row (page_at maps.size (address_in maps.size want) can.entry) s mid maps.size can.sized can.copies prepares ready.row can.region ready.found) in
+    let at = offset_is c.offset_of.result address c.size.result c.size-2.result mid.parts.buffers.size want c.offset_of.ensures.value
+    c.address_of-address.ensures (c.size.ensures ∙ sym sizes) c.size-2.ensures in
+    let key : c.top_of-top.result.key ≡ top_place ready.row (page_at maps.size (address_in maps.size want) can.entry) = MatchOption-at_some _ _ ready.row
+    ready.found (subst (λ (z : Place). IsTop z mid c.top_of-top.result.key) led c.top_of-top.ensures.key) in
+    let copies = subst (λ (z : PageKey). CopiesFrom want z mid.parts) (sym key) (copies_prepared want can.entry.region can.row
+    (page_at maps.size (address_in maps.size want) can.entry) s mid maps.size can.sized can.copies prepares ready.row can.region ready.found) in
     let sized = subst (λ n. IsSizedWant n want) (can.size ∙ sym sizes) can.sized in
-    can_go run can.entry.region _ s mid c.top_of-top.result ready c.top_of-top.ensures.stands refl (subst IsPageSize c.size-2.ensures c.offset_of.ensures.size) at sized copies c.in_ok-prepare.ensures.room
+    can_go run can.entry.region _ s mid c.top_of-top.result ready c.top_of-top.ensures.stands refl (subst IsPageSize c.size-2.ensures c.offset_of.ensures.size)
+    at sized copies c.in_ok-prepare.ensures.room
 
 pub go-requires-clause-fits : goal.go-requires-clause-fits
 go-requires-clause-fits c =
@@ -46,10 +57,12 @@ go-requires-clause-fits c =
     let maps = c.args.maps.now in
     let s : FaultState = record { parts = c.args.parts.now; chains = c.args.chains.now; ids = c.args.ids.now; events = c.args.log.now.items } in
     let mid : FaultState = record { parts = c.prepare.new.parts; chains = c.prepare.new.chains; ids = c.prepare.new.ids; events = c.prepare.new.log.items } in
-    let its : c.address_of-address.result ≡ address_in maps.size want = c.address_of-address.ensures ∙ ap (λ n. address_in n want) (c.size.ensures ∙ sym can.size) in
+    let its : c.address_of-address.result ≡ address_in maps.size want = c.address_of-address.ensures
+    ∙ ap (λ n. address_in n want) (c.size.ensures ∙ sym can.size) in
     let led = leads maps s c.args.task.0 c.address_of-address.result want place can its c.find-place.ensures in
     let was = subst (λ (z : List Event). WasPrepared want place (record s { events = z }) mid) c.in_ok-reserve.ensures.same c.in_ok-prepare.ensures.ok in
-    (prepared (is_storing want && can.row.marked) can.entry.region can.row s mid can.fit can.chains can.region (place_prepared maps c.args.task.0 want place s mid can led was)).fits
+    (prepared (is_storing want && can.row.marked) can.entry.region can.row s mid can.fit can.chains can.region
+    (place_prepared maps c.args.task.0 want place s mid can led was)).fits
 
 pub returns-clause-faulted : goal.returns-clause-faulted
 returns-clause-faulted c =
@@ -60,18 +73,28 @@ returns-clause-faulted c =
     let address = c.address_of-address.result in
     let s : FaultState = record { parts = c.args.parts.now; chains = c.args.chains.now; ids = c.args.ids.now; events = c.args.log.now.items } in
     let mid : FaultState = record { parts = c.prepare.new.parts; chains = c.prepare.new.chains; ids = c.prepare.new.ids; events = c.prepare.new.log.items } in
-    let run : Running = record { host = c.args.host; task = c.args.task; want = want; may_claim = c.args.may_claim; top = c.top_of-top.result.key; at = c.offset_of.result } in
+    let run : Running = record {
+      host = c.args.host;
+      task = c.args.task;
+      want = want;
+      may_claim = c.args.may_claim;
+      top = c.top_of-top.result.key;
+      at = c.offset_of.result;
+    } in
     let its : address ≡ address_in maps.size want = c.address_of-address.ensures ∙ ap (λ n. address_in n want) (c.size.ensures ∙ sym can.size) in
     let led = leads maps s c.args.task.0 address want place can its c.find-place.ensures in
     let was = subst (λ (z : List Event). WasPrepared want place (record s { events = z }) mid) c.in_ok-reserve.ensures.same c.in_ok-prepare.ensures.ok in
-    let ready = prepared (is_storing want && can.row.marked) can.entry.region can.row s mid can.fit can.chains can.region (place_prepared maps c.args.task.0 want place s mid can led was) in
+    let ready = prepared (is_storing want && can.row.marked) can.entry.region can.row s mid can.fit can.chains can.region
+    (place_prepared maps c.args.task.0 want place s mid can led was) in
     let sizes = ap (λ (z : BufferStore). z.size) ready.buffers in
-    let at = offset_is c.offset_of.result address c.size.result c.size-2.result mid.parts.buffers.size want c.offset_of.ensures.value c.address_of-address.ensures (c.size.ensures ∙ sym sizes) c.size-2.ensures in
+    let at = offset_is c.offset_of.result address c.size.result c.size-2.result mid.parts.buffers.size want c.offset_of.ensures.value
+    c.address_of-address.ensures (c.size.ensures ∙ sym sizes) c.size-2.ensures in
     all_faulted maps run place c.go.result s mid c.go.new.parts c.go.new.log.items can led was c.top_of-top.ensures.key at c.go.ensures.goes c.go.ensures.plan
 
 pub returns-clause-takes : goal.returns-clause-takes
 returns-clause-takes c =
     let old : FaultState = record { parts = c.args.parts.now; chains = c.args.chains.now; ids = c.args.ids.now; events = c.args.log.now.items } in
     let mid : FaultState = record { parts = c.prepare.new.parts; chains = c.prepare.new.chains; ids = c.prepare.new.ids; events = c.prepare.new.log.items } in
-    all_taken c.go.result old mid c.reserve.new.self.items c.go.new.parts c.go.new.log.items c.args.log.now.room c.reserve.new.self.room c.prepare.new.log.room c.go.new.log.room c.in_ok-reserve.ensures.same c.in_ok-reserve.ensures.kept
+    all_taken c.go.result old mid c.reserve.new.self.items c.go.new.parts c.go.new.log.items c.args.log.now.room c.reserve.new.self.room c.prepare.new.log.room
+    c.go.new.log.room c.in_ok-reserve.ensures.same c.in_ok-reserve.ensures.kept
     c.in_ok-prepare.ensures.takes c.go.ensures.plan c.go.ensures.takes

@@ -12,7 +12,11 @@ use Rattle.vm_fault.proofs.going.copy.Goals as goal
 
 pub returns-then-not-has_frame-clause-goes : goal.returns-then-not-has_frame-clause-goes
 returns-then-not-has_frame-clause-goes c =
-    λ chains steps finds ids. (ToCopy steps c.args.key c.args.row finds c.requires.copies c.requires.unlocked, c.if-not-has_frame.ensures.none refl, record { parts = refl; told = refl })
+    λ chains steps finds ids. (
+      ToCopy steps c.args.key c.args.row finds c.requires.copies c.requires.unlocked,
+      c.if-not-has_frame.ensures.none refl,
+      record { parts = refl; told = refl },
+    )
 
 pub returns-clause-goes : goal.returns-clause-goes
 returns-clause-goes c =
@@ -29,7 +33,8 @@ returns-clause-goes c =
     let copied = c.raise-frame.new.self in
     let found = ap (row_among key.object.0 key.page.0) same.rows ∙ c.requires.finds.2.found in
     let raised = of_found _ row (λ r. RaisesPage page frame (page_in mid.frames r.frame.0) mid copied) found raises.raises in
-    let told : c.push.new.self.items ≡ event.CopiedPage c.args.run.task (record { 0 = next }) key.object key.page target ∷ c.args.log.now.items = search rules in
+    let told : c.push.new.self.items ≡ event.CopiedPage c.args.run.task (record { 0 = next }) key.object key.page target ∷ c.args.log.now.items = search
+    rules in
     let marks = references frame copied c.touch.new.self raises.fit c.touch.ensures.queues c.touch.ensures.pages in
     let hit : HostParts = record copied { queues = c.touch.new.self } in
     let source = references row.frame hit c.touch-2.new.self marks.fit c.touch-2.ensures.queues c.touch-2.ensures.pages in
@@ -52,4 +57,5 @@ returns-clause-plan c =
     let hit : HostParts = record copied { queues = c.touch.new.self } in
     let marks = references c.raise-frame.result copied c.touch.new.self raises.fit c.touch.ensures.queues c.touch.ensures.pages in
     let source = references c.args.row.frame hit c.touch-2.new.self marks.fit c.touch-2.ensures.queues c.touch-2.ensures.pages in
-    plan_roomier c.args.parts.now c.reserve.new.self (record hit { queues = c.touch-2.new.self }) c.in_ok-reserve.ensures.is source.fit raises.objects raises.buffers
+    plan_roomier c.args.parts.now c.reserve.new.self (record hit { queues = c.touch-2.new.self }) c.in_ok-reserve.ensures.is source.fit raises.objects
+    raises.buffers

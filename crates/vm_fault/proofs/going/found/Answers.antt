@@ -7,6 +7,7 @@ pub returns-clause-goes : goal.returns-clause-goes
 returns-clause-goes c =
     let steps = c.args.steps in
     let out : keeps_out c.args.row.lock (writes_at c.args.run.want steps) ≡ false = search rules in
-    let alone : is_storing c.args.run.want ≡ true → steps ≡ 0 = λ stores. elim c.else-is_store-2.either [ inl both ↦ omega (arith, both.1) | inr not ↦ absurd (cc (c.is_store-2.ensures, not, stores)) ] in
+    let alone : is_storing c.args.run.want ≡ true → steps ≡ 0 = λ stores. elim c.else-is_store-2.either
+    [ inl both ↦ omega (arith, both.1) | inr not ↦ absurd (cc (c.is_store-2.ensures, not, stores)) ] in
     let hits = c.hit-value.ensures.hits in
     λ chains finds ids. AtOnce steps c.args.key c.args.row finds alone out hits.0 hits.1 hits.2

@@ -18,4 +18,5 @@ returns-clause-goes c =
     let brought = c.bring-frame.new.self in
     let hits = c.hit-value.ensures.hits in
     let told : c.push.new.self.items ≡ event.Zeroed c.args.run.host top.object top.page ∷ c.args.log.now.items = search rules in
-    λ chains sinks ids. AfterZeros sinks frame brought (brings_roomier top frame k mid brought same.is same.rows brings.brings) (plan_roomier k mid brought same.is brings.fit brings.objects brings.buffers) hits.0 hits.1 (hits.2 ∙ ap (λ z. hits.0 ∷ z) told)
+    λ chains sinks ids. AfterZeros sinks frame brought (brings_roomier top frame k mid brought same.is same.rows brings.brings)
+    (plan_roomier k mid brought same.is brings.fit brings.objects brings.buffers) hits.0 hits.1 (hits.2 ∙ ap (λ z. hits.0 ∷ z) told)

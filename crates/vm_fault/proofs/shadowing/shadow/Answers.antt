@@ -20,7 +20,8 @@ returns-clause-ok c =
     let first : ObjectRow = record { kind = Temp; pages = row.pages; state = state.Without; control = 0; live = false; references = 0 } in
     let its : ObjectRow = record first { references = 1 } in
     let there = if_true object.0 (Some first) _ _ (made.ok.at object.0) in
-    let referred = MatchOption-at_some _ (λ r. PutsObject object.0 (Some (record r { references = r.references + 1 })) c.make.new.self c.refer.new.self) first there c.refer.ensures.object in
+    let referred = MatchOption-at_some _ (λ r. PutsObject object.0 (Some (record r { references = r.references + 1 })) c.make.new.self c.refer.new.self) first
+    there c.refer.ensures.object in
     let same = c.in_ok-reserve.ensures.same.entries in
     let put = put_twice k.objects c.reserve.new.self c.make.new.self c.refer.new.self object.0 first its same made.ok referred in
     let none = c.requires.unmade object.0 (omega (arith, over.object)) in
@@ -36,7 +37,9 @@ returns-clause-ok c =
       marks = marks_twice k.objects c.reserve.new.self c.make.new.self c.refer.new.self c.in_ok-reserve.ensures.same.absent made.marks c.refer.ensures.marks;
       parts = refl;
       fit = fit_made k c.refer.new.self object.0 its c.requires.fit none put;
-      fits = chains_shadowed chains c.shadow_over.new.self k.objects c.refer.new.self c.args.region.0 object row its c.requires.chains below none refl c.requires.row shadows put;
+      fits =
+          chains_shadowed chains c.shadow_over.new.self k.objects c.refer.new.self c.args.region.0 object row its c.requires.chains below none refl
+          c.requires.row shadows put;
       ids = over.ids;
       told = told;
     })

@@ -20,7 +20,8 @@ returns-clause-obeyed g c =
     }
 
 -- one reply at most
-reply_told : (host : HostId) (object : ObjectId) (control : ℕ) (request : LockRequest) (old new : LockState) → Replies host object control request old new → length new.events ≤ length old.events + 1
+reply_told : (host : HostId) (object : ObjectId) (control : ℕ) (request : LockRequest) (old new : LockState) → Replies host object control request old new
+    → length new.events ≤ length old.events + 1
 reply_told host object control request old new (Silent none same) = rw same (omega arith)
 reply_told host object control request old new (IsTold wanted is) = rw is (omega arith)
 
@@ -28,6 +29,7 @@ pub returns-clause-told : goal.returns-clause-told
 returns-clause-told g c =
     let held = g.L.Holder.held c.lock_pages.new.laundry in
     let room = g.L.Holder.room c.lock_pages.new.laundry in
-    let last = reply_told c.args.host c.args.object c.in-Some.known.control c.request_in-request.result _ _ (c.in_ok-reply.ensures.replies c.lock_pages.new.parts held room) in
+    let last = reply_told c.args.host c.args.object c.in-Some.known.control c.request_in-request.result _ _
+    (c.in_ok-reply.ensures.replies c.lock_pages.new.parts held room) in
     let pages = c.in_ok-lock_pages.ensures.told in
     omega (arith, last, pages)

@@ -26,7 +26,8 @@ pages-init g c =
 pub returns-then-page-request-clause-obey : goal.returns-then-page-request-clause-obey
 returns-then-page-request-clause-obey g c =
     let kept = c.pages.invariant in
-    kept.obey _ (NoMore _ _ (λ p low inside. c.in-Some.ensures.first p low (omega (arith, kept.low, c.in-Some.ensures.low, c.if-page-request.true, low, inside))))
+    kept.obey _ (NoMore _ _ (λ p low inside. c.in-Some.ensures.first p low (omega
+    (arith, kept.low, c.in-Some.ensures.low, c.if-page-request.true, low, inside))))
 
 pub returns-clause-obey : goal.returns-clause-obey
 returns-clause-obey g c = c.pages.invariant.obey _ (NoMore _ _ (λ p low inside. c.in_default.ensures p low))
@@ -34,13 +35,15 @@ returns-clause-obey g c = c.pages.invariant.obey _ (NoMore _ _ (λ p low inside.
 pub lock_page-requires-clause-room : goal.lock_page-requires-clause-room
 lock_page-requires-clause-room g c =
     let kept = c.pages.invariant in
-    let less = one_left c.args.object.0 c.pages.from.0 c.in-Some.page.0 c.in-Some-get.row c.pages.parts kept.left c.in-Some.ensures.low (sym c.get.ensures ∙ c.in-Some-get.is) c.if-row.true in
+    let less = one_left c.args.object.0 c.pages.from.0 c.in-Some.page.0 c.in-Some-get.row c.pages.parts kept.left c.in-Some.ensures.low
+    (sym c.get.ensures ∙ c.in-Some-get.is) c.if-row.true in
     omega (arith, kept.room, less)
 
 pub returns-in_err-lock_page-clause-succeeds : goal.returns-in_err-lock_page-clause-succeeds
 returns-in_err-lock_page-clause-succeeds g c = λ log buffers.
     let kept = c.pages.invariant in
-    let less = one_left c.args.object.0 c.pages.from.0 c.in-Some.page.0 c.in-Some-get.row c.pages.parts kept.left c.in-Some.ensures.low (sym c.get.ensures ∙ c.in-Some-get.is) c.if-row.true in
+    let less = one_left c.args.object.0 c.pages.from.0 c.in-Some.page.0 c.in-Some-get.row c.pages.parts kept.left c.in-Some.ensures.low
+    (sym c.get.ensures ∙ c.in-Some-get.is) c.if-row.true in
     let bad : false ≡ true = c.in_err-lock_page.ensures.succeeds (omega (arith, kept.log, less, log)) (omega (arith, kept.buffers, less, buffers)) in
     absurd (cc)
 
@@ -58,7 +61,8 @@ pages-preserved g c =
     elim c.if-row.branch [
       | then-row+in_ok-lock_page w ↦
           let obeys = w.in_ok-lock_page.ensures.obeys in
-          let mid = lock_state w.lock_page.new.parts (g.L.Holder.held w.lock_page.new.laundry) (g.L.Holder.room w.lock_page.new.laundry) w.lock_page.new.log.items in
+          let mid = lock_state w.lock_page.new.parts (g.L.Holder.held w.lock_page.new.laundry) (g.L.Holder.room w.lock_page.new.laundry)
+          w.lock_page.new.log.items in
           let has = has_obeyed c.args.host (record { object = c.args.object; page = page }) c.args.known.control c.args.request row now mid obeys in
           let less = one_left c.args.object.0 from page.0 row c.pages.parts kept.left low found w.if-row.true in
           rw (w.parts-is, w.laundry-is, w.log-is) record {
@@ -73,7 +77,9 @@ pages-preserved g c =
             buffers = omega (arith, kept.buffers, less, w.in_ok-lock_page.ensures.buffers);
             spare = omega (arith, kept.spare, w.in_ok-lock_page.ensures.spare);
             rows = omega (arith, kept.rows, w.in_ok-lock_page.ensures.rows);
-            obey = λ end more. kept.obey end (one_more c.args.host c.args.object c.args.known.control c.args.request from page row now mid end next w.if-row.true obeys more);
+            obey =
+                λ end more. kept.obey end (one_more c.args.host c.args.object c.args.known.control c.args.request from page row now mid end next w.if-row.true
+                obeys more);
           }
       | else-row w ↦ rw (w.parts-is, w.laundry-is, w.log-is) record {
         fit = kept.fit;
@@ -87,7 +93,8 @@ pages-preserved g c =
         buffers = kept.buffers;
         spare = kept.spare;
         rows = kept.rows;
-        obey = λ end more. kept.obey end (one_asked c.args.host c.args.object c.args.known.control c.args.request from page row now end next w.if-row.false more);
+        obey =
+            λ end more. kept.obey end (one_asked c.args.host c.args.object c.args.known.control c.args.request from page row now end next w.if-row.false more);
       }
     ]
 

@@ -19,8 +19,10 @@ invariant-pages g l = record {
   buffers : l.fn.parts.buffers.count + listed_pages left.lists ≤ l.parts.buffers.count + listed_pages l.fn.parts.queues;
   spare : l.fn.parts.resident.spare ≤ l.parts.resident.spare;
   rows : l.fn.parts.objects.rows ≤ l.parts.objects.rows;
-  obey : (end : LockState) → PagesObey l.host l.object l.known.control l.request l.from.0 (lock_state l.parts (g.L.Holder.held l.laundry) (g.L.Holder.room l.laundry) l.log.items) end
-      → PagesObey l.host l.object l.known.control l.request l.request.page.0 (lock_state l.fn.parts (g.L.Holder.held l.fn.laundry) (g.L.Holder.room l.fn.laundry) l.fn.log.items) end;
+  obey : (end : LockState) → PagesObey l.host l.object l.known.control l.request l.from.0
+      (lock_state l.parts (g.L.Holder.held l.laundry) (g.L.Holder.room l.laundry) l.log.items) end
+      → PagesObey l.host l.object l.known.control l.request l.request.page.0 (lock_state l.fn.parts (g.L.Holder.held l.fn.laundry)
+      (g.L.Holder.room l.fn.laundry) l.fn.log.items) end;
 }
 
 abbrev pub decreases-pages : goal.decreases-pages

@@ -47,7 +47,9 @@ met-preserved c =
       last = c.met.invariant.last;
       order = omega (arith, c.met-test.true);
       kept = kept_more c.args.size change rows c.met.i c.at.result.now _ _ _ c.at.ensures c.in_ok-rewrite_entry.ensures.kept c.met.invariant.kept;
-      taken = taken_more c.args.size change.address change.bytes rows c.met.i c.at.result.now _ _ _ c.at.ensures c.in_ok-rewrite_entry.ensures.taken c.met.invariant.taken;
+      taken =
+          taken_more c.args.size change.address change.bytes rows c.met.i c.at.result.now _ _ _ c.at.ensures c.in_ok-rewrite_entry.ensures.taken
+          c.met.invariant.taken;
     }
 
 pub returns-clause-within : goal.returns-clause-within
@@ -61,7 +63,8 @@ returns-clause-kept c =
     let rows = reverse c.args.entries.now.items in
     let change = c.args.change.now in
     let last : c.met.i ≡ begun (change.address + change.bytes) rows = omega (arith, c.met.invariant.last, c.met.invariant.order, c.met-test.false) in
-    rw (c.met.invariant.from, c.met.invariant.to) (rewritten_met (becomes change) c.args.size change.address change.bytes rows _ c.requires.entries.in_order c.requires.end (rw last at c.met.invariant.kept))
+    rw (c.met.invariant.from, c.met.invariant.to) (rewritten_met (becomes change) c.args.size change.address change.bytes rows _ c.requires.entries.in_order
+    c.requires.end (rw last at c.met.invariant.kept))
 
 pub returns-clause-taken : goal.returns-clause-taken
 returns-clause-taken c =

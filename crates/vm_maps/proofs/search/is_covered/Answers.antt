@@ -9,7 +9,8 @@ use Rattle.vm_maps.proofs.search.is_covered.Goals.{then-walk-test+else-i-len, el
 pub returns-then-entry-reached : goal.returns-then-entry-reached
 returns-then-entry-reached c =
     let rows = reverse c.args.entries.now.items in
-    sym (reaches_gap c.walk.i c.walk.reached c.args.to rows c.at-entry.result.now c.at-entry.ensures c.walk-test.true c.if-entry-reached.true) ∙ c.walk.invariant
+    sym (reaches_gap c.walk.i c.walk.reached c.args.to rows c.at-entry.result.now c.at-entry.ensures c.walk-test.true c.if-entry-reached.true)
+    ∙ c.walk.invariant
 
 pub overflow_add-reached : goal.overflow_add-reached
 overflow_add-reached c =
@@ -20,7 +21,8 @@ overflow_add-reached c =
 pub walk-preserved : goal.walk-preserved
 walk-preserved c =
     let rows = reverse c.args.entries.now.items in
-    sym (reaches_one c.walk.i c.walk.reached c.args.to rows c.at-entry.result.now c.at-entry.ensures c.walk-test.true c.if-entry-reached.false) ∙ c.walk.invariant
+    sym (reaches_one c.walk.i c.walk.reached c.args.to rows c.at-entry.result.now c.at-entry.ensures c.walk-test.true c.if-entry-reached.false)
+    ∙ c.walk.invariant
 
 pub returns : goal.returns
 returns c =

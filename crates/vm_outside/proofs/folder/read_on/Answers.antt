@@ -12,7 +12,8 @@ take_longer : (a k n : ℕ) (xs ys : List ℕ) → a ≤ length xs → n ≤ len
 take_longer a k n xs ys within fits =
     let after = post_of a k xs in
     let front : take a (put_mid a k xs ys) ≡ take a xs = take-put_mid_below _ _ _ _ _ (le_refl _) within in
-    let behind : take n (drop a (put_mid a k xs ys)) ≡ take n ys = ap (take n) (drop_at (take a xs) (ys ++ after) a (length-take-le a xs within)) ∙ take-append-le n ys after fits in
+    let behind : take n (drop a (put_mid a k xs ys)) ≡ take n ys = ap (take n) (drop_at (take a xs) (ys ++ after) a (length-take-le a xs within))
+    ∙ take-append-le n ys after fits in
     sym (take-add a n (put_mid a k xs ys) ∙ ap (λ l. l ++ take n (drop a (put_mid a k xs ys))) front ∙ ap (λ l. take a xs ++ l) behind)
 
 pub pieces-preserved : goal.pieces-preserved
@@ -23,7 +24,8 @@ pieces-preserved g c =
     record {
       within = search rules;
       consumed = elim c.match-read.branch [
-        | in-Ok w ↦ subst (Consumes _ _) (take_longer from room w.in-Ok.count c.pieces.buf c.read.new.buf c.pieces.invariant.within w.in-Ok.ensures.bound.0 ∙ ap (λ n. take n buf) (sym w.got-is))
+        | in-Ok w ↦ subst (Consumes _ _) (take_longer from room w.in-Ok.count c.pieces.buf c.read.new.buf c.pieces.invariant.within w.in-Ok.ensures.bound.0
+            ∙ ap (λ n. take n buf) (sym w.got-is))
             (Consumes-trans _ _ _ _ _ c.pieces.invariant.consumed w.in-Ok.ensures.bytes.0)
         | in-Err w ↦ subst (Consumes _ _) (sym (take-put_mid_below _ _ _ _ _ (le_refl _) c.pieces.invariant.within) ∙ ap (λ n. take n buf) (sym w.got-is))
             (Consumes-kept _ _ _ _ c.pieces.invariant.consumed w.in-Err.ensures.bytes)

@@ -9,7 +9,12 @@ use Rattle.vm_ports.proofs.links.append.Goals as goal
 pub returns-clause-kept : goal.returns-clause-kept
 returns-clause-kept g c =
     let old : Links g.row.M.Denot = c.args.links.now in
-    let new : Links g.row.M.Denot = record { nodes = c.set_next.new.nodes; first = Some c.key_or.result; last = Some c.insert_reserved-key.result; ends = c.put_ends.new.ends } in
+    let new : Links g.row.M.Denot = record {
+      nodes = c.set_next.new.nodes;
+      first = Some c.key_or.result;
+      last = Some c.insert_reserved-key.result;
+      ends = c.put_ends.new.ends;
+    } in
     let e : Place g.row.M.Denot = record { key = c.insert_reserved-key.result; letter = record { channel = c.args.ch; message = c.args.message } } in
     let appends : Appends (places old) e old new = record {
       mid = get c.insert_reserved-key.new.self;
@@ -27,7 +32,12 @@ returns-clause-kept g c =
 pub returns-clause-places : goal.returns-clause-places
 returns-clause-places g c =
     let old : Links g.row.M.Denot = c.args.links.now in
-    let new : Links g.row.M.Denot = record { nodes = c.set_next.new.nodes; first = Some c.key_or.result; last = Some c.insert_reserved-key.result; ends = c.put_ends.new.ends } in
+    let new : Links g.row.M.Denot = record {
+      nodes = c.set_next.new.nodes;
+      first = Some c.key_or.result;
+      last = Some c.insert_reserved-key.result;
+      ends = c.put_ends.new.ends;
+    } in
     let e : Place g.row.M.Denot = record { key = c.insert_reserved-key.result; letter = record { channel = c.args.ch; message = c.args.message } } in
     let appends : Appends (places old) e old new = record {
       mid = get c.insert_reserved-key.new.self;

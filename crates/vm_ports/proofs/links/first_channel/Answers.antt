@@ -13,4 +13,5 @@ index-requires g c =
 
 pub returns : goal.returns
 returns g c =
-    sym (oldest_is (places c.args.links.now) c.in_ok-first.first c.index.result.now (sym c.requires.first ∙ c.in_ok-first.was) (sym (c.requires.nodes c.in_ok-first.first) ∙ c.index.ensures))
+    sym (oldest_is (places c.args.links.now) c.in_ok-first.first c.index.result.now (sym c.requires.first ∙ c.in_ok-first.was)
+    (sym (c.requires.nodes c.in_ok-first.first) ∙ c.index.ensures))

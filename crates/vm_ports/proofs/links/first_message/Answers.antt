@@ -17,4 +17,5 @@ pub returns : goal.returns
 returns g c =
     let ps = places c.args.links.now in
     let first = sym (first_is c.args.ch.0 ps) ∙ ap first_of (sym c.in_ok-ends.ensures) in
-    rw (queue_first None c.args.ch.0 ps c.in_ok-ends.ends.first c.index.result.now c.requires.apart first (sym (c.requires.nodes c.in_ok-ends.ends.first) ∙ c.index.ensures)) refl
+    rw (queue_first None c.args.ch.0 ps c.in_ok-ends.ends.first c.index.result.now c.requires.apart first
+    (sym (c.requires.nodes c.in_ok-ends.ends.first) ∙ c.index.ensures)) refl

@@ -26,4 +26,5 @@ returns-in-Some-get_mut-clause-ends c =
     let left : Ends = c.in-Some-get_mut.left.now in
     let there = sym c.in-Some-get_mut.ensures.value in
     let put = (c.get_mut.follows.holds (record left { first = c.in-Some.next })).3 (some_of _ _ there) in
-    λ other. rw c.in-Some.is (shortened (c.args.ch.0 == other) _ (λ o. lookup (λ id. o == id.0) c.args.ends.now.entries) c.args.ch.0 c.in-Some.next other left refl there (put.0 (record { 0 = other })))
+    λ other. rw c.in-Some.is (shortened (c.args.ch.0 == other) _ (λ o. lookup (λ id. o == id.0) c.args.ends.now.entries) c.args.ch.0 c.in-Some.next other left
+    refl there (put.0 (record { 0 = other })))

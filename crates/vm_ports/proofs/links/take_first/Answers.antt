@@ -20,7 +20,12 @@ unlink-node-requires g c =
 pub returns-clause-kept : goal.returns-clause-kept
 returns-clause-kept g c =
     let old : Links g.row.M.Denot = c.args.links.now in
-    let new : Links g.row.M.Denot = record { nodes = c.unlink-node.new.links.nodes; first = c.unlink-node.new.links.first; last = c.unlink-node.new.links.last; ends = c.shorten.new.ends } in
+    let new : Links g.row.M.Denot = record {
+      nodes = c.unlink-node.new.links.nodes;
+      first = c.unlink-node.new.links.first;
+      last = c.unlink-node.new.links.last;
+      ends = c.shorten.new.ends;
+    } in
     let e = c.unlink-node.ensures in
     let takes : Takes (places old) c.args.ch.0 c.in_ok-ends.ends.first c.unlink-node.result old new = record {
       first_is = sym (first_is c.args.ch.0 (places old)) ∙ ap first_of (sym c.in_ok-ends.ensures);
@@ -36,7 +41,12 @@ returns-clause-kept g c =
 pub returns-clause-places : goal.returns-clause-places
 returns-clause-places g c =
     let old : Links g.row.M.Denot = c.args.links.now in
-    let new : Links g.row.M.Denot = record { nodes = c.unlink-node.new.links.nodes; first = c.unlink-node.new.links.first; last = c.unlink-node.new.links.last; ends = c.shorten.new.ends } in
+    let new : Links g.row.M.Denot = record {
+      nodes = c.unlink-node.new.links.nodes;
+      first = c.unlink-node.new.links.first;
+      last = c.unlink-node.new.links.last;
+      ends = c.shorten.new.ends;
+    } in
     let e = c.unlink-node.ensures in
     let takes : Takes (places old) c.args.ch.0 c.in_ok-ends.ends.first c.unlink-node.result old new = record {
       first_is = sym (first_is c.args.ch.0 (places old)) ∙ ap first_of (sym c.in_ok-ends.ensures);
@@ -52,7 +62,12 @@ returns-clause-places g c =
 pub returns-clause-taken : goal.returns-clause-taken
 returns-clause-taken g c =
     let old : Links g.row.M.Denot = c.args.links.now in
-    let new : Links g.row.M.Denot = record { nodes = c.unlink-node.new.links.nodes; first = c.unlink-node.new.links.first; last = c.unlink-node.new.links.last; ends = c.shorten.new.ends } in
+    let new : Links g.row.M.Denot = record {
+      nodes = c.unlink-node.new.links.nodes;
+      first = c.unlink-node.new.links.first;
+      last = c.unlink-node.new.links.last;
+      ends = c.shorten.new.ends;
+    } in
     let e = c.unlink-node.ensures in
     let first = sym (first_is c.args.ch.0 (places old)) ∙ ap first_of (sym c.in_ok-ends.ensures) in
     let takes : Takes (places old) c.args.ch.0 c.in_ok-ends.ends.first c.unlink-node.result old new = record {
@@ -65,4 +80,5 @@ returns-clause-taken g c =
       ends = λ o. c.shorten.ensures.ends o ∙ rw e.ends refl;
     } in
     let left = places_are new _ (taken (places old) c.args.ch.0 c.in_ok-ends.ends.first c.unlink-node.result old new c.requires takes) in
-    rw left (queue_first None c.args.ch.0 (places old) c.in_ok-ends.ends.first c.unlink-node.result c.requires.apart first (sym (c.requires.nodes c.in_ok-ends.ends.first) ∙ e.node))
+    rw left (queue_first None c.args.ch.0 (places old) c.in_ok-ends.ends.first c.unlink-node.result c.requires.apart first
+    (sym (c.requires.nodes c.in_ok-ends.ends.first) ∙ e.node))

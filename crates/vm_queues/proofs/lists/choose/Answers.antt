@@ -27,7 +27,8 @@ returns-in-Some c =
     let marks = lists.marks.items in
     let skip = c.args.skip.now in
     let seen = ap (λ (z : List Link). first_unskipped skip (pages marks (frames_on z lists.inactive))) c.deref.ensures.value in
-    sym (first_some skip (pages marks (frame_lists lists).inactive) (pages marks (frame_lists lists).active) c.in-Some.frame (sym seen ∙ sym (c.first_unskipped.ensures marks) ∙ c.in-Some.is))
+    sym (first_some skip (pages marks (frame_lists lists).inactive) (pages marks (frame_lists lists).active) c.in-Some.frame
+    (sym seen ∙ sym (c.first_unskipped.ensures marks) ∙ c.in-Some.is))
 
 pub returns-in-None : goal.returns-in-None
 returns-in-None c =
@@ -37,4 +38,5 @@ returns-in-None c =
     let front = ap (λ (z : List Link). first_unskipped skip (pages marks (frames_on z lists.inactive))) c.deref.ensures.value in
     let seen = ap (λ (z : List Link). first_unskipped skip (pages marks (frames_on z lists.active))) c.deref-in-None.ensures.value in
     c.first_unskipped-in-None.ensures marks ∙ seen
-    ∙ sym (first_none skip (pages marks (frame_lists lists).inactive) (pages marks (frame_lists lists).active) (sym front ∙ sym (c.first_unskipped.ensures marks) ∙ c.in-None.is))
+    ∙ sym (first_none skip (pages marks (frame_lists lists).inactive) (pages marks (frame_lists lists).active)
+    (sym front ∙ sym (c.first_unskipped.ensures marks) ∙ c.in-None.is))

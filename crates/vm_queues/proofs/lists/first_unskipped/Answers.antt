@@ -26,7 +26,8 @@ returns-then-not-is_skipped c = λ marks.
     let links = link_of c.args.links.now in
     let skip = c.args.skip.now in
     let frame : FrameNo = c.in-Some.frame in
-    let walk = ap (λ z. along links (c.args.ends.count - c.all.counter) z) c.in-Some.is ∙ along_next links c.args.ends.count c.all.counter frame c.all-test.true in
+    let walk = ap (λ z. along links (c.args.ends.count - c.all.counter) z) c.in-Some.is
+    ∙ along_next links c.args.ends.count c.all.counter frame c.all-test.true in
     let rest = pages marks (along links (c.args.ends.count - (c.all.counter + 1)) (links frame.0).after) in
     sym (first_picked skip (queued_page marks frame) rest (sym c.is_skipped.ensures ∙ c.if-not-is_skipped.true))
     ∙ ap (λ z. first_unskipped skip (pages marks z)) (sym walk)
@@ -36,7 +37,8 @@ pub bounds-links-frame : goal.bounds-links-frame
 bounds-links-frame c =
     let links = link_of c.args.links.now in
     let frame : FrameNo = c.in-Some.frame in
-    let walk = ap (λ z. along links (c.args.ends.count - c.all.counter) z) c.in-Some.is ∙ along_next links c.args.ends.count c.all.counter frame c.all-test.true in
+    let walk = ap (λ z. along links (c.args.ends.count - c.all.counter) z) c.in-Some.is
+    ∙ along_next links c.args.ends.count c.all.counter frame c.all-test.true in
     let front : FramesAreApart (length c.args.links.now) (frame ∷ along links (c.args.ends.count - (c.all.counter + 1)) (links frame.0).after)
     = subst (FramesAreApart (length c.args.links.now)) walk c.all.invariant.apart in
     front.0
@@ -46,7 +48,8 @@ all-preserved c =
     let links = link_of c.args.links.now in
     let skip = c.args.skip.now in
     let frame : FrameNo = c.in-Some.frame in
-    let walk = ap (λ z. along links (c.args.ends.count - c.all.counter) z) c.in-Some.is ∙ along_next links c.args.ends.count c.all.counter frame c.all-test.true in
+    let walk = ap (λ z. along links (c.args.ends.count - c.all.counter) z) c.in-Some.is
+    ∙ along_next links c.args.ends.count c.all.counter frame c.all-test.true in
     let rest = along links (c.args.ends.count - (c.all.counter + 1)) (links frame.0).after in
     let front : FramesAreApart (length c.args.links.now) (frame ∷ rest) = subst (FramesAreApart (length c.args.links.now)) walk c.all.invariant.apart in
     record {

@@ -8,14 +8,19 @@ pub index-requires : goal.index-requires
 index-requires c =
     let lists : Lists = c.args.lists.now in
     let frames = frame_lists lists in
-    omega (arith, frame_inside frames c.in-Some.frame.0 c.requires.apart (inactive_first frames c.in-Some.frame (sym c.requires.inactive.first ∙ c.in-Some.is)), lists.marks.ok.0)
+    omega (
+      arith,
+      frame_inside frames c.in-Some.frame.0 c.requires.apart (inactive_first frames c.in-Some.frame (sym c.requires.inactive.first ∙ c.in-Some.is)),
+      lists.marks.ok.0,
+    )
 
 pub returns-in-Some : goal.returns-in-Some
 returns-in-Some c =
     let lists : Lists = c.args.lists.now in
     let frames = frame_lists lists in
     let first = sym c.requires.inactive.first ∙ c.in-Some.is in
-    front_read frames.marks frames.inactive c.in-Some.frame c.index.result.now first (frame_inside frames c.in-Some.frame.0 c.requires.apart (inactive_first frames c.in-Some.frame first)) c.index.ensures
+    front_read frames.marks frames.inactive c.in-Some.frame c.index.result.now first
+    (frame_inside frames c.in-Some.frame.0 c.requires.apart (inactive_first frames c.in-Some.frame first)) c.index.ensures
 
 pub returns-in-None : goal.returns-in-None
 returns-in-None c =

@@ -14,14 +14,23 @@ push-requires-clause-last c = rw c.deref_mut.ensures.value (inactive_below c.arg
 
 pub push-requires-clause-fits : goal.push-requires-clause-fits
 push-requires-clause-fits c =
-    rw c.deref_mut.ensures.value (omega (arith, room_for_one c.args.f c.args.lists.now (frame_lists c.args.lists.now) c.requires.kept c.requires.inside c.requires.absent))
+    rw c.deref_mut.ensures.value (omega (
+      arith,
+      room_for_one c.args.f c.args.lists.now (frame_lists c.args.lists.now) c.requires.kept c.requires.inside
+          c.requires.absent,
+    ))
 
 pub returns : goal.returns
 returns c =
     let old : Lists = c.args.lists.now in
     let seen = c.deref_mut.result.now in
     let left = c.push.new.links in
-    let new : Lists = record { links = with_items old.links left; marks = with_item old.marks c.args.f.0 false; active = old.active; inactive = c.push.new.ends } in
+    let new : Lists = record {
+      links = with_items old.links left;
+      marks = with_item old.marks c.args.f.0 false;
+      active = old.active;
+      inactive = c.push.new.ends;
+    } in
     let puts : PutsInactive c.args.f old new seen left = record {
       before = c.deref_mut.ensures.value;
       after = with_items_is old.links left (omega (arith, c.push.ensures.count, c.deref_mut.ensures.len));

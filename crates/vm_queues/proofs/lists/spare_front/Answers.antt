@@ -17,7 +17,8 @@ put_active-requires-clause-inside c =
 
 pub put_active-requires-clause-absent : goal.put_active-requires-clause-absent
 put_active-requires-clause-absent c =
-    ap (λ (l : FrameLists). is_skipped (all_frames l) c.in-Some.frame.0) c.take_off.ensures.frames ∙ none_except (frame_lists c.args.lists.now) c.in-Some.frame.0
+    ap (λ (l : FrameLists). is_skipped (all_frames l) c.in-Some.frame.0) c.take_off.ensures.frames
+    ∙ none_except (frame_lists c.args.lists.now) c.in-Some.frame.0
 
 pub returns-in-Some-clause-spared : goal.returns-in-Some-clause-spared
 returns-in-Some-clause-spared c =

@@ -4,7 +4,8 @@ use Rattle.std.specs.Vec.{with_items}
 use Rattle.vm_queues.specs.Kept.{frame_lists, frames_except}
 use Rattle.vm_queues.specs.declared.link.Link.{Link}
 use Rattle.vm_queues.specs.declared.lists.Lists.{Lists}
-use Rattle.vm_queues.proofs.Linking.{TakesActive, TakesInactive, are_lists, fits_active, fits_inactive, is_neither, lists_are, read_is, take_active, take_inactive}
+use Rattle.vm_queues.proofs.Linking.{TakesActive, TakesInactive, are_lists, fits_active, fits_inactive, is_neither, lists_are, read_is, take_active}
+use Rattle.vm_queues.proofs.Linking.{take_inactive}
 use Rattle.vm_queues.proofs.Moves.{frame_inside}
 use Rattle.vm_queues.proofs.lists.take_off.Goals as goal
 
@@ -27,7 +28,12 @@ unlink-requires-in-Inactive c =
     let inside = frame_inside (frame_lists old) c.args.f.0 c.requires.kept.apart c.requires.there in
     let here = read_is old.links.items c.args.f.0 c.index.result.now (omega (arith, inside, c.requires.kept.count)) c.index.ensures in
     let fits = fits_inactive old (frame_lists old) c.args.f c.requires.kept (ap (λ (l : Link). l.list) here ∙ c.in-Inactive.is) in
-    rw c.deref_mut-in-Inactive.ensures.value (record { inside = omega (arith, inside, c.requires.kept.count); before = fits.before; after = fits.after; some = fits.some })
+    rw c.deref_mut-in-Inactive.ensures.value (record {
+      inside = omega (arith, inside, c.requires.kept.count);
+      before = fits.before;
+      after = fits.after;
+      some = fits.some;
+    })
 
 pub returns-in-Active : goal.returns-in-Active
 returns-in-Active c =

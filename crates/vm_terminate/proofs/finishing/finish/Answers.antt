@@ -17,16 +17,27 @@ use Rattle.vm_terminate.proofs.finishing.finish.Goals as goal
 use Rattle.vm_terminate.proofs.finishing.finish.Goals.{After-leave_under, In_ok-end_control, In-Some-leave_under}
 
 pub down-init : goal.down-init
-down-init g c = record { come = at_first _ _ c.requires; so_far = λ end more. more; low = omega arith; uses = λ n less. uses_none n _ _ _; saved = λ each. omega arith; told = λ n less. omega arith; size = refl }
+down-init g c =
+    record {
+      come = at_first _ _ c.requires;
+      so_far = λ end more. more;
+      low = omega arith;
+      uses = λ n less. uses_none n _ _ _;
+      saved = λ each. omega arith;
+      told = λ n less. omega arith;
+      size = refl;
+    }
 
 pub end_control-requires-clause-known : goal.end_control-requires-clause-known
 end_control-requires-clause-known g c =
     let now = finish_state c.down.parts c.down.chains (g.L.Holder.held c.down.laundry) (g.L.Holder.room c.down.laundry) c.down.log.items in
-    let bare = finish_state c.end_pages.new.parts c.down.chains (g.L.Holder.held c.end_pages.new.laundry) (g.L.Holder.room c.end_pages.new.laundry) c.end_pages.new.log.items in
+    let bare = finish_state c.end_pages.new.parts c.down.chains (g.L.Holder.held c.end_pages.new.laundry) (g.L.Holder.room c.end_pages.new.laundry)
+    c.end_pages.new.log.items in
     still_known c.args.host c.down.ending c.in-Some.known now bare (sym c.in-Some.ensures) (c.in_ok-end_pages.ensures.leave c.down.chains)
 
 -- where the pages of an object can't leave, the object isn't temporary, and there are buffers
-no_buffers : (kind : ObjectKind) (enough : Type 0) (result : Bool) → result ≡ false → (kind ≡ Temp → result ≡ true) → (kind ≢ Temp → enough) → (enough → result ≡ true) → ⊥
+no_buffers : (kind : ObjectKind) (enough : Type 0) (result : Bool) → result ≡ false → (kind ≡ Temp → result ≡ true) → (kind ≢ Temp → enough)
+    → (enough → result ≡ true) → ⊥
 no_buffers kind enough result fails dropped needs succeeds = elim (temporary kind) [
   | inl is ↦ let bad : false ≡ true = sym fails ∙ dropped is in absurd (cc)
   | inr other ↦ let bad : false ≡ true = sym fails ∙ succeeds (needs other) in absurd (cc)
@@ -46,15 +57,18 @@ returns-in_err-end_pages-clause-succeeds g c = λ n less events pages.
     (λ enough. c.in_err-end_pages.ensures.succeeds fits (omega (arith, uses.buffers, enough))))
 
 -- a control that can't be ended lives, and then there is room for its end
-no_room : (live : Bool) (result : Bool) (listed living room : ℕ) → (live ≡ true → 0 < living) → listed + living ≤ room → result ≡ false → (0 < room → result ≡ true) → (live ≡ false → result ≡ true) → ⊥
-no_room true result listed living room some fits fails succeeds idle = let one = some refl in let bad : false ≡ true = sym fails ∙ succeeds (omega arith) in absurd (cc)
+no_room : (live : Bool) (result : Bool) (listed living room : ℕ) → (live ≡ true → 0 < living) → listed + living ≤ room → result ≡ false
+    → (0 < room → result ≡ true) → (live ≡ false → result ≡ true) → ⊥
+no_room true result listed living room some fits fails succeeds idle =
+    let one = some refl in let bad : false ≡ true = sym fails ∙ succeeds (omega arith) in absurd (cc)
 no_room false result listed living room some fits fails succeeds idle = let bad : false ≡ true = sym fails ∙ idle refl in absurd (cc)
 
 pub returns-in_err-end_control-clause-succeeds : goal.returns-in_err-end_control-clause-succeeds
 returns-in_err-end_control-clause-succeeds g c = λ n less events pages.
     let uses = c.down.invariant.uses n less in
     let now = finish_state c.down.parts c.down.chains (g.L.Holder.held c.down.laundry) (g.L.Holder.room c.down.laundry) c.down.log.items in
-    let lives = λ (live : c.in-Some.known.live ≡ true). some_below c.down.parts.objects c.down.ending.0 n (omega (arith, c.down.invariant.low, less)) (ap is_live_row (sym c.in-Some.ensures) ∙ live) in
+    let lives = λ (live : c.in-Some.known.live ≡ true). some_below c.down.parts.objects c.down.ending.0 n (omega (arith, c.down.invariant.low, less))
+    (ap is_live_row (sym c.in-Some.ensures) ∙ live) in
     absurd (no_room c.in-Some.known.live false (listed_pages c.end_pages.new.parts.queues) (live_below c.down.parts.objects n) c.end_pages.new.log.room lives
     (omega (arith, uses.log, events, c.in_ok-end_pages.ensures.log)) refl c.in_err-end_control.ensures.succeeds c.in_err-end_control.ensures.idle)
 
@@ -66,10 +80,14 @@ abbrev now : (g : Over) → In_ok-end_control g → FinishState
 now g c = finish_state c.down.parts c.down.chains (g.L.Holder.held c.down.laundry) (g.L.Holder.room c.down.laundry) c.down.log.items
 
 abbrev bare : (g : Over) → In_ok-end_control g → FinishState
-bare g c = finish_state c.end_pages.new.parts c.down.chains (g.L.Holder.held c.end_pages.new.laundry) (g.L.Holder.room c.end_pages.new.laundry) c.end_pages.new.log.items
+bare g c =
+    finish_state c.end_pages.new.parts c.down.chains (g.L.Holder.held c.end_pages.new.laundry) (g.L.Holder.room c.end_pages.new.laundry)
+    c.end_pages.new.log.items
 
 abbrev quiet : (g : Over) → In_ok-end_control g → FinishState
-quiet g c = finish_state c.end_control.new.parts c.down.chains (g.L.Holder.held c.end_pages.new.laundry) (g.L.Holder.room c.end_pages.new.laundry) c.end_control.new.log.items
+quiet g c =
+    finish_state c.end_control.new.parts c.down.chains (g.L.Holder.held c.end_pages.new.laundry) (g.L.Holder.room c.end_pages.new.laundry)
+    c.end_control.new.log.items
 
 is_bare : (g : Over) (c : In_ok-end_control g) → IsBare c.args.host c.down.ending c.in-Some.known (now g c) (bare g c) (quiet g c)
 is_bare g c =
@@ -82,22 +100,29 @@ is_bare g c =
 pub leave_under-requires-clause-referred : goal.leave_under-requires-clause-referred
 leave_under-requires-clause-referred g c =
     let turn = (goal.at.leave_under-requires-clause-referred g c).In_ok-end_control in
-    under_referred c.args.host c.args.object.0 c.down.ending c.in-Some.known (start g turn) (now g turn) (bare g turn) (quiet g turn) c.requires c.down.invariant.come (is_bare g turn)
+    under_referred c.args.host c.args.object.0 c.down.ending c.in-Some.known (start g turn) (now g turn) (bare g turn) (quiet g turn) c.requires
+    c.down.invariant.come (is_bare g turn)
 
 pub returns-in_default-leave_under-clause-finished : goal.returns-in_default-leave_under-clause-finished
 returns-in_default-leave_under-clause-finished g c =
     let turn = (goal.at.returns-in_default-leave_under-clause-finished g c).In_ok-end_control in
-    let new = finish_state c.leave_under.new.parts c.leave_under.new.chains (g.L.Holder.held c.end_pages.new.laundry) (g.L.Holder.room c.end_pages.new.laundry) c.end_control.new.log.items in
-    c.down.invariant.so_far new (ends_there c.args.host c.down.ending c.in-Some.known c.leave_under.result (now g turn) (bare g turn) (quiet g turn) new (is_bare g turn)
-    (c.leave_under.ensures.under (g.L.Holder.held c.end_pages.new.laundry) (g.L.Holder.room c.end_pages.new.laundry) c.end_control.new.log.items) c.in_default-leave_under.is)
+    let new = finish_state c.leave_under.new.parts c.leave_under.new.chains (g.L.Holder.held c.end_pages.new.laundry) (g.L.Holder.room c.end_pages.new.laundry)
+    c.end_control.new.log.items in
+    c.down.invariant.so_far new (ends_there c.args.host c.down.ending c.in-Some.known c.leave_under.result (now g turn) (bare g turn) (quiet g turn) new
+    (is_bare g turn)
+    (c.leave_under.ensures.under (g.L.Holder.held c.end_pages.new.laundry) (g.L.Holder.room c.end_pages.new.laundry) c.end_control.new.log.items)
+    c.in_default-leave_under.is)
 
 -- the state behind a turn
 abbrev behind : (g : Over) → After-leave_under g → FinishState
-behind g c = finish_state c.leave_under.new.parts c.leave_under.new.chains (g.L.Holder.held c.end_pages.new.laundry) (g.L.Holder.room c.end_pages.new.laundry) c.end_control.new.log.items
+behind g c =
+    finish_state c.leave_under.new.parts c.leave_under.new.chains (g.L.Holder.held c.end_pages.new.laundry) (g.L.Holder.room c.end_pages.new.laundry)
+    c.end_control.new.log.items
 
 takes_turn : (g : Over) (c : After-leave_under g) → TakesTurn c.in-Some.known
     (finish_state c.down.parts c.down.chains (g.L.Holder.held c.down.laundry) (g.L.Holder.room c.down.laundry) c.down.log.items)
-    (finish_state c.end_pages.new.parts c.down.chains (g.L.Holder.held c.end_pages.new.laundry) (g.L.Holder.room c.end_pages.new.laundry) c.end_pages.new.log.items)
+    (finish_state c.end_pages.new.parts c.down.chains (g.L.Holder.held c.end_pages.new.laundry) (g.L.Holder.room c.end_pages.new.laundry)
+    c.end_pages.new.log.items)
     (behind g c) c.down.log.room c.end_pages.new.log.room c.end_control.new.log.room
 takes_turn g c =
     let buffers : c.leave_under.new.parts.buffers ≡ c.end_pages.new.parts.buffers = c.leave_under.ensures.buffers ∙ c.in_ok-end_control.ensures.buffers in
@@ -117,14 +142,17 @@ takes_turn g c =
 pub returns-in_default-leave_under-clause-uses : goal.returns-in_default-leave_under-clause-uses
 returns-in_default-leave_under-clause-uses g c = λ n less.
     let turn = (goal.at.returns-in_default-leave_under-clause-uses g c).In_ok-end_control in
-    turn_uses c.args.host c.down.ending c.leave_under.result c.in-Some.known c.args.parts.now c.args.chains.now (now g turn) (bare g turn) (quiet g turn) (behind g (goal.at.returns-in_default-leave_under-clause-uses g c).After-leave_under)
+    turn_uses c.args.host c.down.ending c.leave_under.result c.in-Some.known c.args.parts.now c.args.chains.now (now g turn) (bare g turn) (quiet g turn)
+    (behind g (goal.at.returns-in_default-leave_under-clause-uses g c).After-leave_under)
     c.args.log.now.room c.down.log.room c.end_pages.new.log.room c.end_control.new.log.room n (omega (arith, c.down.invariant.low, less)) (is_bare g turn)
-    (c.leave_under.ensures.under (g.L.Holder.held c.end_pages.new.laundry) (g.L.Holder.room c.end_pages.new.laundry) c.end_control.new.log.items) (takes_turn g (goal.at.returns-in_default-leave_under-clause-uses g c).After-leave_under)
+    (c.leave_under.ensures.under (g.L.Holder.held c.end_pages.new.laundry) (g.L.Holder.room c.end_pages.new.laundry) c.end_control.new.log.items)
+    (takes_turn g (goal.at.returns-in_default-leave_under-clause-uses g c).After-leave_under)
     (c.down.invariant.uses n less)
 
 -- where each object that ends is temporary no buffer is taken at a turn
 saved_turn : (g : Over) (c : After-leave_under g)
-    → ((o : ℕ) (row : ObjectRow) → EndsWith c.args.chains.now c.args.parts.now.objects c.args.object.0 o → object_at c.args.parts.now.objects o ≡ Some row → row.kind ≡ Temp)
+    → ((o : ℕ) (row : ObjectRow) → EndsWith c.args.chains.now c.args.parts.now.objects c.args.object.0 o → object_at c.args.parts.now.objects o ≡ Some row
+    → row.kind ≡ Temp)
     → c.args.parts.now.buffers.count ≤ c.leave_under.new.parts.buffers.count
 saved_turn g c each =
     let come = c.down.invariant.come in
@@ -143,7 +171,8 @@ returns-in_default-leave_under-clause-saved g c = λ each. saved_turn g (goal.at
 pub returns-in_default-leave_under-clause-told : goal.returns-in_default-leave_under-clause-told
 returns-in_default-leave_under-clause-told g c = λ n less.
     let turn = (goal.at.returns-in_default-leave_under-clause-told g c).In_ok-end_control in
-    let one = turn_told c.args.host c.down.ending c.leave_under.result c.in-Some.known (now g turn) (bare g turn) (quiet g turn) (behind g (goal.at.returns-in_default-leave_under-clause-told g c).After-leave_under) n
+    let one = turn_told c.args.host c.down.ending c.leave_under.result c.in-Some.known (now g turn) (bare g turn) (quiet g turn)
+    (behind g (goal.at.returns-in_default-leave_under-clause-told g c).After-leave_under) n
     (omega (arith, c.down.invariant.low, less)) (is_bare g turn)
     (c.leave_under.ensures.under (g.L.Holder.held c.end_pages.new.laundry) (g.L.Holder.room c.end_pages.new.laundry) c.end_control.new.log.items) in
     let before = c.down.invariant.told n less in
@@ -151,10 +180,16 @@ returns-in_default-leave_under-clause-told g c = λ n less.
 
 -- the state when what stood under the object has lost its last reference
 abbrev next : (g : Over) → In-Some-leave_under g → FinishState
-next g c = finish_state c.leave_under.new.parts c.leave_under.new.chains (g.L.Holder.held c.end_pages.new.laundry) (g.L.Holder.room c.end_pages.new.laundry) c.end_control.new.log.items
+next g c =
+    finish_state c.leave_under.new.parts c.leave_under.new.chains (g.L.Holder.held c.end_pages.new.laundry) (g.L.Holder.room c.end_pages.new.laundry)
+    c.end_control.new.log.items
 
-on : (g : Over) (c : In-Some-leave_under g) → GoesOn c.down.ending c.in-Some-leave_under.under (finish_state c.end_control.new.parts c.down.chains (g.L.Holder.held c.end_pages.new.laundry) (g.L.Holder.room c.end_pages.new.laundry) c.end_control.new.log.items) (next g c)
-on g c = goes_on _ c.leave_under.result _ _ _ (c.leave_under.ensures.under (g.L.Holder.held c.end_pages.new.laundry) (g.L.Holder.room c.end_pages.new.laundry) c.end_control.new.log.items) c.in-Some-leave_under.is
+on : (g : Over) (c : In-Some-leave_under g) → GoesOn c.down.ending c.in-Some-leave_under.under
+    (finish_state c.end_control.new.parts c.down.chains (g.L.Holder.held c.end_pages.new.laundry) (g.L.Holder.room c.end_pages.new.laundry)
+    c.end_control.new.log.items) (next g c)
+on g c =
+    goes_on _ c.leave_under.result _ _ _ (c.leave_under.ensures.under (g.L.Holder.held c.end_pages.new.laundry) (g.L.Holder.room c.end_pages.new.laundry)
+    c.end_control.new.log.items) c.in-Some-leave_under.is
 
 pub down-smaller : goal.down-smaller
 down-smaller g c =
@@ -167,16 +202,25 @@ down-preserved g c =
     let turn = (goal.at.down-preserved g c).In_ok-end_control in
     let buffers : c.leave_under.new.parts.buffers ≡ c.end_pages.new.parts.buffers = c.leave_under.ensures.buffers ∙ c.in_ok-end_control.ensures.buffers in
     record {
-      come = come_on c.args.host c.args.object.0 c.down.ending c.in-Some-leave_under.under c.in-Some.known (start g turn) (now g turn) (bare g turn) (quiet g turn) (next g c) c.down.invariant.come (is_bare g turn) (on g c) c.leave_under.ensures.fit;
+      come =
+          come_on c.args.host c.args.object.0 c.down.ending c.in-Some-leave_under.under c.in-Some.known (start g turn) (now g turn) (bare g turn) (quiet g turn)
+          (next g c) c.down.invariant.come (is_bare g turn) (on g c) c.leave_under.ensures.fit;
       so_far = λ end more. c.down.invariant.so_far end
-          (ends_further c.args.host c.down.ending c.in-Some-leave_under.under c.in-Some.known (now g turn) (bare g turn) (quiet g turn) (next g c) end (is_bare g turn) (on g c) more);
-      low = let go = on g c in let same : c.in-Some-leave_under.under.0 ≡ go.row.under.0 = ap (λ z. z.0) go.is in omega (arith, go.less, same, c.down.invariant.low);
-      uses = λ n less. turn_uses c.args.host c.down.ending c.leave_under.result c.in-Some.known c.args.parts.now c.args.chains.now (now g turn) (bare g turn) (quiet g turn) (next g c)
+          (ends_further c.args.host c.down.ending c.in-Some-leave_under.under c.in-Some.known (now g turn) (bare g turn) (quiet g turn) (next g c) end
+          (is_bare g turn) (on g c) more);
+      low =
+          let go = on g c in let same : c.in-Some-leave_under.under.0 ≡ go.row.under.0 = ap (λ z. z.0) go.is in omega
+          (arith, go.less, same, c.down.invariant.low);
+      uses =
+          λ n less. turn_uses c.args.host c.down.ending c.leave_under.result c.in-Some.known c.args.parts.now c.args.chains.now (now g turn) (bare g turn)
+          (quiet g turn) (next g c)
           c.args.log.now.room c.down.log.room c.end_pages.new.log.room c.end_control.new.log.room n (omega (arith, c.down.invariant.low, less)) (is_bare g turn)
-          (c.leave_under.ensures.under (g.L.Holder.held c.end_pages.new.laundry) (g.L.Holder.room c.end_pages.new.laundry) c.end_control.new.log.items) (takes_turn g (goal.at.down-preserved g c).After-leave_under) (c.down.invariant.uses n less);
+          (c.leave_under.ensures.under (g.L.Holder.held c.end_pages.new.laundry) (g.L.Holder.room c.end_pages.new.laundry) c.end_control.new.log.items)
+          (takes_turn g (goal.at.down-preserved g c).After-leave_under) (c.down.invariant.uses n less);
       saved = λ each. saved_turn g (goal.at.down-preserved g c).After-leave_under each;
       told = λ n less.
-          let one = turn_told c.args.host c.down.ending c.leave_under.result c.in-Some.known (now g turn) (bare g turn) (quiet g turn) (next g c) n (omega (arith, c.down.invariant.low, less)) (is_bare g turn)
+          let one = turn_told c.args.host c.down.ending c.leave_under.result c.in-Some.known (now g turn) (bare g turn) (quiet g turn) (next g c) n
+          (omega (arith, c.down.invariant.low, less)) (is_bare g turn)
           (c.leave_under.ensures.under (g.L.Holder.held c.end_pages.new.laundry) (g.L.Holder.room c.end_pages.new.laundry) c.end_control.new.log.items) in
           let before = c.down.invariant.told n less in
           omega (arith, one, before);

@@ -13,12 +13,15 @@ abbrev pub invariant-down : goal.invariant-down
 invariant-down g l = record {
   come : HasComeTo l.fn.object.0 (finish_state l.fn.parts l.fn.chains (g.L.Holder.held l.fn.laundry) (g.L.Holder.room l.fn.laundry) l.fn.log.items)
       (finish_state l.parts l.chains (g.L.Holder.held l.laundry) (g.L.Holder.room l.laundry) l.log.items) l.ending.0;
-  so_far : (end : FinishState) → Finishes l.host l.ending (finish_state l.parts l.chains (g.L.Holder.held l.laundry) (g.L.Holder.room l.laundry) l.log.items) end
+  so_far : (end : FinishState) → Finishes l.host l.ending (finish_state l.parts l.chains (g.L.Holder.held l.laundry) (g.L.Holder.room l.laundry) l.log.items)
+      end
       → Finishes l.host l.fn.object (finish_state l.fn.parts l.fn.chains (g.L.Holder.held l.fn.laundry) (g.L.Holder.room l.fn.laundry) l.fn.log.items) end;
   low : l.ending.0 ≤ l.fn.object.0;
   uses : (n : ℕ) → l.fn.object.0 < n → UsesRoom n l.fn.parts l.parts l.fn.chains l.chains l.fn.log.room l.log.room;
-  saved : ((o : ℕ) (row : ObjectRow) → EndsWith l.fn.chains l.fn.parts.objects l.fn.object.0 o → object_at l.fn.parts.objects o ≡ Some row → row.kind ≡ Temp) → l.fn.parts.buffers.count ≤ l.parts.buffers.count;
-  told : (n : ℕ) → l.fn.object.0 < n → length l.log.items + (listed_pages l.parts.queues + live_below l.parts.objects n) ≤ length l.fn.log.items + (listed_pages l.fn.parts.queues + live_below l.fn.parts.objects n);
+  saved : ((o : ℕ) (row : ObjectRow) → EndsWith l.fn.chains l.fn.parts.objects l.fn.object.0 o → object_at l.fn.parts.objects o ≡ Some row → row.kind ≡ Temp)
+      → l.fn.parts.buffers.count ≤ l.parts.buffers.count;
+  told : (n : ℕ) → l.fn.object.0 < n → length l.log.items + (listed_pages l.parts.queues + live_below l.parts.objects n) ≤ length
+      l.fn.log.items + (listed_pages l.fn.parts.queues + live_below l.fn.parts.objects n);
   size : l.parts.buffers.size ≡ l.fn.parts.buffers.size;
 }
 

@@ -9,7 +9,8 @@ unrefer-left-requires-clause-there c = is_there _ _ (c.requires.referred c.in_ok
 pub unrefer-left-requires-clause-some : goal.unrefer-left-requires-clause-some
 unrefer-left-requires-clause-some c = has_some _ _ (c.requires.referred c.in_ok-row.row (sym c.in_ok-row.ensures.value) c.in_ok-row.ensures.older)
 
-unrefers : (c : After-unrefer-left) → Unrefers c.args.object c.in_ok-row.row c.unrefer-left.result c.args.parts.now c.unrefer-left.new.self c.args.chains.now c.drop_object.new.self
+unrefers : (c : After-unrefer-left) → Unrefers c.args.object c.in_ok-row.row c.unrefer-left.result c.args.parts.now c.unrefer-left.new.self c.args.chains.now
+    c.drop_object.new.self
 unrefers c =
     record {
       found = c.in_ok-row.ensures.value;
@@ -21,7 +22,8 @@ unrefers c =
     }
 
 pub returns-then-left-eq0-clause-under : goal.returns-then-left-eq0-clause-under
-returns-then-left-eq0-clause-under c = ends _ _ _ _ _ _ _ (unrefers (goal.at.returns-then-left-eq0-clause-under c).After-unrefer-left) (omega arith) c.in_ok-row.ensures.older
+returns-then-left-eq0-clause-under c =
+    ends _ _ _ _ _ _ _ (unrefers (goal.at.returns-then-left-eq0-clause-under c).After-unrefer-left) (omega arith) c.in_ok-row.ensures.older
 
 pub returns-then-left-eq0-clause-fit : goal.returns-then-left-eq0-clause-fit
 returns-then-left-eq0-clause-fit c = fit_unreferred _ _ _ _ _ _ _ (unrefers (goal.at.returns-then-left-eq0-clause-fit c).After-unrefer-left) c.requires.fit

@@ -41,8 +41,10 @@ pages-preserved g c =
     let row = row_there _ c.in-Some.ensures.there in
     let here = kept.here c.in-Some.page.0 row.0 row.1 in
     let leaves = MatchOption-at_some _ _ row.0 row.1 c.in_ok-end_page.ensures.leaves in
-    let old = λ (chains : ChainTable). finish_state c.pages.parts chains (g.L.Holder.held c.pages.laundry) (g.L.Holder.room c.pages.laundry) c.pages.log.items in
-    let new = λ (chains : ChainTable). finish_state c.end_page.new.parts chains (g.L.Holder.held c.end_page.new.laundry) (g.L.Holder.room c.end_page.new.laundry) c.end_page.new.log.items in
+    let old = λ (chains : ChainTable). finish_state c.pages.parts chains (g.L.Holder.held c.pages.laundry) (g.L.Holder.room c.pages.laundry)
+    c.pages.log.items in
+    let new = λ (chains : ChainTable). finish_state c.end_page.new.parts chains (g.L.Holder.held c.end_page.new.laundry)
+    (g.L.Holder.room c.end_page.new.laundry) c.end_page.new.log.items in
     let key : PageKey = record { object = c.args.object; page = c.in-Some.page } in
     let gone = has_gone c.args.host key c.args.known row.0 (old no_chains) (new no_chains) here (leaves no_chains) in
     record {
@@ -57,7 +59,9 @@ pages-preserved g c =
       spare = omega (arith, kept.spare, c.in_ok-end_page.ensures.spare);
       rows = omega (arith, kept.rows, c.in_ok-end_page.ensures.rows);
       fewer = omega (arith, kept.fewer, gone.lists);
-      leave = λ chains end more. kept.leave chains end (one_more c.args.host c.args.object c.args.known c.pages.from.0 c.in-Some.page row.0 (old chains) (new chains) end c.in-Some.ensures row.1 here refl (leaves chains) more);
+      leave =
+          λ chains end more. kept.leave chains end (one_more c.args.host c.args.object c.args.known c.pages.from.0 c.in-Some.page row.0 (old chains)
+          (new chains) end c.in-Some.ensures row.1 here refl (leaves chains) more);
     }
 
 pub returns-clause-leave : goal.returns-clause-leave

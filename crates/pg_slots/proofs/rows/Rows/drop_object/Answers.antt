@@ -8,4 +8,5 @@ returns-clause-slots c = λ p. rw (← c.self.view_is, c.swap_remove.ensures.val
 
 pub returns-clause-dropped : goal.returns-clause-dropped
 returns-clause-dropped c =
-    rw (← c.self.view_is) (drops_rows c.args.object.0 _ _ (writes_seen (λ m. m.entries) c.args.object.0 None c.self.inside.rows.entries c.swap_remove.new.self.entries (λ o. c.swap_remove.ensures.updates.0 (record { 0 = o }))))
+    rw (← c.self.view_is) (drops_rows c.args.object.0 _ _ (writes_seen (λ m. m.entries) c.args.object.0 None c.self.inside.rows.entries
+    c.swap_remove.new.self.entries (λ o. c.swap_remove.ensures.updates.0 (record { 0 = o }))))

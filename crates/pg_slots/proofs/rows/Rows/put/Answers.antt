@@ -20,7 +20,8 @@ returns c =
     let object = c.args.key.object.0 in
     let none : lookup (λ id. object == id.0) c.self.inside.rows.entries ≡ None = search rules in
     let same : c.get_mut.follows.lender-at-none ≡ c.self.inside.rows = search rules in
-    let room : 0 < min (spare c.self.inside.rows) (spare c.self.inside.next) = rw (room_seen c.self.inside.rows.entries object _, none) at (rw (← c.self.view_is) at c.requires) in
+    let room : 0 < min (spare c.self.inside.rows) (spare c.self.inside.next) = rw (room_seen c.self.inside.rows.entries object _, none)
+    at (rw (← c.self.view_is) at c.requires) in
     let row = on_ok c.insert-2.result _ c.insert-2.ensures.updates (c.insert-2.ensures.succeeds (rw c.replace-pages.ensures.value (grind (arith, room)))) in
     let there = on_ok c.insert-3.result _ c.insert-3.ensures.updates (c.insert-3.ensures.succeeds (rw same (grind (arith, room)))) in
     rw (← c.self.view_is) (puts_row object c.args.key.page.0 c.args.held _ _ c.insert-2.new.self.entries

@@ -7,12 +7,14 @@ use Rattle.pg_slots.proofs.rows.Rows.reserve.Goals as goal
 pub returns-in_err-reserve-clause-rows : goal.returns-in_err-reserve-clause-rows
 returns-in_err-reserve-clause-rows c =
     let found : lookup (λ id. c.args.key.object.0 == id.0) c.self.inside.rows.entries ≡ Some c.in-Some.pages.now = search rules in
-    rw (← c.self.view_is, (c.get_mut.follows.holds c.reserve.new.self).0) (seen_kept (λ m. m.entries) (λ id. c.args.key.object.0 == id.0) c.self.inside.rows.entries c.in-Some.pages.now c.reserve.new.self found c.reserve.ensures.entries)
+    rw (← c.self.view_is, (c.get_mut.follows.holds c.reserve.new.self).0) (seen_kept (λ m. m.entries) (λ id. c.args.key.object.0 == id.0)
+    c.self.inside.rows.entries c.in-Some.pages.now c.reserve.new.self found c.reserve.ensures.entries)
 
 pub returns-in-Some-clause-rows : goal.returns-in-Some-clause-rows
 returns-in-Some-clause-rows c =
     let found : lookup (λ id. c.args.key.object.0 == id.0) c.self.inside.rows.entries ≡ Some c.in-Some.pages.now = search rules in
-    rw (← c.self.view_is, (c.get_mut.follows.holds c.reserve.new.self).0) (seen_kept (λ m. m.entries) (λ id. c.args.key.object.0 == id.0) c.self.inside.rows.entries c.in-Some.pages.now c.reserve.new.self found c.reserve.ensures.entries)
+    rw (← c.self.view_is, (c.get_mut.follows.holds c.reserve.new.self).0) (seen_kept (λ m. m.entries) (λ id. c.args.key.object.0 == id.0)
+    c.self.inside.rows.entries c.in-Some.pages.now c.reserve.new.self found c.reserve.ensures.entries)
 
 pub returns-in-Some-clause-room : goal.returns-in-Some-clause-room
 returns-in-Some-clause-room c =

@@ -11,7 +11,14 @@ use Rattle.sms_proto.proofs.kernel.Kernel.clean_dirty.Goals as goal
 
 pub returns-clause-adds : goal.returns-clause-adds
 returns-clause-adds c =
-    adds_next _ _ _ _ _ _ c.in_ok-push-3.ensures.ok c.done.ensures (refl, refl, refl) (adds_next _ _ _ _ _ _ c.in_ok-push-2.ensures.ok c.sent.ensures (refl, refl, subst (λ (m : Message). IsPageMessage m) (sym c.in_ok-message.ensures) refl) (adds_none _ _ _ _ _ c.in_ok-push.ensures.ok (c.taken.ensures ∙ ap (λ (m : Message). Taken (Down c.args.self.now.host (record { 0 = 0 }) c.args.self.now.control) m) c.lock.ensures)))
+    adds_next _ _ _ _ _ _ c.in_ok-push-3.ensures.ok c.done.ensures (refl, refl, refl)
+    (adds_next _ _ _ _ _ _ c.in_ok-push-2.ensures.ok c.sent.ensures (
+      refl,
+      refl,
+      subst (λ (m : Message). IsPageMessage m) (sym c.in_ok-message.ensures) refl,
+    )
+    (adds_none _ _ _ _ _ c.in_ok-push.ensures.ok (c.taken.ensures
+    ∙ ap (λ (m : Message). Taken (Down c.args.self.now.host (record { 0 = 0 }) c.args.self.now.control) m) c.lock.ensures)))
 
 pub returns-clause-fits : goal.returns-clause-fits
 returns-clause-fits c =

@@ -7,4 +7,6 @@ use Rattle.sms_proto.proofs.kernel.Kernel.clean_nothing.Goals as goal
 
 pub returns-clause-adds : goal.returns-clause-adds
 returns-clause-adds c =
-    adds_next _ _ _ _ _ _ c.in_ok-push-2.ensures.ok c.done.ensures (refl, refl, refl) (adds_none _ _ _ _ _ c.in_ok-push.ensures.ok (c.taken.ensures ∙ ap (λ (m : Message). Taken (Down c.args.self.now.host (record { 0 = 0 }) c.args.self.now.control) m) c.lock.ensures))
+    adds_next _ _ _ _ _ _ c.in_ok-push-2.ensures.ok c.done.ensures (refl, refl, refl)
+    (adds_none _ _ _ _ _ c.in_ok-push.ensures.ok (c.taken.ensures
+    ∙ ap (λ (m : Message). Taken (Down c.args.self.now.host (record { 0 = 0 }) c.args.self.now.control) m) c.lock.ensures))

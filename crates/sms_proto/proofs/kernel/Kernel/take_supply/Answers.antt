@@ -11,11 +11,13 @@ use Rattle.sms_proto.proofs.kernel.Kernel.take_supply.Goals as goal
 
 pub returns-then-not-self-clause-adds : goal.returns-then-not-self-clause-adds
 returns-then-not-self-clause-adds c =
-    adds_none _ _ _ _ _ c.in_ok-push.ensures.ok (c.taken.ensures ∙ ap (λ (m : Message). Taken (Down c.args.self.now.host (record { 0 = 0 }) c.args.self.now.control) m) c.requires.message)
+    adds_none _ _ _ _ _ c.in_ok-push.ensures.ok (c.taken.ensures
+    ∙ ap (λ (m : Message). Taken (Down c.args.self.now.host (record { 0 = 0 }) c.args.self.now.control) m) c.requires.message)
 
 pub returns-clause-adds : goal.returns-clause-adds
 returns-clause-adds c =
-    adds_none _ _ _ _ _ c.in_ok-push.ensures.ok (c.taken.ensures ∙ ap (λ (m : Message). Taken (Down c.args.self.now.host (record { 0 = 0 }) c.args.self.now.control) m) c.requires.message)
+    adds_none _ _ _ _ _ c.in_ok-push.ensures.ok (c.taken.ensures
+    ∙ ap (λ (m : Message). Taken (Down c.args.self.now.host (record { 0 = 0 }) c.args.self.now.control) m) c.requires.message)
 
 pub returns-then-not-self-clause-fits : goal.returns-then-not-self-clause-fits
 returns-then-not-self-clause-fits c =

@@ -7,4 +7,5 @@ use Rattle.sms_proto.proofs.kernel.Kernel.take_unlock.Goals as goal
 
 pub returns-clause-adds : goal.returns-clause-adds
 returns-clause-adds c =
-    adds_none _ _ _ _ _ c.in_ok-push.ensures.ok (c.taken.ensures ∙ ap (λ (m : Message). Taken (Down c.args.self.now.host (record { 0 = 0 }) c.args.self.now.control) m) c.lock.ensures)
+    adds_none _ _ _ _ _ c.in_ok-push.ensures.ok (c.taken.ensures
+    ∙ ap (λ (m : Message). Taken (Down c.args.self.now.host (record { 0 = 0 }) c.args.self.now.control) m) c.lock.ensures)

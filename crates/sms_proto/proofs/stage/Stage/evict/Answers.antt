@@ -7,12 +7,16 @@ use Rattle.sms_proto.proofs.stage.Stage.evict.Goals as goal
 
 pub returns-clause-stands : goal.returns-clause-stands
 returns-clause-stands c =
-    stage_stands c.args.self.now.size c.args.self.now.kernels.items c.args.self.now.directory c.args.self.now.events.items c.evict.new.events.items c.args.host.0 c.index_mut.result.now c.evict.new.self c.requires.host
+    stage_stands c.args.self.now.size c.args.self.now.kernels.items c.args.self.now.directory c.args.self.now.events.items c.evict.new.events.items
+    c.args.host.0 c.index_mut.result.now c.evict.new.self c.requires.host
     (slice_get_read c.args.self.now.kernels.items _ c.args.host.0 c.index_mut.result.now refl c.requires.host c.index_mut.ensures.value)
     c.requires.stands c.evict.ensures.fits c.evict.ensures.prompt c.evict.ensures.licensed c.evict.ensures.same.0 c.evict.ensures.same.1 c.evict.ensures.moved
 
 pub returns-clause-takes : goal.returns-clause-takes
 returns-clause-takes c =
-    let is : slice_get c.args.self.now.kernels.items c.args.host.0 ≡ Some c.index_mut.result.now = slice_get_read c.args.self.now.kernels.items _ c.args.host.0 c.index_mut.result.now refl c.requires.host c.index_mut.ensures.value in
-    let present = present_of c.args.self.now.size c.args.host.0 c.args.self.now.kernels.items c.args.self.now.directory c.args.self.now.events.items c.index_mut.result.now c.requires.stands is in
-    on_ok c.evict.result _ _ (saw_evicted c.args.self.now.size c.args.host.0 c.args.self.now.events.items c.evict.new.events.items c.index_mut.result.now present) c.evict.ensures.exact
+    let is : slice_get c.args.self.now.kernels.items c.args.host.0 ≡ Some c.index_mut.result.now = slice_get_read c.args.self.now.kernels.items _ c.args.host.0
+    c.index_mut.result.now refl c.requires.host c.index_mut.ensures.value in
+    let present = present_of c.args.self.now.size c.args.host.0 c.args.self.now.kernels.items c.args.self.now.directory c.args.self.now.events.items
+    c.index_mut.result.now c.requires.stands is in
+    on_ok c.evict.result _ _ (saw_evicted c.args.self.now.size c.args.host.0 c.args.self.now.events.items c.evict.new.events.items c.index_mut.result.now
+    present) c.evict.ensures.exact

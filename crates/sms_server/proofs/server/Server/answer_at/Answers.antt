@@ -76,9 +76,13 @@ invariant_of-self-2 c =
     let sized : c.self.inside.size ≡ table.size = ap (λ (t : ServerTable). t.size) c.self.view_is in
     let size_same : c.args.self.now.size ≡ c.self.inside.size = sym c.prepare_page.ensures.same.size ∙ sym sized in
     let y = c.answer.new.self in
-    let told : c.answer.new.events.items ≡ row_events c.args.host.0 c.args.message.now x = c.answer.ensures.events ∙ (ap (λ (l : Listed Event). row_events c.args.host.0 c.args.message.now x ++ l.items) c.replace-events.ensures.value ∙ (ap (λ (es : List Event). row_events c.args.host.0 c.args.message.now x ++ es) c.self.invariant.none ∙ append-nil (row_events c.args.host.0 c.args.message.now x))) in
+    let told : c.answer.new.events.items ≡ row_events c.args.host.0 c.args.message.now x = c.answer.ensures.events
+    ∙ (ap (λ (l : Listed Event). row_events c.args.host.0 c.args.message.now x ++ l.items) c.replace-events.ensures.value
+    ∙ (ap (λ (es : List Event). row_events c.args.host.0 c.args.message.now x ++ es) c.self.invariant.none
+    ∙ append-nil (row_events c.args.host.0 c.args.message.now x))) in
     let key_is : x.key ≡ record { object = c.args.object; page = c.args.page } = ap (λ (z : PageRow). z.key) (sym same) ∙ at.key_is in
-    let left = row_whole c.self.inside.size c.args.host.0 c.args.message.now x y c.answer.ensures.row (subst (λ (n : ℕ). ReturnsWhole n c.args.message.now) size_same c.requires.whole) whole.0 whole.1 in
+    let left = row_whole c.self.inside.size c.args.host.0 c.args.message.now x y c.answer.ensures.row
+    (subst (λ (n : ℕ). ReturnsWhole n c.args.message.now) size_same c.requires.whole) whole.0 whole.1 in
     record {
       by_key = by_key_set 0 0 i x y rows c.self.invariant.by_key is (sym c.answer.ensures.row.key);
       whole = whole_set c.self.inside.size i y rows c.self.invariant.whole left.0 left.1;
@@ -101,7 +105,10 @@ returns-clause-answered c =
     let sized : c.self.inside.size ≡ table.size = ap (λ (t : ServerTable). t.size) c.self.view_is in
     let size_same : c.args.self.now.size ≡ c.self.inside.size = sym c.prepare_page.ensures.same.size ∙ sym sized in
     let y = c.answer.new.self in
-    let told : c.answer.new.events.items ≡ row_events c.args.host.0 c.args.message.now x = c.answer.ensures.events ∙ (ap (λ (l : Listed Event). row_events c.args.host.0 c.args.message.now x ++ l.items) c.replace-events.ensures.value ∙ (ap (λ (es : List Event). row_events c.args.host.0 c.args.message.now x ++ es) c.self.invariant.none ∙ append-nil (row_events c.args.host.0 c.args.message.now x))) in
+    let told : c.answer.new.events.items ≡ row_events c.args.host.0 c.args.message.now x = c.answer.ensures.events
+    ∙ (ap (λ (l : Listed Event). row_events c.args.host.0 c.args.message.now x ++ l.items) c.replace-events.ensures.value
+    ∙ (ap (λ (es : List Event). row_events c.args.host.0 c.args.message.now x ++ es) c.self.invariant.none
+    ∙ append-nil (row_events c.args.host.0 c.args.message.now x))) in
     let key_is : x.key ≡ record { object = c.args.object; page = c.args.page } = ap (λ (z : PageRow). z.key) (sym same) ∙ at.key_is in
     one_answer c.args.host.0 c.args.object c.args.page.0 c.args.message.now rows i x y c.args.self.now table _ c.answer.new.events.items (record {
       by_key = c.self.invariant.by_key;
@@ -129,10 +136,14 @@ returns-clause-words c =
     let sized : c.self.inside.size ≡ table.size = ap (λ (t : ServerTable). t.size) c.self.view_is in
     let size_same : c.args.self.now.size ≡ c.self.inside.size = sym c.prepare_page.ensures.same.size ∙ sym sized in
     let y = c.answer.new.self in
-    let told : c.answer.new.events.items ≡ row_events c.args.host.0 c.args.message.now x = c.answer.ensures.events ∙ (ap (λ (l : Listed Event). row_events c.args.host.0 c.args.message.now x ++ l.items) c.replace-events.ensures.value ∙ (ap (λ (es : List Event). row_events c.args.host.0 c.args.message.now x ++ es) c.self.invariant.none ∙ append-nil (row_events c.args.host.0 c.args.message.now x))) in
+    let told : c.answer.new.events.items ≡ row_events c.args.host.0 c.args.message.now x = c.answer.ensures.events
+    ∙ (ap (λ (l : Listed Event). row_events c.args.host.0 c.args.message.now x ++ l.items) c.replace-events.ensures.value
+    ∙ (ap (λ (es : List Event). row_events c.args.host.0 c.args.message.now x ++ es) c.self.invariant.none
+    ∙ append-nil (row_events c.args.host.0 c.args.message.now x))) in
     let key_is : x.key ≡ record { object = c.args.object; page = c.args.page } = ap (λ (z : PageRow). z.key) (sym same) ∙ at.key_is in
     let words = row_words c.args.self.now.size c.args.host.0 c.args.message.now x c.requires.whole (whole.0 ∙ sym size_same) in
-    subst (λ (o : ObjectId). AreServerWords c.args.self.now.size o c.answer.new.events.items) (ap (λ (k : PageKey). k.object) key_is) (subst (AreServerWords c.args.self.now.size x.key.object) (sym told) words)
+    subst (λ (o : ObjectId). AreServerWords c.args.self.now.size o c.answer.new.events.items) (ap (λ (k : PageKey). k.object) key_is)
+    (subst (AreServerWords c.args.self.now.size x.key.object) (sym told) words)
 
 pub returns-clause-few : goal.returns-clause-few
 returns-clause-few c =
@@ -149,7 +160,10 @@ returns-clause-few c =
     let sized : c.self.inside.size ≡ table.size = ap (λ (t : ServerTable). t.size) c.self.view_is in
     let size_same : c.args.self.now.size ≡ c.self.inside.size = sym c.prepare_page.ensures.same.size ∙ sym sized in
     let y = c.answer.new.self in
-    let told : c.answer.new.events.items ≡ row_events c.args.host.0 c.args.message.now x = c.answer.ensures.events ∙ (ap (λ (l : Listed Event). row_events c.args.host.0 c.args.message.now x ++ l.items) c.replace-events.ensures.value ∙ (ap (λ (es : List Event). row_events c.args.host.0 c.args.message.now x ++ es) c.self.invariant.none ∙ append-nil (row_events c.args.host.0 c.args.message.now x))) in
+    let told : c.answer.new.events.items ≡ row_events c.args.host.0 c.args.message.now x = c.answer.ensures.events
+    ∙ (ap (λ (l : Listed Event). row_events c.args.host.0 c.args.message.now x ++ l.items) c.replace-events.ensures.value
+    ∙ (ap (λ (es : List Event). row_events c.args.host.0 c.args.message.now x ++ es) c.self.invariant.none
+    ∙ append-nil (row_events c.args.host.0 c.args.message.now x))) in
     let key_is : x.key ≡ record { object = c.args.object; page = c.args.page } = ap (λ (z : PageRow). z.key) (sym same) ∙ at.key_is in
     let few = c.answer.ensures.few in
     let none = ap (λ (l : Listed Event). length l.items) c.replace-events.ensures.value ∙ ap length c.self.invariant.none in
@@ -172,10 +186,14 @@ returns-clause-few_told c =
     let sized : c.self.inside.size ≡ table.size = ap (λ (t : ServerTable). t.size) c.self.view_is in
     let size_same : c.args.self.now.size ≡ c.self.inside.size = sym c.prepare_page.ensures.same.size ∙ sym sized in
     let y = c.answer.new.self in
-    let told : c.answer.new.events.items ≡ row_events c.args.host.0 c.args.message.now x = c.answer.ensures.events ∙ (ap (λ (l : Listed Event). row_events c.args.host.0 c.args.message.now x ++ l.items) c.replace-events.ensures.value ∙ (ap (λ (es : List Event). row_events c.args.host.0 c.args.message.now x ++ es) c.self.invariant.none ∙ append-nil (row_events c.args.host.0 c.args.message.now x))) in
+    let told : c.answer.new.events.items ≡ row_events c.args.host.0 c.args.message.now x = c.answer.ensures.events
+    ∙ (ap (λ (l : Listed Event). row_events c.args.host.0 c.args.message.now x ++ l.items) c.replace-events.ensures.value
+    ∙ (ap (λ (es : List Event). row_events c.args.host.0 c.args.message.now x ++ es) c.self.invariant.none
+    ∙ append-nil (row_events c.args.host.0 c.args.message.now x))) in
     let key_is : x.key ≡ record { object = c.args.object; page = c.args.page } = ap (λ (z : PageRow). z.key) (sym same) ∙ at.key_is in
     let few = c.answer.ensures.few in
     let none = ap (λ (l : Listed Event). length l.items) c.replace-events.ensures.value ∙ ap length c.self.invariant.none in
-    let told_most = told_of_row c.args.object.0 c.args.page.0 c.args.message.now rows i x table c.args.self.now c.requires.about c.requires.one (ap (λ (k : PageKey). k.object.0) key_is) (ap (λ (k : PageKey). k.page.0) key_is) seen c.self.invariant.by_key is
+    let told_most = told_of_row c.args.object.0 c.args.page.0 c.args.message.now rows i x table c.args.self.now c.requires.about c.requires.one
+    (ap (λ (k : PageKey). k.object.0) key_is) (ap (λ (k : PageKey). k.page.0) key_is) seen c.self.invariant.by_key is
     (c.prepare_page.ensures.same.pages c.args.object.0 c.args.page.0).directory.line in
     omega (arith, few, none, told_most)

@@ -9,23 +9,35 @@ use Rattle.sms_server.proofs.server.Server.find_or_name.Goals as goal
 pub returns-then-stands_at-clause-named : goal.returns-then-stands_at-clause-named
 returns-then-stands_at-clause-named c =
     let rows = c.self.inside.rows.items in
-    let place : c.find-i.result ≡ rows_before c.args.key.object.0 c.args.key.page.0 rows = c.find-i.ensures.value ∙ ap (rows_before c.args.key.object.0 c.args.key.page.0) c.deref.ensures.value in
-    let here : is_page_at c.args.key.object.0 c.args.key.page.0 (slice_get rows c.find-i.result) ≡ true = ap (λ (l : List PageRow). is_page_at c.args.key.object.0 c.args.key.page.0 (slice_get l c.find-i.result)) (sym c.deref-2.ensures.value) ∙ (sym c.stands_at.ensures ∙ c.if-stands_at.true) in
+    let place : c.find-i.result ≡ rows_before c.args.key.object.0 c.args.key.page.0 rows = c.find-i.ensures.value
+    ∙ ap (rows_before c.args.key.object.0 c.args.key.page.0) c.deref.ensures.value in
+    let here : is_page_at c.args.key.object.0 c.args.key.page.0 (slice_get rows c.find-i.result) ≡ true = ap
+    (λ (l : List PageRow). is_page_at c.args.key.object.0 c.args.key.page.0 (slice_get l c.find-i.result)) (sym c.deref-2.ensures.value)
+    ∙ (sym c.stands_at.ensures ∙ c.if-stands_at.true) in
     let seen : c.args.self.now.rows ≡ rows = ap (λ (t : ServerTable). t.rows) (sym c.self.view_is) in
-    subst (λ (l : List PageRow). IsSome (row_among c.args.key.object.0 c.args.key.page.0 l)) (sym seen) (stood rows c.args.key c.find-i.result c.self.invariant.by_key place here)
+    subst (λ (l : List PageRow). IsSome (row_among c.args.key.object.0 c.args.key.page.0 l)) (sym seen)
+    (stood rows c.args.key c.find-i.result c.self.invariant.by_key place here)
 
 pub returns-then-stands_at-clause-memory : goal.returns-then-stands_at-clause-memory
 returns-then-stands_at-clause-memory c = λ prepared.
     let rows = c.self.inside.rows.items in
-    let place : c.find-i.result ≡ rows_before c.args.key.object.0 c.args.key.page.0 rows = c.find-i.ensures.value ∙ ap (rows_before c.args.key.object.0 c.args.key.page.0) c.deref.ensures.value in
-    let here : is_page_at c.args.key.object.0 c.args.key.page.0 (slice_get rows c.find-i.result) ≡ true = ap (λ (l : List PageRow). is_page_at c.args.key.object.0 c.args.key.page.0 (slice_get l c.find-i.result)) (sym c.deref-2.ensures.value) ∙ (sym c.stands_at.ensures ∙ c.if-stands_at.true) in
+    let place : c.find-i.result ≡ rows_before c.args.key.object.0 c.args.key.page.0 rows = c.find-i.ensures.value
+    ∙ ap (rows_before c.args.key.object.0 c.args.key.page.0) c.deref.ensures.value in
+    let here : is_page_at c.args.key.object.0 c.args.key.page.0 (slice_get rows c.find-i.result) ≡ true = ap
+    (λ (l : List PageRow). is_page_at c.args.key.object.0 c.args.key.page.0 (slice_get l c.find-i.result)) (sym c.deref-2.ensures.value)
+    ∙ (sym c.stands_at.ensures ∙ c.if-stands_at.true) in
     let seen : c.args.self.now.rows ≡ rows = ap (λ (t : ServerTable). t.rows) (sym c.self.view_is) in
-    subst (λ (l : List PageRow). HasMemory c.args.self.now.room (row_among c.args.key.object.0 c.args.key.page.0 l)) (sym seen) (has_memory c.args.self.now rows c.args.key c.find-i.result seen c.self.invariant.by_key place (stood rows c.args.key c.find-i.result c.self.invariant.by_key place here) prepared)
+    subst (λ (l : List PageRow). HasMemory c.args.self.now.room (row_among c.args.key.object.0 c.args.key.page.0 l)) (sym seen)
+    (has_memory c.args.self.now rows c.args.key c.find-i.result seen c.self.invariant.by_key place
+    (stood rows c.args.key c.find-i.result c.self.invariant.by_key place here) prepared)
 
 pub name_page-requires : goal.name_page-requires
 name_page-requires c =
     let rows = c.self.inside.rows.items in
-    let place : c.find-i.result ≡ rows_before c.args.key.object.0 c.args.key.page.0 rows = c.find-i.ensures.value ∙ ap (rows_before c.args.key.object.0 c.args.key.page.0) c.deref.ensures.value in
-    let apart : is_page_at c.args.key.object.0 c.args.key.page.0 (slice_get rows c.find-i.result) ≡ false = ap (λ (l : List PageRow). is_page_at c.args.key.object.0 c.args.key.page.0 (slice_get l c.find-i.result)) (sym c.deref-2.ensures.value) ∙ (sym c.stands_at.ensures ∙ c.if-stands_at.false) in
+    let place : c.find-i.result ≡ rows_before c.args.key.object.0 c.args.key.page.0 rows = c.find-i.ensures.value
+    ∙ ap (rows_before c.args.key.object.0 c.args.key.page.0) c.deref.ensures.value in
+    let apart : is_page_at c.args.key.object.0 c.args.key.page.0 (slice_get rows c.find-i.result) ≡ false = ap
+    (λ (l : List PageRow). is_page_at c.args.key.object.0 c.args.key.page.0 (slice_get l c.find-i.result)) (sym c.deref-2.ensures.value)
+    ∙ (sym c.stands_at.ensures ∙ c.if-stands_at.false) in
     let seen : c.args.self.now.rows ≡ rows = ap (λ (t : ServerTable). t.rows) (sym c.self.view_is) in
     ap (row_among c.args.key.object.0 c.args.key.page.0) seen ∙ not_stood rows c.args.key c.find-i.result c.self.invariant.by_key place apart

@@ -21,7 +21,12 @@ invariant_of-self c =
     let is : slice_get rows i ≡ Some x = stands ∙ ap Some same in
     let y = c.reserve.new.self in
     let alike = rows_set rows i x y is c.reserve.ensures.same in
-    record { by_key = by_key_same 0 0 rows (set rows i y) alike c.self.invariant.by_key; whole = whole_same c.self.inside.size rows (set rows i y) alike c.self.invariant.whole; new = c.self.invariant.new; none = c.self.invariant.none }
+    record {
+      by_key = by_key_same 0 0 rows (set rows i y) alike c.self.invariant.by_key;
+      whole = whole_same c.self.inside.size rows (set rows i y) alike c.self.invariant.whole;
+      new = c.self.invariant.new;
+      none = c.self.invariant.none;
+    }
 
 pub returns-clause-same : goal.returns-clause-same
 returns-clause-same c =
@@ -52,5 +57,6 @@ returns-clause-most c =
     let y = c.reserve.new.self in
     let alike = rows_set rows i x y is c.reserve.ensures.same in
     let key_is : x.key ≡ record { object = c.args.object; page = c.args.page } = ap (λ (z : PageRow). z.key) (sym same) ∙ at.key_is in
-    most_of_left c.reserve.result c.args.object.0 c.args.page.0 c.args.message.now rows i x table _ c.requires.about c.requires.one (ap (λ (k : PageKey). k.object.0) key_is) (ap (λ (k : PageKey). k.page.0) key_is) seen c.self.invariant.by_key is
+    most_of_left c.reserve.result c.args.object.0 c.args.page.0 c.args.message.now rows i x table _ c.requires.about c.requires.one
+    (ap (λ (k : PageKey). k.object.0) key_is) (ap (λ (k : PageKey). k.page.0) key_is) seen c.self.invariant.by_key is
     (table_same table _ rows seen (ap (λ (t : ServerTable). t.size) c.self.view_is) alike) c.reserve.ensures.most

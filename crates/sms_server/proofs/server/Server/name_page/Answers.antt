@@ -18,10 +18,12 @@ invariant_of-self-2 c =
     let seen : c.args.self.now.rows ≡ rows = sym c.make_spare.ensures.rows ∙ ap (λ (t : ServerTable). t.rows) (sym c.self.view_is) in
     let sized : c.args.self.now.size ≡ c.self.inside.size = sym c.make_spare.ensures.size ∙ ap (λ (t : ServerTable). t.size) (sym c.self.view_is) in
     let absent : row_among c.args.key.object.0 c.args.key.page.0 rows ≡ None = rw seen at c.requires in
-    let place : c.find-i.result ≡ rows_before c.args.key.object.0 c.args.key.page.0 rows = c.find-i.ensures.value ∙ ap (rows_before c.args.key.object.0 c.args.key.page.0) c.deref.ensures.value in
+    let place : c.find-i.result ≡ rows_before c.args.key.object.0 c.args.key.page.0 rows = c.find-i.ensures.value
+    ∙ ap (rows_before c.args.key.object.0 c.args.key.page.0) c.deref.ensures.value in
     let stood : c.self.inside.spare ≡ Some c.in-Some.directory = sym c.take.ensures.value ∙ c.in-Some.is in
     let is_new : IsNewDirectory c.self.inside.size c.in-Some.directory = subst (IsSpare c.self.inside.size) stood c.self.invariant.new in
-    let n = named c.self.inside.size c.find-i.result rows c.insert.new.self.items new c.self.invariant.by_key c.self.invariant.whole absent place c.in_ok-insert.ensures.items is_new refl in
+    let n = named c.self.inside.size c.find-i.result rows c.insert.new.self.items new c.self.invariant.by_key c.self.invariant.whole absent place
+    c.in_ok-insert.ensures.items is_new refl in
     record { by_key = n.by_key; whole = n.whole; new = subst (IsSpare c.self.inside.size) (sym c.take.ensures.after) tt; none = c.self.invariant.none }
 
 pub returns-clause-same : goal.returns-clause-same
@@ -31,10 +33,12 @@ returns-clause-same c =
     let seen : c.args.self.now.rows ≡ rows = sym c.make_spare.ensures.rows ∙ ap (λ (t : ServerTable). t.rows) (sym c.self.view_is) in
     let sized : c.args.self.now.size ≡ c.self.inside.size = sym c.make_spare.ensures.size ∙ ap (λ (t : ServerTable). t.size) (sym c.self.view_is) in
     let absent : row_among c.args.key.object.0 c.args.key.page.0 rows ≡ None = rw seen at c.requires in
-    let place : c.find-i.result ≡ rows_before c.args.key.object.0 c.args.key.page.0 rows = c.find-i.ensures.value ∙ ap (rows_before c.args.key.object.0 c.args.key.page.0) c.deref.ensures.value in
+    let place : c.find-i.result ≡ rows_before c.args.key.object.0 c.args.key.page.0 rows = c.find-i.ensures.value
+    ∙ ap (rows_before c.args.key.object.0 c.args.key.page.0) c.deref.ensures.value in
     let stood : c.self.inside.spare ≡ Some c.in-Some.directory = sym c.take.ensures.value ∙ c.in-Some.is in
     let is_new : IsNewDirectory c.self.inside.size c.in-Some.directory = subst (IsSpare c.self.inside.size) stood c.self.invariant.new in
-    let n = named c.self.inside.size c.find-i.result rows c.insert.new.self.items new c.self.invariant.by_key c.self.invariant.whole absent place c.in_ok-insert.ensures.items is_new refl in
+    let n = named c.self.inside.size c.find-i.result rows c.insert.new.self.items new c.self.invariant.by_key c.self.invariant.whole absent place
+    c.in_ok-insert.ensures.items is_new refl in
     n.same c.args.self.now _ sized seen refl refl
 
 pub returns-clause-named : goal.returns-clause-named
@@ -44,10 +48,13 @@ returns-clause-named c =
     let seen : c.args.self.now.rows ≡ rows = sym c.make_spare.ensures.rows ∙ ap (λ (t : ServerTable). t.rows) (sym c.self.view_is) in
     let sized : c.args.self.now.size ≡ c.self.inside.size = sym c.make_spare.ensures.size ∙ ap (λ (t : ServerTable). t.size) (sym c.self.view_is) in
     let absent : row_among c.args.key.object.0 c.args.key.page.0 rows ≡ None = rw seen at c.requires in
-    let place : c.find-i.result ≡ rows_before c.args.key.object.0 c.args.key.page.0 rows = c.find-i.ensures.value ∙ ap (rows_before c.args.key.object.0 c.args.key.page.0) c.deref.ensures.value in
+    let place : c.find-i.result ≡ rows_before c.args.key.object.0 c.args.key.page.0 rows = c.find-i.ensures.value
+    ∙ ap (rows_before c.args.key.object.0 c.args.key.page.0) c.deref.ensures.value in
     let stood : c.self.inside.spare ≡ Some c.in-Some.directory = sym c.take.ensures.value ∙ c.in-Some.is in
     let is_new : IsNewDirectory c.self.inside.size c.in-Some.directory = subst (IsSpare c.self.inside.size) stood c.self.invariant.new in
-    let n = named c.self.inside.size c.find-i.result rows c.insert.new.self.items new c.self.invariant.by_key c.self.invariant.whole absent place c.in_ok-insert.ensures.items is_new refl in
-    let ready : c.in-Some.directory.prepared ≡ true = and_first _ _ (subst (λ (d : Option Directory). (is_ready d && nat_lt (length c.self.inside.rows.items) (vec_capacity c.self.inside.rows)) ≡ true) stood (ap (λ (t : ServerTable). t.spare) c.self.view_is ∙ c.in_ok-make_spare.ensures.spare)) in
+    let n = named c.self.inside.size c.find-i.result rows c.insert.new.self.items new c.self.invariant.by_key c.self.invariant.whole absent place
+    c.in_ok-insert.ensures.items is_new refl in
+    let ready : c.in-Some.directory.prepared ≡ true = and_first _ _ (subst (λ (d : Option Directory). (is_ready d && nat_lt (length c.self.inside.rows.items)
+    (vec_capacity c.self.inside.rows)) ≡ true) stood (ap (λ (t : ServerTable). t.spare) c.self.view_is ∙ c.in_ok-make_spare.ensures.spare)) in
     let few : most_replies c.in-Some.directory ≤ 9 = rw is_new.line (omega arith) in
     subst (HasMemory 9) (sym (named_row c.find-i.result rows c.insert.new.self.items new place c.in_ok-insert.ensures.items)) (ready, few)

@@ -14,7 +14,13 @@ invariant_of-self c =
     let sized : c.self.inside.size ≡ c.args.self.now.size = ap (λ (t : ServerTable). t.size) c.self.view_is in
     let same : RowsAreSame rows left = subst (λ (l : List PageRow). RowsAreSame l left) c.deref_mut.ensures.value c.prepare_rows.ensures.same in
     let is = with_items_is c.self.inside.rows left (omega (arith, c.prepare_rows.auto.rows, c.deref_mut.ensures.len)) in
-    let kept : IsKept c.self.inside.size left c.self.inside.spare c.self.inside.events.items = record { by_key = by_key_same 0 0 rows left same c.self.invariant.by_key; whole = whole_same c.self.inside.size rows left same c.self.invariant.whole; new = c.self.invariant.new; none = c.self.invariant.none } in
+    let kept : IsKept c.self.inside.size left c.self.inside.spare c.self.inside.events.items = record {
+      by_key = by_key_same 0 0 rows left same
+          c.self.invariant.by_key;
+      whole = whole_same c.self.inside.size rows left same c.self.invariant.whole;
+      new = c.self.invariant.new;
+      none = c.self.invariant.none;
+    } in
     subst (λ (l : List PageRow). IsKept c.self.inside.size l c.self.inside.spare c.self.inside.events.items) (sym is) kept
 
 pub returns-in_err-most-clause-same : goal.returns-in_err-most-clause-same
@@ -35,7 +41,13 @@ invariant_of-self-in_default c =
     let sized : c.self.inside.size ≡ c.args.self.now.size = ap (λ (t : ServerTable). t.size) c.self.view_is in
     let same : RowsAreSame rows left = subst (λ (l : List PageRow). RowsAreSame l left) c.deref_mut.ensures.value c.prepare_rows.ensures.same in
     let is = with_items_is c.self.inside.rows left (omega (arith, c.prepare_rows.auto.rows, c.deref_mut.ensures.len)) in
-    let kept : IsKept c.self.inside.size left c.self.inside.spare c.self.inside.events.items = record { by_key = by_key_same 0 0 rows left same c.self.invariant.by_key; whole = whole_same c.self.inside.size rows left same c.self.invariant.whole; new = c.self.invariant.new; none = c.self.invariant.none } in
+    let kept : IsKept c.self.inside.size left c.self.inside.spare c.self.inside.events.items = record {
+      by_key = by_key_same 0 0 rows left same
+          c.self.invariant.by_key;
+      whole = whole_same c.self.inside.size rows left same c.self.invariant.whole;
+      new = c.self.invariant.new;
+      none = c.self.invariant.none;
+    } in
     subst (λ (l : List PageRow). IsKept c.self.inside.size l c.self.inside.spare c.self.inside.events.items) (sym is) kept
 
 pub returns-in_default-clause-same : goal.returns-in_default-clause-same
@@ -56,7 +68,13 @@ invariant_of-self-in_err-reserve c =
     let sized : c.self.inside.size ≡ c.args.self.now.size = ap (λ (t : ServerTable). t.size) c.self.view_is in
     let same : RowsAreSame rows left = subst (λ (l : List PageRow). RowsAreSame l left) c.deref_mut.ensures.value c.prepare_rows.ensures.same in
     let is = with_items_is c.self.inside.rows left (omega (arith, c.prepare_rows.auto.rows, c.deref_mut.ensures.len)) in
-    let kept : IsKept c.self.inside.size left c.self.inside.spare c.reserve.new.self.items = record { by_key = by_key_same 0 0 rows left same c.self.invariant.by_key; whole = whole_same c.self.inside.size rows left same c.self.invariant.whole; new = c.self.invariant.new; none = c.reserve.ensures.same ∙ c.self.invariant.none } in
+    let kept : IsKept c.self.inside.size left c.self.inside.spare c.reserve.new.self.items = record {
+      by_key = by_key_same 0 0 rows left same
+          c.self.invariant.by_key;
+      whole = whole_same c.self.inside.size rows left same c.self.invariant.whole;
+      new = c.self.invariant.new;
+      none = c.reserve.ensures.same ∙ c.self.invariant.none;
+    } in
     subst (λ (l : List PageRow). IsKept c.self.inside.size l c.self.inside.spare c.reserve.new.self.items) (sym is) kept
 
 pub returns-in_err-reserve-clause-same : goal.returns-in_err-reserve-clause-same
@@ -77,7 +95,13 @@ invariant_of-self-2 c =
     let sized : c.self.inside.size ≡ c.args.self.now.size = ap (λ (t : ServerTable). t.size) c.self.view_is in
     let same : RowsAreSame rows left = subst (λ (l : List PageRow). RowsAreSame l left) c.deref_mut.ensures.value c.prepare_rows.ensures.same in
     let is = with_items_is c.self.inside.rows left (omega (arith, c.prepare_rows.auto.rows, c.deref_mut.ensures.len)) in
-    let kept : IsKept c.self.inside.size left c.self.inside.spare c.reserve.new.self.items = record { by_key = by_key_same 0 0 rows left same c.self.invariant.by_key; whole = whole_same c.self.inside.size rows left same c.self.invariant.whole; new = c.self.invariant.new; none = c.reserve.ensures.same ∙ c.self.invariant.none } in
+    let kept : IsKept c.self.inside.size left c.self.inside.spare c.reserve.new.self.items = record {
+      by_key = by_key_same 0 0 rows left same
+          c.self.invariant.by_key;
+      whole = whole_same c.self.inside.size rows left same c.self.invariant.whole;
+      new = c.self.invariant.new;
+      none = c.reserve.ensures.same ∙ c.self.invariant.none;
+    } in
     subst (λ (l : List PageRow). IsKept c.self.inside.size l c.self.inside.spare c.reserve.new.self.items) (sym is) kept
 
 pub returns-clause-same : goal.returns-clause-same

@@ -15,8 +15,10 @@ index_mut-requires c =
     let i = c.in_ok-i.i in
     let table = c.find_or_name.new.self in
     let seen : table.rows ≡ rows = ap (λ (t : ServerTable). t.rows) (sym c.self.view_is) in
-    let some : IsSome (row_among c.args.key.object.0 c.args.key.page.0 rows) = subst (λ (l : List PageRow). IsSome (row_among c.args.key.object.0 c.args.key.page.0 l)) seen c.in_ok-i.ensures.named in
-    let place : i ≡ rows_before c.args.key.object.0 c.args.key.page.0 rows = c.in_ok-i.ensures.at ∙ ap (rows_before c.args.key.object.0 c.args.key.page.0) seen in
+    let some : IsSome (row_among c.args.key.object.0 c.args.key.page.0 rows) = subst
+    (λ (l : List PageRow). IsSome (row_among c.args.key.object.0 c.args.key.page.0 l)) seen c.in_ok-i.ensures.named in
+    let place : i ≡ rows_before c.args.key.object.0 c.args.key.page.0 rows = c.in_ok-i.ensures.at
+    ∙ ap (rows_before c.args.key.object.0 c.args.key.page.0) seen in
     let f = found rows c.args.key i c.self.invariant.by_key place some in
     let within = slice_get_within rows i f.row f.at in
     omega (arith, within, c.self.inside.rows.ok.0)
@@ -27,13 +29,20 @@ invariant_of-self c =
     let i = c.in_ok-i.i in
     let table = c.find_or_name.new.self in
     let seen : table.rows ≡ rows = ap (λ (t : ServerTable). t.rows) (sym c.self.view_is) in
-    let some : IsSome (row_among c.args.key.object.0 c.args.key.page.0 rows) = subst (λ (l : List PageRow). IsSome (row_among c.args.key.object.0 c.args.key.page.0 l)) seen c.in_ok-i.ensures.named in
-    let place : i ≡ rows_before c.args.key.object.0 c.args.key.page.0 rows = c.in_ok-i.ensures.at ∙ ap (rows_before c.args.key.object.0 c.args.key.page.0) seen in
+    let some : IsSome (row_among c.args.key.object.0 c.args.key.page.0 rows) = subst
+    (λ (l : List PageRow). IsSome (row_among c.args.key.object.0 c.args.key.page.0 l)) seen c.in_ok-i.ensures.named in
+    let place : i ≡ rows_before c.args.key.object.0 c.args.key.page.0 rows = c.in_ok-i.ensures.at
+    ∙ ap (rows_before c.args.key.object.0 c.args.key.page.0) seen in
     let x = c.index_mut.result.now in
     let y = c.reserve.new.self in
     let stands = found_now rows c.args.key i x c.self.invariant.by_key place some c.index_mut.ensures.value in
     let same = rows_set rows i x y stands.is c.reserve.ensures.same in
-    record { by_key = by_key_same 0 0 rows (set rows i y) same c.self.invariant.by_key; whole = whole_same c.self.inside.size rows (set rows i y) same c.self.invariant.whole; new = c.self.invariant.new; none = c.self.invariant.none }
+    record {
+      by_key = by_key_same 0 0 rows (set rows i y) same c.self.invariant.by_key;
+      whole = whole_same c.self.inside.size rows (set rows i y) same c.self.invariant.whole;
+      new = c.self.invariant.new;
+      none = c.self.invariant.none;
+    }
 
 pub returns-in_err-most-clause-same : goal.returns-in_err-most-clause-same
 returns-in_err-most-clause-same c =
@@ -41,8 +50,10 @@ returns-in_err-most-clause-same c =
     let i = c.in_ok-i.i in
     let table = c.find_or_name.new.self in
     let seen : table.rows ≡ rows = ap (λ (t : ServerTable). t.rows) (sym c.self.view_is) in
-    let some : IsSome (row_among c.args.key.object.0 c.args.key.page.0 rows) = subst (λ (l : List PageRow). IsSome (row_among c.args.key.object.0 c.args.key.page.0 l)) seen c.in_ok-i.ensures.named in
-    let place : i ≡ rows_before c.args.key.object.0 c.args.key.page.0 rows = c.in_ok-i.ensures.at ∙ ap (rows_before c.args.key.object.0 c.args.key.page.0) seen in
+    let some : IsSome (row_among c.args.key.object.0 c.args.key.page.0 rows) = subst
+    (λ (l : List PageRow). IsSome (row_among c.args.key.object.0 c.args.key.page.0 l)) seen c.in_ok-i.ensures.named in
+    let place : i ≡ rows_before c.args.key.object.0 c.args.key.page.0 rows = c.in_ok-i.ensures.at
+    ∙ ap (rows_before c.args.key.object.0 c.args.key.page.0) seen in
     let x = c.index_mut.result.now in
     let y = c.reserve.new.self in
     let stands = found_now rows c.args.key i x c.self.invariant.by_key place some c.index_mut.ensures.value in
@@ -55,13 +66,16 @@ returns-in_err-most-clause-succeeds c = λ prepared.
     let i = c.in_ok-i.i in
     let table = c.find_or_name.new.self in
     let seen : table.rows ≡ rows = ap (λ (t : ServerTable). t.rows) (sym c.self.view_is) in
-    let some : IsSome (row_among c.args.key.object.0 c.args.key.page.0 rows) = subst (λ (l : List PageRow). IsSome (row_among c.args.key.object.0 c.args.key.page.0 l)) seen c.in_ok-i.ensures.named in
-    let place : i ≡ rows_before c.args.key.object.0 c.args.key.page.0 rows = c.in_ok-i.ensures.at ∙ ap (rows_before c.args.key.object.0 c.args.key.page.0) seen in
+    let some : IsSome (row_among c.args.key.object.0 c.args.key.page.0 rows) = subst
+    (λ (l : List PageRow). IsSome (row_among c.args.key.object.0 c.args.key.page.0 l)) seen c.in_ok-i.ensures.named in
+    let place : i ≡ rows_before c.args.key.object.0 c.args.key.page.0 rows = c.in_ok-i.ensures.at
+    ∙ ap (rows_before c.args.key.object.0 c.args.key.page.0) seen in
     let x = c.index_mut.result.now in
     let y = c.reserve.new.self in
     let stands = found_now rows c.args.key i x c.self.invariant.by_key place some c.index_mut.ensures.value in
     let same = rows_set rows i x y stands.is c.reserve.ensures.same in
-    let memory : HasMemory table.room (Some x) = subst (HasMemory table.room) (ap (row_among c.args.key.object.0 c.args.key.page.0) seen ∙ stands.among) (c.in_ok-i.ensures.memory prepared) in
+    let memory : HasMemory table.room (Some x) = subst (HasMemory table.room) (ap (row_among c.args.key.object.0 c.args.key.page.0) seen ∙ stands.among)
+    (c.in_ok-i.ensures.memory prepared) in
     absurd (false≢true (c.in_err-most.ensures.succeeds memory.0))
 
 pub invariant_of-self-in_err-reserve : goal.invariant_of-self-in_err-reserve
@@ -70,13 +84,21 @@ invariant_of-self-in_err-reserve c =
     let i = c.in_ok-i.i in
     let table = c.find_or_name.new.self in
     let seen : table.rows ≡ rows = ap (λ (t : ServerTable). t.rows) (sym c.self.view_is) in
-    let some : IsSome (row_among c.args.key.object.0 c.args.key.page.0 rows) = subst (λ (l : List PageRow). IsSome (row_among c.args.key.object.0 c.args.key.page.0 l)) seen c.in_ok-i.ensures.named in
-    let place : i ≡ rows_before c.args.key.object.0 c.args.key.page.0 rows = c.in_ok-i.ensures.at ∙ ap (rows_before c.args.key.object.0 c.args.key.page.0) seen in
+    let some : IsSome (row_among c.args.key.object.0 c.args.key.page.0 rows) = subst
+    (λ (l : List PageRow). IsSome (row_among c.args.key.object.0 c.args.key.page.0 l)) seen c.in_ok-i.ensures.named in
+    let place : i ≡ rows_before c.args.key.object.0 c.args.key.page.0 rows = c.in_ok-i.ensures.at
+    ∙ ap (rows_before c.args.key.object.0 c.args.key.page.0) seen in
     let x = c.index_mut.result.now in
     let y = c.reserve.new.self in
     let stands = found_now rows c.args.key i x c.self.invariant.by_key place some c.index_mut.ensures.value in
     let same = rows_set rows i x y stands.is c.reserve.ensures.same in
-    record { by_key = by_key_same 0 0 rows (set rows i y) same c.self.invariant.by_key; whole = whole_same c.self.inside.size rows (set rows i y) same c.self.invariant.whole; new = c.self.invariant.new; none = c.reserve-2.ensures.same ∙ c.self.invariant.none }
+    record {
+      by_key = by_key_same 0 0 rows (set rows i y) same c.self.invariant.by_key;
+      whole = whole_same c.self.inside.size rows (set rows i y) same c.self.invariant.whole;
+      new = c.self.invariant.new;
+      none = c.reserve-2.ensures.same
+          ∙ c.self.invariant.none;
+    }
 
 pub returns-in_err-reserve-clause-same : goal.returns-in_err-reserve-clause-same
 returns-in_err-reserve-clause-same c =
@@ -84,8 +106,10 @@ returns-in_err-reserve-clause-same c =
     let i = c.in_ok-i.i in
     let table = c.find_or_name.new.self in
     let seen : table.rows ≡ rows = ap (λ (t : ServerTable). t.rows) (sym c.self.view_is) in
-    let some : IsSome (row_among c.args.key.object.0 c.args.key.page.0 rows) = subst (λ (l : List PageRow). IsSome (row_among c.args.key.object.0 c.args.key.page.0 l)) seen c.in_ok-i.ensures.named in
-    let place : i ≡ rows_before c.args.key.object.0 c.args.key.page.0 rows = c.in_ok-i.ensures.at ∙ ap (rows_before c.args.key.object.0 c.args.key.page.0) seen in
+    let some : IsSome (row_among c.args.key.object.0 c.args.key.page.0 rows) = subst
+    (λ (l : List PageRow). IsSome (row_among c.args.key.object.0 c.args.key.page.0 l)) seen c.in_ok-i.ensures.named in
+    let place : i ≡ rows_before c.args.key.object.0 c.args.key.page.0 rows = c.in_ok-i.ensures.at
+    ∙ ap (rows_before c.args.key.object.0 c.args.key.page.0) seen in
     let x = c.index_mut.result.now in
     let y = c.reserve.new.self in
     let stands = found_now rows c.args.key i x c.self.invariant.by_key place some c.index_mut.ensures.value in
@@ -98,13 +122,16 @@ returns-in_err-reserve-clause-succeeds c = λ prepared.
     let i = c.in_ok-i.i in
     let table = c.find_or_name.new.self in
     let seen : table.rows ≡ rows = ap (λ (t : ServerTable). t.rows) (sym c.self.view_is) in
-    let some : IsSome (row_among c.args.key.object.0 c.args.key.page.0 rows) = subst (λ (l : List PageRow). IsSome (row_among c.args.key.object.0 c.args.key.page.0 l)) seen c.in_ok-i.ensures.named in
-    let place : i ≡ rows_before c.args.key.object.0 c.args.key.page.0 rows = c.in_ok-i.ensures.at ∙ ap (rows_before c.args.key.object.0 c.args.key.page.0) seen in
+    let some : IsSome (row_among c.args.key.object.0 c.args.key.page.0 rows) = subst
+    (λ (l : List PageRow). IsSome (row_among c.args.key.object.0 c.args.key.page.0 l)) seen c.in_ok-i.ensures.named in
+    let place : i ≡ rows_before c.args.key.object.0 c.args.key.page.0 rows = c.in_ok-i.ensures.at
+    ∙ ap (rows_before c.args.key.object.0 c.args.key.page.0) seen in
     let x = c.index_mut.result.now in
     let y = c.reserve.new.self in
     let stands = found_now rows c.args.key i x c.self.invariant.by_key place some c.index_mut.ensures.value in
     let same = rows_set rows i x y stands.is c.reserve.ensures.same in
-    let memory : HasMemory table.room (Some x) = subst (HasMemory table.room) (ap (row_among c.args.key.object.0 c.args.key.page.0) seen ∙ stands.among) (c.in_ok-i.ensures.memory prepared) in
+    let memory : HasMemory table.room (Some x) = subst (HasMemory table.room) (ap (row_among c.args.key.object.0 c.args.key.page.0) seen ∙ stands.among)
+    (c.in_ok-i.ensures.memory prepared) in
     let room = ap (λ (t : ServerTable). t.room) c.self.view_is in
     absurd (false≢true (c.in_err-reserve.ensures.succeeds (omega (arith, memory.1, room, c.in_ok-most.ensures.most))))
 
@@ -114,13 +141,21 @@ invariant_of-self-2 c =
     let i = c.in_ok-i.i in
     let table = c.find_or_name.new.self in
     let seen : table.rows ≡ rows = ap (λ (t : ServerTable). t.rows) (sym c.self.view_is) in
-    let some : IsSome (row_among c.args.key.object.0 c.args.key.page.0 rows) = subst (λ (l : List PageRow). IsSome (row_among c.args.key.object.0 c.args.key.page.0 l)) seen c.in_ok-i.ensures.named in
-    let place : i ≡ rows_before c.args.key.object.0 c.args.key.page.0 rows = c.in_ok-i.ensures.at ∙ ap (rows_before c.args.key.object.0 c.args.key.page.0) seen in
+    let some : IsSome (row_among c.args.key.object.0 c.args.key.page.0 rows) = subst
+    (λ (l : List PageRow). IsSome (row_among c.args.key.object.0 c.args.key.page.0 l)) seen c.in_ok-i.ensures.named in
+    let place : i ≡ rows_before c.args.key.object.0 c.args.key.page.0 rows = c.in_ok-i.ensures.at
+    ∙ ap (rows_before c.args.key.object.0 c.args.key.page.0) seen in
     let x = c.index_mut.result.now in
     let y = c.reserve.new.self in
     let stands = found_now rows c.args.key i x c.self.invariant.by_key place some c.index_mut.ensures.value in
     let same = rows_set rows i x y stands.is c.reserve.ensures.same in
-    record { by_key = by_key_same 0 0 rows (set rows i y) same c.self.invariant.by_key; whole = whole_same c.self.inside.size rows (set rows i y) same c.self.invariant.whole; new = c.self.invariant.new; none = c.reserve-2.ensures.same ∙ c.self.invariant.none }
+    record {
+      by_key = by_key_same 0 0 rows (set rows i y) same c.self.invariant.by_key;
+      whole = whole_same c.self.inside.size rows (set rows i y) same c.self.invariant.whole;
+      new = c.self.invariant.new;
+      none = c.reserve-2.ensures.same
+          ∙ c.self.invariant.none;
+    }
 
 pub returns-clause-same : goal.returns-clause-same
 returns-clause-same c =
@@ -128,8 +163,10 @@ returns-clause-same c =
     let i = c.in_ok-i.i in
     let table = c.find_or_name.new.self in
     let seen : table.rows ≡ rows = ap (λ (t : ServerTable). t.rows) (sym c.self.view_is) in
-    let some : IsSome (row_among c.args.key.object.0 c.args.key.page.0 rows) = subst (λ (l : List PageRow). IsSome (row_among c.args.key.object.0 c.args.key.page.0 l)) seen c.in_ok-i.ensures.named in
-    let place : i ≡ rows_before c.args.key.object.0 c.args.key.page.0 rows = c.in_ok-i.ensures.at ∙ ap (rows_before c.args.key.object.0 c.args.key.page.0) seen in
+    let some : IsSome (row_among c.args.key.object.0 c.args.key.page.0 rows) = subst
+    (λ (l : List PageRow). IsSome (row_among c.args.key.object.0 c.args.key.page.0 l)) seen c.in_ok-i.ensures.named in
+    let place : i ≡ rows_before c.args.key.object.0 c.args.key.page.0 rows = c.in_ok-i.ensures.at
+    ∙ ap (rows_before c.args.key.object.0 c.args.key.page.0) seen in
     let x = c.index_mut.result.now in
     let y = c.reserve.new.self in
     let stands = found_now rows c.args.key i x c.self.invariant.by_key place some c.index_mut.ensures.value in
@@ -142,8 +179,10 @@ returns-clause-at c =
     let i = c.in_ok-i.i in
     let table = c.find_or_name.new.self in
     let seen : table.rows ≡ rows = ap (λ (t : ServerTable). t.rows) (sym c.self.view_is) in
-    let some : IsSome (row_among c.args.key.object.0 c.args.key.page.0 rows) = subst (λ (l : List PageRow). IsSome (row_among c.args.key.object.0 c.args.key.page.0 l)) seen c.in_ok-i.ensures.named in
-    let place : i ≡ rows_before c.args.key.object.0 c.args.key.page.0 rows = c.in_ok-i.ensures.at ∙ ap (rows_before c.args.key.object.0 c.args.key.page.0) seen in
+    let some : IsSome (row_among c.args.key.object.0 c.args.key.page.0 rows) = subst
+    (λ (l : List PageRow). IsSome (row_among c.args.key.object.0 c.args.key.page.0 l)) seen c.in_ok-i.ensures.named in
+    let place : i ≡ rows_before c.args.key.object.0 c.args.key.page.0 rows = c.in_ok-i.ensures.at
+    ∙ ap (rows_before c.args.key.object.0 c.args.key.page.0) seen in
     let x = c.index_mut.result.now in
     let y = c.reserve.new.self in
     let stands = found_now rows c.args.key i x c.self.invariant.by_key place some c.index_mut.ensures.value in
@@ -151,4 +190,10 @@ returns-clause-at c =
     let lines = ap length c.reserve.ensures.same.1.line in
     let most = c.in_ok-most.ensures.most in
     let room = c.in_ok-reserve.ensures.room in
-    record { row = y; at = get_set_same rows i y stands.within; key_is = c.reserve.ensures.same.0 ∙ stands.key_same; prepared = c.in_ok-most.ensures.prepared; room = omega (arith, lines, most, room) }
+    record {
+      row = y;
+      at = get_set_same rows i y stands.within;
+      key_is = c.reserve.ensures.same.0 ∙ stands.key_same;
+      prepared = c.in_ok-most.ensures.prepared;
+      room = omega (arith, lines, most, room);
+    }

@@ -9,7 +9,8 @@ invariant_of-self-2 c =
     let i = c.self.inside in
     let order = reverse_push c.pop.new.self.items i.spare.items c.in_ok-frame.frame c.in_ok-frame.ensures.items in
     let kept = subst (λ (rest : List FrameNo). AreFrames i.pages.items i.claims.items rest i.spare.cap i.wired) order c.self.invariant in
-    let left = claim_kept i.pages.items i.claims.items (reverse c.pop.new.self.items) i.spare.cap i.wired c.in_ok-frame.frame c.args.self.now kept c.self.view_is (omega (arith, c.free.ensures.value, c.if-free-eq0.false)) in
+    let left = claim_kept i.pages.items i.claims.items (reverse c.pop.new.self.items) i.spare.cap i.wired c.in_ok-frame.frame c.args.self.now kept
+    c.self.view_is (omega (arith, c.free.ensures.value, c.if-free-eq0.false)) in
     roomier _ _ _ i.spare.cap _ _ left (omega (arith, c.in_ok-frame.ensures.capacity))
 
 pub returns : goal.returns
@@ -17,4 +18,5 @@ returns c =
     let i = c.self.inside in
     let order = reverse_push c.pop.new.self.items i.spare.items c.in_ok-frame.frame c.in_ok-frame.ensures.items in
     let kept = subst (λ (rest : List FrameNo). AreFrames i.pages.items i.claims.items rest i.spare.cap i.wired) order c.self.invariant in
-    claims i.pages.items i.claims.items (reverse c.pop.new.self.items) i.spare.cap i.wired c.in_ok-frame.frame c.args.self.now kept c.self.view_is (omega (arith, c.free.ensures.value, c.if-free-eq0.false))
+    claims i.pages.items i.claims.items (reverse c.pop.new.self.items) i.spare.cap i.wired c.in_ok-frame.frame c.args.self.now kept c.self.view_is
+    (omega (arith, c.free.ensures.value, c.if-free-eq0.false))

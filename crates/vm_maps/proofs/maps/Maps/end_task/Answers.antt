@@ -4,11 +4,13 @@ use Rattle.vm_maps.proofs.Tasks.{edited, has_table, table_read}
 use Rattle.vm_maps.proofs.maps.Maps.end_task.Goals as goal
 
 pub unwrap-requires : goal.unwrap-requires
-unwrap-requires c = rw c.swap_remove.ensures.value (has_table c.self.inside.size c.self.inside.tables.entries c.args.self.now c.args.task.0 c.self.view_is ∙ c.requires)
+unwrap-requires c =
+    rw c.swap_remove.ensures.value (has_table c.self.inside.size c.self.inside.tables.entries c.args.self.now c.args.task.0 c.self.view_is ∙ c.requires)
 
 pub invariant_of-self : goal.invariant_of-self
 invariant_of-self c =
-    let gone = edited c.self.inside.size c.self.inside.tables.entries c.swap_remove.new.self.entries c.args.self.now c.args.task.0 None c.self.view_is c.self.invariant tt (λ other. c.swap_remove.ensures.updates.0 (record { 0 = other })) in
+    let gone = edited c.self.inside.size c.self.inside.tables.entries c.swap_remove.new.self.entries c.args.self.now c.args.task.0 None c.self.view_is
+    c.self.invariant tt (λ other. c.swap_remove.ensures.updates.0 (record { 0 = other })) in
     gone.kept
 
 pub returns-clause-entries : goal.returns-clause-entries
@@ -19,5 +21,6 @@ returns-clause-entries c =
 
 pub returns-clause-ended : goal.returns-clause-ended
 returns-clause-ended c =
-    let gone = edited c.self.inside.size c.self.inside.tables.entries c.swap_remove.new.self.entries c.args.self.now c.args.task.0 None c.self.view_is c.self.invariant tt (λ other. c.swap_remove.ensures.updates.0 (record { 0 = other })) in
+    let gone = edited c.self.inside.size c.self.inside.tables.entries c.swap_remove.new.self.entries c.args.self.now c.args.task.0 None c.self.view_is
+    c.self.invariant tt (λ other. c.swap_remove.ensures.updates.0 (record { 0 = other })) in
     gone.changes

@@ -7,10 +7,12 @@ index-requires c = has_table c.self.inside.size c.self.inside.tables.entries c.a
 
 pub returns-clause-value : goal.returns-clause-value
 returns-clause-value c =
-    let read = table_read c.self.inside.size c.self.inside.tables.entries c.args.self.now c.args.task.0 c.index.result.now c.self.view_is c.self.invariant c.index.ensures in
+    let read = table_read c.self.inside.size c.self.inside.tables.entries c.args.self.now c.args.task.0 c.index.result.now c.self.view_is c.self.invariant
+    c.index.ensures in
     read.is
 
 pub returns-clause-sound : goal.returns-clause-sound
 returns-clause-sound c =
-    let read = table_read c.self.inside.size c.self.inside.tables.entries c.args.self.now c.args.task.0 c.index.result.now c.self.view_is c.self.invariant c.index.ensures in
+    let read = table_read c.self.inside.size c.self.inside.tables.entries c.args.self.now c.args.task.0 c.index.result.now c.self.view_is c.self.invariant
+    c.index.ensures in
     rw read.size read.kept.entries

@@ -12,7 +12,12 @@ pub returns-clause-number : goal.returns-clause-number
 returns-clause-number c = rw (told _ _ _ _ _ c.self.view_is _ _ _ c.get_mut.ensures.value c.unwrap-row.ensures) refl
 
 pub invariant_of-self : goal.invariant_of-self
-invariant_of-self c = (changed _ _ _ _ _ c.self.view_is _ _ _ 0 0 _ _ _ _ c.self.invariant c.get_mut.ensures.value c.unwrap-row.ensures refl (λ some. ((c.get_mut.follows.holds _).3 some).0)).kept
+invariant_of-self c =
+    (changed _ _ _ _ _ c.self.view_is _ _ _ 0 0 _ _ _ _ c.self.invariant c.get_mut.ensures.value c.unwrap-row.ensures refl
+    (λ some. ((c.get_mut.follows.holds _).3 some).0)).kept
 
 pub returns-clause-object : goal.returns-clause-object
-returns-clause-object c = rw (told _ _ _ _ _ c.self.view_is _ _ _ c.get_mut.ensures.value c.unwrap-row.ensures) (changed _ _ _ _ _ c.self.view_is _ _ _ _ _ _ _ _ _ c.self.invariant c.get_mut.ensures.value c.unwrap-row.ensures refl (λ some. ((c.get_mut.follows.holds _).3 some).0)).object
+returns-clause-object c =
+    rw (told _ _ _ _ _ c.self.view_is _ _ _ c.get_mut.ensures.value c.unwrap-row.ensures)
+    (changed _ _ _ _ _ c.self.view_is _ _ _ _ _ _ _ _ _ c.self.invariant c.get_mut.ensures.value c.unwrap-row.ensures refl
+    (λ some. ((c.get_mut.follows.holds _).3 some).0)).object

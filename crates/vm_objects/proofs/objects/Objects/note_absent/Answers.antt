@@ -20,7 +20,8 @@ pub invariant_of-self : goal.invariant_of-self
 invariant_of-self c =
     let promised = ap (λ (z : ObjectTable). z.marks) c.self.view_is in
     let inside = there_and _ c.args.key.page.0 (rw (← c.self.view_is) at c.requires.there) (rw (← c.self.view_is) at c.requires.inside) in
-    marks_put c.self.inside.rows.entries _ _ _ _ _ _ c.args.key true c.self.invariant (writes c) (λ is. inside) (omega (arith, promised, c.requires.room, c.self.invariant.room, c.insert.ensures.spare))
+    marks_put c.self.inside.rows.entries _ _ _ _ _ _ c.args.key true c.self.invariant (writes c) (λ is. inside)
+    (omega (arith, promised, c.requires.room, c.self.invariant.room, c.insert.ensures.spare))
 
 pub returns-clause-mark : goal.returns-clause-mark
 returns-clause-mark c = rw (← c.self.view_is) (marked _ _ _ _ _ _ _ _ c.args.key true (writes c))

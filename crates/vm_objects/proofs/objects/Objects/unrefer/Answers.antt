@@ -9,10 +9,17 @@ pub overflow_sub-row : goal.overflow_sub-row
 overflow_sub-row c = let some = rw (told _ _ _ _ _ c.self.view_is _ _ _ c.get_mut.ensures.value c.unwrap-row.ensures) at c.requires.some in omega (arith, some)
 
 pub returns-clause-left : goal.returns-clause-left
-returns-clause-left c = let some = rw (told _ _ _ _ _ c.self.view_is _ _ _ c.get_mut.ensures.value c.unwrap-row.ensures) at c.requires.some in rw (told _ _ _ _ _ c.self.view_is _ _ _ c.get_mut.ensures.value c.unwrap-row.ensures) (omega (arith, some))
+returns-clause-left c =
+    let some = rw (told _ _ _ _ _ c.self.view_is _ _ _ c.get_mut.ensures.value c.unwrap-row.ensures)
+    at c.requires.some in rw (told _ _ _ _ _ c.self.view_is _ _ _ c.get_mut.ensures.value c.unwrap-row.ensures) (omega (arith, some))
 
 pub invariant_of-self : goal.invariant_of-self
-invariant_of-self c = (changed _ _ _ _ _ c.self.view_is _ _ _ 0 0 _ _ _ _ c.self.invariant c.get_mut.ensures.value c.unwrap-row.ensures refl (λ some. ((c.get_mut.follows.holds _).3 some).0)).kept
+invariant_of-self c =
+    (changed _ _ _ _ _ c.self.view_is _ _ _ 0 0 _ _ _ _ c.self.invariant c.get_mut.ensures.value c.unwrap-row.ensures refl
+    (λ some. ((c.get_mut.follows.holds _).3 some).0)).kept
 
 pub returns-clause-object : goal.returns-clause-object
-returns-clause-object c = rw (told _ _ _ _ _ c.self.view_is _ _ _ c.get_mut.ensures.value c.unwrap-row.ensures) (changed _ _ _ _ _ c.self.view_is _ _ _ _ _ _ _ _ _ c.self.invariant c.get_mut.ensures.value c.unwrap-row.ensures refl (λ some. ((c.get_mut.follows.holds _).3 some).0)).object
+returns-clause-object c =
+    rw (told _ _ _ _ _ c.self.view_is _ _ _ c.get_mut.ensures.value c.unwrap-row.ensures)
+    (changed _ _ _ _ _ c.self.view_is _ _ _ _ _ _ _ _ _ c.self.invariant c.get_mut.ensures.value c.unwrap-row.ensures refl
+    (λ some. ((c.get_mut.follows.holds _).3 some).0)).object

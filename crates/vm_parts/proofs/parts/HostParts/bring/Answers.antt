@@ -15,5 +15,6 @@ returns-clause-fit c =
     let long = ap length size ∙ fit.all_sized c.in-Some.frame.0 claims.inside in
     let whole = ap length c.fill.ensures ∙ (length-replicate {A = ℕ} (length c.bytes_mut.result.now - 0) 0) in
     fit_changed c.args.key c.in-Some.frame _ _ _ _ _ c.args.self.now _ fit
-    (claimed_for c.args.key c.in-Some.frame (clean_row c.in-Some.frame unlocked false) c.fill.new.self c.add.new.self c.args.self.now _ c.claim.new.self fit c.requires.absent refl claims refl c.insert.ensures.rows (c.insert.ensures.frames none) refl c.add.ensures.pages)
+    (claimed_for c.args.key c.in-Some.frame (clean_row c.in-Some.frame unlocked false) c.fill.new.self c.add.new.self c.args.self.now _ c.claim.new.self fit
+    c.requires.absent refl claims refl c.insert.ensures.rows (c.insert.ensures.frames none) refl c.add.ensures.pages)
     (λ some. refl) (λ some. c.requires.inside) (omega (arith, long, whole)) (ap (λ z. z.frames) c.add.ensures.queues) refl refl

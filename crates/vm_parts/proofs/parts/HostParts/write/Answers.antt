@@ -19,6 +19,7 @@ returns-clause-fit c =
     let size = ap length c.bytes_mut.ensures.value ∙ has.sized in
     let whole = ap length c.put.ensures ∙ length_with c.args.at c.args.size c.args.value c.bytes_mut.result.now (rw size c.requires.inside) in
     fit_changed c.args.key row.frame _ _ _ _ _ c.args.self.now _ fit
-    (rows_changed c.args.key row (record row { dirty = true }) c.put.new.self c.args.self.now.queues c.args.self.now _ fit found refl c.set.ensures.rows c.set.ensures.frames refl refl
+    (rows_changed c.args.key row (record row { dirty = true }) c.put.new.self c.args.self.now.queues c.args.self.now _ fit found refl c.set.ensures.rows
+    c.set.ensures.frames refl refl
     (same_case (is_queued c.args.self.now.queues) (is_queued c.args.self.now.queues) row.here row.frame.0 (λ g. refl) (fit.listed _ _ row found)))
     (λ some. refl) (λ some. fit.inside _ _ row found) (whole ∙ size) refl refl refl

@@ -16,6 +16,7 @@ pub returns : goal.returns
 returns c =
     let lists = c.self.inside.lists in
     let inside : c.args.f.0 < length lists.marks.items = rw (ap (λ (q : Queues). q.frames) c.self.view_is) c.requires.inside in
-    let none : is_skipped (all_frames (frame_lists lists)) c.args.f.0 ≡ false = sym (queued_is (frame_lists lists) c.args.f.0) ∙ ap (λ (q : Queues). is_queued q c.args.f.0) c.self.view_is ∙ c.requires.absent in
+    let none : is_skipped (all_frames (frame_lists lists)) c.args.f.0 ≡ false = sym (queued_is (frame_lists lists) c.args.f.0)
+    ∙ ap (λ (q : Queues). is_queued q c.args.f.0) c.self.view_is ∙ c.requires.absent in
     let is = ap pages_of c.put_active.ensures.frames ∙ added_seen c.args.f (frame_lists lists) inside none ∙ ap (added c.args.f.0) c.self.view_is in
     record { queues = is; pages = queued_added c.args.f.0 c.args.self.now (page_lists c.put_active.new.lists) is }

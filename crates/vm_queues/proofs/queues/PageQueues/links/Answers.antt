@@ -20,11 +20,14 @@ returns-clause-links c = λ f.
 pub returns-clause-active : goal.returns-clause-active
 returns-clause-active c =
     let lists : Lists = c.self.inside.lists in
-    let walk = walked_back lists.links.items c.deref.result.now lists.active (frame_lists lists).marks (frame_lists lists).active c.deref.ensures.value c.self.invariant.active refl in
+    let walk = walked_back lists.links.items c.deref.result.now lists.active (frame_lists lists).marks (frame_lists lists).active c.deref.ensures.value
+    c.self.invariant.active refl in
     subst (λ (q : Queues). along (link_of c.deref.result.now) (length q.active) (first_frame (frames_of q.active)) ≡ frames_of q.active) c.self.view_is walk
 
 pub returns-clause-inactive : goal.returns-clause-inactive
 returns-clause-inactive c =
     let lists : Lists = c.self.inside.lists in
-    let walk = walked_back lists.links.items c.deref.result.now lists.inactive (frame_lists lists).marks (frame_lists lists).inactive c.deref.ensures.value c.self.invariant.inactive refl in
-    subst (λ (q : Queues). along (link_of c.deref.result.now) (length q.inactive) (first_frame (frames_of q.inactive)) ≡ frames_of q.inactive) c.self.view_is walk
+    let walk = walked_back lists.links.items c.deref.result.now lists.inactive (frame_lists lists).marks (frame_lists lists).inactive c.deref.ensures.value
+    c.self.invariant.inactive refl in
+    subst (λ (q : Queues). along (link_of c.deref.result.now) (length q.inactive) (first_frame (frames_of q.inactive)) ≡ frames_of q.inactive) c.self.view_is
+    walk

@@ -9,4 +9,5 @@ pub returns : goal.returns
 returns c =
     let frames = frame_lists c.self.inside.lists in
     subst (λ (q : Queues). EachOnce (q.inactive ++ q.active)) c.self.view_is
-    (subst EachOnce (map-append (queued_page frames.marks) frames.inactive frames.active) (pages_once _ frames.marks (all_frames frames) c.self.invariant.apart))
+    (subst EachOnce (map-append (queued_page frames.marks) frames.inactive frames.active)
+    (pages_once _ frames.marks (all_frames frames) c.self.invariant.apart))

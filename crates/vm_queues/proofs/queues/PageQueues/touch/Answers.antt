@@ -11,7 +11,8 @@ use Rattle.vm_queues.proofs.queues.PageQueues.touch.Goals as goal
 pub index_mut-requires : goal.index_mut-requires
 index_mut-requires c =
     let lists : Lists = c.self.inside.lists in
-    let there : is_skipped (all_frames (frame_lists lists)) c.args.f.0 ≡ true = sym (queued_is (frame_lists lists) c.args.f.0) ∙ ap (λ (q : Queues). is_queued q c.args.f.0) c.self.view_is ∙ c.requires in
+    let there : is_skipped (all_frames (frame_lists lists)) c.args.f.0 ≡ true = sym (queued_is (frame_lists lists) c.args.f.0)
+    ∙ ap (λ (q : Queues). is_queued q c.args.f.0) c.self.view_is ∙ c.requires in
     omega (arith, frame_inside (frame_lists lists) c.args.f.0 c.self.invariant.apart there, lists.marks.ok.0)
 
 pub invariant_of-self : goal.invariant_of-self
@@ -24,6 +25,8 @@ pub returns : goal.returns
 returns c =
     let lists : Lists = c.self.inside.lists in
     let new : Lists = record { links = lists.links; marks = with_item lists.marks c.args.f.0 true; active = lists.active; inactive = lists.inactive } in
-    let there : is_skipped (all_frames (frame_lists lists)) c.args.f.0 ≡ true = sym (queued_is (frame_lists lists) c.args.f.0) ∙ ap (λ (q : Queues). is_queued q c.args.f.0) c.self.view_is ∙ c.requires in
-    let is = touched_seen c.args.f.0 (frame_lists lists) (frame_inside (frame_lists lists) c.args.f.0 c.self.invariant.apart there) ∙ ap (with_reference c.args.f.0) c.self.view_is in
+    let there : is_skipped (all_frames (frame_lists lists)) c.args.f.0 ≡ true = sym (queued_is (frame_lists lists) c.args.f.0)
+    ∙ ap (λ (q : Queues). is_queued q c.args.f.0) c.self.view_is ∙ c.requires in
+    let is = touched_seen c.args.f.0 (frame_lists lists) (frame_inside (frame_lists lists) c.args.f.0 c.self.invariant.apart there)
+    ∙ ap (with_reference c.args.f.0) c.self.view_is in
     record { queues = is; pages = queued_touched c.args.f.0 c.args.self.now (page_lists new) is }

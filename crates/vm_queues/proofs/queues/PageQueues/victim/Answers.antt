@@ -5,7 +5,8 @@ use Rattle.vm_queues.proofs.Queued.{chosen_stands, queued_victim}
 use Rattle.vm_queues.proofs.queues.PageQueues.victim.Goals as goal
 
 pub returns-clause-pages : goal.returns-clause-pages
-returns-clause-pages c = queued_victim c.args.self.now (page_lists c.spare.new.lists) (c.spare.ensures.spared ∙ ap spared (c.balance.ensures.balanced ∙ ap balanced c.self.view_is))
+returns-clause-pages c =
+    queued_victim c.args.self.now (page_lists c.spare.new.lists) (c.spare.ensures.spared ∙ ap spared (c.balance.ensures.balanced ∙ ap balanced c.self.view_is))
 
 pub returns-clause-none : goal.returns-clause-none
 returns-clause-none c =

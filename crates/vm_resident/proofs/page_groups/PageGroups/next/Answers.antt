@@ -21,13 +21,16 @@ groups-smaller c = omega (arith, c.if-group-self.false)
 pub groups-preserved : goal.groups-preserved
 groups-preserved c =
     let seeks = rw c.groups-test.true at c.groups.invariant in
-    seek_on c.args.self.now c.args.object.0 c.args.from.0 c.groups.group c.bits-bits.result seeks (omega (arith, c.if-group-self.false, c.self.invariant.end)) c.bits-bits.ensures (omega arith)
+    seek_on c.args.self.now c.args.object.0 c.args.from.0 c.groups.group c.bits-bits.result seeks (omega (arith, c.if-group-self.false, c.self.invariant.end))
+    c.bits-bits.ensures (omega arith)
 
 pub overflow_mul-result : goal.overflow_mul-result
 overflow_mul-result c = omega (arith, c.groups.invariant.fits)
 
 pub overflow_add-result : goal.overflow_add-result
-overflow_add-result c = let fits = seek_fits c.args.self.now c.args.object.0 c.args.from.0 c.groups.group c.groups.bits c.groups.invariant (omega (arith, c.groups-test.false)) in omega (arith, fits)
+overflow_add-result c =
+    let fits = seek_fits c.args.self.now c.args.object.0 c.args.from.0 c.groups.group c.groups.bits c.groups.invariant
+    (omega (arith, c.groups-test.false)) in omega (arith, fits)
 
 pub returns : goal.returns
 returns c = seek_found c.args.self.now c.args.object.0 c.args.from.0 c.groups.group c.groups.bits c.groups.invariant (omega (arith, c.groups-test.false))

@@ -12,7 +12,8 @@ left c s t =
     let room : 0 < spare c.self.inside.rows = omega (arith, ap (λ (z : ResidentTable). z.spare) c.self.view_is, c.requires.room, c.self.invariant.rows_room) in
     let succeeds = c.insert.ensures.succeeds room in
     let put = ok_has c.insert.result succeeds c.insert.ensures.updates in
-    inserted c.self.inside.rows.entries c.insert.new.self.entries s t c.args.key c.args.row (rw (← c.self.view_is) at c.requires.absent) (λ o p. put.0 (page_key o p)) (ok_has c.insert.result succeeds c.insert.ensures.entries)
+    inserted c.self.inside.rows.entries c.insert.new.self.entries s t c.args.key c.args.row (rw (← c.self.view_is) at c.requires.absent)
+    (λ o p. put.0 (page_key o p)) (ok_has c.insert.result succeeds c.insert.ensures.entries)
 
 pub invariant_of-self : goal.invariant_of-self
 invariant_of-self c =
@@ -22,7 +23,9 @@ invariant_of-self c =
     let writes : WritesEntry c.args.key (Some c.args.row) c.self.inside.rows.entries c.insert.new.self.entries = λ o p. put.0 (page_key o p) in
     record {
       unique = c.insert.ensures.unique;
-      pages = pages_put c.self.inside.rows.entries c.insert.new.self.entries c.args.key (Some c.args.row) c.self.inside.pages _ c.self.invariant.pages writes c.insert-2.ensures.pages;
+      pages =
+          pages_put c.self.inside.rows.entries c.insert.new.self.entries c.args.key (Some c.args.row) c.self.inside.pages _ c.self.invariant.pages writes
+          c.insert-2.ensures.pages;
       led = λ apart.
           let led = c.self.invariant.led (c.insert-3.ensures.shared apart) in
           led_inserted c.self.inside.rows.entries c.insert.new.self.entries c.args.key c.args.row c.self.inside.owners c.insert-3.new.self

@@ -11,20 +11,26 @@ returns-in_err-row-clause-value c =
 
 pub returns-in_err-row-clause-rows : goal.returns-in_err-row-clause-rows
 returns-in_err-row-clause-rows c =
-    let rows = row_put c.self.inside.rows.entries c.swap_remove.new.self.entries c.args.key None c.self.inside.promised c.self.inside.promised (λ o p. c.swap_remove.ensures.updates.0 (page_key o p)) in
+    let rows = row_put c.self.inside.rows.entries c.swap_remove.new.self.entries c.args.key None c.self.inside.promised c.self.inside.promised
+    (λ o p. c.swap_remove.ensures.updates.0 (page_key o p)) in
     rw (← c.self.view_is) rows
 
 left : (c : goal.After-remove-2) (s : ℕ) → Takes c.args.key c.in_ok-row.row (seen c.self.inside.rows.entries s) (seen c.swap_remove.new.self.entries s)
 left c s =
-    let found : entry_at c.args.key.object.0 c.args.key.page.0 c.self.inside.rows.entries ≡ Some c.in_ok-row.row = sym c.swap_remove.ensures.value ∙ c.in_ok-row.was in
+    let found : entry_at c.args.key.object.0 c.args.key.page.0 c.self.inside.rows.entries ≡ Some c.in_ok-row.row = sym c.swap_remove.ensures.value
+    ∙ c.in_ok-row.was in
     taken c.self.inside.rows.entries c.swap_remove.new.self.entries s s c.args.key c.in_ok-row.row c.self.invariant.unique c.swap_remove.ensures.unique
     (row_entry c.args.key.object.0 c.args.key.page.0 c.self.inside.rows.entries ∙ found) (λ o p. c.swap_remove.ensures.updates.0 (page_key o p))
 
 pub invariant_of-self-2 : goal.invariant_of-self-2
 invariant_of-self-2 c = record {
   unique = c.swap_remove.ensures.unique;
-  pages = pages_put c.self.inside.rows.entries c.swap_remove.new.self.entries c.args.key None c.self.inside.pages c.remove.new.self c.self.invariant.pages (λ o p. c.swap_remove.ensures.updates.0 (page_key o p)) c.remove.ensures.pages;
-  led = λ apart. led_taken c.self.inside.rows.entries c.swap_remove.new.self.entries c.args.key c.in_ok-row.row c.self.inside.owners c.remove-2.new.self (left c 0) (c.self.invariant.led (sym c.remove-2.ensures.shared ∙ apart)) c.remove-2.ensures.page;
+  pages =
+      pages_put c.self.inside.rows.entries c.swap_remove.new.self.entries c.args.key None c.self.inside.pages c.remove.new.self c.self.invariant.pages
+      (λ o p. c.swap_remove.ensures.updates.0 (page_key o p)) c.remove.ensures.pages;
+  led =
+      λ apart. led_taken c.self.inside.rows.entries c.swap_remove.new.self.entries c.args.key c.in_ok-row.row c.self.inside.owners c.remove-2.new.self
+      (left c 0) (c.self.invariant.led (sym c.remove-2.ensures.shared ∙ apart)) c.remove-2.ensures.page;
   rows_room = omega (arith, c.self.invariant.rows_room, c.swap_remove.ensures.room.0);
   pages_room = omega (arith, c.self.invariant.pages_room, c.remove.ensures.room);
   owners_room = omega (arith, c.self.invariant.owners_room, c.remove-2.ensures.room);
@@ -32,7 +38,8 @@ invariant_of-self-2 c = record {
 
 pub returns-clause-value : goal.returns-clause-value
 returns-clause-value c =
-    let found : entry_at c.args.key.object.0 c.args.key.page.0 c.self.inside.rows.entries ≡ Some c.in_ok-row.row = sym c.swap_remove.ensures.value ∙ c.in_ok-row.was in
+    let found : entry_at c.args.key.object.0 c.args.key.page.0 c.self.inside.rows.entries ≡ Some c.in_ok-row.row = sym c.swap_remove.ensures.value
+    ∙ c.in_ok-row.was in
     rw (← c.self.view_is) (sym found ∙ sym (row_entry c.args.key.object.0 c.args.key.page.0 c.self.inside.rows.entries))
 
 pub returns-clause-rows : goal.returns-clause-rows

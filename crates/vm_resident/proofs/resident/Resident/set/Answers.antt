@@ -7,15 +7,18 @@ use Rattle.vm_resident.proofs.resident.Resident.set.Goals as goal
 
 pub unwrap-kept-requires : goal.unwrap-kept-requires
 unwrap-kept-requires c =
-    let there : IsSome (entry_at c.args.key.object.0 c.args.key.page.0 c.self.inside.rows.entries) = entry_there c.self.inside.rows.entries c.self.inside.promised c.args.key c.args.row.frame.0 (rw (← c.self.view_is) at c.requires) in
+    let there : IsSome (entry_at c.args.key.object.0 c.args.key.page.0 c.self.inside.rows.entries) = entry_there c.self.inside.rows.entries
+    c.self.inside.promised c.args.key c.args.row.frame.0 (rw (← c.self.view_is) at c.requires) in
     search rules
 
-left : (c : goal.After-self-1) (s : ℕ) → Changes c.args.key c.args.row (seen c.self.inside.rows.entries s) (seen (c.get_mut.follows.lender c.args.row).entries s)
+left : (c : goal.After-self-1) (s : ℕ) → Changes c.args.key c.args.row (seen c.self.inside.rows.entries s)
+    (seen (c.get_mut.follows.lender c.args.row).entries s)
 left c s =
     let stood = rw (← c.self.view_is) at c.requires in
     let there = entry_there c.self.inside.rows.entries c.self.inside.promised c.args.key c.args.row.frame.0 stood in
     let wrote = c.get_mut.follows.holds c.args.row in
-    changed c.self.inside.rows.entries (c.get_mut.follows.lender c.args.row).entries s s c.args.key c.args.row stood (λ o p. (wrote.3 there).0 (page_key o p)) wrote.0
+    changed c.self.inside.rows.entries (c.get_mut.follows.lender c.args.row).entries s s c.args.key c.args.row stood (λ o p. (wrote.3 there).0 (page_key o p))
+    wrote.0
 
 pub invariant_of-self : goal.invariant_of-self
 invariant_of-self c =
@@ -23,8 +26,12 @@ invariant_of-self c =
     let wrote = c.get_mut.follows.holds c.args.row in
     record {
       unique = wrote.4;
-      pages = pages_kept c.self.inside.rows.entries (c.get_mut.follows.lender c.args.row).entries c.args.key c.args.row c.self.inside.pages c.self.invariant.pages (λ o p. (wrote.3 there).0 (page_key o p)) there;
-      led = λ apart. led_changed c.self.inside.rows.entries (c.get_mut.follows.lender c.args.row).entries c.args.key c.args.row c.self.inside.owners (left c 0) (c.self.invariant.led apart);
+      pages =
+          pages_kept c.self.inside.rows.entries (c.get_mut.follows.lender c.args.row).entries c.args.key c.args.row c.self.inside.pages c.self.invariant.pages
+          (λ o p. (wrote.3 there).0 (page_key o p)) there;
+      led =
+          λ apart. led_changed c.self.inside.rows.entries (c.get_mut.follows.lender c.args.row).entries c.args.key c.args.row c.self.inside.owners (left c 0)
+          (c.self.invariant.led apart);
       rows_room = rw wrote.6 c.self.invariant.rows_room;
       pages_room = c.self.invariant.pages_room;
       owners_room = c.self.invariant.owners_room;

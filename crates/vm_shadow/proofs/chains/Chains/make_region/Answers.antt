@@ -4,7 +4,8 @@ use Rattle.vm_shadow.proofs.chains.Chains.make_region.Goals as goal
 
 pub invariant_of-self-2 : goal.invariant_of-self-2
 invariant_of-self-2 c =
-    let made = marked_made c.self.inside.regions.entries c.insert.new.self.entries c.args.region c.args.row (rw (← c.self.view_is) at c.requires) c.in_ok-insert.ensures.entries in
+    let made = marked_made c.self.inside.regions.entries c.insert.new.self.entries c.args.region c.args.row (rw (← c.self.view_is) at c.requires)
+    c.in_ok-insert.ensures.entries in
     record { older = c.self.invariant.older; count = grind (arith, made, c.self.invariant.count, c.if-row.branch) }
 
 pub returns-clause-ok : goal.returns-clause-ok

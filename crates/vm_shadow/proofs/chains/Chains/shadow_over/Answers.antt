@@ -25,7 +25,9 @@ invariant_of-self-2 c =
     let marked : found.marked ≡ true = ap (λ (z : RegionRow). z.marked) same ∙ row_must _ _ _ is c.requires.marked in
     let set = marked_set _ _ c.args.region found shadowed there (c.get_mut.follows.holds shadowed).0 in
     record {
-      older = older_shadowed c.self.inside.shadows.entries c.insert.new.self.entries c.args.ids.now.next_object (record { under = row.top; shift = row.shift }) c.self.invariant.older less (λ o. c.in_ok-insert.ensures.updates.0 (record { 0 = o }));
+      older =
+          older_shadowed c.self.inside.shadows.entries c.insert.new.self.entries c.args.ids.now.next_object (record { under = row.top; shift = row.shift })
+          c.self.invariant.older less (λ o. c.in_ok-insert.ensures.updates.0 (record { 0 = o }));
       count = omega (arith, rw marked at set, c.self.invariant.count);
     }
 
@@ -38,7 +40,10 @@ returns-clause-ok c =
     let there = sym c.get_mut.ensures.value ∙ ap option_copied_mut c.unwrap-shadowed.ensures in
     let same : found ≡ row = same_row _ found row there c.index-row.ensures in
     let put = (c.get_mut.follows.holds shadowed).3 (some_of _ _ there) in
-    row_told _ _ _ is (rw (← c.self.view_is) record { at = λ r. rw (← same) (put.0 (record { 0 = r })); under = λ o. c.in_ok-insert.ensures.updates.0 (record { 0 = o }) })
+    row_told _ _ _ is (rw (← c.self.view_is) record {
+      at = λ r. rw (← same) (put.0 (record { 0 = r }));
+      under = λ o. c.in_ok-insert.ensures.updates.0 (record { 0 = o });
+    })
 
 pub returns-clause-marked : goal.returns-clause-marked
 returns-clause-marked c =

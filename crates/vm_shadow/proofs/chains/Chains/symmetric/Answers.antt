@@ -26,7 +26,8 @@ invariant_of-self-2 c =
     let there : region_at mid c.args.source.0 ≡ Some found = sym c.get_mut.ensures.value ∙ ap option_copied_mut c.unwrap-copied.ensures in
     let same : found ≡ row = source_kept c.args.self.now mid _ _ _ _ row found c.requires.below is put there in
     let none = rw (← c.self.view_is) at (c.requires.below c.args.ids.now.next_region (omega arith)) in
-    let made = marked_made c.self.inside.regions.entries c.insert.new.self.entries copy (copy_of row c.args.offset c.args.pages) none c.in_ok-insert.ensures.entries in
+    let made = marked_made c.self.inside.regions.entries c.insert.new.self.entries copy (copy_of row c.args.offset c.args.pages) none
+    c.in_ok-insert.ensures.entries in
     let set = marked_set c.insert.new.self.entries _ c.args.source found marked there (c.get_mut.follows.holds marked).0 in
     record { older = c.self.invariant.older; count = grind (arith, made, set, ap mark same, c.self.invariant.count, c.if-row.branch) }
 
@@ -41,7 +42,8 @@ returns-clause-ok c =
     = rw (← c.self.view_is) record { at = λ r. c.in_ok-insert.ensures.updates.0 (record { 0 = r }); shadows = refl } in
     let there : region_at mid c.args.source.0 ≡ Some found = sym c.get_mut.ensures.value ∙ ap option_copied_mut c.unwrap-copied.ensures in
     let marks = (c.get_mut.follows.holds marked).3 (some_of _ _ there) in
-    row_told _ _ _ is (region_copied c.args.self.now mid _ _ _ _ _ row found c.requires.below is put there record { at = λ r. marks.0 (record { 0 = r }); shadows = refl })
+    row_told _ _ _ is (region_copied c.args.self.now mid _ _ _ _ _ row found c.requires.below is put there
+    record { at = λ r. marks.0 (record { 0 = r }); shadows = refl })
 
 pub returns-clause-marked : goal.returns-clause-marked
 returns-clause-marked c =

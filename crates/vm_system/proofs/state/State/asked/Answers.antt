@@ -16,7 +16,8 @@ returns-in-Clean g c =
     let there = there_at s.files.items clean.object.0 c.index.result.now _ stands.agrees.files.count range.0 c.index.ensures in
     record {
       head = if_ok c.clean.result (λ events says. rw (c.requires.1.0.1, clean.is)
-          (asked_is g.given.header g.given.outside s clean.object clean.page clean.count clean.flush c.requires.1.0.0 c.index.result.now events.items stands file
+          (asked_is g.given.header g.given.outside s clean.object clean.page clean.count clean.flush c.requires.1.0.0 c.index.result.now events.items stands
+          file
           there says)) c.clean.ensures;
       few = if_ok c.clean.result (λ events says. clean_few c.index.result.now.known c.index.result.now.object clean.page
           clean.count clean.flush events.items says) c.clean.ensures;

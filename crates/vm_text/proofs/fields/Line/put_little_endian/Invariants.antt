@@ -5,4 +5,5 @@ use Rattle.vm_model.specs.Text.{byte_hex}
 use Rattle.vm_text.proofs.fields.Line.put_little_endian.Given as goal
 
 abbrev pub invariant-all : goal.invariant-all
-invariant-all l = l.fn.self ++ flat_map byte_hex (little_endian_bytes l.size l.number) ≡ l.self ++ flat_map byte_hex (little_endian_bytes (l.size - l.counter) l.rest)
+invariant-all l =
+    l.fn.self ++ flat_map byte_hex (little_endian_bytes l.size l.number) ≡ l.self ++ flat_map byte_hex (little_endian_bytes (l.size - l.counter) l.rest)

@@ -14,7 +14,16 @@ overflow_add-self c =
     let rows = values_of c.self.inside.rows.entries in
     let w : Waiting = record { task = c.args.task; want = c.args.want; on = on.Again; destination = c.args.destination } in
     let room : 0 < c.self.inside.room = rw (← c.self.view_is) at c.requires.room in
-    omega (arith, room, c.self.invariant.3.few, c.self.invariant.4, c.copy_count.ensures, copies_few (rows ++ w ∷ []), copies_begun rows w, length-append rows (w ∷ []))
+    omega (
+      arith,
+      room,
+      c.self.invariant.3.few,
+      c.self.invariant.4,
+      c.copy_count.ensures,
+      copies_few (rows ++ w ∷ []),
+      copies_begun rows w,
+      length-append rows (w ∷ []),
+    )
 
 pub invariant_of-self : goal.invariant_of-self
 invariant_of-self c =

@@ -9,4 +9,9 @@ pub returns-then-self-eq0 : goal.returns-then-self-eq0
 returns-then-self-eq0 c =
     let rows = values_of c.self.inside.rows.entries in
     let was = there (entry rows c.args.task.0) (rw (← c.self.view_is) at c.requires) in
-    rw (← c.self.view_is, was.is) (omega (arith, c.self.invariant.4, c.if-self-eq0.true, copies_without c.args.task.0 rows was.it c.self.invariant.0.once was.is))
+    rw (← c.self.view_is, was.is) (omega (
+      arith,
+      c.self.invariant.4,
+      c.if-self-eq0.true,
+      copies_without c.args.task.0 rows was.it c.self.invariant.0.once was.is,
+    ))

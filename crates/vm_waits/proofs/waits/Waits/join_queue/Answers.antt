@@ -13,7 +13,8 @@ use Rattle.vm_waits.proofs.waits.Waits.join_queue.Goals as goal
 
 pub unwrap-requires : goal.unwrap-requires
 unwrap-requires c =
-    let some : IsSome (entry c.args.self.now.rows c.args.task.0) = is_there (entry c.args.self.now.rows c.args.task.0) (λ w. is_frame w.on ≡ false) c.requires in
+    let some : IsSome (entry c.args.self.now.rows c.args.task.0) = is_there (entry c.args.self.now.rows c.args.task.0) (λ w. is_frame w.on ≡ false)
+    c.requires in
     lendable c.args.task.0 c.self.inside.rows.entries c.get_mut.result c.self.invariant.0 c.get_mut.ensures.value (rw (← c.self.view_is) at some)
 
 pub invariant_of-self : goal.invariant_of-self
@@ -21,16 +22,19 @@ invariant_of-self c =
     let old = c.self.inside in
     let rows = values_of old.rows.entries in
     let was = c.unwrap.result.now in
-    let found : entry rows c.args.task.0 ≡ Some was = sym (looked_up c.args.task.0 old.rows.entries c.self.invariant.0) ∙ sym c.get_mut.ensures.value ∙ ap option_copied_mut c.unwrap.ensures in
+    let found : entry rows c.args.task.0 ≡ Some was = sym (looked_up c.args.task.0 old.rows.entries c.self.invariant.0) ∙ sym c.get_mut.ensures.value
+    ∙ ap option_copied_mut c.unwrap.ensures in
     let other : is_frame was.on ≡ false = holds_there (entry rows c.args.task.0) was (λ w. is_frame w.on ≡ false) found (rw (← c.self.view_is) at c.requires) in
     let wrote = c.get_mut.follows.holds (with_on was on.Frame) in
-    let now = written c.args.task.0 (λ w. with_on w on.Frame) old.rows.entries (c.get_mut.follows.lender (with_on was on.Frame)).entries was (λ w. refl) c.self.invariant.0 found wrote.0 in
+    let now = written c.args.task.0 (λ w. with_on w on.Frame) old.rows.entries (c.get_mut.follows.lender (with_on was on.Frame)).entries was (λ w. refl)
+    c.self.invariant.0 found wrote.0 in
     let long = length-map rows (turned c.args.task.0 on.Frame) in
     let count = counted_turned is_frame c.args.task.0 on.Frame rows was c.self.invariant.0.once found in
     let most = counted_within is_frame (map (turned c.args.task.0 on.Frame) rows) in
     let none = ap one other in
     let fits = c.self.invariant.3 in
-    let queue : c.push.new.self.items ≡ old.queue.items ++ c.args.task ∷ [] = rw (c.push.ensures.succeeds (omega (arith, fits.queue, long, count, most, none, c.self.invariant.2.even, old.queue.ok.0))) at c.push.ensures.items in
+    let queue : c.push.new.self.items ≡ old.queue.items ++ c.args.task ∷ [] = rw (c.push.ensures.succeeds
+    (omega (arith, fits.queue, long, count, most, none, c.self.invariant.2.even, old.queue.ok.0))) at c.push.ensures.items in
     rw (now.rows, queue) (
       now.kept,
       c.self.invariant.1,
@@ -49,15 +53,18 @@ returns c =
     let old = c.self.inside in
     let rows = values_of old.rows.entries in
     let was = c.unwrap.result.now in
-    let found : entry rows c.args.task.0 ≡ Some was = sym (looked_up c.args.task.0 old.rows.entries c.self.invariant.0) ∙ sym c.get_mut.ensures.value ∙ ap option_copied_mut c.unwrap.ensures in
+    let found : entry rows c.args.task.0 ≡ Some was = sym (looked_up c.args.task.0 old.rows.entries c.self.invariant.0) ∙ sym c.get_mut.ensures.value
+    ∙ ap option_copied_mut c.unwrap.ensures in
     let other : is_frame was.on ≡ false = holds_there (entry rows c.args.task.0) was (λ w. is_frame w.on ≡ false) found (rw (← c.self.view_is) at c.requires) in
     let wrote = c.get_mut.follows.holds (with_on was on.Frame) in
-    let now = written c.args.task.0 (λ w. with_on w on.Frame) old.rows.entries (c.get_mut.follows.lender (with_on was on.Frame)).entries was (λ w. refl) c.self.invariant.0 found wrote.0 in
+    let now = written c.args.task.0 (λ w. with_on w on.Frame) old.rows.entries (c.get_mut.follows.lender (with_on was on.Frame)).entries was (λ w. refl)
+    c.self.invariant.0 found wrote.0 in
     let long = length-map rows (turned c.args.task.0 on.Frame) in
     let count = counted_turned is_frame c.args.task.0 on.Frame rows was c.self.invariant.0.once found in
     let most = counted_within is_frame (map (turned c.args.task.0 on.Frame) rows) in
     let none = ap one other in
-    let queue : c.push.new.self.items ≡ old.queue.items ++ c.args.task ∷ [] = rw (c.push.ensures.succeeds (omega (arith, c.self.invariant.3.queue, long, count, most, none, c.self.invariant.2.even, old.queue.ok.0))) at c.push.ensures.items in
+    let queue : c.push.new.self.items ≡ old.queue.items ++ c.args.task ∷ [] = rw (c.push.ensures.succeeds
+    (omega (arith, c.self.invariant.3.queue, long, count, most, none, c.self.invariant.2.even, old.queue.ok.0))) at c.push.ensures.items in
     rw (now.rows, ← c.self.view_is, found) record {
       rows = refl;
       entry = puts_turned c.args.task.0 on.Frame rows was found;

@@ -7,4 +7,5 @@ use Rattle.vm_waits.proofs.waits.Waits.next_on.Goals as goal
 pub returns-clause-row : goal.returns-clause-row
 returns-clause-row c =
     let old = c.self.inside in
-    rw (← c.self.view_is) (next_matched (woken_page c.args.key) (values_of old.rows.entries) c.oldest_on.result c.self.invariant.0.once (rw (c.as_slice.ensures ∙ c.values.ensures.rest) at c.oldest_on.ensures))
+    rw (← c.self.view_is) (next_matched (woken_page c.args.key) (values_of old.rows.entries) c.oldest_on.result c.self.invariant.0.once
+    (rw (c.as_slice.ensures ∙ c.values.ensures.rest) at c.oldest_on.ensures))

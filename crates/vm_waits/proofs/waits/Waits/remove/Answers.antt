@@ -19,7 +19,8 @@ invariant_of-self c =
     let old = c.self.inside in
     let rows = values_of old.rows.entries in
     let was = there (entry rows c.args.task.0) (rw (← c.self.view_is) at c.requires) in
-    let now = holds c.take_out.new.rows.entries (rows_without c.args.task.0 rows) c.take_out.ensures.rows (once_without c.args.task.0 rows c.self.invariant.0.once) in
+    let now = holds c.take_out.new.rows.entries (rows_without c.args.task.0 rows) c.take_out.ensures.rows
+    (once_without c.args.task.0 rows c.self.invariant.0.once) in
     let fewer = length_without c.args.task.0 rows was.it c.self.invariant.0.once was.is in
     let one = rw (← c.self.view_is, was.is) at c.copies_of.ensures in
     let fits = c.self.invariant.3 in
@@ -41,7 +42,8 @@ returns c =
     let old = c.self.inside in
     let rows = values_of old.rows.entries in
     let was = there (entry rows c.args.task.0) (rw (← c.self.view_is) at c.requires) in
-    let now = holds c.take_out.new.rows.entries (rows_without c.args.task.0 rows) c.take_out.ensures.rows (once_without c.args.task.0 rows c.self.invariant.0.once) in
+    let now = holds c.take_out.new.rows.entries (rows_without c.args.task.0 rows) c.take_out.ensures.rows
+    (once_without c.args.task.0 rows c.self.invariant.0.once) in
     rw (now.rows, ← c.self.view_is, was.is) record {
       rows = refl;
       entry = record { at = entry_without c.args.task.0 rows };

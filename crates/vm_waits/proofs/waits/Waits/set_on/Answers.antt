@@ -10,16 +10,19 @@ use Rattle.vm_waits.specs.Waits.{entry, is_again, is_frame, one, turned, with_on
 use Rattle.vm_waits.proofs.waits.Waits.set_on.Goals as goal
 
 pub unwrap-requires : goal.unwrap-requires
-unwrap-requires c = lendable c.args.task.0 c.self.inside.rows.entries c.get_mut.result c.self.invariant.0 c.get_mut.ensures.value (rw (← c.self.view_is) at c.requires.there)
+unwrap-requires c =
+    lendable c.args.task.0 c.self.inside.rows.entries c.get_mut.result c.self.invariant.0 c.get_mut.ensures.value (rw (← c.self.view_is) at c.requires.there)
 
 pub invariant_of-self : goal.invariant_of-self
 invariant_of-self c =
     let old = c.self.inside in
     let rows = values_of old.rows.entries in
     let was = c.unwrap.result.now in
-    let found : entry rows c.args.task.0 ≡ Some was = sym (looked_up c.args.task.0 old.rows.entries c.self.invariant.0) ∙ sym c.get_mut.ensures.value ∙ ap option_copied_mut c.unwrap.ensures in
+    let found : entry rows c.args.task.0 ≡ Some was = sym (looked_up c.args.task.0 old.rows.entries c.self.invariant.0) ∙ sym c.get_mut.ensures.value
+    ∙ ap option_copied_mut c.unwrap.ensures in
     let wrote = c.get_mut.follows.holds (with_on was c.args.on) in
-    let now = written c.args.task.0 (λ w. with_on w c.args.on) old.rows.entries (c.get_mut.follows.lender (with_on was c.args.on)).entries was (λ w. refl) c.self.invariant.0 found wrote.0 in
+    let now = written c.args.task.0 (λ w. with_on w c.args.on) old.rows.entries (c.get_mut.follows.lender (with_on was c.args.on)).entries was (λ w. refl)
+    c.self.invariant.0 found wrote.0 in
     let long = length-map rows (turned c.args.task.0 c.args.on) in
     let fits = c.self.invariant.3 in
     rw (now.rows, c.take_off.ensures.tasks) (
@@ -40,14 +43,17 @@ returns c =
     let old = c.self.inside in
     let rows = values_of old.rows.entries in
     let was = c.unwrap.result.now in
-    let found : entry rows c.args.task.0 ≡ Some was = sym (looked_up c.args.task.0 old.rows.entries c.self.invariant.0) ∙ sym c.get_mut.ensures.value ∙ ap option_copied_mut c.unwrap.ensures in
+    let found : entry rows c.args.task.0 ≡ Some was = sym (looked_up c.args.task.0 old.rows.entries c.self.invariant.0) ∙ sym c.get_mut.ensures.value
+    ∙ ap option_copied_mut c.unwrap.ensures in
     let wrote = c.get_mut.follows.holds (with_on was c.args.on) in
-    let now = written c.args.task.0 (λ w. with_on w c.args.on) old.rows.entries (c.get_mut.follows.lender (with_on was c.args.on)).entries was (λ w. refl) c.self.invariant.0 found wrote.0 in
+    let now = written c.args.task.0 (λ w. with_on w c.args.on) old.rows.entries (c.get_mut.follows.lender (with_on was c.args.on)).entries was (λ w. refl)
+    c.self.invariant.0 found wrote.0 in
     rw (now.rows, ← c.self.view_is, found) record {
       rows = refl;
       entry = puts_turned c.args.task.0 c.args.on rows was found;
       again = counted_turned is_again c.args.task.0 c.args.on rows was c.self.invariant.0.once found;
-      queued = let none = ap one c.requires.other in omega (arith, none, counted_turned is_frame c.args.task.0 c.args.on rows was c.self.invariant.0.once found);
+      queued =
+          let none = ap one c.requires.other in omega (arith, none, counted_turned is_frame c.args.task.0 c.args.on rows was c.self.invariant.0.once found);
       queue = c.take_off.ensures.tasks;
       room = refl;
     }

@@ -12,7 +12,8 @@ pub invariant_of-self : goal.invariant_of-self
 invariant_of-self c =
     let old = c.self.inside in
     let rows = values_of old.rows.entries in
-    let now = mapped (woken (woken_page c.args.key)) old.rows.entries c.wake_for_page.new.rows.entries (woken_keeps (woken_page c.args.key)) c.self.invariant.0 c.wake_for_page.ensures.entries in
+    let now = mapped (woken (woken_page c.args.key)) old.rows.entries c.wake_for_page.new.rows.entries (woken_keeps (woken_page c.args.key)) c.self.invariant.0
+    c.wake_for_page.ensures.entries in
     let long = length-map rows (woken (woken_page c.args.key)) in
     let fits = c.self.invariant.3 in
     rw now.rows (
@@ -32,7 +33,8 @@ pub returns : goal.returns
 returns c =
     let old = c.self.inside in
     let rows = values_of old.rows.entries in
-    let now = mapped (woken (woken_page c.args.key)) old.rows.entries c.wake_for_page.new.rows.entries (woken_keeps (woken_page c.args.key)) c.self.invariant.0 c.wake_for_page.ensures.entries in
+    let now = mapped (woken (woken_page c.args.key)) old.rows.entries c.wake_for_page.new.rows.entries (woken_keeps (woken_page c.args.key)) c.self.invariant.0
+    c.wake_for_page.ensures.entries in
     rw (now.rows, ← c.self.view_is) record {
       rows = refl;
       entry = waked (woken_page c.args.key) rows;
