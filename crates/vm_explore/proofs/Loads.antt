@@ -8,7 +8,8 @@ use Rattle.std.proofs.lemmas.List.{append-nil}
 use Rattle.vm_explore.specs.Outcomes.{AreOther, AreValues, loaded_by, values_of}
 use Rattle.vm_seen.specs.declared.ends.Loaded.{Loaded}
 use Rattle.vm_free.specs.Orders.{occurrences}
-use Rattle.vm_explore.proofs.Occurrences.{occurrences-append, occurrences_here}
+use Rattle.vm_free.proofs.Orders.{occurrences-append}
+use Rattle.vm_explore.proofs.Occurrences.{occurrences_here}
 
 append_if : (b : Bool) (x : ℕ) (xs ys : List ℕ) → (if b then x ∷ (xs ++ ys) else xs ++ ys) ≡ (if b then x ∷ xs else xs) ++ ys
 append_if true x xs ys = refl

@@ -1,12 +1,12 @@
 -- How often a number stands in a list.
-use Rattle.std.proofs.Common.{ℕ, ◌≡◌, ◌≢◌, ◌+◌, ◌≤◌, ◌<◌, ◌==◌, ◌∙◌, Bool, true, false, List, [], ◌∷◌, ◌++◌, length, reverse, count_by, if◌then◌else◌, ap, sym}
+use Rattle.std.proofs.Common.{ℕ, ◌≡◌, ◌≢◌, ◌+◌, ◌≤◌, ◌<◌, ◌==◌, ◌∙◌, Bool, true, false, List, [], ◌∷◌, ◌++◌, length, count_by, if◌then◌else◌, ap, sym}
 use Rattle.std.proofs.Common.{refl, arith, zero-add, min, ⊎_elim, subst}
-use Rattle.std.proofs.lemmas.Grind.{reverse_onto}
 use Rattle.std.proofs.lemmas.Bool.{cases_eq}
 use Rattle.std.proofs.lemmas.Bool.Decides.{nat_tests}
 use Rattle.std.proofs.lemmas.List.Recursion.{is_count_by}
 use Rattle.vm_explore.specs.Levels.{IsOrderOf, IsWithin}
 use Rattle.vm_free.specs.Orders.{occurrences}
+use Rattle.vm_free.proofs.Orders.{occurrences-append}
 
 cases : (b : Bool) (n : ℕ) → (if b then 1 else 0) + n ≡ (if b then 1 + n else n)
 cases true n = refl
@@ -21,10 +21,6 @@ occurrences_here t more = grind (arith, nat_tests)
 pub occurrences_there : (t u : ℕ) (more : List ℕ) → u ≢ t → occurrences t (u ∷ more) ≡ occurrences t more
 occurrences_there t u more other = grind (arith, nat_tests)
 
-pub occurrences-append : (t : ℕ) (older newer : List ℕ) → occurrences t (older ++ newer) ≡ occurrences t older + occurrences t newer
-occurrences-append t [] newer = sym (zero-add (occurrences t newer))
-occurrences-append t (u ∷ more) newer = omega (arith, occurrences-append t more newer)
-
 pub occurrences-push : (t : ℕ) (list : List ℕ) (u : ℕ) → occurrences t (list ++ u ∷ []) ≡ occurrences t list + (if u == t then 1 else 0)
 occurrences-push t list u = omega (arith, occurrences-append t list (u ∷ []))
 
@@ -33,11 +29,6 @@ occurrences-push_same t list = omega (arith, occurrences-append t list (t ∷ []
 
 pub occurrences-push_other : (t : ℕ) (list : List ℕ) (u : ℕ) → u ≢ t → occurrences t (list ++ u ∷ []) ≡ occurrences t list
 occurrences-push_other t list u other = omega (arith, occurrences-append t list (u ∷ []), occurrences_there t u [] other)
-
-pub occurrences-reverse : (t : ℕ) (list : List ℕ) → occurrences t (reverse list) ≡ occurrences t list
-occurrences-reverse t [] = refl
-occurrences-reverse t (u ∷ more) =
-    ap (occurrences t) (reverse_onto more u []) ∙ omega (arith, occurrences-append t (reverse more) (u ∷ []), occurrences-reverse t more)
 
 -- the list without the first of a number
 pub record Left (t : ℕ) (list : List ℕ) : Type 0 where

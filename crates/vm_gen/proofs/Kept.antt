@@ -28,19 +28,19 @@ inside P command first zero before each all = all
 inside P command first (suc n) before each all =
     All-cons (λ numbered. P numbered.command) _ _ (each n (omega arith)) (inside P command first n before (λ i less. each i (omega (arith, less))) all)
 
-counted : (command : ℕ → Command) (first n : ℕ) (before : List Numbered) → length (add_lines command first n before) ≡ length before + n
-counted command first zero before = omega arith
-counted command first (suc n) before = let e = counted command first n before in omega (arith, e)
+pub added_count : (command : ℕ → Command) (first n : ℕ) (before : List Numbered) → length (add_lines command first n before) ≡ length before + n
+added_count command first zero before = omega arith
+added_count command first (suc n) before = let e = added_count command first n before in omega (arith, e)
 
 -- ---- the commands of three hosts and one object, with pages of 64 bytes
 
 abbrev IsOfMade : Command → Type 0
 IsOfMade command = IsCommand 3 1 64 command
 
-record IsDraw (draw : Draw) : Type 0 where
-  task : draw.task < 16
-  place : draw.place < 64
-  value : draw.value < 256
+pub record IsDraw (draw : Draw) : Type 0 where
+  pub task : draw.task < 16
+  pub place : draw.place < 64
+  pub value : draw.value < 256
 
 either : (t : Bool) (one other : Command) → IsOfMade one → IsOfMade other → IsOfMade (cond t one other)
 either true one other is isnt = is
@@ -84,7 +84,7 @@ command_kept draw is =
 draw_kept : (first second third fourth : ℕ) → IsDraw (record { kind = first % 16; task = second % 16; place = third % 64; value = fourth % 256 })
 draw_kept first second third fourth = record { task = omega arith; place = omega arith; value = omega arith }
 
-drawn_kept : (words : Lcg) → IsDraw (drawn words).0
+pub drawn_kept : (words : Lcg) → IsDraw (drawn words).0
 drawn_kept words = draw_kept _ _ _ _
 
 -- ---- the whole script
@@ -122,7 +122,7 @@ made_rises number lines =
 
 -- as many as the lines without the header's
 pub made_count : (number lines : ℕ) → length (made_commands number lines) ≡ lines + 19
-made_count number lines = let e = counted (drawn_line number) 23 lines opening_commands in omega (arith, e)
+made_count number lines = let e = added_count (drawn_line number) 23 lines opening_commands in omega (arith, e)
 
 pub keeps_ranges : (number lines : ℕ) (script : Script) → lines ≤ 10000 → IsMade number lines script → KeepsRanges script
 keeps_ranges number lines script few made =

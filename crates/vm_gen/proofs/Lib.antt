@@ -1,2 +1,2 @@
 mod Drawing
-mod Kept
+pub mod Kept

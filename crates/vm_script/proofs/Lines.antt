@@ -6,6 +6,7 @@ use Rattle.std.proofs.lemmas.Bool.Decides.{nat_tests}
 use Rattle.std.proofs.lemmas.Grind.{reverse_onto}
 use Rattle.std.proofs.lemmas.List.{length-reverse}
 use Rattle.std.specs.List.{flat_map}
+use Rattle.vm_gen.proofs.Kept.{added_count}
 use Rattle.vm_gen.specs.Made.{add_lines}
 use Rattle.vm_model.specs.declared.command.Command.{Command}
 use Rattle.vm_model.specs.declared.command.Numbered.{Numbered}
@@ -26,10 +27,6 @@ follow_append first [] behind one other = let same : first + 0 ≡ first = omega
 follow_append first (c ∷ cs) behind one other =
     let same : first + length (c ∷ cs) ≡ first + 1 + length cs = omega arith in
     (one.0, (one.1.0, follow_append (first + 1) cs behind one.1.1 (subst (λ z. FollowOn z behind) same other)))
-
-pub added_count : (command : ℕ → Command) (first n : ℕ) (before : List Numbered) → length (add_lines command first n before) ≡ length before + n
-added_count command first zero before = omega arith
-added_count command first (suc n) before = let e = added_count command first n before in omega (arith, e)
 
 -- one more, the newest
 pub follow_more : (first : ℕ) (one : Numbered) (before : List Numbered) → FollowOn first (reverse before) → one.line ≡ first + length before

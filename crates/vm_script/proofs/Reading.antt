@@ -4,11 +4,12 @@ use Rattle.std.proofs.lemmas.Bool.Decides.{nat_tests}
 use Rattle.std.proofs.lemmas.List.{length-reverse, reverse-reverse}
 use Rattle.std.specs.Prelude.{codes}
 use Rattle.std.specs.List.{flat_map}
+use Rattle.vm_gen.proofs.Kept.{added_count, made_count}
 use Rattle.vm_gen.specs.Drawn.{drawn_line}
 use Rattle.vm_gen.specs.Made.{add_lines, task_line, map_line, allocate_line, opening_commands, made_commands, IsMade}
 use Rattle.vm_model.specs.declared.command.Numbered.{Numbered}
 use Rattle.vm_model.specs.declared.script.Script.{Script}
-use Rattle.vm_script.proofs.Lines.{FollowOn, added_count, follow_more, follow_added, lines_put, lines_are_read, length_put}
+use Rattle.vm_script.proofs.Lines.{FollowOn, follow_more, follow_added, lines_put, lines_are_read, length_put}
 use Rattle.vm_script.proofs.Spelt.{reading_of, task_spelt, map_spelt, allocate_spelt, settle_spelt, drawn_spelt}
 use Rattle.vm_script.specs.Text.{command_line, header_text, made_text}
 use Rattle.vm_text.specs.Script.{nothing_read, lines_read, script_of, whole_of, whole_script}
@@ -22,9 +23,6 @@ header_read : (lines : List (List ℕ))
     → lines_read 1 nothing_read (codes "page 64" ∷ codes "hosts 3 8" ∷ codes "slots 512" ∷ codes "shared a 4" ∷ lines)
     ≡ lines_read 5 (reading_of []) lines
 header_read lines = refl
-
-made_count : (number drawn : ℕ) → length (made_commands number drawn) ≡ drawn + 19
-made_count number drawn = let e = added_count (drawn_line number) 23 drawn opening_commands in omega (arith, e)
 
 tasks_follow : FollowOn 5 (reverse (add_lines task_line 5 6 []))
 tasks_follow = follow_added 5 task_line 5 6 [] tt (omega arith) task_spelt

@@ -2,6 +2,7 @@
 use Rattle.std.proofs.Common.{◌≡◌, ℕ, ◌%◌, ◌^◌, ◌<◌, ◌≤◌, ◌==◌, Bool, true, false, nat_le, cond, if◌then◌else◌, List, [], ◌∷◌, length, Some, Ok, refl, arith}
 use Rattle.std.specs.Prelude.{codes}
 use Rattle.std.specs.Fmt.{decimal}
+use Rattle.vm_gen.proofs.Kept.{IsDraw, drawn_kept}
 use Rattle.vm_gen.specs.Drawn.{drawn, command_of, load_at, store_at, words_at, drawn_line}
 use Rattle.vm_gen.specs.Made.{task_line, map_line, allocate_line, shared_object}
 use Rattle.vm_gen.specs.declared.drawn.Draw.{Draw}
@@ -154,11 +155,6 @@ either : (t : Bool) (one other : Command) → IsSpelt one → IsSpelt other → 
 either true one other is isnt = is
 either false one other is isnt = isnt
 
-record IsDraw (draw : Draw) : Type 0 where
-  task : draw.task < 16
-  place : draw.place < 64
-  value : draw.value < 256
-
 from_below : (value : ℕ) → (if value % 2 == 0 then 4096 else 0) < 32768
 from_below value = elim (value % 2 == 0) as (λ t. cond t 4096 0 < 32768) [ true ↦ omega arith | false ↦ omega arith ]
 
@@ -175,11 +171,5 @@ command_spelt draw is =
     (either (draw.kind == 12) _ _ (exit_spelt _ (omega arith))
     (either (draw.kind == 13) _ _ (copy_spelt _ _ _ t (from_below draw.value) (omega (arith, p))) (settle_spelt 5 (omega arith)))))))))
 
-draw_kept : (first second third fourth : ℕ) → IsDraw (record { kind = first % 16; task = second % 16; place = third % 64; value = fourth % 256 })
-draw_kept first second third fourth = record { task = omega arith; place = omega arith; value = omega arith }
-
-drawn_kept : (number line : ℕ) → IsDraw (drawn (words_at number line)).0
-drawn_kept number line = draw_kept _ _ _ _
-
 pub drawn_spelt : (number line : ℕ) → IsSpelt (drawn_line number line)
-drawn_spelt number line = command_spelt (drawn (words_at number line)).0 (drawn_kept number line)
+drawn_spelt number line = command_spelt (drawn (words_at number line)).0 (drawn_kept (words_at number line))

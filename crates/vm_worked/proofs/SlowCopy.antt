@@ -1,5 +1,5 @@
 -- The whole history with the slow copy is canonical.
-use Rattle.std.proofs.Common.{ℕ, zero, suc, ◌≡◌, ◌<◌, ◌≤◌, Bool, Option, List, [], ◌∷◌, true, false, refl, subst, ap, sym, arith, Some, None, inl, inr, ◌∙◌}
+use Rattle.std.proofs.Common.{ℕ, ◌≡◌, ◌<◌, ◌≤◌, Bool, Option, List, [], ◌∷◌, true, false, refl, subst, ap, sym, arith, Some, None, inl, inr, ◌∙◌}
 use Rattle.std.proofs.lemmas.Bool.Decides.{nat_tests}
 use Rattle.std.specs.Prelude.{◌==◌, ◌&&◌, ◌||◌, if◌then◌else◌}
 use Rattle.vm_base.specs.declared.entry.Entry.{Entry}
@@ -18,7 +18,7 @@ use Rattle.vm_model.specs.Waiting.{Access, Copying, waiting}
 use Rattle.vm_legal.specs.Accesses.{Waits}
 use Rattle.vm_legal.specs.Bytes.{FlatBytes, OwnBytes}
 use Rattle.vm_legal.specs.Debts.{IsPaid}
-use Rattle.vm_legal.specs.Frames.{FramesSuffice, frames_used}
+use Rattle.vm_legal.specs.Frames.{FramesSuffice}
 use Rattle.vm_legal.specs.InTurn.{NoneSleeps, AllInTurn, AllRecalled, FollowsInTurn, StepIsInTurn}
 use Rattle.vm_legal.specs.Serving.{HostsServed}
 use Rattle.vm_legal.proofs.Serving.{one_served}
@@ -35,7 +35,7 @@ use Rattle.vm_quiet.specs.Unended.{copied, down, file, filled, host, mapped, pag
 use Rattle.vm_quiet.specs.Unended as unended
 use Rattle.vm_worked.specs.Worked.{both, commands, header, history, outside}
 use Rattle.vm_worked.proofs.Steps.{awake_bare, awake_idle, clash, each_step, ends_nobody, nobody, number_is, one_host, one_writer, owes_nothing, recalls}
-use Rattle.vm_worked.proofs.Steps.{served, suffice, not_shared}
+use Rattle.vm_worked.proofs.Steps.{neither, not_shared, one_suffices, served, suffice}
 
 -- the moments at which a step has ended
 
@@ -80,11 +80,7 @@ flat_bytes : EachEvent (FlatBytes header outside) history
 flat_bytes = (tt, (tt, (tt, (tt, (tt, (tt, (tt, (tt, (tt, (tt, (tt, (tt, (tt, (tt, (tt, (tt, (tt, (tt, (tt, (tt, tt))))))))))))))))))))
 
 frames : EachMoment (FramesSuffice header) history
-frames = suffice header 4 enough history refl
-  where
-    enough : (past : List Event) → frames_used 16 0 past ≤ 4 → FramesSuffice header past
-    enough past few zero = few
-    enough past few (suc h) = tt
+frames = suffice header 4 (one_suffices header 4 refl) history refl
 
 -- nothing is left behind
 
@@ -162,10 +158,6 @@ nothing_left = held history (λ unheld. clash (unheld 0 refl)) pages (λ o other
         by false is = elsewhere o p other is
 
 -- nobody waits in vain
-
-neither : (b : Bool) → ◌≡◌ {A = Option Access} (if b then None else None) None
-neither true = refl
-neither false = refl
 
 ended : (b : Bool) → ◌≡◌ {A = Option Access} (if b then None else (if b then Some (Copying 0 16 32) else (if b then None else None))) None
 ended true = refl

@@ -1,7 +1,7 @@
 -- What worked histories have in common: one host, and no shared object; steps that owe nothing, and moments at which nobody waits.
 use Rattle.std.proofs.Common.{ℕ, zero, suc, ◌≡◌, ◌∙◌, ◌≤◌, Bool, Option, List, [], ◌∷◌, true, false, refl, ap, sym, arith, Some, None, length}
 use Rattle.std.proofs.lemmas.Bool.Decides.{nat_tests}
-use Rattle.std.specs.Prelude.{◌==◌, ◌&&◌, nat_lt}
+use Rattle.std.specs.Prelude.{◌==◌, ◌&&◌, nat_lt, if◌then◌else◌}
 use Rattle.vm_model.specs.declared.event.Event.{Event}
 use Rattle.vm_model.specs.declared.event.Event.TheVariants as event
 use Rattle.vm_model.specs.declared.message.Channel.{Channel}
@@ -78,6 +78,12 @@ suffice header frames enough (e ∷ past) few = (
     below : (n : ℕ) → nat_lt n frames ≡ true → n ≤ frames
     below n is = grind (arith, nat_tests)
 
+-- the frames of the only host suffice where it uses no more
+pub one_suffices : (header : Header) (frames : ℕ) → header.frames.items ≡ frames ∷ [] → (past : List Event) → frames_used header.size 0 past ≤ frames
+    → FramesSuffice header past
+one_suffices header frames one past few zero = rw one few
+one_suffices header frames one past few (suc host) = rw one tt
+
 -- what steps owe
 
 abbrev came_up : Option Letter → Bool
@@ -117,6 +123,11 @@ no_access access is = absurd (cc)
 pub one_host : (header : Header) → length header.frames.items ≡ 1 → (past : List Event) → PromptAt header 0 past → Prompt header past
 one_host header one past at zero below = at
 one_host header one past at (suc h) below = absurd (omega (arith, below, one))
+
+-- whichever way a test goes, nobody waits
+pub neither : (b : Bool) → ◌≡◌ {A = Option Access} (if b then None else None) None
+neither true = refl
+neither false = refl
 
 -- where nobody waits nobody waits in vain
 pub nobody : (header : Header) → length header.frames.items ≡ 1 → (past : List Event) → ((task : ℕ) → waiting task past ≡ None) → IsSwept header 0 past

@@ -1,5 +1,5 @@
 -- The history in which the pages of an ended task's object go by falling number is legal, and not canonical.
-use Rattle.std.proofs.Common.{ℕ, zero, suc, ◌≡◌, ◌∙◌, ◌≤◌, Bool, Option, List, [], ◌∷◌, true, false, refl, subst, sym, arith, Some, None, inl, inr}
+use Rattle.std.proofs.Common.{ℕ, ◌≡◌, ◌∙◌, Bool, Option, List, [], ◌∷◌, true, false, refl, subst, sym, arith, Some, None, inl, inr}
 use Rattle.std.proofs.lemmas.Bool.Decides.{nat_tests}
 use Rattle.std.specs.Prelude.{◌==◌, ◌&&◌, ◌||◌, nat_lt, if◌then◌else◌}
 use Rattle.vm_base.specs.declared.entry.Entry.{Entry}
@@ -17,7 +17,7 @@ use Rattle.vm_legal.specs.Accesses.{Waits}
 use Rattle.vm_legal.specs.Bytes.{FlatBytes, OwnBytes}
 use Rattle.vm_legal.specs.Debts.{IsPaid}
 use Rattle.vm_legal.specs.Follows.{Follows}
-use Rattle.vm_legal.specs.Frames.{FramesSuffice, frames_used}
+use Rattle.vm_legal.specs.Frames.{FramesSuffice}
 use Rattle.vm_legal.specs.InTurn.{DropsInTurn}
 use Rattle.vm_legal.specs.Legal.{CanonicalFor, LegalFor}
 use Rattle.vm_legal.specs.Licences.{AllLicensed, DropCause, Ended, Flushed, Reclaimed, Unreached}
@@ -29,7 +29,7 @@ use Rattle.vm_legal.proofs.Locks.{no_request}
 use Rattle.vm_legal.proofs.Unshared.{NoneIsShared, none_shared}
 use Rattle.vm_quiet.specs.Full.{host, object, region, task}
 use Rattle.vm_worked.specs.Swapped.{commands, first, header, history, outside, second}
-use Rattle.vm_worked.proofs.Steps.{clash, each_step, nobody, not_shared, number_is, one_writer, owes_nothing, served, suffice}
+use Rattle.vm_worked.proofs.Steps.{clash, each_step, neither, nobody, not_shared, number_is, one_suffices, one_writer, owes_nothing, served, suffice}
 use Rattle.vm_worked.proofs.Turns.{each_in_turn}
 
 -- the moments at which a step has ended
@@ -95,11 +95,7 @@ flat_bytes : EachEvent (FlatBytes header outside) history
 flat_bytes = (tt, (tt, (tt, (tt, (flat_second, (tt, (tt, (tt, (flat_first, (tt, (tt, (tt, (tt, (tt, (tt, (tt, (tt, tt)))))))))))))))))
 
 frames : EachMoment (FramesSuffice header) history
-frames = suffice header 4 enough history refl
-  where
-    enough : (past : List Event) → frames_used 16 0 past ≤ 4 → FramesSuffice header past
-    enough past few zero = few
-    enough past few (suc h) = tt
+frames = suffice header 4 (one_suffices header 4 refl) history refl
 
 -- nothing is left behind
 
@@ -160,10 +156,6 @@ nothing_left = swept history (λ o p unreached. gone (0 == o) (0 == p) (1 == p))
 
 -- nobody waits
 
-idle_made : (b : Bool) → ◌≡◌ {A = Option Access} (if b then None else None) None
-idle_made true = refl
-idle_made false = refl
-
 idle_loaded : (b : Bool) → ◌≡◌ {A = Option Access} (if b then None else (if b then Some (Loading 0 1) else (if b then None else None))) None
 idle_loaded true = refl
 idle_loaded false = refl
@@ -185,9 +177,9 @@ prompts = (
   (
     nobody header refl loaded (λ t. idle_loaded (0 == t)) nothing_loaded,
     (
-      nobody header refl allocated (λ t. idle_made (0 == t)) (swept allocated (λ o p unreached. refl) (λ o. refl)),
+      nobody header refl allocated (λ t. neither (0 == t)) (swept allocated (λ o p unreached. refl) (λ o. refl)),
       (
-        nobody header refl made (λ t. idle_made (0 == t)) (swept made (λ o p unreached. refl) (λ o. refl)),
+        nobody header refl made (λ t. neither (0 == t)) (swept made (λ o p unreached. refl) (λ o. refl)),
         (nobody header refl [] (λ t. refl) (swept [] (λ o p unreached. refl) (λ o. refl)), tt),
       ),
     ),
