@@ -1,13 +1,14 @@
 -- Pages by rising key: where one stands, and which are not there.
 use Rattle.std.proofs.Common.{ℕ, zero, suc, ◌≡◌, ◌<◌, ◌≤◌, ◌+◌, Bool, true, false, List, [], ◌∷◌, length, get_or, Option, Some, None, refl, sym, ◌∙◌, ap, arith}
 use Rattle.std.proofs.Common.{nat_le, nat_lt}
+use Rattle.std.proofs.lemmas.Bool.{false≢true}
 use Rattle.std.proofs.lemmas.Bool.Decides.{nat_tests}
 use Rattle.std.proofs.lemmas.Option.{get_or_from_slice_get, slice_get_within}
 use Rattle.std.specs.List.Sorted.{IsPartitionedBy}
 use Rattle.std.specs.Prelude.{slice_get, if◌then◌else◌}
 use Rattle.vm_base.specs.Keys.{IsFrom, is_page}
 use Rattle.vm_base.proofs.Keys.{Ahead, Behind, IsAhead, Same, apart, before_is, before_read, cases_key, from_ahead, later}
-use Rattle.sms_server.specs.Kept.{ByKey, IsObjectBelow, IsObjectFrom, is_row_before, leading, rows_before}
+use Rattle.sms_server.specs.Kept.{ByKey, IsObjectBelow, IsObjectFrom, is_page_at, is_row_before, leading, rows_before}
 use Rattle.sms_server.specs.Table.{row_among}
 use Rattle.sms_server.specs.declared.page_row.PageRow.{PageRow}
 
@@ -116,3 +117,36 @@ up_to_read o x is = grind (arith, nat_tests)
 
 pub not_up_to_read : (o : ℕ) (x : PageRow) → is_up_to o x ≡ false → o + 1 ≤ x.key.object.0
 not_up_to_read o x is = grind (arith, nat_tests)
+
+-- a page that comes in front of all stands nowhere
+none_at : (object page o p i : ℕ) (rows : List PageRow) → ByKey object page rows → IsAhead object page o p → is_page_at o p (slice_get rows i) ≡ true → ⊥
+none_at object page o p i [] by_key ahead here = false≢true here
+none_at object page o p zero (x ∷ xs) by_key ahead here = false≢true (sym (apart x.key object page o p by_key.0 ahead) ∙ here)
+none_at object page o p (suc i) (x ∷ xs) by_key ahead here =
+    let next : IsAhead x.key.object.0 (suc x.key.page.0) o p = record {
+      above = omega (arith, by_key.0.above, ahead.above);
+      inside = λ le. let m = ahead.inside (omega (arith, by_key.0.above)) in let n = by_key.0.inside (omega (arith, ahead.above)) in omega arith;
+    } in
+    none_at x.key.object.0 (suc x.key.page.0) o p i xs by_key.1 next here
+
+-- the place at which a page stands is its place
+pub place_of : (object page o p i : ℕ) (rows : List PageRow) → ByKey object page rows → is_page_at o p (slice_get rows i) ≡ true → i ≡ rows_before o p rows
+place_of object page o p i [] by_key here = absurd (false≢true here)
+place_of object page o p zero (x ∷ xs) by_key here =
+    cases_key x.key o p
+    (λ (h : Ahead x.key o p). absurd (false≢true (sym h.apart ∙ here)))
+    (λ (h : Same x.key o p). rw h.before refl)
+    (λ (h : Behind x.key o p). rw h.before refl)
+place_of object page o p (suc i) (x ∷ xs) by_key here =
+    let none = none_at x.key.object.0 (suc x.key.page.0) o p i xs by_key.1 in
+    cases_key x.key o p
+    (λ (h : Ahead x.key o p). rw h.before (ap suc (place_of x.key.object.0 (suc x.key.page.0) o p i xs by_key.1 here)))
+    (λ (h : Same x.key o p). absurd (none (record { above = omega (arith, h.object); inside = λ le. omega (arith, h.page) }) here))
+    (λ (h : Behind x.key o p). absurd (none (from_ahead x.key o p h.place) here))
+
+pub within_at : (o p i : ℕ) (rows : List PageRow) → is_page_at o p (slice_get rows i) ≡ true → i ≤ length rows
+within_at o p i rows here = by (slice_get rows i) refl here
+  where
+    by : (r : Option PageRow) → slice_get rows i ≡ r → is_page_at o p r ≡ true → i ≤ length rows
+    by None is bad = absurd (false≢true bad)
+    by (Some x) is here = let within = slice_get_within rows i x is in omega (arith, within)

@@ -7,7 +7,7 @@ use Rattle.std.proofs.lemmas.Option.{get_or_from_slice_get, none-some, same_Some
 use Rattle.std.specs.List.{insert}
 use Rattle.std.specs.Prelude.{IsSome, slice_get, slice_index}
 use Rattle.sms_pages.specs.Directory.{IsNewDirectory, IsSame, most_replies}
-use Rattle.vm_base.proofs.Keys.{Ahead, Behind, Same, cases_key, itself, key_is, other_page, page_read, swap_tests}
+use Rattle.vm_base.proofs.Keys.{Ahead, Behind, Same, cases_key, itself, key_is, other_page, page_read, same_page, swap_tests}
 use Rattle.vm_base.specs.Keys.{IsFrom, is_page}
 use Rattle.vm_base.specs.declared.ids.PageKey.{PageKey}
 use Rattle.sms_server.proofs.Keyed.{row_found, row_if}
@@ -111,6 +111,22 @@ named size i rows left new by_key whole absent place is is_new heard =
 pub named_row : (i : ℕ) (rows left : List PageRow) (new : PageRow) → i ≡ rows_before new.key.object.0 new.key.page.0 rows → left ≡ insert rows i new
     → row_among new.key.object.0 new.key.page.0 left ≡ Some new
 named_row i rows left new place is = rw (is, place) (rw (row_inserted new.key.object.0 new.key.page.0 new rows, itself new.key) refl)
+
+-- at the place where it was to stand
+before_inserted : (new : PageRow) (rows : List PageRow)
+    → rows_before new.key.object.0 new.key.page.0 (insert rows (rows_before new.key.object.0 new.key.page.0 rows) new)
+    ≡ rows_before new.key.object.0 new.key.page.0 rows
+before_inserted new [] = let me = same_page new.key new.key.object.0 new.key.page.0 refl refl in rw me.before refl
+before_inserted new (x ∷ xs) =
+    let me = same_page new.key new.key.object.0 new.key.page.0 refl refl in
+    cases_key x.key new.key.object.0 new.key.page.0
+    (λ (h : Ahead x.key new.key.object.0 new.key.page.0). rw h.before (rw h.before (ap suc (before_inserted new xs))))
+    (λ (h : Same x.key new.key.object.0 new.key.page.0). rw h.before (rw me.before refl))
+    (λ (h : Behind x.key new.key.object.0 new.key.page.0). rw h.before (rw me.before refl))
+
+pub place_named : (i : ℕ) (rows left : List PageRow) (new : PageRow) → i ≡ rows_before new.key.object.0 new.key.page.0 rows → left ≡ insert rows i new
+    → i ≡ rows_before new.key.object.0 new.key.page.0 left
+place_named i rows left new place is = rw (is, place) (sym (before_inserted new rows))
 
 -- the row of a page, at its place
 pub record Found (rows : List PageRow) (key : PageKey) (i : ℕ) : Type 0 where

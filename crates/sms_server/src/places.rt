@@ -18,12 +18,24 @@ fn comes_before(key: PageKey, other: PageKey) -> bool
 }
 
 /// The number of pages in front of one, in a list by rising key.
-pub fn find(rows: &[PageRow], key: PageKey) -> usize
+fn find(rows: &[PageRow], key: PageKey) -> usize
     requires { ByKey 0 0 rows.now }
     ensures value { result ≡ rows_before key.object.0 key.page.0 rows.now }
     ensures within { result ≤ length rows.now }
 {
     rows.partition_point(|row| comes_before(row.key, key))
+}
+
+/// The same, where a page is looked for at one index first.
+pub fn find_near(rows: &[PageRow], near: usize, key: PageKey) -> usize
+    requires { ByKey 0 0 rows.now }
+    ensures value { result ≡ rows_before key.object.0 key.page.0 rows.now }
+    ensures within { result ≤ length rows.now }
+{
+    if stands_at(rows, near, key) {
+        return near;
+    }
+    find(rows, key)
 }
 
 /// Whether a page stands at an index.

@@ -7,7 +7,7 @@ ghost use Rattle.sms_server.specs.Table.{ArePrepared, IsPrepared, IsSameTable, m
 
 use crate::PageRow;
 use crate::page_row::HOSTS;
-use crate::places::{end_rows, find, prepare_rows, stands_at};
+use crate::places::{end_rows, find_near, prepare_rows, stands_at};
 use crate::telling::{ready, sent};
 use sms_pages::PageDirectory;
 use std::alloc::Global;
@@ -30,6 +30,8 @@ pub struct Server {
     size: PageSize,
     // By rising object, and by rising page of an object.
     rows: Vec<PageRow>,
+    // Where the page stood that was looked for last.
+    last: usize,
     // A new directory, for a page that is named for the first time.
     spare: Option<PageDirectory>,
     // Events to come: none yet, and room for them.
@@ -64,6 +66,7 @@ impl Server {
             alloc,
             size,
             rows: Vec::new(alloc),
+            last: 0,
             spare: None,
             events: Listing::new(alloc),
         }
@@ -159,7 +162,7 @@ impl Server {
         ensures same { IsSameTable self.old self.new }
         ensures most { IfOk result (λ most. most ≡ most_told object.0 message.now self.new) }
     {
-        let i = self.prepare_page(PageKey { object, page })?;
+        let i = self.find_or_name(PageKey { object, page })?;
         self.rows[i].reserve()
     }
 
@@ -228,10 +231,13 @@ impl Server {
         Ok(())
     }
 
-    // Puts in the row of a page that is named for the first time.
-    fn name_page(&mut self, key: PageKey) -> Result<(), NoMemory>
-        requires { row_among key.object.0 key.page.0 self.old.rows ≡ None }
+    // Puts in the row of a page that is named for the first time, at its place.
+    fn name_page(&mut self, i: usize, key: PageKey) -> Result<(), NoMemory>
+        requires none { row_among key.object.0 key.page.0 self.old.rows ≡ None }
+        requires place { i ≡ rows_before key.object.0 key.page.0 self.old.rows }
+        requires within { i ≤ length self.old.rows }
         ensures same { IsSameTable self.old self.new }
+        ensures place { OnOk result (i ≡ rows_before key.object.0 key.page.0 self.new.rows) }
         ensures named { OnOk result (HasMemory 9 (row_among key.object.0 key.page.0 self.new.rows)) }
         ensures room { self.new.room ≡ self.old.room }
         ensures succeeds { self.old.spare ≡ true → IsOk result }
@@ -240,7 +246,6 @@ impl Server {
         let Some(directory) = self.spare.take() else {
             return Err(NoMemory);
         };
-        let i = find(&self.rows, key);
         let row = PageRow {
             key,
             directory,
@@ -259,12 +264,13 @@ impl Server {
             → HasMemory self.new.room (row_among key.object.0 key.page.0 self.new.rows)) }
         ensures succeeds { IsPrepared key.object.0 self.old → IsOk result }
     {
-        let i = find(&self.rows, key);
+        let i = find_near(&self.rows, self.last, key);
+        self.last = i;
         if stands_at(&self.rows, i, key) {
             return Ok(i);
         }
-        self.name_page(key)?;
-        Ok(find(&self.rows, key))
+        self.name_page(i, key)?;
+        Ok(i)
     }
 
     // The index of a page's row, which is made where there is none, with the memory of an answer.

@@ -6,7 +6,7 @@ pub use Rattle.std.proofs.Math.Numerals.{add-one}
 pub use Rattle.std.proofs.lemmas.Bool.Decides.{eqb_tells, nat_tests}
 pub use Rattle.std.proofs.lemmas.List.{length-reverse}
 pub use Rattle.std.proofs.lemmas.Option.{same_Some, slice_get_read, slice_get_within}
-pub use Rattle.std.specs.Prelude.{IfSome, MatchOption, if◌then◌else◌, is_some, nat_lt, not, reverse, slice_get, ◌⊎◌}
+pub use Rattle.std.specs.Prelude.{IfSome, MatchOption, if◌then◌else◌, is_some, nat_lt, not, reverse, slice_get, ◌⊎◌, ◌||◌}
 pub use Rattle.vm_abroad.proofs.Sounds.{sound_start}
 pub use Rattle.vm_abroad.proofs.Whose.{abroad_of_own, own_of_home}
 pub use Rattle.vm_abroad.specs.Home.{copying_host, first_of as first_home, home_of}
@@ -28,8 +28,8 @@ pub use Rattle.vm_kernel.specs.Built.{kernel_runs}
 pub use Rattle.vm_kernel.specs.Matches.{IsRanged, Rests, first_ids, host_id}
 pub use Rattle.vm_kernel.proofs.room.OtherRoom.{rests_roomier}
 pub use Rattle.vm_kernel.specs.declared.breadth.Breadth.{Breadth}
-pub use Rattle.vm_kernel.specs.Rooms.{IsReady as IsReadyOn, ServeRoom, breadth_of, dues, front, full_dues, making, most, rooms_of, to_run, with_rooms}
-pub use Rattle.vm_kernel.specs.Rooms.{with_rooms_of}
+pub use Rattle.vm_kernel.specs.Rooms.{CanServeOn, IsReady as IsReadyOn, MayServe, ServeRoom, breadth_of, dues, front, full_dues, has_queue, making, most}
+pub use Rattle.vm_kernel.specs.Rooms.{own_dues, rooms_of, to_run, with_rooms, with_rooms_of}
 pub use Rattle.vm_kernel.specs.Serving.{HasQueue}
 pub use Rattle.vm_kernel.specs.Taking.{IsAbsencePaid, IsErrorPaid, IsLockPaid}
 pub use Rattle.vm_legal.specs.InTurn.{EndsAll}
@@ -68,10 +68,10 @@ pub use Rattle.vm_objects.specs.declared.row.ObjectRow.{ObjectRow}
 pub use Rattle.vm_shadow.specs.declared.ids.Ids.{Ids}
 pub use native.Mathlib.Decide.{ℕ_discrete}
 pub use Rattle.vm_frames.specs.Frames.{free}
-pub use Rattle.vm_waits.specs.Waits.{is_again, is_frame, one}
+pub use Rattle.vm_waits.specs.Waits.{is_again, is_frame, one, queued}
 pub use Rattle.vm_waits.specs.declared.waiting.On.{On}
 pub use Rattle.vm_waits.specs.declared.waiting.Waiting.{Waiting}
-pub use Rattle.vm_hosts.specs.Hosts.{AllQueued, AllRest, AreNew, CanServe, CanServeOn, HostTable, IsReady, knows_file, most_of, own_dues, sum_of_dues}
+pub use Rattle.vm_hosts.specs.Hosts.{AllQueued, AllRest, AreNew, CanServe, HostTable, IsReady, acts_in, knows_file, most_from, most_on, sum_of_dues, takes_part}
 pub use Rattle.vm_hosts.specs.Steps.{ActsOn, Began, EventsFollow, Heads, PagerStep, PartInTurn, Stretch, Went}
 pub use Rattle.vm_legal.specs.Serving.{EndsInTurn, ServeInTurn}
 pub use Rattle.vm_legal.specs.Serving.ServeInTurn.{NextServes, NoneServed}

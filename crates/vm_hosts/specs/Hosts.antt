@@ -1,5 +1,6 @@
 -- The kernels of all hosts stand for a history.
-use Rattle.std.specs.Prelude.{ℕ, ◌+◌, ◌≡◌, ◌<◌, ◌≤◌, Bool, false, List, [], ◌∷◌, length, Option, Some, None, slice_get}
+use Rattle.std.specs.Prelude.{ℕ, suc, ◌+◌, ◌≡◌, ◌<◌, ◌≤◌, ◌==◌, ◌||◌, Bool, false, true, List, [], ◌∷◌, length, Option, Some, None, slice_get, if◌then◌else◌}
+use Rattle.vm_base.specs.declared.ids.HostId.{HostId}
 use Rattle.vm_model.specs.declared.event.Event.{Event}
 use Rattle.vm_model.specs.declared.script.Header.{Header}
 use Rattle.vm_model.specs.Tasks.{host_of}
@@ -10,7 +11,7 @@ use Rattle.vm_abroad.specs.Sound.{Sound}
 use Rattle.vm_shadow.specs.declared.ids.Ids.{Ids}
 use Rattle.vm_kernel.specs.Matches.{IsRanged, Rests, first_ids}
 use Rattle.vm_kernel.specs.declared.breadth.Breadth.{Breadth}
-use Rattle.vm_kernel.specs.Rooms.{IsReady as IsReadyOn, IsSkipRoom, dues, most}
+use Rattle.vm_kernel.specs.Rooms.{CanServeOn, IsReady as IsReadyOn, has_queue, most, own_dues}
 use Rattle.vm_kernel.specs.Serving.{HasQueue}
 use Rattle.vm_kernel.specs.declared.parts.Parts.{Parts}
 
@@ -43,34 +44,36 @@ pub record AreNew (header : Header) (number : ℕ) (kernels : List Parts) : Type
   pub rests : (h : ℕ) (k : Parts) → slice_get kernels h ≡ Some k → Rests header h k (first_ids header) []
   pub queues : (h : ℕ) (k : Parts) → slice_get kernels h ≡ Some k → HasQueue header h k []
 
--- how many events these kernels add to a step at most
-abbrev pub most_of : Breadth → List Parts → ℕ
-most_of breadth [] = 0
-most_of breadth (k ∷ ks) = most breadth k + most_of breadth ks
+-- the host acts in a step
+abbrev pub acts_in : Option HostId → ℕ → Bool
+acts_in None h = false
+acts_in (Some acting) h = acting.0 == h
 
--- there is room for a step of so many events at most: in the tables of each host, and in a log with so much room
-pub record IsReady (breadth : Breadth) (events : ℕ) (hosts : HostTable) (space : ℕ) : Type 0 where
-  pub each : (h : ℕ) (k : Parts) → slice_get hosts.kernels h ≡ Some k → IsReadyOn breadth k
-  pub enough : most_of breadth hosts.kernels ≤ events
+-- a host takes part in a step: it acts, or somebody waits for a frame there
+abbrev pub takes_part : Option HostId → ℕ → Parts → Bool
+takes_part acting h k = acts_in acting h || has_queue k
+
+-- how many events a host adds to a step at most
+abbrev pub most_on : Option HostId → Breadth → ℕ → Parts → ℕ
+most_on acting breadth h k = if takes_part acting h k then most breadth k else 0
+
+-- how many these add, of which the first has this number
+abbrev pub most_from : Option HostId → Breadth → ℕ → List Parts → ℕ
+most_from acting breadth h [] = 0
+most_from acting breadth h (k ∷ ks) = most_on acting breadth h k + most_from acting breadth (suc h) ks
+
+-- there is room for a step of so many events at most: in the tables of each host that takes part, and in a log with so much room
+pub record IsReady (acting : Option HostId) (breadth : Breadth) (events : ℕ) (hosts : HostTable) (space : ℕ) : Type 0 where
+  pub each : (h : ℕ) (k : Parts) → slice_get hosts.kernels h ≡ Some k → takes_part acting h k ≡ true → IsReadyOn breadth k
+  pub enough : most_from acting breadth 0 hosts.kernels ≤ events
   pub room : events ≤ space
 
--- what is still to be told on a host, and a page that is returned at last
-abbrev pub own_dues : Parts → ℕ
-own_dues k = dues k + 2
-
+-- what is still to be told where all hosts serve their queues
 abbrev pub sum_of_dues : List Parts → ℕ
 sum_of_dues [] = 0
 sum_of_dues (k ∷ ks) = own_dues k + sum_of_dues ks
 
--- there is room in a host's tables to serve its queue
-pub record CanServeOn (k : Parts) : Type 0 where
-  pub rows : dues k ≤ k.memory.resident.spare
-  pub shadows : k.chains.marked ≤ k.chains.spare
-  pub objects : k.chains.marked ≤ k.memory.objects.rows
-  pub buffers : 0 < k.memory.buffers.count
-  pub skip : IsSkipRoom k
-
--- there is room for all hosts to serve theirs: in the tables of each, and in a log with so much room
+-- there is room for all hosts to serve theirs: in the tables of each where somebody stands in it, and in a log with so much room
 pub record CanServe (hosts : HostTable) (space : ℕ) : Type 0 where
-  pub each : (h : ℕ) (k : Parts) → slice_get hosts.kernels h ≡ Some k → CanServeOn k
+  pub each : (h : ℕ) (k : Parts) → slice_get hosts.kernels h ≡ Some k → has_queue k ≡ true → CanServeOn k
   pub room : sum_of_dues hosts.kernels ≤ space

@@ -1,5 +1,6 @@
 -- What the hosts do in a step.
-use Rattle.std.specs.Prelude.{ℕ, ◌≡◌, ◌<◌, Bool, true, List, [], ◌∷◌, ◌++◌, length, reverse, Some}
+use Rattle.std.specs.Prelude.{ℕ, ◌≡◌, ◌<◌, Bool, true, List, [], ◌∷◌, ◌++◌, length, reverse, MatchOption, Option, Some}
+use Rattle.vm_base.specs.declared.code.Code.TheVariants as code
 use Rattle.vm_base.specs.declared.ids.HostId.{HostId}
 use Rattle.vm_base.specs.declared.ids.ObjectId.{ObjectId}
 use Rattle.vm_model.specs.declared.command.Command.{Command}
@@ -17,6 +18,7 @@ use Rattle.vm_legal.specs.Homes.{gives_frame}
 use Rattle.vm_legal.specs.InTurn.{AllInTurn}
 use Rattle.vm_legal.specs.Outside.{Outside}
 use Rattle.vm_legal.specs.Prompt.{Prompt}
+use Rattle.vm_legal.specs.Refusal.{refusal}
 use Rattle.vm_legal.specs.Serving.{EndsInTurn, ServeInTurn}
 use Rattle.vm_legal.specs.Stretches.{AllInner, EachIn, EachOf, MomentsIn}
 use Rattle.vm_kernel.specs.Abroad.{IsNobodys}
@@ -67,6 +69,10 @@ PartInTurn header past events = ServeInTurn header past (length header.frames.it
 pub record ActsOn (header : Header) (h : ℕ) (doing : Command) (past : List Event) : Type 0 where
   pub known : h < length header.frames.items
   pub acts : acts_on h doing past ≡ true
+
+-- where a command acts: on a host of the header, or nowhere, and then its task doesn't live
+abbrev pub IsFoundOn : Header → Command → List Event → Option HostId → Type 0
+IsFoundOn header doing past host = MatchOption host (refusal header past doing ≡ Some code.NoSuchName) (λ (h : HostId). ActsOn header h.0 doing past)
 
 -- a command's step was run
 pub record Began (header : Header) (outside : Outside) (doing : Command) (past : List Event) (hosts : HostTable) (events : List Event) : Type 0 where

@@ -1,6 +1,6 @@
 // The kernels of all hosts.
 ghost use Rattle.std.specs.Prelude.{ℕ, ◌≡◌, ◌+◌, ◌<◌, ◌≤◌, ◌∷◌, ◌++◌, List, [], length, true, false, None, Some, IfOk, OnErr, OnOk, MatchOption, is_some};
-ghost use Rattle.std.specs.Prelude.{option_map};
+ghost use Rattle.std.specs.Prelude.{Option, option_map};
 ghost use Rattle.vm_base.specs.declared.code.Code.TheVariants as code;
 ghost use Rattle.vm_base.specs.declared.ids.HostId.{HostId};
 ghost use Rattle.vm_model.specs.declared.event.Event.TheVariants as event;
@@ -17,12 +17,12 @@ ghost use Rattle.vm_kernel.specs.Matches.{IsRanged};
 ghost use Rattle.vm_kernel.specs.Taking.{IsAbsencePaid, IsErrorPaid, IsLockPaid, IsWord};
 ghost use Rattle.vm_legal.specs.InTurn.{EndsAll};
 ghost use Rattle.vm_kernel.specs.Refusing.{maps_elsewhere, takes_name};
-ghost use Rattle.vm_kernel.specs.Rooms.{breadth_of, word_breadth};
-ghost use Rattle.vm_hosts.specs.Hosts.{AllQueued, AllRest, AreNew, CanServe, IsReady, knows_file, sum_of_dues};
+ghost use Rattle.vm_kernel.specs.Rooms.{IsReady as IsReadyOn, breadth_of, with_rooms_of, word_breadth};
+ghost use Rattle.vm_hosts.specs.Hosts.{AllQueued, AllRest, AreNew, CanServe, IsReady, acts_in, knows_file, most_on, sum_of_dues, takes_part};
 ghost use Rattle.vm_model.specs.declared.event.Event.{Event};
 ghost use Rattle.vm_model.specs.declared.script.Header.{Header};
 ghost use Rattle.vm_objects.specs.Objects.{object_at};
-ghost use Rattle.vm_hosts.specs.Steps.{ActsOn, Began, Going, HostsPart, PagerStep, Step, Went};
+ghost use Rattle.vm_hosts.specs.Steps.{ActsOn, Began, Going, HostsPart, IsFoundOn, PagerStep, Step, Went};
 
 use std::alloc::Global;
 use std::marker::Model;
@@ -74,10 +74,12 @@ impl Hosts {
         })
     }
 
-    /// Makes room for one step of such a breadth on all hosts, and for its events in the log, with so many more;
-    /// gives how many events the step adds at most. Nothing but room changes. It fails for want of memory alone.
+    /// Makes room for one step in which a host acts in such a breadth, or none does, and for its events in the log,
+    /// with so many more; gives how many events the step adds at most. A host that doesn't act takes part where an
+    /// access waits for a frame there. Nothing but room changes. It fails for want of memory alone.
     pub fn reserve(
         &mut self,
+        acting: Option<HostId>,
         breadth: Breadth,
         more: u32,
         log: &mut Events,
@@ -86,9 +88,9 @@ impl Hosts {
         ensures queues { (header : Header) (past : List Event) → AllRest header self.old past → AllQueued header self.old past
             → AllQueued header self.new past }
         ensures items { log.new.items ≡ log.old.items }
-        ensures ready { IfOk result (λ events. IsReady breadth events self.new log.new.room × (events + more ≤ log.new.room)) }
+        ensures ready { IfOk result (λ events. IsReady acting breadth events self.new log.new.room × (events + more ≤ log.new.room)) }
     {
-        let most = self.reserve_tables(breadth)?;
+        let most = self.reserve_tables(acting, breadth)?;
         let Ok(events) = u32::try_from(most) else {
             return Err(NoMemory);
         };
@@ -101,18 +103,17 @@ impl Hosts {
         Ok(events)
     }
 
-    // Makes room for one step in the tables of each host, and gives how many events the step adds at most.
-    fn reserve_tables(&mut self, breadth: Breadth) -> Result<u64, NoMemory>
+    // Makes room for one step in the tables of each host that takes part, and gives how many events the step adds at most.
+    fn reserve_tables(&mut self, acting: Option<HostId>, breadth: Breadth) -> Result<u64, NoMemory>
         ensures rests { (header : Header) (past : List Event) → AllRest header self.old past → AllRest header self.new past }
         ensures queues { (header : Header) (past : List Event) → AllRest header self.old past → AllQueued header self.old past
             → AllQueued header self.new past }
-        ensures ready { IfOk result (λ most. (space : ℕ) → most ≤ space → IsReady breadth most self.new space) }
+        ensures ready { IfOk result (λ most. (space : ℕ) → most ≤ space → IsReady acting breadth most self.new space) }
     {
         let mut most: u64 = 0;
         'rooms: for host in 0..self.kernels.len() {
-            let kernel = &mut self.kernels[host];
-            kernel.reserve(breadth)?;
-            let Some(sum) = most.checked_add(kernel.most(breadth)) else {
+            let told = reserve_on(&mut self.kernels[host], acting, host, breadth)?;
+            let Some(sum) = most.checked_add(told) else {
                 return Err(NoMemory);
             };
             most = sum;
@@ -120,9 +121,14 @@ impl Hosts {
         Ok(most)
     }
 
-    /// Runs a command that isn't refused, up to the end of its step, and adds what happened behind its line to
-    /// the log. It fails for want of memory alone, and then nothing but room has changed.
-    pub fn begin(&mut self, command: &Command, log: &mut Events) -> Result<(), NoMemory>
+    /// Runs a command of a host that isn't refused, up to the end of its step, and adds what happened behind its
+    /// line to the log. It fails for want of memory alone, and then nothing but room has changed.
+    pub fn begin(
+        &mut self,
+        host: HostId,
+        command: &Command,
+        log: &mut Events,
+    ) -> Result<(), NoMemory>
         ghost given: { Step }
         requires rests { AllRest given.header self.old given.past }
         requires command { given.command ≡ command.now }
@@ -131,15 +137,13 @@ impl Hosts {
         requires accepted { refusal given.header given.past command.now ≡ None }
         requires begins { IsLined given.past }
         requires empty { log.old.items ≡ [] }
-        requires ready { (events : ℕ) × IsReady (breadth_of command.now) events self.old log.old.room }
+        requires acts { ActsOn given.header host.0 command.now given.past }
+        requires ready { (events : ℕ) × IsReady (Some host) (breadth_of command.now) events self.old log.old.room }
         ensures began { OnOk result (Began given.header given.outside command.now given.past self.new log.new.items) }
-        ensures few { OnOk result ((events : ℕ) → IsReady (breadth_of command.now) events self.old log.old.room → length log.new.items ≤ events) }
+        ensures few { OnOk result ((events : ℕ) → IsReady (Some host) (breadth_of command.now) events self.old log.old.room → length log.new.items ≤ events) }
         ensures err { OnErr result (AllRest given.header self.new given.past
             × ((AllQueued given.header self.old given.past → AllQueued given.header self.new given.past) × (log.new.items ≡ []))) }
     {
-        let Some(host) = self.host_for(command) else {
-            unreachable!()
-        };
         self.kernels[host.0 as usize].begin(command, &mut self.ids, log)?;
         self.serve_all(log);
         Ok(())
@@ -162,14 +166,14 @@ impl Hosts {
         requires word { IsWord given.header.size message.now }
         requires licensed { LicensedInTurn given.header given.outside given.command (event.Taken (channels.Down host object control) message.now) given.past }
         requires empty { log.old.items ≡ [] }
-        requires ready { (events : ℕ) × IsReady (word_breadth message.now) events self.old log.old.room }
+        requires ready { (events : ℕ) × IsReady (Some host) (word_breadth message.now) events self.old log.old.room }
         ensures passed { OnOk result (HostsPart given.header given.outside given.command
             (event.Taken (channels.Down host object control) message.now ∷ given.past) self.new log.new.items) }
         ensures failed { OnOk result (IsErrorPaid given.header (log.new.items ++ event.Taken (channels.Down host object control) message.now ∷ given.past)) }
         ensures zeroed { OnOk result (IsAbsencePaid given.header (log.new.items ++ event.Taken (channels.Down host object control) message.now ∷ given.past)) }
         ensures locked { OnOk result (IsLockPaid given.header (log.new.items ++ event.Taken (channels.Down host object control) message.now ∷ given.past)) }
         ensures ended { OnOk result (EndsAll given.header (log.new.items ++ event.Taken (channels.Down host object control) message.now ∷ given.past)) }
-        ensures few { OnOk result ((events : ℕ) → IsReady (word_breadth message.now) events self.old log.old.room → length log.new.items ≤ events) }
+        ensures few { OnOk result ((events : ℕ) → IsReady (Some host) (word_breadth message.now) events self.old log.old.room → length log.new.items ≤ events) }
         ensures err { OnErr result (AllRest given.header self.new given.past × (AllQueued given.header self.new given.past × (log.new.items ≡ []))) }
     {
         self.hear(host, object, control, message, log)
@@ -182,9 +186,10 @@ impl Hosts {
         requires rests { AllRest given.header self.old given.past }
         requires answers { PagerStep given.header given.outside given.command host washed given.past given.front }
         requires empty { log.old.items ≡ [] }
-        requires ready { (breadth : Breadth) × ((events : ℕ) × IsReady breadth events self.old log.old.room) }
+        requires ready { (acting : Option HostId) × ((breadth : Breadth) × ((events : ℕ) × IsReady acting breadth events self.old log.old.room)) }
         ensures passed { HostsPart given.header given.outside given.command (given.front ++ given.past) self.new log.new.items }
-        ensures few { (breadth : Breadth) (events : ℕ) → IsReady breadth events self.old log.old.room → length log.new.items ≤ events }
+        ensures few { (acting : Option HostId) (breadth : Breadth) (events : ℕ) → IsReady acting breadth events self.old log.old.room
+            → length log.new.items ≤ events }
     {
         self.behind(host, washed);
         self.serve_all(log);
@@ -207,13 +212,13 @@ impl Hosts {
         requires word { IsWord given.header.size message.now }
         requires licensed { LicensedInTurn given.header given.outside given.command (event.Taken (channels.Down host object control) message.now) given.past }
         requires empty { log.old.items ≡ [] }
-        requires ready { (events : ℕ) × IsReady (word_breadth message.now) events self.old log.old.room }
+        requires ready { (events : ℕ) × IsReady (Some host) (word_breadth message.now) events self.old log.old.room }
         ensures passed { OnOk result (HostsPart given.header given.outside given.command (given.front ++ given.past) self.new log.new.items) }
         ensures failed { OnOk result (IsErrorPaid given.header (log.new.items ++ (given.front ++ given.past))) }
         ensures zeroed { OnOk result (IsAbsencePaid given.header (log.new.items ++ (given.front ++ given.past))) }
         ensures locked { OnOk result (IsLockPaid given.header (log.new.items ++ (given.front ++ given.past))) }
         ensures ended { OnOk result (EndsAll given.header (log.new.items ++ (given.front ++ given.past))) }
-        ensures few { OnOk result ((events : ℕ) → IsReady (word_breadth message.now) events self.old log.old.room → length log.new.items ≤ events) }
+        ensures few { OnOk result ((events : ℕ) → IsReady (Some host) (word_breadth message.now) events self.old log.old.room → length log.new.items ≤ events) }
         ensures err { OnErr result (AllRest given.header self.new given.past × (AllQueued given.header self.new given.past × (log.new.items ≡ []))) }
     {
         self.kernels[host.0 as usize].take(object, control, message, &mut self.ids, log)?;
@@ -227,7 +232,8 @@ impl Hosts {
         requires rests { AllRest given.header self.old given.past }
         requires answers { PagerStep given.header given.outside given.command host washed given.past given.front }
         ensures rests { AllRest given.header self.new (given.front ++ given.past) }
-        ensures ready { (breadth : Breadth) (events room : ℕ) → IsReady breadth events self.old room → IsReady breadth events self.new room }
+        ensures ready { (acting : Option HostId) (breadth : Breadth) (events room : ℕ) → IsReady acting breadth events self.old room
+            → IsReady acting breadth events self.new room }
     {
         if washed {
             self.kernels[host.0 as usize].laundered(&self.ids);
@@ -238,9 +244,10 @@ impl Hosts {
     pub fn serve(&mut self, log: &mut Events)
         ghost given: { Step }
         requires rests { AllRest given.header self.old (log.old.items ++ given.past) }
-        requires ready { (breadth : Breadth) × ((events : ℕ) × IsReady breadth events self.old log.old.room) }
+        requires ready { (acting : Option HostId) × ((breadth : Breadth) × ((events : ℕ) × IsReady acting breadth events self.old log.old.room)) }
         ensures went { Went given.header given.outside given.command given.past log.old.items self.new log.new.items }
-        ensures few { (breadth : Breadth) (events : ℕ) → IsReady breadth events self.old log.old.room → length log.new.items ≤ length log.old.items + events }
+        ensures few { (acting : Option HostId) (breadth : Breadth) (events : ℕ) → IsReady acting breadth events self.old log.old.room
+            → length log.new.items ≤ length log.old.items + events }
     {
         self.serve_all(log);
     }
@@ -258,16 +265,17 @@ impl Hosts {
         }
     }
 
-    /// Why a command is refused now, if it is: its names are judged here, and all else by the kernel of the
-    /// host on which it acts. It takes no memory.
-    pub fn refusal(&self, command: &Command) -> Option<Code>
+    /// Why a command is refused now, if it is, that acts on a host as `host_for` tells: its names are judged
+    /// here, and all else by that host's kernel. It takes no memory.
+    pub fn refusal(&self, host: Option<HostId>, command: &Command) -> Option<Code>
         ghost given: { Step }
         requires rests { AllRest given.header self.now given.past }
         requires range { InRange given.header command.now }
         requires built { kernel_runs command.now ≡ true }
+        requires found { IsFoundOn given.header command.now given.past host }
         ensures { result ≡ refusal given.header given.past command.now }
     {
-        let Some(host) = self.host_for(command) else {
+        let Some(host) = host else {
             return Some(Code::NoSuchName);
         };
         if self.takes_name(command) {
@@ -360,14 +368,13 @@ impl Hosts {
         self.kernels[host.0 as usize].waits(task)
     }
 
-    // The host on which a command acts; None where its task doesn't live.
-    fn host_for(&self, command: &Command) -> Option<HostId>
+    /// The host on which a command acts; None where its task doesn't live.
+    pub fn host_for(&self, command: &Command) -> Option<HostId>
         ghost given: { Step }
         requires rests { AllRest given.header self.now given.past }
         requires range { InRange given.header command.now }
         requires built { kernel_runs command.now ≡ true }
-        ensures { MatchOption result (refusal given.header given.past command.now ≡ Some code.NoSuchName)
-            (λ (h : HostId). ActsOn given.header h.0 command.now given.past) }
+        ensures { IsFoundOn given.header command.now given.past result }
     {
         match command {
             Command::Task { host, .. }
@@ -413,6 +420,34 @@ impl Hosts {
             }
         }
         None
+    }
+}
+
+// Makes room for one step on a host, if it takes part, and gives how many events it adds at most.
+fn reserve_on(
+    kernel: &mut Kernel,
+    acting: Option<HostId>,
+    host: usize,
+    breadth: Breadth,
+) -> Result<u64, NoMemory>
+    ensures is { kernel.new ≡ with_rooms_of kernel.new kernel.old }
+    ensures most { IfOk result (λ most. most ≡ most_on acting breadth host kernel.new) }
+    ensures ready { OnOk result (takes_part acting host kernel.new ≡ true → IsReadyOn breadth kernel.new) }
+{
+    if !acts_in(acting, host) && !kernel.has_queue() {
+        return Ok(0);
+    }
+    kernel.reserve(breadth)?;
+    Ok(kernel.most(breadth))
+}
+
+// Whether a host acts in a step.
+fn acts_in(acting: Option<HostId>, host: usize) -> bool
+    ensures { result ≡ acts_in acting host }
+{
+    match acting {
+        Some(acting) => acting.0 as usize == host,
+        None => false,
     }
 }
 

@@ -5,5 +5,6 @@ pub mod KernelReady
 pub mod MappingSpends
 pub mod OtherRoom
 pub mod PartsOfStep
+pub mod QueueRoom
 pub mod RoomForRun
 pub mod RunPays

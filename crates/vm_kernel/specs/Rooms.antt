@@ -1,6 +1,6 @@
 -- Room for a step: what is still to be told at most where accesses are run again and the queue is served, and what there is room for.
 use Rattle.std.specs.Prelude.{ℕ, zero, suc, ◌+◌, ◌*◌, ◌-◌, ◌<◌, ◌≤◌, ◌≡◌, ◌==◌, ◌&&◌, ◌||◌, Bool, false, true, List, length, Option, Some, None, if◌then◌else◌}
-use Rattle.std.specs.Prelude.{vec_capacity, min}
+use Rattle.std.specs.Prelude.{vec_capacity, min, nat_lt}
 use Rattle.vm_base.specs.declared.ids.PageKey.{PageKey}
 use Rattle.vm_base.specs.Listing.{Listed}
 use Rattle.vm_frames.specs.Frames.{FrameTable, frame_count, free}
@@ -237,6 +237,27 @@ pub record ServeRoom (more : ℕ) (k : Parts) (room : ℕ) : Type 0 where
   pub has : HasRoom (more + 2) k room
   pub buffers : 0 < k.memory.buffers.count
   pub skip : IsSkipRoom k
+
+-- somebody stands in the frame queue of the host
+abbrev pub has_queue : Parts → Bool
+has_queue k = nat_lt 0 (queued k.waits.rows)
+
+-- what a host tells at most where it serves its queue: what is still to be told, and a page that is returned at last; and nothing where nobody stands in it
+abbrev pub own_dues : Parts → ℕ
+own_dues k = if has_queue k then dues k + 2 else 0
+
+-- there is room in a host's tables to serve its queue
+pub record CanServeOn (k : Parts) : Type 0 where
+  pub rows : dues k ≤ k.memory.resident.spare
+  pub shadows : k.chains.marked ≤ k.chains.spare
+  pub objects : k.chains.marked ≤ k.memory.objects.rows
+  pub buffers : 0 < k.memory.buffers.count
+  pub skip : IsSkipRoom k
+
+-- there is room for a host to serve its queue, for which it wants none where nobody stands in it, and in the log for so many events more
+pub record MayServe (more : ℕ) (k : Parts) (room : ℕ) : Type 0 where
+  pub tables : has_queue k ≡ true → CanServeOn k
+  pub log : own_dues k + more ≤ room
 
 -- the front wanted a frame: there is room to serve on, or it has to wait, and then there is room for so many events more
 pub record StopsRoom (stops : Bool) (more : ℕ) (k : Parts) (room : ℕ) : Type 0 where

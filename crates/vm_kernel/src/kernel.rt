@@ -17,7 +17,8 @@ ghost use Rattle.vm_supply.specs.Answers.{outcome_of};
 ghost use Rattle.vm_state.specs.Stands.{HasTasks};
 ghost use Rattle.vm_kernel.specs.Matches.{IsRanged, Rests, first_ids, host_id};
 ghost use Rattle.vm_kernel.specs.Refusing.{maps_elsewhere, takes_name};
-ghost use Rattle.vm_kernel.specs.Rooms.{IsReady, ServeRoom, breadth_of, dues, front, full_dues, making, most, with_rooms_of, word_breadth};
+ghost use Rattle.vm_kernel.specs.Rooms.{IsReady, MayServe, ServeRoom, breadth_of, dues, front, full_dues, has_queue, most, own_dues};
+ghost use Rattle.vm_kernel.specs.Rooms.{with_rooms_of, word_breadth};
 ghost use Rattle.vm_kernel.specs.Taking.{IsAbsencePaid, IsErrorPaid, IsLockPaid, IsWord};
 ghost use Rattle.vm_legal.specs.InTurn.{EndsAll, NoneSleepsOn};
 ghost use Rattle.vm_legal.specs.Returned.{OnlyReturned};
@@ -204,18 +205,25 @@ impl Kernel {
     pub fn serve(&mut self, ids: &mut Ids, log: &mut Events)
         ghost given: { Doing }
         requires rests { Rests given.header given.host self.old ids.old (log.old.items ++ given.past) }
-        requires room { (more : ℕ) × ServeRoom more self.old log.old.room }
+        requires room { (more : ℕ) × MayServe more self.old log.old.room }
         ensures served { Served given.header given.host given.outside given.command given.past log.old.items self.new ids.new log.new.items }
         ensures awake { OnlyReturned (named given.header) given.host (log.new.items ++ given.past)
             → NoneSleepsOn given.header given.host (log.new.items ++ given.past) }
         ensures leaves { LeavesInTurn given.header given.past self.old self.new log.old.items log.new.items }
         ensures others { KeepsOthers self.old.waits.queue self.old.waits.rows self.new.waits.rows }
-        ensures few { length log.new.items ≤ length log.old.items + dues self.old + 2 }
-        ensures left { (more : ℕ) → ServeRoom more self.old log.old.room → more ≤ log.new.room }
+        ensures few { length log.new.items ≤ length log.old.items + own_dues self.old }
+        ensures left { (more : ℕ) → MayServe more self.old log.old.room → more ≤ log.new.room }
     {
         let Ok(()) = self.parts.go_on(ids, log) else {
             unreachable!()
         };
+    }
+
+    /// Whether an access waits for a frame here: where none does, `serve` wants no room and does nothing.
+    pub fn has_queue(&self) -> bool
+        ensures { result ≡ has_queue self.now }
+    {
+        self.parts.waits.has_queue()
     }
 
     /// Whether a task waits: it has begun an access that hasn't ended.

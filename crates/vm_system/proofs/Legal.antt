@@ -14,6 +14,8 @@ use Rattle.vm_system.proofs.Common.{new_marks, next_object, next_region, not, of
 use Rattle.vm_system.proofs.Common.{suc, sym, takings_more, true, waiting, zero, ℕ, ◌++◌, ◌+◌, ◌/◌, ◌∙◌, ◌∷◌, ◌≡◌}
 use Rattle.std.proofs.Common.{◌||◌, ◌&&◌, nat_lt}
 use Rattle.vm_base.specs.declared.code.Code.TheVariants as code
+use Rattle.vm_hosts.specs.Steps.{ActsOn}
+use Rattle.vm_kernel.specs.Begun.{acts_on}
 use Rattle.vm_model.specs.declared.event.Event.TheVariants as event
 use Rattle.vm_model.specs.declared.command.Command.TheVariants as command
 use Rattle.vm_system.proofs.Cleaning.{IsAsked, known_line}
@@ -101,6 +103,28 @@ refusal_line header line h (command.Wire host count) = refl
 refusal_line header line h (command.Unwire host count) = refl
 refusal_line header line h (command.Take channel) = refl
 refusal_line header line h other = refl
+
+-- a line changes nothing of where a command acts
+acts_same : (h line : ℕ) (past : List Event) (c : Command) → acts_on h c (event.Line line ∷ past) ≡ acts_on h c past
+acts_same h line past (command.Task task host) = refl
+acts_same h line past (command.Fork task child) = refl
+acts_same h line past (command.Exit task) = refl
+acts_same h line past (command.Allocate task address bytes) = refl
+acts_same h line past (command.Map task address bytes object offset) = refl
+acts_same h line past (command.Deallocate task address bytes) = refl
+acts_same h line past (command.Protect task address bytes prot) = refl
+acts_same h line past (command.Inherit task address bytes inherit) = refl
+acts_same h line past (command.Load task address size) = refl
+acts_same h line past (command.Store task address size value) = refl
+acts_same h line past (command.Copy task address bytes target to) = refl
+acts_same h line past (command.Pageout host count) = refl
+acts_same h line past (command.Wire host count) = refl
+acts_same h line past (command.Unwire host count) = refl
+acts_same h line past other = refl
+
+pub acts_line : (header : Header) (h line : ℕ) (doing : Command) (past : List Event) → ActsOn header h doing past
+    → ActsOn header h doing (event.Line line ∷ past)
+acts_line header h line doing past on = record { known = on.known; acts = acts_same h line past doing ∙ on.acts }
 
 map_line : (header : Header) (task : TaskId) (address bytes : ℕ) (object : ObjectId) (offset line : ℕ) (h : List Event) (x : Option ℕ)
     → map_head header task address bytes object offset (event.Line line ∷ h) x ≡ map_head header task address bytes object offset h x

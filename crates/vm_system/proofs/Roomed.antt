@@ -1,5 +1,6 @@
 -- A step takes its memory in front: nothing but room changes, and where memory is wanting nothing is done.
-use Rattle.vm_system.proofs.Common.{AllQueued, AllRest, ArmedLater, Arming, Breadth, Channel, ChannelId, Command, Event, HasRoom, Header, HostTable, IsReady}
+use Rattle.vm_system.proofs.Common.{AllQueued, AllRest, ArmedLater, Arming, Breadth, Channel, ChannelId, Command, Event, HasRoom, Header, HostId, HostTable}
+use Rattle.vm_system.proofs.Common.{IsReady}
 use Rattle.vm_system.proofs.Common.{IsSent, List, Listed, Makes, MayTakeFrom, Message, None, Numbered, ObjectId, OnErr, OnlyRoom, Option, Outside, Result}
 use Rattle.vm_system.proofs.Common.{SameHosts, ServerStands, ServerTable, Some, Spares, StandsStill, State, Step, SystemStands, [], all_lined, ap, arith}
 use Rattle.vm_system.proofs.Common.{last_control, lined, live_control, marked_regions, named, next_object, next_region, object_home, refl, region_of, slice_get}
@@ -236,9 +237,9 @@ fewer_room n m s less room = record {
 }
 
 -- the hosts' room is there still, where hosts and log are as they were
-pub ready_still : (breadth : Breadth) (most : ℕ) (s t : State) → t.hosts ≡ s.hosts → t.log ≡ s.log → IsReady breadth most s.hosts s.log.room
-    → IsReady breadth most t.hosts t.log.room
-ready_still breadth most s t hosts log ready = rw (hosts, log) ready
+pub ready_still : (acting : Option HostId) (breadth : Breadth) (most : ℕ) (s t : State) → t.hosts ≡ s.hosts → t.log ≡ s.log
+    → IsReady acting breadth most s.hosts s.log.room → IsReady acting breadth most t.hosts t.log.room
+ready_still acting breadth most s t hosts log ready = rw (hosts, log) ready
 
 -- behind the taking and its line there is room for the rest
 
@@ -313,21 +314,23 @@ pub spares_server : (header : Header) (outside : Outside) (s u : State) → u �
 spares_server header outside s u is =
     same_all header outside s u (ap (λ (z : State). z.pagers.items) is) (ap (λ (z : State). z.files.items) is) (ap (λ (z : State). z.history.items) is)
 
+-- the first message of a channel is still its first
+pub head_still : (number : ChannelId) (index : ℕ) (s u t : State) → u ≡ record s { server = u.server } → t.ports.letters ≡ u.ports.letters
+    → slice_get (queue_on number.0 s.ports.letters) 0 ≡ Some index → slice_get (queue_on number.0 t.ports.letters) 0 ≡ Some index
+head_still number index s u t is letters =
+    subst (λ (z : List (Posted ℕ)). slice_get (queue_on number.0 z) 0 ≡ Some index) (sym (letters ∙ ap (λ (z : State). z.ports.letters) is))
+
 -- the answer to the first message has no more events than were foretold
 pub shared_few : (given : Step) (line : Option ℕ) (number : ChannelId) (channel : Channel) (object : ObjectId) (index : ℕ) (m : Message) (most long : ℕ)
     (s u t : State) → MayTakeFrom given line number channel s → MayTakeFrom given line number channel t
-    → u ≡ record s { server = u.server } → t.ports.letters ≡ u.ports.letters → t.history.items ≡ u.history.items → t.server ≡ u.server
-    → slice_get (queue_on number.0 t.ports.letters) 0 ≡ Some index → (c : Channel) × IsSent t.history.items index c m
-    → ((i : ℕ) (c : Channel) (n : Message) → slice_get (queue_on number.0 s.ports.letters) 0 ≡ Some i → IsSent s.history.items i c n
-    → most ≡ most_told object.0 n u.server) → long ≤ most_told object.0 m t.server → long ≤ most
-shared_few given line number channel object index m most long s u t may any is letters history server head read told few =
-    let before : t.ports.letters ≡ s.ports.letters = letters ∙ ap (λ (z : State). z.ports.letters) is in
+    → u ≡ record s { server = u.server } → t.history.items ≡ u.history.items → t.server ≡ u.server → (c : Channel) × IsSent t.history.items index c m
+    → ((c : Channel) (n : Message) → IsSent s.history.items index c n → most ≡ most_told object.0 n u.server) → long ≤ most_told object.0 m t.server
+    → long ≤ most
+shared_few given line number channel object index m most long s u t may any is history server read told few =
     let items : t.history.items ≡ s.history.items = history ∙ ap (λ (z : State). z.history.items) is in
-    let first : slice_get (queue_on number.0 s.ports.letters) 0 ≡ Some index = subst (λ (z : List (Posted ℕ)). slice_get (queue_on number.0 z) 0 ≡ Some index)
-    before head in
     let sent : IsSent s.history.items index read.0 m = subst (λ (z : List Event). IsSent z index read.0 m) items read.1 in
     let same : most_told object.0 m t.server ≡ most_told object.0 m u.server = ap (λ (z : ServerTable). most_told object.0 m z) server in
-    let is_most = told index read.0 m first sent in
+    let is_most = told read.0 m sent in
     omega (arith, same, is_most, few)
 
 -- a line, and the log behind it
@@ -358,9 +361,9 @@ pub tells_asked : (most long : ℕ) (t told : State) → long ≤ most + 1 → H
 tells_asked most long t told few room less = less_room 1 long (most + 2) t told (omega (arith, few)) room less
 
 -- with one event in the log there is room for those of the hosts
-pub ready_put : (breadth : Breadth) (most : ℕ) (hosts : HostTable) (old new : ℕ) → IsReady breadth most hosts old → most + 2 ≤ old → old ≤ new + 1
-    → IsReady breadth most hosts new
-ready_put breadth most hosts old new ready room less = record { each = ready.each; enough = ready.enough; room = omega (arith, room, less) }
+pub ready_put : (acting : Option HostId) (breadth : Breadth) (most : ℕ) (hosts : HostTable) (old new : ℕ) → IsReady acting breadth most hosts old
+    → most + 2 ≤ old → old ≤ new + 1 → IsReady acting breadth most hosts new
+ready_put acting breadth most hosts old new ready room less = record { each = ready.each; enough = ready.enough; room = omega (arith, room, less) }
 
 -- where the hosts took nothing, they stand for what they stood for
 pub still_taken : (given : Step) (line : Option ℕ) (number : ChannelId) (channel : Channel) (t : State) (hosts : HostTable) (log : Listed Event)

@@ -1,5 +1,6 @@
 -- The ports of a system stand for the channels and the letters of a history.
-use Rattle.std.specs.Prelude.{ℕ, ◌≡◌, ◌*◌, ◌+◌, ◌<◌, ◌≤◌, true, false, List, [], ◌∷◌, ◌++◌, length, reverse, slice_get, Some, is_some}
+use Rattle.std.specs.Prelude.{ℕ, ◌≡◌, ◌*◌, ◌+◌, ◌<◌, ◌≤◌, true, false, List, [], ◌∷◌, ◌++◌, length, reverse, slice_get, Option, Some, is_some}
+use Rattle.vm_base.specs.declared.ids.HostId.{HostId}
 use Rattle.vm_model.specs.declared.event.Event.{Event}
 use Rattle.vm_model.specs.declared.event.Event.TheVariants as event
 use Rattle.vm_model.specs.declared.message.Channel.{Channel}
@@ -98,9 +99,9 @@ pub record OnlyRoom (old new : State) : Type 0 where
   pub files : new.files ≡ old.files
   pub server : new.server ≡ old.server
 
--- there is room for a step in which the hosts do so many events at most, and for so many more
-pub record IsPrepared (breadth : Breadth) (most more : ℕ) (s : State) : Type 0 where
-  pub hosts : IsReady breadth most s.hosts s.log.room
+-- there is room for a step in which a host acts and the hosts tell so many events at most, and for so many more
+pub record IsPrepared (acting : Option HostId) (breadth : Breadth) (most more : ℕ) (s : State) : Type 0 where
+  pub hosts : IsReady acting breadth most s.hosts s.log.room
   pub log : most + more ≤ s.log.room
   pub room : HasRoom (most + more) s
   pub buffer : 0 < s.buffers.count

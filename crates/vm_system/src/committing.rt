@@ -14,7 +14,7 @@ ghost use Rattle.vm_system.specs.Steps.{lined};
 
 use crate::state::State;
 use std::mem;
-use vm_base::{ChannelId, Listing, NoMemory};
+use vm_base::{ChannelId, HostId, Listing, NoMemory};
 use vm_kernel::Breadth;
 use vm_model::{Channel, Event, Events, History, Message};
 
@@ -50,13 +50,18 @@ impl State {
         self.buffers.reserve(1)
     }
 
-    // Takes the memory of a step of the hosts of such a breadth, and of so many further events; nothing but room
-    // changes.
-    pub fn prepare(&mut self, breadth: Breadth, more: u32) -> Result<(), NoMemory>
+    // Takes the memory of a step in which a host acts in such a breadth, or none does, and of so many further
+    // events; nothing but room changes.
+    pub fn prepare(
+        &mut self,
+        acting: Option<HostId>,
+        breadth: Breadth,
+        more: u32,
+    ) -> Result<(), NoMemory>
         ensures same { OnlyRoom self.old self.new }
-        ensures ready { OnOk result ((most : ℕ) × IsPrepared breadth most more self.new) }
+        ensures ready { OnOk result ((most : ℕ) × IsPrepared acting breadth most more self.new) }
     {
-        let most = self.hosts.reserve(breadth, more, &mut self.log)?;
+        let most = self.hosts.reserve(acting, breadth, more, &mut self.log)?;
         let Some(count) = most.checked_add(more) else {
             return Err(NoMemory);
         };

@@ -7,19 +7,40 @@ ghost use Rattle.vm_legal.specs.Refusal.{refusal};
 ghost use Rattle.vm_model.specs.Named.{named};
 ghost use Rattle.vm_system.specs.Refusing.{channel_code, clean_code};
 ghost use Rattle.vm_system.specs.Stands.{SystemStands};
-ghost use Rattle.vm_hosts.specs.Steps.{Step};
+ghost use Rattle.vm_hosts.specs.Steps.{IsFoundOn, Step};
+ghost use Rattle.vm_kernel.specs.Built.{kernel_runs as is_run};
 
 use crate::state::State;
 use vm_base::{Code, HostId, ObjectId, ObjectKind, PageNo};
 use vm_model::{Channel, Command};
 
 impl State {
-    /// Why the command is refused now, if it is.
-    pub fn refusal(&self, command: &Command) -> Option<Code>
+    /// The host on which a command acts, where it is a host's command and its task lives.
+    pub fn acting(&self, command: &Command) -> Option<HostId>
         ghost given: { Step }
         requires stands { SystemStands given.header given.outside self.now }
         requires past { given.past ≡ self.now.history.items }
         requires range { InRange given.header command.now }
+        ensures { is_run command.now ≡ true → IsFoundOn given.header command.now self.now.history.items result }
+    {
+        match command {
+            Command::Take { .. }
+            | Command::Clean { .. }
+            | Command::Say { .. }
+            | Command::Settle { .. }
+            | Command::FailFiles { .. }
+            | Command::FailPaging { .. } => None,
+            _ => self.hosts.host_for(command),
+        }
+    }
+
+    /// Why the command is refused now, if it is, that acts on a host as `acting` tells.
+    pub fn refusal(&self, host: Option<HostId>, command: &Command) -> Option<Code>
+        ghost given: { Step }
+        requires stands { SystemStands given.header given.outside self.now }
+        requires past { given.past ≡ self.now.history.items }
+        requires range { InRange given.header command.now }
+        requires found { is_run command.now ≡ true → IsFoundOn given.header command.now self.now.history.items host }
         ensures { result ≡ refusal given.header self.now.history.items command.now }
     {
         match command {
@@ -32,7 +53,7 @@ impl State {
             } => self.clean_refusal(*object, *page, *count),
             Command::Say { host, object, .. } => self.say_refusal(*host, *object),
             Command::Settle { .. } | Command::FailFiles { .. } | Command::FailPaging { .. } => None,
-            _ => self.hosts.refusal(command),
+            _ => self.hosts.refusal(host, command),
         }
     }
 

@@ -7,7 +7,7 @@ ghost use Rattle.vm_model.specs.Controls.{live_control};
 ghost use Rattle.vm_model.specs.Ranges.{InRange, IsSaid};
 ghost use Rattle.vm_legal.specs.Follows.{head, say_head};
 ghost use Rattle.vm_legal.specs.Refusal.{refusal};
-ghost use Rattle.vm_hosts.specs.Steps.{Step};
+ghost use Rattle.vm_hosts.specs.Steps.{IsFoundOn, Step};
 ghost use Rattle.vm_kernel.specs.Built.{kernel_runs as is_run};
 ghost use Rattle.vm_model.specs.declared.command.Command.TheVariants as command;
 ghost use Rattle.vm_system.specs.Making.{Makes, Spares};
@@ -37,7 +37,12 @@ fn put(mut asked: Events, log: &mut Events)
 
 impl State {
     // A command of a host that isn't refused.
-    pub fn begin(&mut self, line: u32, command: &Command) -> Result<(), NoMemory>
+    pub fn begin(
+        &mut self,
+        line: u32,
+        host: Option<HostId>,
+        command: &Command,
+    ) -> Result<(), NoMemory>
         ghost given: { Step }
         requires given { given ≡ record {
           header = given.header;
@@ -49,12 +54,14 @@ impl State {
         requires range { InRange given.header command.now }
         requires run { is_run command.now ≡ true }
         requires accepted { refusal given.header self.old.history.items command.now ≡ None }
+        requires found { IsFoundOn given.header command.now self.old.history.items host }
         ensures made { OnOk result (Makes given.header given.outside (record { line = line; command = command.now }) self.old self.new) }
         ensures spares { Spares given.header given.outside self.old self.new }
         ensures err { OnErr result (StandsStill given.header given.outside self.old self.new) }
     {
-        self.prepare(Breadth::of(command), 1)?;
-        self.hosts.begin(command, &mut self.log)?;
+        let Some(host) = host else { unreachable!() };
+        self.prepare(Some(host), Breadth::of(command), 1)?;
+        self.hosts.begin(host, command, &mut self.log)?;
         self.tell(Event::Line { line });
         self.commit_log();
         Ok(())
@@ -78,7 +85,7 @@ impl State {
         ensures spares { Spares given.header given.outside self.old self.new }
         ensures err { OnErr result (StandsStill given.header given.outside self.old self.new) }
     {
-        self.prepare(Breadth::Few, 2)?;
+        self.prepare(None, Breadth::Few, 2)?;
         let asked = self.asked(command)?;
         put(asked, &mut self.log);
         self.hosts.serve(&mut self.log);

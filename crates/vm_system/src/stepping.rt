@@ -48,7 +48,8 @@ impl State {
         ensures paging_goes { BackingGoes device.Paging (arms device.Paging command.now ≡ None → ⟦<Armed<P> as Backing>⟧.later paging.old paging.new)
             (⟦<Armed<P> as Backing>⟧.faults paging.old) (⟦<Armed<P> as Backing>⟧.faults paging.new) self.old.history.items self.new.history.items }
     {
-        if let Some(code) = self.refusal(command) {
+        let host = self.acting(command);
+        if let Some(code) = self.refusal(host, command) {
             return self.refuse(line, command, code);
         }
         match command {
@@ -66,7 +67,7 @@ impl State {
             }
             Command::Clean { .. } => self.pass(line, command),
             Command::Say { .. } => self.pass(line, command),
-            _ => self.begin(line, command),
+            _ => self.begin(line, host, command),
         }
     }
 

@@ -97,7 +97,8 @@ impl System {
         requires range { InRange given.header command.now }
         ensures { result ≡ refusal given.header self.now.history.items command.now }
     {
-        self.state.refusal(command)
+        let host = self.state.acting(command);
+        self.state.refusal(host, command)
     }
 
     /// Makes one command's step, and gives the number of events that it added; of a `settle` that

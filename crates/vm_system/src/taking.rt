@@ -1,5 +1,5 @@
 // Messages are taken.
-ghost use Rattle.std.specs.Prelude.{◌≡◌, ◌≢◌, ◌+◌, ◌<◌, ◌≤◌, ◌∷◌, ◌++◌, ℕ, List, None, Some, OnOk, OnErr, true, false, [], IfOk, length, reverse, slice_get};
+ghost use Rattle.std.specs.Prelude.{◌≡◌, ◌+◌, ◌<◌, ◌≤◌, ℕ, List, None, Some, OnOk, OnErr, true, false, IfOk, length, reverse, slice_get};
 ghost use Rattle.vm_model.specs.declared.command.Command.TheVariants as command;
 ghost use Rattle.vm_model.specs.declared.message.Channel.{Channel};
 ghost use Rattle.vm_model.specs.declared.message.Channel.TheVariants as channels;
@@ -7,7 +7,6 @@ ghost use Rattle.vm_model.specs.declared.event.Device.TheVariants as device;
 ghost use Rattle.vm_outside.specs.Areas.{Told};
 ghost use Rattle.vm_system.specs.Backed.{BackingGoes, BackingsFit};
 ghost use Rattle.vm_system.specs.Keeping.{FilesCarry};
-ghost use Rattle.vm_model.specs.Channels.{queue};
 ghost use Rattle.vm_model.specs.Named.{named};
 ghost use Rattle.vm_system.specs.Making.{Spares, SparesFiles, SparesPaging};
 ghost use Rattle.sms_server.specs.Answers.{IsToServer, most_told};
@@ -16,7 +15,6 @@ ghost use Rattle.vm_hosts.specs.Hosts.{IsReady};
 ghost use Rattle.vm_kernel.specs.declared.breadth.Breadth.TheVariants as wide;
 ghost use Rattle.vm_model.specs.declared.message.Message.{Message};
 ghost use Rattle.vm_outside.specs.Arming.{KeepsArming};
-ghost use Rattle.vm_ports.specs.Ports.{queue as queue_on};
 ghost use Rattle.vm_system.specs.Posts.{HasRoom, IsSent};
 ghost use Rattle.vm_system.specs.Stands.{FilesAreKept, PagingIsKept, StandsStill};
 ghost use Rattle.vm_legal.specs.Homes.{gives_frame};
@@ -99,7 +97,7 @@ impl State {
         };
         let index = *index;
         let breadth = Breadth::of_word(sent(&self.history, index));
-        self.prepare(breadth, 2)?;
+        self.prepare(Some(host), breadth, 2)?;
         let message = sent(&self.history, index);
         self.hosts
             .take(host, object, control, message, &mut self.log)?;
@@ -175,7 +173,7 @@ impl State {
         ensures paging_goes { BackingGoes device.Paging (⟦<Armed<P> as Backing>⟧.later paging.old paging.new) (⟦<Armed<P> as Backing>⟧.faults paging.old)
             (⟦<Armed<P> as Backing>⟧.faults paging.new) self.old.history.items self.new.history.items }
     {
-        self.prepare(Breadth::Few, 4)?;
+        self.prepare(None, Breadth::Few, 4)?;
         let Some(index) = self.ports.head(number) else {
             unreachable!()
         };
@@ -212,7 +210,7 @@ impl State {
         ensures files_go { BackingGoes device.Files (⟦<Armed<F> as Backing>⟧.later files.old files.new) (⟦<Armed<F> as Backing>⟧.faults files.old)
             (⟦<Armed<F> as Backing>⟧.faults files.new) self.old.history.items self.new.history.items }
     {
-        self.prepare(Breadth::Few, 4)?;
+        self.prepare(None, Breadth::Few, 4)?;
         let Some(index) = self.ports.head(number) else {
             unreachable!()
         };
@@ -241,7 +239,7 @@ impl State {
         ensures err { OnErr result (StandsStill given.header given.outside self.old self.new) }
         ensures spares { Spares given.header given.outside self.old self.new }
     {
-        self.prepare(Breadth::Few, 2)?;
+        self.prepare(None, Breadth::Few, 2)?;
         let Some(index) = self.ports.head(number) else {
             unreachable!()
         };
@@ -267,15 +265,16 @@ impl State {
         ensures err { OnErr result (StandsStill given.header given.outside self.old self.new) }
         ensures spares { Spares given.header given.outside self.old self.new }
     {
-        let most = self.expect(number, object)?;
-        let Some(more) = most.checked_add(2) else {
-            return Err(NoMemory);
-        };
-        self.prepare(Breadth::Few, more)?;
         let Some(index) = self.ports.head(number) else {
             unreachable!()
         };
-        let message = sent(&self.history, *index);
+        let index = *index;
+        let most = self.expect(index, object)?;
+        let Some(more) = most.checked_add(2) else {
+            return Err(NoMemory);
+        };
+        self.prepare(None, Breadth::Few, more)?;
+        let message = sent(&self.history, index);
         let washed = gives_frame(message);
         let mut words = self.server.answer(host, object, message)?;
         let fresh = words.len() + 1;
@@ -285,21 +284,15 @@ impl State {
         Ok(())
     }
 
-    // The most events that the server of shared memory answers to the first message of a channel, for which it takes its memory.
-    fn expect(&mut self, number: ChannelId, object: ObjectId) -> Result<u32, NoMemory>
-        requires channel { number.0 < self.old.ports.channels }
-        requires first { (index : ℕ) → slice_get (queue_on number.0 self.old.ports.letters) 0 ≡ Some index
-            → (channel : Channel) × (m : Message) × (IsSent self.old.history.items index channel m × IsToServer m) }
-        requires some { queue_on number.0 self.old.ports.letters ≢ [] }
+    // The most events that the server of shared memory answers to the message that an event sent, for which it takes its memory.
+    fn expect(&mut self, index: u32, object: ObjectId) -> Result<u32, NoMemory>
+        requires sent { (channel : Channel) × (m : Message) × (IsSent self.old.history.items index channel m × IsToServer m) }
         ensures same { self.new ≡ record self.old { server = self.new.server } }
         ensures table { IsSameTable self.old.server self.new.server }
-        ensures most { IfOk result (λ most. (index : ℕ) (channel : Channel) (m : Message) → slice_get (queue_on number.0 self.old.ports.letters) 0 ≡ Some index
-            → IsSent self.old.history.items index channel m → most ≡ most_told object.0 m self.new.server) }
+        ensures most { IfOk result (λ most. (channel : Channel) (m : Message) → IsSent self.old.history.items index channel m
+            → most ≡ most_told object.0 m self.new.server) }
     {
-        let Some(index) = self.ports.head(number) else {
-            unreachable!()
-        };
-        let message = sent(&self.history, *index);
+        let message = sent(&self.history, index);
         self.server.most(object, message)
     }
 
@@ -308,7 +301,7 @@ impl State {
         ghost given: { Going }
         requires front { length given.front ≡ fresh }
         requires answered { PagerHasAnswered given host washed self.old }
-        requires ready { (most : ℕ) × (IsReady wide.Few most self.old.hosts self.old.log.room × HasRoom most self.old) }
+        requires ready { (most : ℕ) × (IsReady None wide.Few most self.old.hosts self.old.log.room × HasRoom most self.old) }
         ensures followed { Followed given self.new }
         ensures pagers { self.new.pagers ≡ self.old.pagers }
         ensures files { self.new.files ≡ self.old.files }

@@ -171,24 +171,24 @@ command_line_kept number reading word line some kept =
       rising = (some, omega arith, kept.rising);
     })
 
-worded : (number : ℕ) (reading : Reading) (header : Option HeaderWord) (command : Option CommandWord) (line : List (List ℕ)) → 0 < number
+worded : (number : ℕ) (reading : Reading) (command : Option CommandWord) (header : Option HeaderWord) (line : List (List ℕ)) → 0 < number
     → ReadingKept number reading
-    → Reads (ReadingKept (number + 1)) (elim header as (λ _. Result Reading ScriptFault) [
-      | Some meaning ↦ header_line reading meaning line
-      | None ↦ elim command as (λ _. Result Reading ScriptFault) [
-        | Some meaning ↦ command_line number reading meaning line
+    → Reads (ReadingKept (number + 1)) (elim command as (λ _. Result Reading ScriptFault) [
+      | Some meaning ↦ command_line number reading meaning line
+      | None ↦ elim header as (λ _. Result Reading ScriptFault) [
+        | Some meaning ↦ header_line reading meaning line
         | None ↦ Err UnknownWord
       ]
     ])
-worded number reading (Some meaning) command line some kept = late_kept (number + 1) reading.heading reading.commands meaning line kept.heading
-worded number reading None (Some meaning) line some kept = command_line_kept number reading meaning line some kept
+worded number reading (Some meaning) header line some kept = command_line_kept number reading meaning line some kept
+worded number reading None (Some meaning) line some kept = late_kept (number + 1) reading.heading reading.commands meaning line kept.heading
 worded number reading None None line some kept = stopped
 
 line_kept : (number : ℕ) (reading : Reading) (line : List (List ℕ)) → 0 < number → ReadingKept number reading
     → Reads (ReadingKept (number + 1)) (line_read number reading line)
 line_kept number reading [] some kept = read (passed number reading kept)
 line_kept number reading (word ∷ line) some kept = either (is_comment word) _ _ (read (passed number reading kept))
-    (worded number reading (word_in header_words word) (word_in command_words word) line some kept)
+    (worded number reading (word_in command_words word) (word_in header_words word) line some kept)
 
 -- ---- a whole script
 

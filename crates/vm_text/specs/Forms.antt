@@ -227,18 +227,18 @@ header_form heading heads.Wild line = object_line kinds.Wild heading line
 
 -- ---- command lines
 
--- those of the whole system
-abbrev pub system_words : List (List ℕ × CommandWord)
-system_words =
-    (codes "take", says.Take) ∷ (codes "settle", says.Settle) ∷ (codes "pageout", says.Pageout) ∷ (codes "clean", says.Clean)
+-- those that are rarer
+abbrev pub rarer_words : List (List ℕ × CommandWord)
+rarer_words =
+    (codes "task", says.Task) ∷ (codes "map", says.Map) ∷ (codes "inherit", says.Inherit) ∷ (codes "copy", says.Copy) ∷ (codes "clean", says.Clean)
     ∷ (codes "wire", says.Wire) ∷ (codes "unwire", says.Unwire) ∷ (codes "fail", says.Fail) ∷ (codes "say", says.Say) ∷ []
 
--- those of a task, and those of the whole system
+-- those that most lines begin with come first
 abbrev pub command_words : List (List ℕ × CommandWord)
 command_words =
-    (codes "task", says.Task) ∷ (codes "fork", says.Fork) ∷ (codes "exit", says.Exit) ∷ (codes "allocate", says.Allocate)
-    ∷ (codes "map", says.Map) ∷ (codes "deallocate", says.Deallocate) ∷ (codes "protect", says.Protect) ∷ (codes "inherit", says.Inherit)
-    ∷ (codes "load", says.Load) ∷ (codes "store", says.Store) ∷ (codes "copy", says.Copy) ∷ system_words
+    (codes "load", says.Load) ∷ (codes "store", says.Store) ∷ (codes "settle", says.Settle) ∷ (codes "take", says.Take)
+    ∷ (codes "allocate", says.Allocate) ∷ (codes "deallocate", says.Deallocate) ∷ (codes "fork", says.Fork) ∷ (codes "exit", says.Exit)
+    ∷ (codes "protect", says.Protect) ∷ (codes "pageout", says.Pageout) ∷ rarer_words
 
 abbrev pub task_line : Heading → List (List ℕ) → Result Command ScriptFault
 task_line heading line = do

@@ -43,10 +43,10 @@ abbrev pub line_read : ℕ → Reading → List (List ℕ) → Result Reading Sc
 line_read number reading [] = Ok reading
 line_read number reading (word ∷ line) =
     if is_comment word then Ok reading
-    else elim (word_in header_words word) [
-      | Some meaning ↦ header_line reading meaning line
-      | None ↦ elim (word_in command_words word) [
-        | Some meaning ↦ command_line number reading meaning line
+    else elim (word_in command_words word) [
+      | Some meaning ↦ command_line number reading meaning line
+      | None ↦ elim (word_in header_words word) [
+        | Some meaning ↦ header_line reading meaning line
         | None ↦ Err UnknownWord
       ]
     ]

@@ -1,6 +1,6 @@
 // The words that a script may use, and what they stand for.
 ghost use Rattle.std.specs.Prelude.{◌≡◌};
-ghost use Rattle.vm_text.specs.Forms.{header_words, command_words, system_words, message_words};
+ghost use Rattle.vm_text.specs.Forms.{command_words, header_words, message_words, rarer_words};
 ghost use Rattle.vm_text.specs.Words.{word_in};
 
 use crate::meaning::{CommandWord, HeaderWord, MessageWord};
@@ -59,8 +59,23 @@ pub fn header_word(word: &[u8]) -> Option<HeaderWord>
 pub fn command_word(word: &[u8]) -> Option<CommandWord>
     ensures { result ≡ word_in command_words word.now }
 {
-    if word == b"task".as_slice() {
-        return Some(CommandWord::Task);
+    if word == b"load".as_slice() {
+        return Some(CommandWord::Load);
+    }
+    if word == b"store".as_slice() {
+        return Some(CommandWord::Store);
+    }
+    if word == b"settle".as_slice() {
+        return Some(CommandWord::Settle);
+    }
+    if word == b"take".as_slice() {
+        return Some(CommandWord::Take);
+    }
+    if word == b"allocate".as_slice() {
+        return Some(CommandWord::Allocate);
+    }
+    if word == b"deallocate".as_slice() {
+        return Some(CommandWord::Deallocate);
     }
     if word == b"fork".as_slice() {
         return Some(CommandWord::Fork);
@@ -68,44 +83,29 @@ pub fn command_word(word: &[u8]) -> Option<CommandWord>
     if word == b"exit".as_slice() {
         return Some(CommandWord::Exit);
     }
-    if word == b"allocate".as_slice() {
-        return Some(CommandWord::Allocate);
+    if word == b"protect".as_slice() {
+        return Some(CommandWord::Protect);
+    }
+    if word == b"pageout".as_slice() {
+        return Some(CommandWord::Pageout);
+    }
+    rarer_word(word)
+}
+
+fn rarer_word(word: &[u8]) -> Option<CommandWord>
+    ensures { result ≡ word_in rarer_words word.now }
+{
+    if word == b"task".as_slice() {
+        return Some(CommandWord::Task);
     }
     if word == b"map".as_slice() {
         return Some(CommandWord::Map);
     }
-    if word == b"deallocate".as_slice() {
-        return Some(CommandWord::Deallocate);
-    }
-    if word == b"protect".as_slice() {
-        return Some(CommandWord::Protect);
-    }
     if word == b"inherit".as_slice() {
         return Some(CommandWord::Inherit);
     }
-    if word == b"load".as_slice() {
-        return Some(CommandWord::Load);
-    }
-    if word == b"store".as_slice() {
-        return Some(CommandWord::Store);
-    }
     if word == b"copy".as_slice() {
         return Some(CommandWord::Copy);
-    }
-    system_word(word)
-}
-
-fn system_word(word: &[u8]) -> Option<CommandWord>
-    ensures { result ≡ word_in system_words word.now }
-{
-    if word == b"take".as_slice() {
-        return Some(CommandWord::Take);
-    }
-    if word == b"settle".as_slice() {
-        return Some(CommandWord::Settle);
-    }
-    if word == b"pageout".as_slice() {
-        return Some(CommandWord::Pageout);
     }
     if word == b"clean".as_slice() {
         return Some(CommandWord::Clean);

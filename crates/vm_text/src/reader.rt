@@ -85,11 +85,11 @@ impl<'a> Reading<'a> {
         if is_comment(word) {
             return Ok(());
         }
-        if let Some(meaning) = header_word(word) {
-            return self.header_line(alloc, meaning, rest);
+        if let Some(meaning) = command_word(word) {
+            return self.command_line(alloc, number, meaning, rest);
         }
-        match command_word(word) {
-            Some(meaning) => self.command_line(alloc, number, meaning, rest),
+        match header_word(word) {
+            Some(meaning) => self.header_line(alloc, meaning, rest),
             None => Err(LineStop::Fault(ScriptFault::UnknownWord)),
         }
     }

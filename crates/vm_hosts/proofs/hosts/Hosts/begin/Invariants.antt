@@ -1,8 +1,5 @@
 use Rattle.vm_hosts.proofs.hosts.Hosts.begin.Given as goal
 
-abbrev pub ghost-host_for : goal.ghost-host_for
-ghost-host_for g a = record { header = g.given.header; outside = g.given.outside; command = a.command.now; past = g.given.past }
-
 abbrev pub ghost-begin : goal.ghost-begin
 ghost-begin g a = record { header = g.given.header; host = a.self.now.host.0; outside = g.given.outside; past = g.given.past }
 

@@ -32,14 +32,15 @@ returns-then-washed-clause-rests g c =
     c.laundered.ensures.passed refl
 
 pub returns-then-washed-clause-ready : goal.returns-then-washed-clause-ready
-returns-then-washed-clause-ready g c = λ breadth events room able.
+returns-then-washed-clause-ready g c = λ acting breadth events room able.
     let given = g.given in
     let hosts : HostTable = record { kernels = c.self.inside.kernels.items; ids = c.self.inside.ids } in
     let all : AllRest given.header hosts given.past = subst (λ (z : HostTable). AllRest given.header z given.past) (sym c.self.view_is) c.requires.0 in
     let k = c.index_mut.result.now in
     let at = found given.header hosts given.past c.args.host.0 k all c.requires.1.known c.index_mut.ensures.value in
-    ready_same breadth hosts c.args.host.0 k c.laundered.new.self events room at.at (c.laundered.ensures.ready breadth) (c.laundered.ensures.most breadth)
-    (subst (λ (z : HostTable). IsReady breadth events z room) (sym c.self.view_is) able)
+    ready_same acting breadth hosts c.args.host.0 k c.laundered.new.self events room at.at c.laundered.ensures.waits (c.laundered.ensures.ready breadth)
+    (c.laundered.ensures.most breadth)
+    (subst (λ (z : HostTable). IsReady acting breadth events z room) (sym c.self.view_is) able)
 
 pub returns-else-washed-clause-rests : goal.returns-else-washed-clause-rests
 returns-else-washed-clause-rests g c =

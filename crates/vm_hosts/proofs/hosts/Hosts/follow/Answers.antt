@@ -9,7 +9,8 @@ serve_all-requires g c =
     let rests = c.behind.ensures.rests in
     let some = c.requires.1.1.1 in (
       subst (λ (z : List Event). AllRest given.header c.behind.new.self (z ++ (given.front ++ given.past))) (sym c.requires.1.1.0) rests,
-      can_serve some.0 c.behind.new.self some.1.0 c.args.log.now.room (c.behind.ensures.ready some.0 some.1.0 c.args.log.now.room some.1.1),
+      can_serve some.0 some.1.0 c.behind.new.self some.1.1.0 c.args.log.now.room
+          (c.behind.ensures.ready some.0 some.1.0 some.1.1.0 c.args.log.now.room some.1.1.1),
     )
 
 pub returns : goal.returns
@@ -19,7 +20,7 @@ returns g c =
       passed =
           passed_alone given.header given.outside given.command (given.front ++ given.past) c.args.log.now.items c.serve_all.new.self c.serve_all.new.log.items
           c.requires.1.1.0 c.serve_all.ensures.went;
-      few = λ breadth events ready.
+      few = λ acting breadth events ready.
           none_more (length c.serve_all.new.log.items) events c.args.log.now.items c.requires.1.1.0 c.serve_all.ensures.few
-          (served_few breadth c.behind.new.self events c.args.log.now.room (c.behind.ensures.ready breadth events c.args.log.now.room ready));
+          (served_few acting breadth c.behind.new.self events c.args.log.now.room (c.behind.ensures.ready acting breadth events c.args.log.now.room ready));
     }

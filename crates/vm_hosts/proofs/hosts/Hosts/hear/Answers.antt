@@ -1,7 +1,7 @@
-use Rattle.vm_hosts.proofs.Common.{AllQueued, AllRest, Down, HasQueue, HostTable, IsReady, [], ap, host_id, length, subst, sym, ◌++◌, ◌∙◌, ◌∷◌}
+use Rattle.vm_hosts.proofs.Common.{AllQueued, AllRest, Down, HasQueue, HostTable, IsReady, Some, [], ap, host_id, length, subst, sym, ◌++◌, ◌∙◌, ◌∷◌}
 use Rattle.vm_model.specs.declared.event.Event.TheVariants as event
 use Rattle.vm_kernel.specs.Begun as begun
-use Rattle.vm_hosts.proofs.Dues.{acted_few, acted_room, front_fits, front_room, other_dues}
+use Rattle.vm_hosts.proofs.Dues.{acted_few, acted_room, acting_ready, front_fits, front_room, other_dues}
 use Rattle.vm_hosts.proofs.Rooms.{all_rooms, on_err, queued_rooms}
 use Rattle.vm_hosts.proofs.Tables.{found}
 use Rattle.vm_hosts.proofs.Taking.{ends_went, locked_went, paid_went, passed_on, taken_follows, taken_rests, taken_turns, zeroed_went}
@@ -32,15 +32,17 @@ serve_all-requires g c =
     let k = c.index_mut.result.now in
     let at = found given.header hosts given.past h k all c.requires.1.1.0 c.index_mut.ensures.value in
     let some = c.requires.1.1.1.1.1.1.1 in
-    let ready : IsReady (word_breadth c.args.message.now) some.0 hosts c.args.log.now.room = subst
-    (λ (z : HostTable). IsReady (word_breadth c.args.message.now) some.0 z c.args.log.now.room) (sym c.self.view_is) some.1 in
+    let ready : IsReady (Some c.args.host) (word_breadth c.args.message.now) some.0 hosts c.args.log.now.room = subst
+    (λ (z : HostTable). IsReady (Some c.args.host) (word_breadth c.args.message.now) some.0 z c.args.log.now.room) (sym c.self.view_is) some.1 in
     let passed = subst (λ z. begun.Passed given.header z given.outside given.command (given.front ++ given.past) c.take.new.self c.take.new.ids
     c.take.new.log.items) at.number c.in_ok-take.ensures.passed in
-    let room = c.in_ok-take.ensures.room (other_dues h hosts.kernels) (ready.each h k at.at)
-    (front_room hosts h c.take.new.self k c.take.new.ids at.at (word_breadth c.args.message.now) some.0 c.args.log.now.room ready) in (
+    let room = c.in_ok-take.ensures.room (other_dues h hosts.kernels) (acting_ready c.args.host hosts c.take.new.self k c.take.new.ids at.at
+    (word_breadth c.args.message.now) some.0 c.args.log.now.room ready)
+    (front_room c.args.host hosts c.take.new.self k c.take.new.ids at.at (word_breadth c.args.message.now) some.0 c.args.log.now.room ready) in (
       taken_rests given.header given.outside given.command given.past given.front c.take.new.log.items hosts c.args.host c.args.object c.args.control
           c.args.message.now c.take.new.self c.take.new.ids c.requires.1.1.0 all c.requires.1.1.1.1.1.0 c.requires.1.1.1.0 passed,
-      acted_room hosts h c.take.new.self k c.take.new.ids at.at (word_breadth c.args.message.now) some.0 c.args.log.now.room c.take.new.log.room ready room,
+      acted_room c.args.host hosts c.take.new.self k c.take.new.ids at.at (word_breadth c.args.message.now) some.0 c.args.log.now.room c.take.new.log.room ready
+          room,
     )
 
 pub returns-clause-passed : goal.returns-clause-passed
@@ -97,9 +99,10 @@ returns-clause-few g c = λ events able.
     let h = c.args.host.0 in
     let k = c.index_mut.result.now in
     let at = found given.header hosts given.past h k all c.requires.1.1.0 c.index_mut.ensures.value in
-    let ready : IsReady (word_breadth c.args.message.now) events hosts c.args.log.now.room = subst
-    (λ (z : HostTable). IsReady (word_breadth c.args.message.now) events z c.args.log.now.room) (sym c.self.view_is) able in
-    acted_few hosts h c.take.new.self k c.take.new.ids at.at (word_breadth c.args.message.now) events c.args.log.now.room (length c.take.new.log.items)
+    let ready : IsReady (Some c.args.host) (word_breadth c.args.message.now) events hosts c.args.log.now.room = subst
+    (λ (z : HostTable). IsReady (Some c.args.host) (word_breadth c.args.message.now) events z c.args.log.now.room) (sym c.self.view_is) able in
+    acted_few c.args.host hosts c.take.new.self k c.take.new.ids at.at (word_breadth c.args.message.now) events c.args.log.now.room
+    (length c.take.new.log.items)
     (length c.serve_all.new.log.items) ready c.in_ok-take.ensures.few c.serve_all.ensures.few
 
 pub returns-in_err-take-clause-err : goal.returns-in_err-take-clause-err
@@ -112,9 +115,10 @@ returns-in_err-take-clause-err g c =
     let k = c.index_mut.result.now in
     let at = found given.header hosts given.past h k all c.requires.1.1.0 c.index_mut.ensures.value in
     let some = c.requires.1.1.1.1.1.1.1 in
-    let ready : IsReady (word_breadth c.args.message.now) some.0 hosts c.args.log.now.room = subst
-    (λ (z : HostTable). IsReady (word_breadth c.args.message.now) some.0 z c.args.log.now.room) (sym c.self.view_is) some.1 in
-    let failed = c.in_err-take.ensures.err (ready.each h k at.at) (front_fits hosts h c.take.new.self k c.take.new.ids at.at (word_breadth c.args.message.now)
+    let ready : IsReady (Some c.args.host) (word_breadth c.args.message.now) some.0 hosts c.args.log.now.room = subst
+    (λ (z : HostTable). IsReady (Some c.args.host) (word_breadth c.args.message.now) some.0 z c.args.log.now.room) (sym c.self.view_is) some.1 in
+    let failed = c.in_err-take.ensures.err (acting_ready c.args.host hosts c.take.new.self k c.take.new.ids at.at (word_breadth c.args.message.now) some.0
+    c.args.log.now.room ready) (front_fits c.args.host hosts c.take.new.self k c.take.new.ids at.at (word_breadth c.args.message.now)
     some.0 c.args.log.now.room ready) in
     on_err c.from_residual.result (
       all_rooms hosts h c.take.new.self k c.take.new.ids at.at failed.0 failed.1.0 given.header given.past all,

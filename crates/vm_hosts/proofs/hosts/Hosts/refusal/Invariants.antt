@@ -1,8 +1,5 @@
 use Rattle.vm_hosts.proofs.hosts.Hosts.refusal.Given as goal
 
-abbrev pub ghost-host_for : goal.ghost-host_for
-ghost-host_for g a = g.given
-
 abbrev pub ghost-takes_name : goal.ghost-takes_name
 ghost-takes_name g a = g.given
 

@@ -8,6 +8,7 @@ returns-clause-ready c =
     let asked = c.room_to_ask-asked.ensures in
     let got = c.in_ok-reserve.ensures.room in
     let most = c.in_ok-most.most in
-    let ready = subst (λ (z : HostTable). (space : ℕ) → most ≤ space → IsReady c.args.breadth most z space) (sym c.self.view_is) c.in_ok-most.ensures.ready in
-    ready_whole c.args.breadth most c.in-Ok.events c.args.more c.in-Some.room c.reserve.new.self.room hosts c.in-Ok.ensures.1 c.in-Some.ensures.1
+    let ready = subst (λ (z : HostTable). (space : ℕ) → most ≤ space → IsReady c.args.acting c.args.breadth most z space) (sym c.self.view_is)
+    c.in_ok-most.ensures.ready in
+    ready_whole c.args.acting c.args.breadth most c.in-Ok.events c.args.more c.in-Some.room c.reserve.new.self.room hosts c.in-Ok.ensures.1 c.in-Some.ensures.1
     (omega (arith, asked, got)) ready

@@ -1,13 +1,23 @@
-use Rattle.vm_system.proofs.Common.{AllQueued, AllRest, Began, Breadth, Event, HasRoom, IsLined, IsReady, Listed, None, Step, all_lined, ap, arith, length}
+use Rattle.vm_system.proofs.Common.{AllQueued, AllRest, Began, Breadth, Event, HasRoom, IsLined, IsReady, Listed, None, Some, Step, all_lined, ap, arith}
+use Rattle.vm_system.proofs.Common.{length}
 use Rattle.vm_system.proofs.Common.{queued_lined, refl, refusal, subst, sym, ◌∙◌, ◌∷◌, ◌≡◌}
+use Rattle.vm_base.specs.declared.code.Code.TheVariants as code
 use Rattle.vm_model.specs.declared.event.Event.TheVariants as event
+use Rattle.vm_hosts.specs.Steps.{ActsOn, IsFoundOn}
 use Rattle.vm_system.proofs.Beginning.{can_tell, makes_told, spares_told, told_said}
 use Rattle.vm_system.proofs.Following.{both_spares, same_all}
-use Rattle.vm_system.proofs.Legal.{legal_began, refusal_line}
+use Rattle.vm_system.proofs.Legal.{acts_line, legal_began, refusal_line}
 use Rattle.vm_system.proofs.Roomed.{all_unlined, line_and_log, line_then_log, makes_roomed, on_err, queued_unlined, room_for, roomed_files, roomed_pagers}
 use Rattle.vm_system.proofs.Roomed.{spares_roomed, stands_kept, stands_roomed, still_of, still_roomed, tells_line}
 use Rattle.vm_system.proofs.state.State.begin.Goals as goal
 use Rattle.vm_system.proofs.Sharing.{none_temporary}
+
+pub unreachable-requires : goal.unreachable-requires
+unreachable-requires g c =
+    let none : refusal g.given.header c.args.self.now.history.items c.args.command.now ≡ Some code.NoSuchName = subst
+    (IsFoundOn g.given.header c.args.command.now c.args.self.now.history.items) c.in_default.is c.requires.1.1.1.1.1 in
+    let bad : None ≡ Some code.NoSuchName = sym c.requires.1.1.1.1.0 ∙ none in
+    absurd cc
 
 pub begin-requires : goal.begin-requires
 begin-requires g c =
@@ -20,6 +30,10 @@ begin-requires g c =
     let is : given ≡ record { header = given.header; outside = given.outside; command = doing; past = event.Line c.args.line ∷ t.history.items } =
     rw r.history c.requires.0 in
     let h = t.history.items in
+    let found : ActsOn given.header c.in-Some.host.0 doing s.history.items = subst (IsFoundOn given.header doing s.history.items) c.in-Some.is
+    c.requires.1.1.1.1.1 in
+    let acts = subst (λ (z : Step). ActsOn z.header c.in-Some.host.0 doing z.past) (sym c.requires.0)
+    (acts_line given.header c.in-Some.host.0 c.args.line doing s.history.items found) in
     let to = sym is in (
       subst (λ (z : Step). AllRest z.header t.hosts z.past) to (all_lined given.header given.outside doing t.hosts c.args.line h stands.rests),
       (
@@ -29,14 +43,18 @@ begin-requires g c =
           (
             c.requires.1.1.1.0,
             (
-              subst (λ (z : Step). refusal z.header z.past doing ≡ None) to (refusal_line given.header c.args.line h doing ∙ rw r.history c.requires.1.1.1.1),
+              subst (λ (z : Step). refusal z.header z.past doing ≡ None) to (refusal_line given.header c.args.line h doing ∙ rw r.history c.requires.1.1.1.1.0),
               (
                 subst (λ (z : Step). IsLined z.past) to (record { line = c.args.line; before = h; is = refl }),
                 (
                   stands.log,
                   (
-                    c.in_ok-prepare.ensures.ready.0,
-                    subst (λ (z : Breadth). IsReady z c.in_ok-prepare.ensures.ready.0 t.hosts t.log.room) c.of.ensures c.in_ok-prepare.ensures.ready.1.hosts,
+                    acts,
+                    (
+                      c.in_ok-prepare.ensures.ready.0,
+                      subst (λ (z : Breadth). IsReady (Some c.in-Some.host) z c.in_ok-prepare.ensures.ready.0 t.hosts t.log.room) c.of.ensures
+                          c.in_ok-prepare.ensures.ready.1.hosts,
+                    ),
                   ),
                 ),
               ),
@@ -71,7 +89,8 @@ pub commit_log-requires-clause-room : goal.commit_log-requires-clause-room
 commit_log-requires-clause-room g c =
     let ready = c.in_ok-prepare.ensures.ready in
     let t = c.prepare.new.self in
-    let few = c.in_ok-begin.ensures.few ready.0 (subst (λ (z : Breadth). IsReady z ready.0 t.hosts t.log.room) c.of.ensures ready.1.hosts) in
+    let few = c.in_ok-begin.ensures.few ready.0 (subst (λ (z : Breadth). IsReady (Some c.in-Some.host) z ready.0 t.hosts t.log.room) c.of.ensures
+    ready.1.hosts) in
     subst (λ (z : Listed Event). HasRoom (length z.items) c.tell.new.self) (sym c.tell.ensures.hosts.log)
     (tells_line ready.0 (length c.begin.new.log.items) t c.tell.new.self few ready.1.room
     (λ n h d s l. c.tell.ensures.room n (record { history = h; channels = d; numbers = s; letters = l })))
@@ -91,7 +110,7 @@ returns-clause-made g c =
     let new = c.commit_log.new.self in
     let began = subst (λ (z : Step). Began z.header z.outside doing z.past hosts events) is c.in_ok-begin.ensures.began in
     let legal = legal_began given.header given.outside (record { line = c.args.line; command = doing }) t.history.items events hosts
-    (none_temporary given.header stands.built.ranged) (rw r.history c.requires.1.1.1.1) began in
+    (none_temporary given.header stands.built.ranged) (rw r.history c.requires.1.1.1.1.0) began in
     let told = told_said given.header given.outside doing c.args.line events hosts t stands began.heads.stretch began.ended.rests began.ended.queues in
     let same = line_and_log t hosts c.begin.new.log c.tell.new.self new c.tell.ensures.hosts c.commit_log.ensures.hosts in
     let grown = line_then_log c.args.line events t c.tell.new.self new c.tell.ensures.history (ap (λ (z : Listed Event). z.items) c.tell.ensures.hosts.log)

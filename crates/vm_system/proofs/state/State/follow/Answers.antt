@@ -1,11 +1,11 @@
-use Rattle.vm_system.proofs.Common.{HostsPart, length, ◌++◌}
+use Rattle.vm_system.proofs.Common.{HostsPart, None, length, ◌++◌}
 use Rattle.vm_system.proofs.Following.{can_follow, followed, kept_followed, same_declared, same_files, same_pagers}
 use Rattle.vm_system.proofs.Roomed.{fewer_room}
 use Rattle.vm_kernel.specs.declared.breadth.Breadth.TheVariants as wide
 use Rattle.vm_system.proofs.state.State.follow.Goals as goal
 
 pub follow-requires : goal.follow-requires
-follow-requires g c = (c.requires.1.0.rests, (c.requires.1.0.answers, (c.requires.1.0.log, (wide.Few, (c.requires.1.1.0, c.requires.1.1.1.0)))))
+follow-requires g c = (c.requires.1.0.rests, (c.requires.1.0.answers, (c.requires.1.0.log, (None, (wide.Few, (c.requires.1.1.0, c.requires.1.1.1.0))))))
 
 pub commit_log-requires-clause-can : goal.commit_log-requires-clause-can
 commit_log-requires-clause-can g c =
@@ -15,7 +15,7 @@ pub commit_log-requires-clause-room : goal.commit_log-requires-clause-room
 commit_log-requires-clause-room g c =
     let room = c.requires.1.1 in
     let r = room.1.1 in
-    fewer_room (length c.follow.new.log.items) room.0 _ (c.follow.ensures.few wide.Few room.0 room.1.0)
+    fewer_room (length c.follow.new.log.items) room.0 _ (c.follow.ensures.few None wide.Few room.0 room.1.0)
     (record { history = r.history; channels = r.channels; numbers = r.numbers; letters = r.letters })
 
 pub returns-clause-followed : goal.returns-clause-followed

@@ -52,10 +52,10 @@ serve-requires g c =
     let says = asked_of given.header given.outside doing c.args.line t given.past asked stands c.requires.1.1.0 accepted c.requires.1.1.1.0 past
     c.in_ok-asked.ensures.head in
     let ready = c.in_ok-prepare.ensures.ready in
-    let held = ready_put wide.Few ready.0 t.hosts t.log.room c.put.new.log.room ready.1.hosts ready.1.log c.put.ensures.room in
+    let held = ready_put None wide.Few ready.0 t.hosts t.log.room c.put.new.log.room ready.1.hosts ready.1.log c.put.ensures.room in
     let rests : AllRest given.header t.hosts (asked ++ given.past) = subst (λ (z : List Event). AllRest given.header t.hosts (asked ++ z)) (sym past)
     (asked_rests given.header given.outside doing c.args.line asked t stands says) in
-    (rw c.put.ensures.items rests, (wide.Few, (ready.0, held)))
+    (rw c.put.ensures.items rests, (None, (wide.Few, (ready.0, held))))
 
 pub tell-requires-clause-room : goal.tell-requires-clause-room
 tell-requires-clause-room g c =
@@ -88,8 +88,8 @@ pub commit_log-requires-clause-room : goal.commit_log-requires-clause-room
 commit_log-requires-clause-room g c =
     let t = c.prepare.new.self in
     let ready = c.in_ok-prepare.ensures.ready in
-    let held = ready_put wide.Few ready.0 t.hosts t.log.room c.put.new.log.room ready.1.hosts ready.1.log c.put.ensures.room in
-    let few = c.serve.ensures.few wide.Few ready.0 held in
+    let held = ready_put None wide.Few ready.0 t.hosts t.log.room c.put.new.log.room ready.1.hosts ready.1.log c.put.ensures.room in
+    let few = c.serve.ensures.few None wide.Few ready.0 held in
     let one = c.in_ok-asked.ensures.few in
     let put = ap (λ (z : List Event). length z) c.put.ensures.items in
     subst (λ (z : Listed Event). HasRoom (length z.items) c.tell.new.self) (sym c.tell.ensures.hosts.log)

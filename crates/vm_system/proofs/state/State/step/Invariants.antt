@@ -3,6 +3,9 @@ use Rattle.vm_model.specs.declared.command.Command.TheVariants as command
 use Rattle.vm_model.specs.declared.event.Event.TheVariants as event
 use Rattle.vm_system.proofs.state.State.step.Given as goal
 
+abbrev pub ghost-acting : goal.ghost-acting
+ghost-acting g a = record { header = g.given.header; outside = g.given.outside; command = a.command.now; past = a.self.now.history.items }
+
 abbrev pub ghost-refusal : goal.ghost-refusal
 ghost-refusal g a = record { header = g.given.header; outside = g.given.outside; command = a.command.now; past = a.self.now.history.items }
 

@@ -51,7 +51,8 @@ take-requires g c =
     let read = c.sent-message.ensures in
     let same = sent_one s.history.items c.in-Some.index.now read.0 c.sent.ensures.0 m c.sent.result.now
     (subst (λ (z : List Event). IsSent z c.in-Some.index.now read.0 m) r.history read.1) c.sent.ensures.1 in
-    let able = subst (λ (z : Breadth). IsReady z ready.0 t.hosts t.log.room) (c.of_word-breadth.ensures ∙ ap word_breadth same) ready.1.hosts in (
+    let able = subst (λ (z : Breadth). IsReady (Some c.args.host) z ready.0 t.hosts t.log.room) (c.of_word-breadth.ensures ∙ ap word_breadth same)
+    ready.1.hosts in (
       front.rests,
       (
         front.queues,
@@ -121,7 +122,8 @@ commit_log-requires-clause-room g c =
     let read = c.sent-message.ensures in
     let same = sent_one s.history.items c.in-Some.index.now read.0 c.sent.ensures.0 m c.sent.result.now
     (subst (λ (z : List Event). IsSent z c.in-Some.index.now read.0 m) r.history read.1) c.sent.ensures.1 in
-    let able = subst (λ (z : Breadth). IsReady z ready.0 t.hosts t.log.room) (c.of_word-breadth.ensures ∙ ap word_breadth same) ready.1.hosts in
+    let able = subst (λ (z : Breadth). IsReady (Some c.args.host) z ready.0 t.hosts t.log.room) (c.of_word-breadth.ensures ∙ ap word_breadth same)
+    ready.1.hosts in
     let room = ready.1.room in
     let few = c.in_ok-take.ensures.few ready.0 able in
     let left = behind_all ready.0 t c.take_first.new.self room (λ n h d s l. c.take_first.ensures.room n

@@ -1,4 +1,5 @@
-use Rattle.vm_system.proofs.Common.{Channel, Event, Followed, Going, List, Listed, PagerHasAnswered, SlotTable, Up, [], ap, arith, devices, length, queue, refl}
+use Rattle.vm_system.proofs.Common.{Channel, Event, Followed, Going, List, Listed, None, PagerHasAnswered, SlotTable, Up, [], ap, arith, devices, length, queue}
+use Rattle.vm_system.proofs.Common.{refl}
 use Rattle.vm_system.proofs.Common.{set, subst, sym, take, ℕ, ◌++◌, ◌+◌, ◌∙◌, ◌∷◌, ◌≡◌}
 use Rattle.vm_model.specs.declared.event.Device.TheVariants.{Paging}
 use Rattle.vm_model.specs.declared.event.Event.TheVariants as event
@@ -187,7 +188,7 @@ follow-requires g c =
     (behind_first ready.0 2 t c.take_first.new.self ready.1.room (λ n h d s l. c.take_first.ensures.room n
     (record { history = h; channels = d; numbers = s; letters = l }))) c.commit.ensures.room in (
       front_length n now.history.items events (event.Taken channel m) front count,
-      (done, (ready.0, (ready_still wide.Few ready.0 t now both.hosts both.log ready.1.hosts, room))),
+      (done, (ready.0, (ready_still None wide.Few ready.0 t now both.hosts both.log ready.1.hosts, room))),
     )
 
 pub returns-clause-kept : goal.returns-clause-kept

@@ -1,4 +1,5 @@
-use Rattle.vm_system.proofs.Common.{Channel, Event, Followed, Going, List, Listed, PagerHasAnswered, Up, [], ap, arith, queue, refl, subst, sym, take, ◌∙◌, ◌∷◌}
+use Rattle.vm_system.proofs.Common.{Channel, Event, Followed, Going, List, Listed, None, PagerHasAnswered, Up, [], ap, arith, queue, refl, subst, sym, take}
+use Rattle.vm_system.proofs.Common.{◌∙◌, ◌∷◌}
 use Rattle.vm_system.proofs.Common.{◌≡◌}
 use Rattle.vm_model.specs.declared.event.Event.TheVariants as event
 use Rattle.vm_system.proofs.Following.{both_spares, same_all, same_declared, same_files, same_pagers}
@@ -92,7 +93,7 @@ follow-requires g c =
         (
           ready.0,
           (
-            ready_still wide.Few ready.0 t now f.hosts f.log ready.1.hosts,
+            ready_still None wide.Few ready.0 t now f.hosts f.log ready.1.hosts,
             behind_all ready.0 t now ready.1.room (λ n h d s l. c.take_first.ensures.room n (record { history = h; channels = d; numbers = s; letters = l })),
           ),
         ),
