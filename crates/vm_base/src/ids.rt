@@ -1,4 +1,10 @@
 // The names of things, each a number of its own kind.
+ghost use Rattle.std.specs.Prelude.{◌≡◌, ◌+◌, ◌*◌, ◌^◌};
+ghost use Rattle.std.specs.Cmp.Rules.{hashing};
+ghost use Rattle.std.specs.Hash as fed;
+ghost use Rattle.std.proofs.Common.{rules};
+
+use std::hash::{Hash, Hasher};
 
 /// A host, from 0 on.
 #[derive(Clone, Copy, Debug, PartialEq, Eq, PartialOrd, Ord, Hash)]
@@ -29,10 +35,28 @@ pub struct PageNo(pub u32);
 pub struct FrameNo(pub u32);
 
 /// A page of an object.
-#[derive(Clone, Copy, Debug, PartialEq, Eq, PartialOrd, Ord, Hash)]
+#[derive(Clone, Copy, Debug, PartialEq, Eq, PartialOrd, Ord)]
 pub struct PageKey {
     pub object: ObjectId,
     pub page: PageNo,
+}
+
+// Both numbers are hashed at once, since tables of pages are asked several times in each step.
+impl Hash for PageKey {
+    ghost hash_input = { λ key. fed.u64 (2 ^ 32 * key.object.0 + key.page.0) };
+
+    ghost respects_eq = { Prim.search (hashing, rules) };
+
+    fn hash<H: Hasher>(&self, state: &mut H) {
+        state.write_u64(joined(self.object.0, self.page.0));
+    }
+}
+
+/// Two numbers as one, the first the higher half: what a key of two numbers gives a hash.
+pub fn joined(high: u32, low: u32) -> u64
+    ensures { result ≡ 2 ^ 32 * high + low }
+{
+    0x1_0000_0000 * u64::from(high) + u64::from(low)
 }
 
 /// What an access does to a page. A slow copy loads each page of its source.

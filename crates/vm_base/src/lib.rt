@@ -16,7 +16,7 @@ pub use entry::Entry;
 pub use failure::{Failed, NoMemory, WriteStop};
 pub use ids::{
     Access, ChannelId, FrameNo, HostId, Inherit, Lock, ObjectId, ObjectKind, PageKey, PageNo, Prot,
-    RegionId, TaskId,
+    RegionId, TaskId, joined,
 };
 pub use listing::Listing;
 pub use pages::{PageBytes, PageSize};

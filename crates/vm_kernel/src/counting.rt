@@ -1,13 +1,13 @@
 // Regions count the entries that lead to them.
 ghost use Rattle.std.specs.Prelude.{◌≡◌, ◌+◌, ◌++◌, ◌-◌, ◌<◌, ◌≤◌, ◌^◌, ℕ, List, true, IfSome, IsSome};
-ghost use Rattle.vm_base.specs.Entries.{InOrder};
+ghost use Rattle.vm_base.specs.Entries.{InOrder, by_address};
 ghost use Rattle.vm_base.specs.declared.entry.Entry.{Entry as Row};
 ghost use Rattle.vm_maps.specs.Maps.{entries_in, rows_in};
 ghost use Rattle.vm_state.specs.Places.{has_region, region_entries};
 ghost use Rattle.vm_kernel.specs.Sweeping.{IsCutOn, PutsEntries, Raised, cut_at};
 
-use vm_base::{RegionId, TaskId};
-use vm_maps::Maps;
+use vm_base::{Entries, RegionId, TaskId};
+use vm_maps::{Maps, entry_at};
 use vm_shadow::Chains;
 
 // The regions of the entries that are cut at the lower and at the upper end of a range.
@@ -37,12 +37,11 @@ pub fn count_of(chains: &Chains, region: RegionId) -> u32
 }
 
 // The region of the entry that a boundary cuts.
-fn cut_of(maps: &Maps, task: TaskId, boundary: u64) -> Option<RegionId>
-    requires lives { IsSome (entries_in task.0 maps.now) }
-    requires order { InOrder 0 (2 ^ 32) (rows_in task.0 maps.now) }
-    ensures { IsCutOn result (cut_at boundary (rows_in task.0 maps.now)) }
+fn cut_of(entries: &Entries, boundary: u64) -> Option<RegionId>
+    requires { InOrder 0 (2 ^ 32) (by_address entries.now) }
+    ensures { IsCutOn result (cut_at boundary (by_address entries.now)) }
 {
-    let Some(entry) = maps.entry(task, boundary) else {
+    let Some(entry) = entry_at(entries, boundary) else {
         return None;
     };
     if entry.address < boundary {
@@ -58,10 +57,10 @@ pub fn cuts_of(maps: &Maps, task: TaskId, address: u64, bytes: u64) -> Cuts
     ensures low { IsCutOn result.low (cut_at address (rows_in task.0 maps.now)) }
     ensures high { IsCutOn result.high (cut_at (address + bytes) (rows_in task.0 maps.now)) }
 {
-    let _ = maps.entries(task);
+    let entries = maps.entries(task);
     Cuts {
-        low: cut_of(maps, task, address),
-        high: cut_of(maps, task, address + bytes),
+        low: cut_of(entries, address),
+        high: cut_of(entries, address + bytes),
     }
 }
 

@@ -219,7 +219,7 @@ impl Kernel {
         };
     }
 
-    /// Whether an access waits for a frame here: where none does, `serve` wants no room and does nothing.
+    /// Whether an access waits for a frame here: where none does, `serve` wants no room and tells nothing.
     pub fn has_queue(&self) -> bool
         ensures { result ≡ has_queue self.now }
     {

@@ -11,3 +11,4 @@ mod search;
 pub use change::{MapChange, MapKind};
 pub use maps::Maps;
 pub use place::Place;
+pub use search::entry_at;

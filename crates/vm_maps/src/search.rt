@@ -39,7 +39,8 @@ fn first_behind(entries: &Entries, address: u64) -> Option<Entry>
     }
 }
 
-/// The entry that holds an address.
+/// The entry that holds an address, found by binary search among entries that stand in order; None
+/// where none does.
 #[tactic(auto, using(crate::proofs::Found::found))]
 pub fn entry_at(entries: &Entries, address: u64) -> Option<Entry>
     requires { InOrder 0 (2 ^ 32) (by_address entries.now) }

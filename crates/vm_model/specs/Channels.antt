@@ -1,5 +1,7 @@
 -- The channels of a whole history, and that each is first in, first out.
-use Rattle.std.specs.Prelude.{◌≡◌, ◌≤◌, ◌<◌, ℕ, ◌==◌, ◌&&◌, List, [], ◌∷◌, ◌++◌, Bool, false, Some, if◌then◌else◌}
+use Rattle.std.specs.Prelude.{◌≡◌, ◌+◌, ◌*◌, ◌^◌, ◌≤◌, ◌<◌, ℕ, ◌==◌, ◌&&◌, List, [], ◌∷◌, ◌++◌, Bool, false, Some, if◌then◌else◌}
+use Rattle.std.specs.Hash as fed
+use Rattle.std.specs.Hash.{HashWrites}
 use Rattle.vm_model.specs.declared.message.Channel.{Channel}
 use Rattle.vm_model.specs.declared.message.Channel.TheVariants.{Up, Down}
 use Rattle.vm_model.specs.declared.message.Message.{Message}
@@ -15,6 +17,11 @@ abbrev pub is_channel : Channel → Channel → Bool
 is_channel (Up h o) (Up host object) = host.0 == h.0 && object.0 == o.0
 is_channel (Down h o k) (Down host object control) = host.0 == h.0 && (object.0 == o.0 && control == k)
 is_channel mine other = false
+
+-- what a channel gives a hash
+abbrev pub channel_input : Channel → HashWrites
+channel_input (Up host object) = fed.u64 (2 ^ 32 * host.0 + object.0)
+channel_input (Down host object control) = fed.u64 (2 ^ 32 * host.0 + object.0) ++ fed.u32 control
 
 -- what is on the way in a channel: what was sent and not taken, the oldest first
 abbrev pub queue_after : Channel → Event → List Message → List Message

@@ -1,5 +1,10 @@
 // The messages between a kernel and a pager, and the channels that carry them.
-use vm_base::{HostId, ObjectId, PageBytes, PageNo};
+ghost use Rattle.std.specs.Cmp.Rules.{hashing};
+ghost use Rattle.std.proofs.Common.{rules};
+ghost use Rattle.vm_model.specs.Channels.{channel_input};
+
+use std::hash::{Hash, Hasher};
+use vm_base::{HostId, ObjectId, PageBytes, PageNo, joined};
 
 /// A message of the Mach 3 kernel interfaces (external memory management), in this profile: requests,
 /// unlocks and answers speak of one page, and lengths are in pages.
@@ -102,7 +107,7 @@ pub enum Message {
 }
 
 /// One sender and one port; its messages are taken in the order in which they were sent.
-#[derive(Clone, Copy, Debug, PartialEq, Eq, Hash)]
+#[derive(Clone, Copy, Debug, PartialEq, Eq)]
 pub enum Channel {
     /// From a host's kernel to the port of an object.
     Up {
@@ -115,4 +120,25 @@ pub enum Channel {
         object: ObjectId,
         control: u32,
     },
+}
+
+// Host and object are hashed at once, and behind them the control, where there is one.
+impl Hash for Channel {
+    ghost hash_input = { channel_input };
+
+    ghost respects_eq = { Prim.search (hashing, rules) };
+
+    fn hash<H: Hasher>(&self, state: &mut H) {
+        match self {
+            Channel::Up { host, object } => state.write_u64(joined(host.0, object.0)),
+            Channel::Down {
+                host,
+                object,
+                control,
+            } => {
+                state.write_u64(joined(host.0, object.0));
+                state.write_u32(*control);
+            }
+        }
+    }
 }

@@ -1,17 +1,32 @@
 // Which pages of each object are in, by groups of 64 pages.
-ghost use Rattle.std.specs.Prelude.{ℕ, ◌≡◌, ◌+◌, ◌≤◌, ◌<◌, ◌/◌, ◌^◌, false, true, MatchOption, OnOk};
+ghost use Rattle.std.specs.Prelude.{ℕ, ◌≡◌, ◌+◌, ◌*◌, ◌≤◌, ◌<◌, ◌/◌, ◌^◌, false, true, MatchOption, OnOk};
+ghost use Rattle.std.specs.Cmp.Rules.{hashing};
+ghost use Rattle.std.specs.Hash as fed;
+ghost use Rattle.std.proofs.Common.{rules};
 ghost use Rattle.vm_resident.specs.Groups.{IsFirstIn, NoneFrom, PutsIn, bits_of, is_in};
 
 use indexmap::IndexMap;
 use std::alloc::Global;
+use std::hash::{Hash, Hasher};
 use std::marker::Model;
-use vm_base::{NoMemory, ObjectId, PageKey, PageNo};
+use vm_base::{NoMemory, ObjectId, PageKey, PageNo, joined};
 
 /// A group of 64 pages of an object: those whose number divided by 64 is `group`.
-#[derive(Clone, Copy, PartialEq, Eq, Hash)]
+#[derive(Clone, Copy, PartialEq, Eq)]
 pub struct GroupKey {
     pub object: ObjectId,
     pub group: u32,
+}
+
+// Both numbers are hashed at once, as those of a page are.
+impl Hash for GroupKey {
+    ghost hash_input = { λ key. fed.u64 (2 ^ 32 * key.object.0 + key.group) };
+
+    ghost respects_eq = { Prim.search (hashing, rules) };
+
+    fn hash<H: Hasher>(&self, state: &mut H) {
+        state.write_u64(joined(self.object.0, self.group));
+    }
 }
 
 /// A set of pages, which finds the first of an object from a page on. Only `reserve` takes memory.

@@ -62,9 +62,14 @@ impl Line {
     }
 
     /// The digits of a number in base ten, without a space in front.
+    #[tactic(auto, using(std::proofs::lemmas::Fmt::decimal_digit))]
     pub(crate) fn put_number(&mut self, number: u64) -> Result<(), NoMemory>
         ensures { OnOk result (self.new ≡ self.old ++ decimal number) }
     {
+        // (most numbers of a history have one digit)
+        if number < 10 {
+            return self.put_byte(b'0' + number as u8);
+        }
         let mut buffer = Buffer::new();
         self.bytes
             .extend_from_slice(buffer.format(number).as_bytes())?;
@@ -75,11 +80,8 @@ impl Line {
     pub(crate) fn put_field(&mut self, number: u64) -> Result<(), NoMemory>
         ensures { OnOk result (self.new ≡ self.old ++ field number) }
     {
-        let mut buffer = Buffer::new();
-        self.bytes.push(b' ')?;
-        self.bytes
-            .extend_from_slice(buffer.format(number).as_bytes())?;
-        Ok(())
+        self.put_byte(b' ')?;
+        self.put_number(number)
     }
 
     /// Each number as a field, the first in front.
