@@ -45,7 +45,6 @@ impl Kernel {
     }
 
     // Takes the page, which counts where it was asked for.
-    #[tactic(auto, using(crate::proofs::Queues::map_end, crate::proofs::Queues::each_end, crate::proofs::Supplies::supply_locks, crate::proofs::Supplies::supply_bounded, crate::proofs::Supplies::supplied_not, crate::proofs::Supplies::supplied_yes, crate::proofs::Supplies::first_whole))]
     fn take_supply(
         &mut self,
         writes: bool,

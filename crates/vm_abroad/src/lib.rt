@@ -49,7 +49,6 @@ pub fn who_waits_waits_as_before()
 {}
 
 /// What a host's own event does to the host's pages, controls and frames: nothing is asked of numbers of hosts.
-#[tactic(auto, using(crate::proofs::Own::local_own, crate::proofs::Own::live_own, crate::proofs::Own::last_own, crate::proofs::Own::ready_own, crate::proofs::Own::held_own, crate::proofs::Own::wired_own, crate::proofs::Own::out_own))]
 pub fn own_events_move_their_host()
     ensures local { (header : Header) (h : ℕ) (e : Event) (past : List Event) → is_home header h e past ≡ true → (place : Place)
         → local header.size h place (e ∷ past) ≡ local_after header.size (own_effect place (λ source. local header.size h source past)

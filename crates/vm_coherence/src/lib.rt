@@ -39,7 +39,6 @@ ghost use Rattle.vm_model.specs.Coherence.{NothingIsAsked, NobodyWaits};
 /// no other can read, at every moment, also inside a step. A load therefore reads what the stores in
 /// front of it left. Where nothing is on its way and each step has paid what it owes, no page is
 /// asked for and no unlock is outstanding, so that no access waits.
-#[tactic(auto, using(crate::proofs::Law::throughout_writer, crate::proofs::Whole::throughout_bytes, crate::proofs::Whole::loads, crate::proofs::Whole::page_legal, crate::proofs::Still::answered, crate::proofs::Still::still))]
 pub fn coherence_law()
     ensures one_writer { (size : ℕ) (acts : List Act) → ActsLicensed size acts → Throughout OneWriter acts }
     ensures same_bytes { (size : ℕ) (acts : List Act) → ActsLicensed size acts → Throughout (SameBytes size) acts }
@@ -54,7 +53,6 @@ pub fn coherence_law()
 /// unlock of one and the flush for it cross the other's unlock. The run has a cause for each event,
 /// pays what its steps owe and ends quiet, so the law's premises are met by runs in which every kind
 /// of message but `terminate` appears.
-#[tactic(auto, using(crate::proofs::Crossing::crossing_licensed, crate::proofs::Crossing::crossing_done, crate::proofs::Crossing::crossing_quiet, crate::proofs::Crossing::crossing_served, crate::proofs::Crossing::crossing_prompt))]
 pub fn crossing_run()
     ensures licensed { ActsLicensed 16 (world_part 16 crossing) }
     ensures done { StepsDone (world_part 16 crossing) }
@@ -70,7 +68,6 @@ pub fn crossing_run()
 ///
 /// A server that takes each message in its turn may so note a host's words without looking at the
 /// control that they name.
-#[tactic(auto, using(crate::proofs::Protocol::one_request, crate::proofs::Protocol::one_unlock, crate::proofs::Protocol::completed_awaited, crate::proofs::Protocol::ended_awaited, crate::proofs::Protocol::ended_unasked))]
 pub fn protocol_law()
     ensures one_request { (size h control access : ℕ) (acts : List Act) → ActsLicensed size acts → first (side h acts).up ≡ Some (Asking control access)
         → NoRequest h (line acts) }
@@ -143,7 +140,6 @@ pub fn channel_law()
 /// isn't here the part's bytes, lock and marks mean nothing.
 ///
 /// That a request and the end of a control are the live control's follows from their causes.
-#[tactic(auto, using(crate::proofs::Locals::side_is_local, crate::proofs::Locals::one_writer, crate::proofs::Locals::local_bytes, crate::proofs::Locals::asked_live, crate::proofs::Locals::ended_live))]
 pub fn local_law()
     ensures page { (size : ℕ) (history : List Event) (h o p : ℕ) → EachEvent (IsFounded size) history
         → SideIsLocal (live_control h o history) (side h (page_part size o p history)) (local size h (record { object = o; page = p }) history) }

@@ -90,7 +90,6 @@ pub fn without_wild_objects_frames_alone_are_awaited()
 
 /// A worked history that meets all of that with an access that waits: the host's two frames are both
 /// wired, so a load of fresh memory waits, and nothing is on its way.
-#[tactic(auto, using(crate::proofs::Full::full_paged, crate::proofs::Full::full_causes, crate::proofs::Full::full_steps, crate::proofs::Full::full_paid, crate::proofs::Full::full_prompt, crate::proofs::Full::full_delivered, crate::proofs::Full::full_waits))]
 pub fn full_run()
     ensures paged { AllPaged full.header }
     ensures causes { EachEvent (HasCause full.header full.outside) full.history }
@@ -103,7 +102,6 @@ pub fn full_run()
 
 /// A worked history of a wild object on two hosts that meets the premises, with two loads that wait for ever, though
 /// each host has a free frame: one for an answer that the script never gives, the other for a ready.
-#[tactic(auto, using(crate::proofs::Unanswered::wild_kinds, crate::proofs::Unanswered::wild_causes, crate::proofs::Unanswered::wild_steps, crate::proofs::Unanswered::wild_paid, crate::proofs::Unanswered::wild_answered, crate::proofs::Unanswered::wild_delivered, crate::proofs::Unanswered::wild_waits, crate::proofs::Unanswered::wild_unready))]
 pub fn unanswered_run()
     ensures kinds { NoneIsTemporary unanswered.header }
     ensures causes { EachEvent (HasCause unanswered.header unanswered.outside) unanswered.history }
