@@ -3,3 +3,4 @@ pub mod Law
 pub mod Orders
 pub mod Played
 pub mod Stands
+pub mod Unspoken

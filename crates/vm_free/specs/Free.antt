@@ -1,11 +1,12 @@
 -- The free part of a script: loads and stores of several tasks, which may go in any order that keeps each task's own.
-use Rattle.std.specs.Prelude.{ℕ, ◌≡◌, ◌==◌, ◌++◌, Bool, true, false, List, [], ◌∷◌, None, if◌then◌else◌}
+use Rattle.std.specs.Prelude.{ℕ, ◌≡◌, ◌==◌, ◌++◌, Bool, true, false, not, List, [], ◌∷◌, None, if◌then◌else◌}
 use Rattle.std.specs.List.{All}
 use Rattle.vm_model.specs.declared.command.Command.{Command}
 use Rattle.vm_model.specs.declared.command.Command.TheVariants as command
 use Rattle.vm_model.specs.declared.command.Numbered.{Numbered}
 use Rattle.vm_model.specs.declared.event.Event.{Event}
 use Rattle.vm_model.specs.declared.event.Event.TheVariants as event
+use Rattle.vm_model.specs.Kinds.{About, about, Entries, Regions, Tasks}
 use Rattle.vm_model.specs.Waiting.{Access, Loading, Storing, waiting}
 
 -- the access that a command makes a task begin, if it does
@@ -30,21 +31,20 @@ abbrev pub begun : ℕ → List Event → List Access
 begun t [] = []
 begun t (e ∷ older) = begins t e ++ begun t older
 
+-- tasks, regions and entries are of the set-up
+abbrev pub is_of_set_up : About → Bool
+is_of_set_up Tasks = true
+is_of_set_up Regions = true
+is_of_set_up Entries = true
+is_of_set_up other = false
+
 -- the event makes or ends no task, no region and no entry, copies nothing, and is no access's failure
 abbrev pub is_plain : Event → Bool
-is_plain (event.TaskMade task host) = false
-is_plain (event.TaskEnded task) = false
-is_plain (event.RegionMade region object pages) = false
-is_plain (event.RegionCopied region source offset pages) = false
-is_plain (event.Entered task address bytes region offset prot inherit) = false
-is_plain (event.Removed task address bytes) = false
-is_plain (event.Protected task address bytes prot) = false
-is_plain (event.Inherited task address bytes inherit) = false
 is_plain (event.BegunCopy task address bytes to) = false
 is_plain (event.CopiedPage task page object object_page target) = false
 is_plain (event.CopyEnded task) = false
 is_plain (event.Failed task object page) = false
-is_plain other = true
+is_plain e = not (is_of_set_up (about e))
 
 -- these are the older ones of a list that has the newest first
 pub record AreOldest {A : Type 0} (part whole : List A) : Type 0 where

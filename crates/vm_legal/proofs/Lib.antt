@@ -16,3 +16,4 @@ pub mod SoFar
 pub mod Stretched
 pub mod Turns
 pub mod Unshared
+pub mod Unspoken

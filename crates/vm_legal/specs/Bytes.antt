@@ -35,29 +35,7 @@ OwnBytes header (event.Stored task object page at size value) past = PutsOwn hea
 OwnBytes header (event.Raised host lower lower_page upper upper_page) past = CanRead (page_on header host.0 lower.0 lower_page.0 past)
 OwnBytes header (event.CopiedPage task page object object_page target) past =
     (host : ℕ) → lives_on host task.0 past ≡ true → CanRead (page_on header host object.0 object_page.0 past)
-OwnBytes header (event.Line line) past = Unit {0}
-OwnBytes header (event.Refused code) past = Unit {0}
-OwnBytes header (event.TaskMade task host) past = Unit {0}
-OwnBytes header (event.TaskEnded task) past = Unit {0}
-OwnBytes header (event.RegionMade region object pages) past = Unit {0}
-OwnBytes header (event.RegionCopied region source offset pages) past = Unit {0}
-OwnBytes header (event.Entered task address bytes region offset prot inherit) past = Unit {0}
-OwnBytes header (event.Removed task address bytes) past = Unit {0}
-OwnBytes header (event.Protected task address bytes prot) past = Unit {0}
-OwnBytes header (event.Inherited task address bytes inherit) past = Unit {0}
-OwnBytes header (event.BegunLoad task address size) past = Unit {0}
-OwnBytes header (event.BegunStore task address size value) past = Unit {0}
-OwnBytes header (event.BegunCopy task address bytes to) past = Unit {0}
-OwnBytes header (event.CopyEnded task) past = Unit {0}
-OwnBytes header (event.Failed task object page) past = Unit {0}
-OwnBytes header (event.Sent channel m) past = Unit {0}
-OwnBytes header (event.Taken channel m) past = Unit {0}
-OwnBytes header (event.Dropped host object page) past = Unit {0}
-OwnBytes header (event.Zeroed host object page) past = Unit {0}
-OwnBytes header (event.Shadowed region new old) past = Unit {0}
-OwnBytes header (event.DeviceFailed who way object page) past = Unit {0}
-OwnBytes header (event.NoSlot object page) past = Unit {0}
-OwnBytes header (event.Wired host count) past = Unit {0}
+OwnBytes header other past = Unit {0}
 
 -- a load of a region of temporary, file or shared memory answers the number in the flat map's page, at its address; of temporary memory where
 -- the paging area tells
@@ -70,93 +48,18 @@ pub record AnswersFlat (header : Header) (outside : Outside) (task value : ℕ) 
 
 abbrev pub FlatBytes : Header → Outside → Event → List Event → Type 0
 FlatBytes header outside (event.Loaded task object page value) past = AnswersFlat header outside task.0 value past
-FlatBytes header outside (event.Line line) past = Unit {0}
-FlatBytes header outside (event.Refused code) past = Unit {0}
-FlatBytes header outside (event.TaskMade task host) past = Unit {0}
-FlatBytes header outside (event.TaskEnded task) past = Unit {0}
-FlatBytes header outside (event.RegionMade region object pages) past = Unit {0}
-FlatBytes header outside (event.RegionCopied region source offset pages) past = Unit {0}
-FlatBytes header outside (event.Entered task address bytes region offset prot inherit) past = Unit {0}
-FlatBytes header outside (event.Removed task address bytes) past = Unit {0}
-FlatBytes header outside (event.Protected task address bytes prot) past = Unit {0}
-FlatBytes header outside (event.Inherited task address bytes inherit) past = Unit {0}
-FlatBytes header outside (event.BegunLoad task address size) past = Unit {0}
-FlatBytes header outside (event.BegunStore task address size value) past = Unit {0}
-FlatBytes header outside (event.BegunCopy task address bytes to) past = Unit {0}
-FlatBytes header outside (event.Stored task object page at size value) past = Unit {0}
-FlatBytes header outside (event.CopiedPage task page object object_page target) past = Unit {0}
-FlatBytes header outside (event.CopyEnded task) past = Unit {0}
-FlatBytes header outside (event.Failed task object page) past = Unit {0}
-FlatBytes header outside (event.Sent channel m) past = Unit {0}
-FlatBytes header outside (event.Taken channel m) past = Unit {0}
-FlatBytes header outside (event.Dropped host object page) past = Unit {0}
-FlatBytes header outside (event.Zeroed host object page) past = Unit {0}
-FlatBytes header outside (event.Raised host lower lower_page upper upper_page) past = Unit {0}
-FlatBytes header outside (event.Shadowed region new old) past = Unit {0}
-FlatBytes header outside (event.DeviceFailed who way object page) past = Unit {0}
-FlatBytes header outside (event.NoSlot object page) past = Unit {0}
-FlatBytes header outside (event.Wired host count) past = Unit {0}
+FlatBytes header outside other past = Unit {0}
 
 -- a slow copy of another object's page takes the flat map's bytes: this is for the laws of those objects to say
 abbrev pub CopiesCurrent : Header → Outside → Event → List Event → Type 0
 CopiesCurrent header outside (event.CopiedPage task page object object_page target) past =
     is_private header outside object.0 ≡ false → (host : ℕ) → lives_on host task.0 past ≡ true
     → (page_on header host object.0 object_page.0 past).bytes ≡ flat_page header outside object.0 object_page.0 past
-CopiesCurrent header outside (event.Line line) past = Unit {0}
-CopiesCurrent header outside (event.Refused code) past = Unit {0}
-CopiesCurrent header outside (event.TaskMade task host) past = Unit {0}
-CopiesCurrent header outside (event.TaskEnded task) past = Unit {0}
-CopiesCurrent header outside (event.RegionMade region object pages) past = Unit {0}
-CopiesCurrent header outside (event.RegionCopied region source offset pages) past = Unit {0}
-CopiesCurrent header outside (event.Entered task address bytes region offset prot inherit) past = Unit {0}
-CopiesCurrent header outside (event.Removed task address bytes) past = Unit {0}
-CopiesCurrent header outside (event.Protected task address bytes prot) past = Unit {0}
-CopiesCurrent header outside (event.Inherited task address bytes inherit) past = Unit {0}
-CopiesCurrent header outside (event.BegunLoad task address size) past = Unit {0}
-CopiesCurrent header outside (event.BegunStore task address size value) past = Unit {0}
-CopiesCurrent header outside (event.BegunCopy task address bytes to) past = Unit {0}
-CopiesCurrent header outside (event.Loaded task object page value) past = Unit {0}
-CopiesCurrent header outside (event.Stored task object page at size value) past = Unit {0}
-CopiesCurrent header outside (event.CopyEnded task) past = Unit {0}
-CopiesCurrent header outside (event.Failed task object page) past = Unit {0}
-CopiesCurrent header outside (event.Sent channel m) past = Unit {0}
-CopiesCurrent header outside (event.Taken channel m) past = Unit {0}
-CopiesCurrent header outside (event.Dropped host object page) past = Unit {0}
-CopiesCurrent header outside (event.Zeroed host object page) past = Unit {0}
-CopiesCurrent header outside (event.Raised host lower lower_page upper upper_page) past = Unit {0}
-CopiesCurrent header outside (event.Shadowed region new old) past = Unit {0}
-CopiesCurrent header outside (event.DeviceFailed who way object page) past = Unit {0}
-CopiesCurrent header outside (event.NoSlot object page) past = Unit {0}
-CopiesCurrent header outside (event.Wired host count) past = Unit {0}
+CopiesCurrent header outside other past = Unit {0}
 
 -- whatever load of a shared region ends with a value, that is the number in the flat map's page: this is for the law of shared memory to say
 abbrev pub LoadsCurrent : Header → Outside → Event → List Event → Type 0
 LoadsCurrent header outside (event.Loaded task object page value) past =
     (address bytes : ℕ) → (waits : Waits header task.0 (Loading address bytes) past) → is_shared header waits.at.entry.region.0 ≡ true
     → value ≡ number_at (flat_page header outside waits.at.entry.region.0 (page_at header.size address waits.at.entry) past) header.size address bytes
-LoadsCurrent header outside (event.CopiedPage task page object object_page target) past = Unit {0}
-LoadsCurrent header outside (event.Line line) past = Unit {0}
-LoadsCurrent header outside (event.Refused code) past = Unit {0}
-LoadsCurrent header outside (event.TaskMade task host) past = Unit {0}
-LoadsCurrent header outside (event.TaskEnded task) past = Unit {0}
-LoadsCurrent header outside (event.RegionMade region object pages) past = Unit {0}
-LoadsCurrent header outside (event.RegionCopied region source offset pages) past = Unit {0}
-LoadsCurrent header outside (event.Entered task address bytes region offset prot inherit) past = Unit {0}
-LoadsCurrent header outside (event.Removed task address bytes) past = Unit {0}
-LoadsCurrent header outside (event.Protected task address bytes prot) past = Unit {0}
-LoadsCurrent header outside (event.Inherited task address bytes inherit) past = Unit {0}
-LoadsCurrent header outside (event.BegunLoad task address size) past = Unit {0}
-LoadsCurrent header outside (event.BegunStore task address size value) past = Unit {0}
-LoadsCurrent header outside (event.BegunCopy task address bytes to) past = Unit {0}
-LoadsCurrent header outside (event.Stored task object page at size value) past = Unit {0}
-LoadsCurrent header outside (event.CopyEnded task) past = Unit {0}
-LoadsCurrent header outside (event.Failed task object page) past = Unit {0}
-LoadsCurrent header outside (event.Sent channel m) past = Unit {0}
-LoadsCurrent header outside (event.Taken channel m) past = Unit {0}
-LoadsCurrent header outside (event.Dropped host object page) past = Unit {0}
-LoadsCurrent header outside (event.Zeroed host object page) past = Unit {0}
-LoadsCurrent header outside (event.Raised host lower lower_page upper upper_page) past = Unit {0}
-LoadsCurrent header outside (event.Shadowed region new old) past = Unit {0}
-LoadsCurrent header outside (event.DeviceFailed who way object page) past = Unit {0}
-LoadsCurrent header outside (event.NoSlot object page) past = Unit {0}
-LoadsCurrent header outside (event.Wired host count) past = Unit {0}
+LoadsCurrent header outside other past = Unit {0}

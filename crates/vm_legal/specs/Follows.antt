@@ -21,6 +21,7 @@ use Rattle.vm_model.specs.declared.message.Message.TheVariants as message
 use Rattle.vm_model.specs.declared.script.Header.{Header}
 use Rattle.vm_model.specs.Channels.{queue}
 use Rattle.vm_model.specs.Controls.{last_control, live_control}
+use Rattle.vm_model.specs.Kinds.{About, about, Accesses, Backings, Beginnings, Entries, Lines, Pages, Regions, Sendings, Shadows, Takings, Tasks, Wirings}
 use Rattle.vm_model.specs.Regions.{next_region, next_object}
 use Rattle.vm_model.specs.Server.{first}
 use Rattle.vm_model.specs.Named.{named}
@@ -130,35 +131,25 @@ head header past (command.Copy task address bytes target to) =
     (entry_at address (entries_of header.size task.0 past))
 head header past (command.Clean object page count flush) = Some (clean_head object page count flush (known_below (length header.frames.items) object.0 past))
 
+-- what the events of heads, and lines, are about, and what follows from them
+abbrev pub MayFollow : About → Type 0
+MayFollow Lines = ⊥
+MayFollow Tasks = ⊥
+MayFollow Regions = ⊥
+MayFollow Entries = ⊥
+MayFollow Beginnings = ⊥
+MayFollow Wirings = ⊥
+MayFollow Accesses = Unit {0}
+MayFollow Sendings = Unit {0}
+MayFollow Takings = Unit {0}
+MayFollow Pages = Unit {0}
+MayFollow Shadows = Unit {0}
+MayFollow Backings = Unit {0}
+
 -- the event is no part of a head, nor a line; an entry is none where it is owed
 abbrev pub IsConsequence : Event → List Event → Type 0
-IsConsequence (event.Line line) past = ⊥
-IsConsequence (event.Refused code) past = ⊥
-IsConsequence (event.TaskMade task host) past = ⊥
-IsConsequence (event.TaskEnded task) past = ⊥
-IsConsequence (event.RegionMade region object pages) past = ⊥
-IsConsequence (event.RegionCopied region source offset pages) past = ⊥
 IsConsequence (event.Entered task address bytes region offset prot inherit) past = IsOwed (event.Entered task address bytes region offset prot inherit) past
-IsConsequence (event.Removed task address bytes) past = ⊥
-IsConsequence (event.Protected task address bytes prot) past = ⊥
-IsConsequence (event.Inherited task address bytes inherit) past = ⊥
-IsConsequence (event.BegunLoad task address size) past = ⊥
-IsConsequence (event.BegunStore task address size value) past = ⊥
-IsConsequence (event.BegunCopy task address bytes to) past = ⊥
-IsConsequence (event.Wired host count) past = ⊥
-IsConsequence (event.Loaded task object page value) past = Unit {0}
-IsConsequence (event.Stored task object page at size value) past = Unit {0}
-IsConsequence (event.CopiedPage task page object object_page target) past = Unit {0}
-IsConsequence (event.CopyEnded task) past = Unit {0}
-IsConsequence (event.Failed task object page) past = Unit {0}
-IsConsequence (event.Sent channel m) past = Unit {0}
-IsConsequence (event.Taken channel m) past = Unit {0}
-IsConsequence (event.Dropped host object page) past = Unit {0}
-IsConsequence (event.Zeroed host object page) past = Unit {0}
-IsConsequence (event.Raised host lower lower_page upper upper_page) past = Unit {0}
-IsConsequence (event.Shadowed region new old) past = Unit {0}
-IsConsequence (event.DeviceFailed who way object page) past = Unit {0}
-IsConsequence (event.NoSlot object page) past = Unit {0}
+IsConsequence e past = MayFollow (about e)
 
 -- behind its line a group is the head of its command and what follows from it; its events are such as `all` wants them
 pub record IsRunBy (all : Command → List Event → List Event → Type 0) (header : Header) (past : List Event) (numbered : Numbered) (first group : List Event) :

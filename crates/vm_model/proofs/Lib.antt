@@ -3,3 +3,4 @@ pub mod Names
 pub mod Others
 pub mod Ports
 mod Summaries
+pub mod Unspoken

@@ -5,9 +5,8 @@ use Rattle.vm_model.specs.declared.message.Channel.TheVariants.{Up, Down}
 use Rattle.vm_model.specs.declared.message.Message.{Message}
 use Rattle.vm_model.specs.declared.message.Message.TheVariants as message
 use Rattle.vm_model.specs.declared.event.Event.{Event}
-use Rattle.vm_model.specs.declared.event.Event.TheVariants.{Line, Refused, TaskMade, TaskEnded, RegionMade, RegionCopied, Entered, Removed, Protected}
-use Rattle.vm_model.specs.declared.event.Event.TheVariants.{Inherited, BegunLoad, BegunStore, BegunCopy, Loaded, Stored, CopiedPage, CopyEnded, Failed, Sent}
-use Rattle.vm_model.specs.declared.event.Event.TheVariants.{Taken, Dropped, Zeroed, Raised, Shadowed, DeviceFailed, NoSlot, Wired}
+use Rattle.vm_model.specs.declared.event.Event.TheVariants.{Stored, CopiedPage, Sent}
+use Rattle.vm_model.specs.declared.event.Event.TheVariants.{Taken, Dropped, Zeroed, Raised}
 use Rattle.vm_model.specs.declared.script.Header.{Header}
 use Rattle.vm_model.specs.Controls.{is_control, live_control}
 use Rattle.vm_model.specs.Named.{named}
@@ -127,28 +126,7 @@ effect host place others (Sent (Up at object) m) past =
     else Elsewhere
 effect host place others (Taken (Down at object control) m) past =
     if at.0 == host && (object.0 == place.object && is_control control (live_control host place.object past)) then taken_effect place.page m else Elsewhere
-effect host place others (Sent (Down at object control) m) past = Elsewhere
-effect host place others (Taken (Up at object) m) past = Elsewhere
-effect host place others (Line line) past = Elsewhere
-effect host place others (Refused code) past = Elsewhere
-effect host place others (TaskMade task at) past = Elsewhere
-effect host place others (TaskEnded task) past = Elsewhere
-effect host place others (RegionMade region object pages) past = Elsewhere
-effect host place others (RegionCopied region source offset pages) past = Elsewhere
-effect host place others (Entered task address bytes region offset prot inherit) past = Elsewhere
-effect host place others (Removed task address bytes) past = Elsewhere
-effect host place others (Protected task address bytes prot) past = Elsewhere
-effect host place others (Inherited task address bytes inherit) past = Elsewhere
-effect host place others (BegunLoad task address size) past = Elsewhere
-effect host place others (BegunStore task address size value) past = Elsewhere
-effect host place others (BegunCopy task address bytes to) past = Elsewhere
-effect host place others (Loaded task object page value) past = Elsewhere
-effect host place others (CopyEnded task) past = Elsewhere
-effect host place others (Failed task object page) past = Elsewhere
-effect host place others (Shadowed region new old) past = Elsewhere
-effect host place others (DeviceFailed who way object page) past = Elsewhere
-effect host place others (NoSlot object page) past = Elsewhere
-effect host place others (Wired at count) past = Elsewhere
+effect host place others other past = Elsewhere
 
 abbrev pub local_with_page : List ℕ → ℕ → Bool → Bool → Local → Local
 local_with_page bytes lock dirty precious was =
