@@ -79,11 +79,9 @@ quiet_other header o p host_of means held (event.Dropped host object page) share
 quiet_other header o p host_of means held (event.Zeroed host object page) shared other = quiet_if (object.0 == o && page.0 == p) host.0 _ refl
 quiet_other header o p host_of means held (event.Raised host lower lower_page upper upper_page) shared other =
     quiet_if (upper.0 == o && upper_page.0 == p) host.0 _ refl
-quiet_other header o p host_of means held (event.BegunCopy task address bytes to) shared other = refl
 quiet_other header o p host_of means held (event.CopiedPage task page object object_page target) shared other =
     quiet_else (target.0 == o && page.0 == p) _ (if object.0 == o && object_page.0 == p then Copies task.0 else Nothing) refl
     (quiet_else (object.0 == o && object_page.0 == p) (Copies task.0) Nothing refl refl)
-quiet_other header o p host_of means held (event.CopyEnded task) shared other = refl
 quiet_other header o p host_of means held (event.BegunLoad task address bytes) shared other = quiet_if (means task.0 address) (host_of task.0) _ refl
 quiet_other header o p host_of means held (event.BegunStore task address bytes value) shared other = quiet_if (means task.0 address) (host_of task.0) _ refl
 quiet_other header o p host_of means held (event.Loaded task object page value) shared other =
@@ -92,20 +90,7 @@ quiet_other header o p host_of means held (event.Stored task object page at byte
     quiet_if (object.0 == o && page.0 == p) (host_of task.0) (Stores task.0 at bytes value) refl
 quiet_other header o p host_of means held (event.Failed task object page) shared other =
     quiet_else (object.0 == o && page.0 == p) (Fails task.0) (EndsCopy task.0) refl refl
-quiet_other header o p host_of means held (event.Line line) shared other = refl
-quiet_other header o p host_of means held (event.Refused code) shared other = refl
-quiet_other header o p host_of means held (event.TaskMade task host) shared other = refl
-quiet_other header o p host_of means held (event.TaskEnded task) shared other = refl
-quiet_other header o p host_of means held (event.RegionMade region object pages) shared other = refl
-quiet_other header o p host_of means held (event.RegionCopied region source offset pages) shared other = refl
-quiet_other header o p host_of means held (event.Entered task address bytes region offset prot inherit) shared other = refl
-quiet_other header o p host_of means held (event.Removed task address bytes) shared other = refl
-quiet_other header o p host_of means held (event.Protected task address bytes prot) shared other = refl
-quiet_other header o p host_of means held (event.Inherited task address bytes inherit) shared other = refl
-quiet_other header o p host_of means held (event.Shadowed region new old) shared other = refl
-quiet_other header o p host_of means held (event.Wired host count) shared other = refl
-quiet_other header o p host_of means held (event.DeviceFailed who way object page) shared other = refl
-quiet_other header o p host_of means held (event.NoSlot object page) shared other = refl
+quiet_other header o p host_of means held e shared other = refl
 
 pub quiet_event : (header : Header) (o p : ℕ) (e : Event) (past : List Event) → is_shared header o ≡ true → IsOther header e
     → is_word (act_in header.size o p e past).effect ≡ false
