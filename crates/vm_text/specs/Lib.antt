@@ -1,6 +1,5 @@
 pub mod Fields
 pub mod Forms
-pub mod Kinds
 pub mod Script
 pub mod Stops
 pub mod Words

@@ -1,9 +1,9 @@
 // The line of an event.
 #![tactic(auto, unfolding(vm_model::specs::Text::line_of))]
 
-ghost use Rattle.std.specs.Prelude.{◌≡◌, ◌++◌, codes, true, IfOk, OnOk};
+ghost use Rattle.std.specs.Prelude.{◌≡◌, ◌⊎◌, ◌++◌, codes, IfOk, OnOk};
 ghost use Rattle.vm_model.specs.Text.{line_of, channel_text as text_of_channel, message_text as text_of_message, device_text, way_text, newline};
-ghost use Rattle.vm_text.specs.Kinds.{is_of_region, is_of_entry, begins_access, is_of_access, is_of_page};
+ghost use Rattle.vm_model.specs.Kinds.{Accesses, Beginnings, Entries, Pages, Regions, Shadows, about};
 
 use crate::Line;
 use crate::fields::{inherit_number, prot_number};
@@ -68,7 +68,7 @@ pub fn put_event(text: &mut Line, event: &Event) -> Result<(), NoMemory>
 // What happens to regions.
 #[tactic(auto)]
 fn region_event(text: &mut Line, event: &Event) -> Result<(), NoMemory>
-    requires { is_of_region event.now ≡ true }
+    requires { (about event.now ≡ Regions) ⊎ (about event.now ≡ Shadows) }
     ensures { OnOk result (text.new ≡ text.old ++ line_of event.now) }
 {
     match event {
@@ -91,7 +91,7 @@ fn region_event(text: &mut Line, event: &Event) -> Result<(), NoMemory>
 // What happens to the entries of a task.
 #[tactic(auto)]
 fn entry_event(text: &mut Line, event: &Event) -> Result<(), NoMemory>
-    requires { is_of_entry event.now ≡ true }
+    requires { about event.now ≡ Entries }
     ensures { OnOk result (text.new ≡ text.old ++ line_of event.now) }
 {
     match event {
@@ -130,7 +130,7 @@ fn entry_event(text: &mut Line, event: &Event) -> Result<(), NoMemory>
 // An access of a task begins.
 #[tactic(auto)]
 fn begun_event(text: &mut Line, event: &Event) -> Result<(), NoMemory>
-    requires { begins_access event.now ≡ true }
+    requires { about event.now ≡ Beginnings }
     ensures { OnOk result (text.new ≡ text.old ++ line_of event.now) }
 {
     match event {
@@ -158,7 +158,7 @@ fn begun_event(text: &mut Line, event: &Event) -> Result<(), NoMemory>
 // An access gets on, or ends.
 #[tactic(auto)]
 fn access_event(text: &mut Line, event: &Event) -> Result<(), NoMemory>
-    requires { is_of_access event.now ≡ true }
+    requires { about event.now ≡ Accesses }
     ensures { OnOk result (text.new ≡ text.old ++ line_of event.now) }
 {
     match event {
@@ -192,7 +192,7 @@ fn access_event(text: &mut Line, event: &Event) -> Result<(), NoMemory>
 // What happens to the pages of a host.
 #[tactic(auto)]
 fn page_event(text: &mut Line, event: &Event) -> Result<(), NoMemory>
-    requires { is_of_page event.now ≡ true }
+    requires { about event.now ≡ Pages }
     ensures { OnOk result (text.new ≡ text.old ++ line_of event.now) }
 {
     match event {
