@@ -1,4 +1,5 @@
 mod Common
+mod Unspoken
 pub mod abroad
 pub mod controls
 pub mod lists

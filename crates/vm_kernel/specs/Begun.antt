@@ -70,28 +70,8 @@ KernelSays h size (event.TaskMade task host) = host.0 ≡ h
 KernelSays h size (event.DeviceFailed who way object page) = ⊥
 KernelSays h size (event.NoSlot object page) = ⊥
 KernelSays h size (event.Line line) = ⊥
-KernelSays h size (event.Refused code) = Unit {0}
 KernelSays h size (event.Taken channel m) = ⊥
-KernelSays h size (event.TaskEnded task) = Unit {0}
-KernelSays h size (event.RegionMade region object pages) = Unit {0}
-KernelSays h size (event.RegionCopied region source offset pages) = Unit {0}
-KernelSays h size (event.Entered task address bytes region offset prot inherit) = Unit {0}
-KernelSays h size (event.Removed task address bytes) = Unit {0}
-KernelSays h size (event.Protected task address bytes prot) = Unit {0}
-KernelSays h size (event.Inherited task address bytes inherit) = Unit {0}
-KernelSays h size (event.BegunLoad task address bytes) = Unit {0}
-KernelSays h size (event.BegunStore task address bytes value) = Unit {0}
-KernelSays h size (event.BegunCopy task address bytes to) = Unit {0}
-KernelSays h size (event.Loaded task object page value) = Unit {0}
-KernelSays h size (event.Stored task object page at bytes value) = Unit {0}
-KernelSays h size (event.CopiedPage task page object object_page target) = Unit {0}
-KernelSays h size (event.CopyEnded task) = Unit {0}
-KernelSays h size (event.Failed task object page) = Unit {0}
-KernelSays h size (event.Dropped host object page) = Unit {0}
-KernelSays h size (event.Zeroed host object page) = Unit {0}
-KernelSays h size (event.Raised host lower lower_page upper upper_page) = Unit {0}
-KernelSays h size (event.Shadowed region new old) = Unit {0}
-KernelSays h size (event.Wired host count) = Unit {0}
+KernelSays h size other = Unit {0}
 
 -- a pager is told of an object on the host of the region that it was made for, and of a file on that of the file's region
 abbrev pub CreatesHere : Header → ℕ → Event → List Event → Type 0

@@ -15,7 +15,9 @@ use Rattle.vm_model.specs.declared.event.Event.{Event}
 use Rattle.vm_model.specs.declared.event.Way.{Way}
 use Rattle.vm_model.specs.declared.event.Event.TheVariants as event
 use Rattle.vm_model.specs.declared.message.Channel.{Channel}
+use Rattle.vm_model.specs.declared.message.Channel.TheVariants.{Up}
 use Rattle.vm_model.specs.declared.message.Message.{Message}
+use Rattle.vm_model.specs.declared.message.Message.TheVariants as message
 use Rattle.vm_model.specs.Channels.{DownFirst, TakesFirst}
 use Rattle.vm_model.specs.Founded.{IsFounded}
 use Rattle.vm_model.specs.Kinds.{Accesses, Backings, Beginnings, Entries, Lines, Pages, Sendings, Takings, Tasks, about}
@@ -98,7 +100,88 @@ of_backings P failed unslotted (event.DeviceFailed who way object page) is = fai
 of_backings P failed unslotted (event.NoSlot object page) is = unslotted object page
 of_backings P failed unslotted other is = absurd (cc)
 
--- tests of one event
+-- the same of messages
+pub of_messages {ℓ} : (P : Message → Type ℓ)
+    → ((control size : ℕ) → P (message.Init control size))
+    → ((control size : ℕ) → P (message.Create control size))
+    → ((control : ℕ) → (page : PageNo) → (access : ℕ) → P (message.Request control page access))
+    → ((control : ℕ) → (page : PageNo) → (access : ℕ) → P (message.Unlock control page access))
+    → ((control : ℕ) → (page : PageNo) → (dirty keep : Bool) → (bytes : List ℕ) → P (message.Return control page dirty keep bytes))
+    → ((control : ℕ) → (page : PageNo) → (count : ℕ) → P (message.Completed control page count))
+    → ((control : ℕ) → P (message.Terminate control))
+    → ((cache : Bool) → (strategy : ℕ) → P (message.Ready cache strategy))
+    → ((page : PageNo) → (lock : ℕ) → (precious : Bool) → (bytes : List ℕ) → P (message.Supply page lock precious bytes))
+    → ((page : PageNo) → P (message.Unavailable page))
+    → ((page : PageNo) → (reason : ℕ) → P (message.Error page reason))
+    → ((page : PageNo) → (count returns : ℕ) → (flush : Bool) → (lock : ℕ) → (reply : Bool) → P (message.Lock page count returns flush lock reply))
+    → ((cache : Bool) → (strategy : ℕ) → (reply : Bool) → P (message.Attributes cache strategy reply))
+    → ((reason : ℕ) → P (message.Destroy reason))
+    → ((control : ℕ) → (cache : Bool) → (strategy : ℕ) → P (message.Changed control cache strategy))
+    → (m : Message) → P m
+of_messages P init create request unlock returned completed terminate ready supply unavailable failing locking attributes destroy changed
+    (message.Init control size) =
+    init control size
+of_messages P init create request unlock returned completed terminate ready supply unavailable failing locking attributes destroy changed
+    (message.Create control size) =
+    create control size
+of_messages P init create request unlock returned completed terminate ready supply unavailable failing locking attributes destroy changed
+    (message.Request control page access) =
+    request control page access
+of_messages P init create request unlock returned completed terminate ready supply unavailable failing locking attributes destroy changed
+    (message.Unlock control page access) =
+    unlock control page access
+of_messages P init create request unlock returned completed terminate ready supply unavailable failing locking attributes destroy changed
+    (message.Return control page dirty keep bytes) =
+    returned control page dirty keep bytes
+of_messages P init create request unlock returned completed terminate ready supply unavailable failing locking attributes destroy changed
+    (message.Completed control page count) =
+    completed control page count
+of_messages P init create request unlock returned completed terminate ready supply unavailable failing locking attributes destroy changed
+    (message.Terminate control) =
+    terminate control
+of_messages P init create request unlock returned completed terminate ready supply unavailable failing locking attributes destroy changed
+    (message.Ready cache strategy) =
+    ready cache strategy
+of_messages P init create request unlock returned completed terminate ready supply unavailable failing locking attributes destroy changed
+    (message.Supply page lock precious bytes) =
+    supply page lock precious bytes
+of_messages P init create request unlock returned completed terminate ready supply unavailable failing locking attributes destroy changed
+    (message.Unavailable page) =
+    unavailable page
+of_messages P init create request unlock returned completed terminate ready supply unavailable failing locking attributes destroy changed
+    (message.Error page reason) =
+    failing page reason
+of_messages P init create request unlock returned completed terminate ready supply unavailable failing locking attributes destroy changed
+    (message.Lock page count returns flush lock reply) =
+    locking page count returns flush lock reply
+of_messages P init create request unlock returned completed terminate ready supply unavailable failing locking attributes destroy changed
+    (message.Attributes cache strategy reply) =
+    attributes cache strategy reply
+of_messages P init create request unlock returned completed terminate ready supply unavailable failing locking attributes destroy changed
+    (message.Destroy reason) =
+    destroy reason
+of_messages P init create request unlock returned completed terminate ready supply unavailable failing locking attributes destroy changed
+    (message.Changed control cache strategy) =
+    changed control cache strategy
+
+-- tests of one event, or message
+abbrev pub is_opening : Message → Bool
+is_opening (message.Init control size) = true
+is_opening (message.Create control size) = true
+is_opening other = false
+
+abbrev pub is_request : Message → Bool
+is_request (message.Request control page access) = true
+is_request other = false
+
+abbrev pub is_unlock : Message → Bool
+is_unlock (message.Unlock control page access) = true
+is_unlock other = false
+
+abbrev pub is_terminate : Message → Bool
+is_terminate (message.Terminate control) = true
+is_terminate other = false
+
 abbrev pub is_task_made : Event → Bool
 is_task_made (event.TaskMade task host) = true
 is_task_made other = false
@@ -126,6 +209,26 @@ down_first_elsewhere (event.Sent channel m) unsent untaken past = absurd (unsent
 down_first_elsewhere (event.Taken channel m) unsent untaken past = absurd (untaken refl)
 down_first_elsewhere other unsent untaken past = refl
 
+-- of what is sent up, controls that begin
+pub down_first_of_messages : (host : HostId) (object : ObjectId) (past : List Event) → (m : Message) → is_opening m ≡ false → DownFirst (event.Sent (Up host object) m) past ≡ Unit {0}
+down_first_of_messages host object past =
+    of_messages (λ m. is_opening m ≡ false → DownFirst (event.Sent (Up host object) m) past ≡ Unit {0})
+    (λ control size apart. absurd (cc))
+    (λ control size apart. absurd (cc))
+    (λ control page access apart. refl)
+    (λ control page access apart. refl)
+    (λ control page dirty keep bytes apart. refl)
+    (λ control page count apart. refl)
+    (λ control apart. refl)
+    (λ cache strategy apart. refl)
+    (λ page lock precious bytes apart. refl)
+    (λ page apart. refl)
+    (λ page reason apart. refl)
+    (λ page count returns flush lock reply apart. refl)
+    (λ cache strategy reply apart. refl)
+    (λ reason apart. refl)
+    (λ control cache strategy apart. refl)
+
 -- what is taken for granted is about sendings, pages and accesses; of accesses about stores and copied pages, and of pages about those that are copied
 pub is_founded_elsewhere : (size : ℕ) (e : Event) → (about e ≡ Sendings → ⊥) → (about e ≡ Pages → ⊥) → (about e ≡ Accesses → ⊥) → (past : List Event)
     → IsFounded size e past ≡ Unit {0}
@@ -151,6 +254,26 @@ is_founded_of_pages size =
     (λ host object page unraised past. refl)
     (λ host object page unraised past. refl)
     (λ host lower lower_page upper upper_page unraised past. absurd (cc))
+
+-- of what is sent up, requests and ends
+pub is_founded_of_messages : (size : ℕ) (host : HostId) (object : ObjectId) (past : List Event) → (m : Message) → is_request m ≡ false → is_terminate m ≡ false → IsFounded size (event.Sent (Up host object) m) past ≡ Unit {0}
+is_founded_of_messages size host object past =
+    of_messages (λ m. is_request m ≡ false → is_terminate m ≡ false → IsFounded size (event.Sent (Up host object) m) past ≡ Unit {0})
+    (λ control size apart other. refl)
+    (λ control size apart other. refl)
+    (λ control page access apart other. absurd (cc))
+    (λ control page access apart other. refl)
+    (λ control page dirty keep bytes apart other. refl)
+    (λ control page count apart other. refl)
+    (λ control apart other. absurd (cc))
+    (λ cache strategy apart other. refl)
+    (λ page lock precious bytes apart other. refl)
+    (λ page apart other. refl)
+    (λ page reason apart other. refl)
+    (λ page count returns flush lock reply apart other. refl)
+    (λ cache strategy reply apart other. refl)
+    (λ reason apart other. refl)
+    (λ control cache strategy apart other. refl)
 
 -- what a host has of a page changes by messages, pages and accesses; of accesses by stores and copied pages
 pub effect_elsewhere : (h : ℕ) (place : Place) (others : Place → Local) (e : Event) → (about e ≡ Sendings → ⊥) → (about e ≡ Takings → ⊥)
