@@ -62,7 +62,8 @@ shape_cow z region source off count past sh is from within =
           ];
       tops_made = λ r less. grind (arith, nat_tests, sh.tops_made r, sh.tops_made source from);
       born = sh.born;
-      older = sh.older;
+      rank = sh.rank;
+      falls = sh.falls;
       made = sh.made;
       covers_tops = λ r used. elim (ℕ_discrete r region) [
         | yes e ↦ subst (λ (k : ℕ). covered z k ≡ true) (sym (if_yes r region (row z source past).top (row z r past).top e))
@@ -228,7 +229,8 @@ shape_shadowed z region new past sh is from ours =
       rows_below = sh.rows_below;
       tops_made = λ r less. grind (arith, nat_tests, sh.tops_made r less);
       born = λ o backed. grind (arith, nat_tests, sh.born o, sh.tops_made region from);
-      older = λ o backed. grind (arith, nat_tests, sh.older o, sh.tops_made region from);
+      rank = rank;
+      falls = falls;
       made = λ o backed. grind (arith, nat_tests, sh.made o);
       covers_tops = λ r used. elim (ℕ_discrete r region) [
         | yes e ↦ subst (λ (k : ℕ). covered z k ≡ true) (sym (if_yes r region new (row z r past).top e))
@@ -246,7 +248,29 @@ shape_shadowed z region new past sh is from ours =
       alone = λ r q used mark used' apart. grind (arith, nat_tests, sh.alone r q, tops_below sh r used, tops_below sh q used');
     }
   where
-    -- each old object stands on an older one
+    -- the new object has one more than its old top
+    rank : ℕ → ℕ
+    rank = λ o. if o == new then sh.rank (row z region past).top + 1 else sh.rank o
+
+    rank_old : (k : ℕ) → k < objects z past → rank k ≡ sh.rank k
+    rank_old k small = if_no k new (sh.rank (row z region past).top + 1) (sh.rank k) (λ e. omega (arith, small, e, is))
+
+    falls : (o : ℕ) → (link z o (Shadowed region new ∷ past)).backed ≡ true → rank (link z o (Shadowed region new ∷ past)).under < rank o
+    falls o backed = elim (ℕ_discrete o new) [
+      | yes e ↦
+          let low : rank (link z o (Shadowed region new ∷ past)).under ≡ sh.rank (row z region past).top =
+          ap rank (if_yes o new (row z region past).top (link z o past).under e) ∙ rank_old (row z region past).top (sh.tops_made region from) in
+          let high : rank o ≡ sh.rank (row z region past).top + 1 = if_yes o new (sh.rank (row z region past).top + 1) (sh.rank o) e in
+          omega (arith, low, high)
+      | no apart ↦
+          let same : link z o (Shadowed region new ∷ past) ≡ link z o past = link_old z o region new past apart in
+          let was : (link z o past).backed ≡ true = subst (λ (x : Link). x.backed ≡ true) same backed in
+          let low : rank (link z o (Shadowed region new ∷ past)).under ≡ sh.rank (link z o past).under = ap (λ (x : Link). rank x.under) same
+          ∙ rank_old (link z o past).under (sh.born o was) in
+          let high : rank o ≡ sh.rank o = if_no o new (sh.rank (row z region past).top + 1) (sh.rank o) apart in
+          omega (arith, low, high, sh.falls o was)
+    ]
+
     pages_old : (k : ℕ) → k < objects z past → pages z k (Shadowed region new ∷ past) ≡ pages z k past
     pages_old k small = if_no k new (row z region past).pages (pages z k past) (λ e. omega (arith, small, e, is))
 

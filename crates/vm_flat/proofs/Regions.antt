@@ -39,14 +39,14 @@ pub below_bare : (links : ℕ → Link) (n o u : ℕ) → ((links o).backed ≡ 
 below_bare links zero o u bare is = is
 below_bare links (suc n) o u bare is = absurd (bare is.0)
 
--- below an object of a smaller number, links to greater ones are not seen
+-- below an object that is there, links of new ones are not seen
 pub below_old : (links new : ℕ → Link) (m n o u : ℕ) → o < m → ((k : ℕ) → k < m → new k ≡ links k) → ((k : ℕ) → (links k).backed ≡ true → (links k).under < m)
     → Below new n o u → Below links n o u
-below_old links new m zero o u small same older is = is
-below_old links new m (suc n) o u small same older is =
+below_old links new m zero o u small same born is = is
+below_old links new m (suc n) o u small same born is =
     let backed : (links o).backed ≡ true = subst (λ (l : Link). l.backed ≡ true) (same o small) is.0 in
     let next : Below new n (links o).under u = subst (λ (l : Link). Below new n l.under u) (same o small) is.1 in
-    (backed, below_old links new m n (links o).under u (older o backed) same older next)
+    (backed, below_old links new m n (links o).under u (born o backed) same born next)
 
 -- the declared objects come first
 pub named_objects : (z : Ground) (past : List Deed) → z.named ≤ objects z past
@@ -76,7 +76,8 @@ shape_region z here region object count past sh ours is new =
       rows_below = λ r used. grind (arith, nat_tests, sh.rows_below r);
       tops_made = λ r less. grind (arith, nat_tests, sh.tops_made r);
       born = λ o backed. omega (arith, sh.born o backed);
-      older = sh.older;
+      rank = sh.rank;
+      falls = sh.falls;
       made = λ o backed. omega (arith, sh.made o backed);
       covers_tops = covers_tops;
       covers_under = sh.covers_under;
@@ -203,7 +204,8 @@ after_kept z held past w =
             rows_below = λ r used. w.shape.rows_below r (was r used);
             tops_made = w.shape.tops_made;
             born = w.shape.born;
-            older = w.shape.older;
+            rank = w.shape.rank;
+            falls = w.shape.falls;
             made = w.shape.made;
             covers_tops = λ r used. w.shape.covers_tops r (was r used);
             covers_under = w.shape.covers_under;

@@ -26,12 +26,13 @@ view z o p (Answered own tells object page word ∷ past) =
     if (tells && own) && (object == o && page == p) then said z.zeros word (view z o p past) else view z o p past
 view z o p (e ∷ past) = view z o p past
 
--- the numbers of regions and objects, and which objects stand on which
+-- the numbers of regions and objects, and which objects stand on which: each chain ends, since a rank falls along it
 pub record Shape (named : ℕ) (covers : ℕ → Bool) (rows : ℕ → Row) (links : ℕ → Link) (lengths : ℕ → ℕ) (next_region next_object : ℕ) : Type 0 where
   pub rows_below : (r : ℕ) → (rows r).used ≡ true → r < next_region
   pub tops_made : (r : ℕ) → r < next_region → (rows r).top < next_object
   pub born : (o : ℕ) → (links o).backed ≡ true → (links o).under < next_object
-  pub older : (o : ℕ) → (links o).backed ≡ true → (links o).under < o
+  pub rank : ℕ → ℕ
+  pub falls : (o : ℕ) → (links o).backed ≡ true → rank (links o).under < rank o
   pub made : (o : ℕ) → (links o).backed ≡ true → o < next_object
   -- files and temporary objects alone
   pub covers_tops : (r : ℕ) → (rows r).used ≡ true → covers (rows r).top ≡ true
@@ -106,14 +107,14 @@ pub reach_small : (z : Ground) (o : ℕ) (past : List Deed) → ShapeOf z past �
 reach_small z o past sh reach =
     below_small (λ k. link z k past) (objects z past) reach.1 (row z reach.0 past).top o sh.born (tops_below sh reach.0 reach.2) reach.3
 
--- below an object of a smaller number, links of greater ones are not seen
+-- below an object that is there, links of new ones are not seen
 pub path_old : (links new : ℕ → Link) (m n o p l lp : ℕ) → o < m → ((k : ℕ) → k < m → new k ≡ links k)
     → ((k : ℕ) → (links k).backed ≡ true → (links k).under < m) → Path new n o p l lp → Path links n o p l lp
-path_old links new m zero o p l lp small same older is = is
-path_old links new m (suc n) o p l lp small same older is =
+path_old links new m zero o p l lp small same born is = is
+path_old links new m (suc n) o p l lp small same born is =
     let backed : (links o).backed ≡ true = subst (λ (x : Link). x.backed ≡ true) (same o small) is.0 in
     let next : Path new n (links o).under ((links o).shift + p) l lp = subst (λ (x : Link). Path new n x.under (x.shift + p) l lp) (same o small) is.1 in
-    (backed, path_old links new m n (links o).under ((links o).shift + p) l lp (older o backed) same older next)
+    (backed, path_old links new m n (links o).under ((links o).shift + p) l lp (born o backed) same born next)
 
 below_covered : (covers : ℕ → Bool) (links : ℕ → Link) (n o u : ℕ) → ((k : ℕ) → covers k ≡ true → (links k).backed ≡ true → covers (links k).under ≡ true)
     → covers o ≡ true → Below links n o u → covers u ≡ true
