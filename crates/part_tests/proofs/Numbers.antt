@@ -19,6 +19,7 @@ numbered_first ids old new region row none bare low less put =
       objects = record {
         tops = λ r found is. grind (arith, nat_tests, put.at r, none r, is);
         shadows = λ o found is. grind (arith, ap (λ (f : ℕ → Option ShadowRow). f o) put.shadows, bare o, is);
+        unders = λ o found is. grind (arith, ap (λ (f : ℕ → Option ShadowRow). f o) put.shadows, bare o, is);
       };
     }
 
@@ -33,6 +34,7 @@ numbered_copy ids later old new source offset pages row numbered is copies more 
       objects = record {
         tops = λ r found here. let was = numbered.objects.tops r found in grind (arith, nat_tests, copies.at r, was, here);
         shadows = λ o found here. let was = numbered.objects.shadows o found in grind (arith, ap (λ (f : ℕ → Option ShadowRow). f o) copies.shadows, was, here);
+        unders = λ o found here. let was = numbered.objects.unders o found in grind (arith, ap (λ (f : ℕ → Option ShadowRow). f o) copies.shadows, was, here);
       };
     }
 
@@ -48,5 +50,6 @@ numbered_shadow ids later old new region object row numbered is named shadows ke
       objects = record {
         tops = λ r found here. let was = numbered.objects.tops r found in grind (arith, nat_tests, shadows.at r, was, here);
         shadows = λ o found here. let was = numbered.objects.shadows o found in grind (arith, nat_tests, shadows.under o, was, here);
+        unders = λ o found here. let was = numbered.objects.unders o found in grind (arith, nat_tests, top, more, shadows.under o, was, here);
       };
     }

@@ -73,8 +73,8 @@ fn shadow(chains: &mut Chains, ids: &mut Ids, region: RegionId) -> Result<Object
 
 fn depth(chains: &Chains, region: RegionId) -> u32 {
     match chains.region(region) {
-        Some(row) if row.top.0 < 100 => chains.depth(region),
-        _ => 0,
+        Some(_) => chains.depth(region),
+        None => 0,
     }
 }
 

@@ -1,8 +1,8 @@
 // The walk of an access down its shadow chain.
-ghost use Rattle.std.specs.Prelude.{◌≡◌, ◌+◌, ◌<◌, Some, None, IfSome, IsSome, MatchOption};
+ghost use Rattle.std.specs.Prelude.{ℕ, ◌≡◌, ◌+◌, ◌<◌, ◌^◌, Some, None, IfSome, IsSome, MatchOption};
 ghost use Rattle.vm_fault.specs.Stops.{Stands, Stops};
 ghost use Rattle.vm_fault.specs.Walks.{ChainsFit, IsUnder};
-ghost use Rattle.vm_shadow.specs.Chains.{region_at, shadow_at};
+ghost use Rattle.vm_shadow.specs.Chains.{height, region_at, shadow_at};
 
 use vm_base::{PageKey, PageNo, RegionId};
 use vm_objects::{ObjectRow, PagerState};
@@ -67,7 +67,8 @@ fn under(spot: Spot, parts: &HostParts, chains: &Chains) -> Option<Spot>
     requires fits { ChainsFit chains.now parts.now.objects }
     ensures stands { IfSome result (λ next. Stands parts.now.objects next) }
     ensures under { MatchOption result (shadow_at chains.now spot.key.object.0 ≡ None) (λ next. IsUnder chains.now spot.key next.key) }
-    ensures older { IfSome result (λ next. next.key.object.0 < spot.key.object.0) }
+    ensures falls { IfSome result (λ next. height chains.now next.key.object.0 + 1 ≡ height chains.now spot.key.object.0) }
+    ensures few { (o : ℕ) → height chains.now o + 1 < 2 ^ 32 }
 {
     let row = chains.backing(spot.key.object)?;
     let Some(object) = parts.objects.find(row.under) else {

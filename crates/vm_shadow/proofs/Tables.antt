@@ -1,10 +1,11 @@
 -- What regions and shadows are after a write.
-use Rattle.std.proofs.Common.{◌≡◌, ◌∙◌, sym, subst, ℕ, ◌+◌, ◌<◌, ◌≤◌, ◌==◌, true, false, List, Option, Some, None, if◌then◌else◌, IfSome, IsSome, IsSomeAnd}
+use Rattle.std.proofs.Common.{◌≡◌, ◌∙◌, sym, ap, subst, ℕ, ◌+◌, ◌<◌, ◌≤◌, ◌==◌, true, false, Option, Some, None, if◌then◌else◌, IfSome, IsSome, IsSomeAnd}
 use Rattle.std.proofs.Common.{arith, refl}
 use Rattle.std.proofs.lemmas.Bool.Decides.{nat_tests}
 use Rattle.std.specs.Map.{lookup}
-use Rattle.vm_base.specs.declared.ids.ObjectId.{ObjectId}
-use Rattle.vm_shadow.specs.Chains.{ChainTable, CopiesRegion, IsDeep, IsOlderUnder, Over, PutsRegion, RegionsBelow, copy_of, region_at, shadow_at}
+use Rattle.vm_shadow.proofs.Ranks.{dropped_was, height_fewer, ranked_dropped, ranked_same}
+use Rattle.vm_shadow.specs.Chains.{ChainTable, CopiesRegion, IsDeep, Over, PutsRegion, RegionsBelow, copy_of, region_at, shadow_at}
+use Rattle.vm_shadow.specs.Kept.{AreKept, count_marked}
 use Rattle.vm_shadow.specs.declared.region_row.RegionRow.{RegionRow}
 use Rattle.vm_shadow.specs.declared.shadow_row.ShadowRow.{ShadowRow}
 
@@ -52,23 +53,31 @@ region_copied old mid new source copy offset pages row found below is put there 
     = λ r. rw (← same) (grind (arith, nat_tests, marks.at r, put.at r, other)) in
     record { at = at; shadows = marks.shadows ∙ put.shadows }
 
--- the shadows as they are kept: a backing object has the smaller number
-abbrev pub AreOlderUnder : List (ObjectId × ShadowRow) → Type 0
-AreOlderUnder shadows = (o : ℕ) (row : ShadowRow) → lookup (λ id. o == id.0) shadows ≡ Some row → row.under.0 < o
+-- tables with the same rows are kept alike
+pub kept_same : (old new : ChainTable) → new.regions ≡ old.regions → new.shadows ≡ old.shadows → new.marked ≡ old.marked → AreKept old → AreKept new
+kept_same old new regions shadows marked kept =
+    let rows : (o : ℕ) → shadow_at new o ≡ shadow_at old o = λ o. ap (λ z. lookup (λ id. o == id.0) z) shadows in
+    record {
+      ranked = ranked_same old new rows kept.ranked;
+      few = λ n o.
+          let less = height_fewer (shadow_at old) (shadow_at new) (λ q row is. sym (rows q) ∙ is) n o in
+          let was = kept.few n o in
+          omega (arith, less, was);
+      count = marked ∙ (kept.count ∙ ap count_marked (sym regions));
+    }
 
--- so has what was found under an object
-pub older_found : (table : ChainTable) (o : ℕ) (found : Option ShadowRow) → IsOlderUnder table → found ≡ shadow_at table o
-    → IfSome found (λ row. row.under.0 < o)
-older_found table o None older is = tt
-older_found table o (Some row) older is = older o row (sym is)
-
-pub older_dropped : (old new : List (ObjectId × ShadowRow)) (object : ℕ) → AreOlderUnder old
-    → ((o : ℕ) → lookup (λ id. o == id.0) new ≡ (if object == o then None else lookup (λ id. o == id.0) old)) → AreOlderUnder new
-older_dropped old new object older at o row is = grind (arith, nat_tests, at o, older o row, is)
-
-pub older_shadowed : (old new : List (ObjectId × ShadowRow)) (object : ℕ) (under : ShadowRow) → AreOlderUnder old → under.under.0 < object
-    → ((o : ℕ) → lookup (λ id. o == id.0) new ≡ (if object == o then Some under else lookup (λ id. o == id.0) old)) → AreOlderUnder new
-older_shadowed old new object under older less at o row is = grind (arith, nat_tests, at o, older o row, is)
+-- and where a shadow has gone
+pub kept_dropped : (old new : ChainTable) (object : ℕ) → ((o : ℕ) → shadow_at new o ≡ (if object == o then None else shadow_at old o))
+    → new.regions ≡ old.regions → new.marked ≡ old.marked → AreKept old → AreKept new
+kept_dropped old new object at regions marked kept =
+    record {
+      ranked = ranked_dropped old new object at kept.ranked;
+      few = λ n o.
+          let less = height_fewer (shadow_at old) (shadow_at new) (dropped_was old new object at) n o in
+          let was = kept.few n o in
+          omega (arith, less, was);
+      count = marked ∙ (kept.count ∙ ap count_marked (sym regions));
+    }
 
 -- one object more on the way down
 pub deep_over : (table : ChainTable) (o : ℕ) (row : ShadowRow) (n : ℕ) → shadow_at table o ≡ Some row → IsDeep table row.under.0 n → IsDeep table o (n + 1)

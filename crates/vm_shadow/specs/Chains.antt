@@ -1,6 +1,7 @@
 -- The regions of a host and the shadows under them, as contracts see them.
 use Rattle.std.specs.Map.{lookup}
-use Rattle.std.specs.Prelude.{ℕ, suc, ◌≡◌, ◌+◌, ◌<◌, ◌≤◌, ◌==◌, true, false, List, Option, Some, None, if◌then◌else◌}
+use Rattle.std.specs.Option.{option_map_or}
+use Rattle.std.specs.Prelude.{ℕ, zero, suc, ◌≡◌, ◌+◌, ◌<◌, ◌≤◌, ◌==◌, true, false, List, length, Option, Some, None, if◌then◌else◌}
 use Rattle.vm_base.specs.declared.ids.ObjectId.{ObjectId}
 use Rattle.vm_base.specs.declared.ids.PageKey.{PageKey}
 use Rattle.vm_base.specs.declared.ids.RegionId.{RegionId}
@@ -67,10 +68,21 @@ RegionsBelow n table = (r : ℕ) → n ≤ r → region_at table r ≡ None
 pub record ObjectsBelow (n : ℕ) (table : ChainTable) : Type 0 where
   pub tops : (r : ℕ) (row : RegionRow) → region_at table r ≡ Some row → row.top.0 < n
   pub shadows : (o : ℕ) (row : ShadowRow) → shadow_at table o ≡ Some row → o < n
+  pub unders : (o : ℕ) (row : ShadowRow) → shadow_at table o ≡ Some row → row.under.0 < n
 
--- a backing object has the smaller number
-abbrev pub IsOlderUnder : ChainTable → Type 0
-IsOlderUnder table = (o : ℕ) (row : ShadowRow) → shadow_at table o ≡ Some row → row.under.0 < o
+-- each chain ends: a rank falls along it
+pub record IsRanked (table : ChainTable) : Type 0 where
+  pub rank : ℕ → ℕ
+  pub under : (o : ℕ) (row : ShadowRow) → shadow_at table o ≡ Some row → rank row.under.0 < rank o
+
+-- how many objects a chain has below this one, if it is followed so many steps at most
+abbrev pub height_within : (ℕ → Option ShadowRow) → ℕ → ℕ → ℕ
+height_within at zero o = 0
+height_within at (suc n) o = option_map_or (λ row. suc (height_within at n row.under.0)) (at o) 0
+
+-- how many objects a chain has below this one; no chain goes further than there are shadows
+abbrev pub height : ChainTable → ℕ → ℕ
+height table o = height_within (shadow_at table) (length table.shadows) o
 
 -- the chain from an object down has so many objects
 pub data IsDeep (table : ChainTable) : ℕ → ℕ → Type 0 where

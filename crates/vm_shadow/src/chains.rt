@@ -1,8 +1,9 @@
 // The regions of a host, and the shadows under them.
 ghost use Rattle.std.specs.Option.{option_map};
 ghost use Rattle.std.specs.Prelude.{ℕ, ◌≡◌, ◌+◌, ◌-◌, ◌<◌, ◌≤◌, ◌^◌, Some, None, true, if◌then◌else◌, IfOk, IfSome, IsOk, IsSome, IsSomeAnd, OnErr, OnOk};
-ghost use Rattle.vm_shadow.specs.Chains.{CopiesRegion, DropsShadow, IsDeep, ObjectsBelow, PutsRegion, RegionsBelow, SameChains, ShadowsRegion, place_under};
-ghost use Rattle.vm_shadow.specs.Chains.{region_at, shadow_at};
+ghost use Rattle.vm_shadow.specs.Chains.{CopiesRegion, DropsShadow, IsDeep, IsRanked, ObjectsBelow, PutsRegion, RegionsBelow, SameChains, ShadowsRegion};
+ghost use Rattle.vm_shadow.specs.Chains.{place_under};
+ghost use Rattle.vm_shadow.specs.Chains.{height, region_at, shadow_at};
 
 use crate::{Ids, RegionRow, ShadowRow};
 use indexmap::IndexMap;
@@ -19,7 +20,7 @@ const MOST_MARKED: u32 = u32::MAX - 2;
 ///
 /// Only `reserve`, `make_region`, `symmetric` and `shadow_over` take memory. A region stays until it
 /// is dropped, and only one to which no entry leads can be dropped; what stands under an object stays
-/// until the object is dropped. A backing object always has the smaller number, so each chain ends.
+/// until the object is dropped. Each chain ends: a rank falls along it.
 #[derive(Drop)]
 pub struct Chains {
     regions: IndexMap<RegionId, RegionRow>,
@@ -131,7 +132,9 @@ impl Chains {
     /// What stands under an object; None where it is no shadow.
     pub fn backing(&self, object: ObjectId) -> Option<ShadowRow>
         ensures value { result ≡ shadow_at self.now object.0 }
-        ensures older { IfSome result (λ row. row.under.0 < object.0) }
+        ensures ranked { IsRanked self.now }
+        ensures falls { IfSome result (λ row. height self.now row.under.0 + 1 ≡ height self.now object.0) }
+        ensures few { (o : ℕ) → height self.now o + 1 < 2 ^ 32 }
     {
         self.shadows.get(&object).copied()
     }
@@ -140,7 +143,7 @@ impl Chains {
     pub fn below(&self, key: PageKey) -> Option<PageKey>
         requires { IfSome (shadow_at self.now key.object.0) (λ row. key.page.0 + row.shift < 2 ^ 32) }
         ensures value { result ≡ place_under (shadow_at self.now key.object.0) key.page.0 }
-        ensures older { IfSome result (λ under. under.object.0 < key.object.0) }
+        ensures falls { IfSome result (λ under. height self.now under.object.0 + 1 ≡ height self.now key.object.0) }
     {
         let row = self.backing(key.object)?;
         Some(PageKey {
@@ -268,7 +271,7 @@ impl Chains {
 
     /// The number of objects in the chain of a region, from its top down.
     pub fn depth(&self, region: RegionId) -> u32
-        requires { IsSomeAnd (region_at self.now region.0) (λ row. row.top.0 + 1 < 2 ^ 32) }
+        requires { IsSome (region_at self.now region.0) }
         ensures { IfSome (region_at self.now region.0) (λ row. IsDeep self.now row.top.0 result) }
     {
         let mut object = self.regions[&region].top;

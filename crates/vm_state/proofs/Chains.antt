@@ -3,7 +3,7 @@ use Rattle.std.specs.Prelude.{ℕ, Bool, true, Some, ◌≡◌}
 use Rattle.vm_legal.specs.Walks.{Reaches}
 use Rattle.vm_model.specs.Regions.{Backing, Region}
 use Rattle.vm_objects.specs.Objects.{ObjectTable}
-use Rattle.vm_shadow.specs.Chains.{ChainTable, IsOlderUnder, region_at, shadow_at}
+use Rattle.vm_shadow.specs.Chains.{ChainTable, IsRanked, region_at, shadow_at}
 use Rattle.vm_shadow.specs.declared.ids.Ids.{Ids}
 use Rattle.vm_shadow.specs.declared.region_row.RegionRow.{RegionRow}
 use Rattle.vm_shadow.specs.declared.shadow_row.ShadowRow.{ShadowRow}
@@ -12,12 +12,12 @@ use Rattle.vm_state.specs.Stands.{HasRegions}
 use Rattle.vm_state.proofs.Reaching.{reach_down, reach_up}
 
 pub leads_up : (chains : ChainTable) (objects : ObjectTable) (ids : Ids) (region_from : ℕ → Region) (backing_from : ℕ → Backing)
-    (regions_made objects_made marked : ℕ) → HasRegions chains objects ids region_from backing_from regions_made objects_made marked → IsOlderUnder chains
+    (regions_made objects_made marked : ℕ) → HasRegions chains objects ids region_from backing_from regions_made objects_made marked → IsRanked chains
     → ((s : ℕ) (row : ShadowRow) → shadow_at chains s ≡ Some row → IsReferred objects s) → (used : ℕ → Bool)
     → ((r : ℕ) (row : RegionRow) → region_at chains r ≡ Some row → used r ≡ true)
     → (o : ℕ) → IsReferred objects o → Reaches used region_from backing_from o
-leads_up chains objects ids region_from backing_from regions_made objects_made marked has older shadows used all o referred =
-    reach_up has older shadows used all o referred
+leads_up chains objects ids region_from backing_from regions_made objects_made marked has ranked shadows used all o referred =
+    reach_up has ranked shadows used all o referred
 
 pub leads_down : (chains : ChainTable) (objects : ObjectTable) (ids : Ids) (region_from : ℕ → Region) (backing_from : ℕ → Backing)
     (regions_made objects_made marked : ℕ) → HasRegions chains objects ids region_from backing_from regions_made objects_made marked → (used : ℕ → Bool)

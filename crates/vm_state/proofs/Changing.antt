@@ -7,6 +7,7 @@ use Rattle.vm_objects.specs.declared.row.ObjectRow.{ObjectRow}
 use Rattle.vm_parts.proofs.Fitting.{same_pages}
 use Rattle.vm_parts.proofs.Rows.{some_is}
 use Rattle.vm_parts.specs.Fits.{object_pages}
+use Rattle.vm_shadow.proofs.Ranks.{ranked_same}
 use Rattle.vm_shadow.specs.Chains.{ChainTable, region_at, shadow_at}
 use Rattle.vm_shadow.specs.declared.ids.Ids.{Ids}
 use Rattle.vm_shadow.specs.declared.region_row.RegionRow.{RegionRow}
@@ -51,7 +52,7 @@ regions_recounted old new os ids region_from backing_from rm om marked same has 
           λ r row found. let b = before r row found in subst (λ (z : RegionRow). region_from
           r ≡ record { mark = z.marked; top = z.top.0; shift = z.shift; pages = z.pages }) (sym b.is) (has.rows r b.was b.found);
       shadows = λ o row found. has.shadows o row (sym (same.shadows o) ∙ found);
-      older = λ o row found. has.older o row (sym (same.shadows o) ∙ found);
+      ranked = ranked_same old new same.shadows has.ranked;
       bottoms = λ o referred none. has.bottoms o referred (sym (same.shadows o) ∙ none);
       unmade = λ r le. same.at r ∙ ap (with_entries (same.count r)) (has.unmade r le);
       unknown = has.unknown;
@@ -84,7 +85,7 @@ regions_controlled o row row2 cs os os2 ids region_from backing_from rm om marke
       few = has.few;
       rows = has.rows;
       shadows = has.shadows;
-      older = has.older;
+      ranked = has.ranked;
       bottoms = λ x referred none. has.bottoms x (referred_before o row2 os os2 put was x referred) none;
       unmade = has.unmade;
       unknown = λ x le. unknown_still o row2 os os2 put x (known_apart o x row os found (has.unknown x le)) (has.unknown x le);

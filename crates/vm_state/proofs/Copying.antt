@@ -15,6 +15,7 @@ use Rattle.vm_parts.proofs.Fitting.{same_pages}
 use Rattle.vm_parts.proofs.Rows.{if_true, one_case, some_is}
 use Rattle.vm_parts.specs.Changes.{one}
 use Rattle.vm_parts.specs.Fits.{object_pages}
+use Rattle.vm_shadow.proofs.Ranks.{ranked_same}
 use Rattle.vm_shadow.specs.Chains.{ChainTable, CopiesRegion, copy_of, region_at, shadow_at}
 use Rattle.vm_shadow.specs.declared.ids.Ids.{Ids}
 use Rattle.vm_shadow.specs.declared.region_row.RegionRow.{RegionRow}
@@ -74,7 +75,7 @@ regions_copied header past copy source offset pages row known cs cs2 os os2 ids 
             ]
       ];
       shadows = λ q shadow is. has.shadows q shadow (still q ∙ is);
-      older = λ q shadow is. has.older q shadow (still q ∙ is);
+      ranked = ranked_same cs cs2 (λ q. sym (still q)) has.ranked;
       bottoms = λ q referred none. has.bottoms q (referred_before top new os os2 putting was q referred) (still q ∙ none);
       unmade = λ q le. elim (rest q (λ e. omega (arith, e, next, le))) [
         | inl this ↦ absurd (let a = this.0 in omega (arith, a, below, le))

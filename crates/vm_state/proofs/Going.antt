@@ -8,6 +8,7 @@ use Rattle.vm_objects.specs.declared.row.ObjectRow.{ObjectRow}
 use Rattle.vm_parts.proofs.Fitting.{same_pages}
 use Rattle.vm_parts.proofs.Rows.{one_case, some_is}
 use Rattle.vm_parts.specs.Changes.{one}
+use Rattle.vm_shadow.proofs.Ranks.{ranked_dropped, ranked_same}
 use Rattle.vm_shadow.specs.Chains.{ChainTable, DropsShadow, PutsRegion, region_at, shadow_at}
 use Rattle.vm_shadow.specs.declared.ids.Ids.{Ids}
 use Rattle.vm_shadow.specs.declared.region_row.RegionRow.{RegionRow}
@@ -62,7 +63,7 @@ regions_gone r left row known cs cs2 os os2 ids region_from backing_from rm om m
       few = has.few;
       rows = λ q region is. has.rows q region (region_before r cs cs2 put q region is);
       shadows = λ o shadow is. has.shadows o shadow (still o ∙ is);
-      older = λ o shadow is. has.older o shadow (still o ∙ is);
+      ranked = ranked_same cs cs2 (λ o. sym (still o)) has.ranked;
       bottoms = λ o referred none. has.bottoms o (referred_before top new os os2 putting was o referred) (still o ∙ none);
       unmade = λ q le. elim (one_case r q None (region_at cs q) (region_at cs2 q) (put.at q)) [ inl this ↦ this.1 | inr other ↦ other.1 ∙ has.unmade q le ];
       unknown = λ o le. unknown_still top new os os2 putting o (known_apart top o known os found (has.unknown o le)) (has.unknown o le);
@@ -118,7 +119,7 @@ regions_dropped o left row known0 known cs cs2 os os2 ids region_from backing_fr
       few = has.few;
       rows = λ q region is. has.rows q region (still q ∙ is);
       shadows = λ x shadow is. has.shadows x shadow (shadow_before o cs cs2 drop x shadow is);
-      older = λ x shadow is. has.older x shadow (shadow_before o cs cs2 drop x shadow is);
+      ranked = ranked_dropped cs cs2 o drop.at has.ranked;
       bottoms =
           λ x referred bare. let before = referred_before under new os os2 putting was x referred in elim
           (one_case o x None (shadow_at cs x) (shadow_at cs2 x) (drop.at x)) [

@@ -15,6 +15,7 @@ use Rattle.vm_objects.specs.declared.row.PagerState.TheVariants.{Without}
 use Rattle.vm_parts.proofs.Rows.{one_case, some_is}
 use Rattle.vm_parts.specs.Changes.{one}
 use Rattle.vm_parts.specs.Fits.{object_pages}
+use Rattle.vm_shadow.proofs.Ranks.{ranked_same}
 use Rattle.vm_shadow.specs.Chains.{ChainTable, PutsRegion, region_at, shadow_at}
 use Rattle.vm_shadow.specs.declared.ids.Ids.{Ids}
 use Rattle.vm_shadow.specs.declared.region_row.RegionRow.{RegionRow}
@@ -51,7 +52,7 @@ regions_made header past r o row known pages cs cs2 os os2 ids rm om marked next
             ap (λ b. made b o.0 pages (region_of header q past)) test ∙ has.rows q region (sym other.1 ∙ found)
       ];
       shadows = λ q shadow found. has.shadows q shadow (still q ∙ found);
-      older = λ q shadow found. has.older q shadow (still q ∙ found);
+      ranked = ranked_same cs cs2 (λ q. sym (still q)) has.ranked;
       bottoms = λ q referred none. elim (known_cases o.0 known os os2 putting q) [
         | inl this ↦ ap (λ z. (backing_of header z past).backed) (sym this.0 ∙ next_too) ∙ fresh
         | inr other ↦ has.bottoms q (referred_other o.0 known os os2 putting q other.0 referred) (still q ∙ none)

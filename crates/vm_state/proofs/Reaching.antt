@@ -1,15 +1,16 @@
 -- The objects to which something refers are those in the chains of regions.
-use Rattle.std.proofs.Common.{◌≡◌, ◌≤◌, ℕ, zero, suc, ◌+◌, Bool, true, false, Option, Some, None, ap, refl, sym, ◌∙◌, subst, arith}
+use Rattle.std.proofs.Common.{◌≡◌, ◌≤◌, ℕ, zero, suc, ◌+◌, Bool, true, false, Option, Some, None, length, ap, refl, sym, ◌∙◌, subst, arith}
 use Rattle.vm_legal.specs.Walks.{Below, Reaches}
 use Rattle.vm_model.specs.Regions.{Backing, Region}
 use Rattle.vm_objects.specs.Objects.{ObjectTable}
-use Rattle.vm_shadow.specs.Chains.{ChainTable, IsOlderUnder, region_at, shadow_at}
+use Rattle.vm_shadow.proofs.Ranks.{height_falls, height_most}
+use Rattle.vm_shadow.specs.Chains.{ChainTable, IsRanked, height, region_at, shadow_at}
 use Rattle.vm_shadow.specs.declared.ids.Ids.{Ids}
 use Rattle.vm_shadow.specs.declared.region_row.RegionRow.{RegionRow}
 use Rattle.vm_shadow.specs.declared.shadow_row.ShadowRow.{ShadowRow}
 use Rattle.vm_terminate.specs.Finishes.{IsReferred}
 use Rattle.vm_state.specs.Stands.{HasRegions}
-use Rattle.vm_state.proofs.Referring.{OfRegion, OfShadow, referrer_of, refers_region, refers_shadow, small_shadow}
+use Rattle.vm_state.proofs.Referring.{OfRegion, OfShadow, referrer_of, refers_region, refers_shadow}
 
 -- one further down at the end of a chain
 pub below_more : (backings : ℕ → Backing) (n o u v : ℕ) → Below backings n o u → (backings u).backed ≡ true → (backings u).under ≡ v
@@ -19,22 +20,24 @@ below_more backings zero o u v is backed under =
 below_more backings (suc n) o u v is backed under = (is.0, below_more backings n (backings o).under u v is.1 backed under)
 
 up : {chains : ChainTable} {objects : ObjectTable} {ids : Ids} {region_from : ℕ → Region} {backing_from : ℕ → Backing} {regions_made objects_made marked : ℕ}
-    → HasRegions chains objects ids region_from backing_from regions_made objects_made marked → IsOlderUnder chains
+    → HasRegions chains objects ids region_from backing_from regions_made objects_made marked → IsRanked chains
     → ((s : ℕ) (row : ShadowRow) → shadow_at chains s ≡ Some row → IsReferred objects s) → (used : ℕ → Bool)
     → ((r : ℕ) (row : RegionRow) → region_at chains r ≡ Some row → used r ≡ true)
-    → (fuel o : ℕ) → objects_made ≤ o + fuel → IsReferred objects o → Reaches used region_from backing_from o
-up has older shadows used all zero o enough referred = elim (referrer_of has o referred) [
+    → (more o : ℕ) → length chains.shadows ≤ height chains o + more → IsReferred objects o → Reaches used region_from backing_from o
+up {chains = chains} has ranked shadows used all zero o enough referred = elim (referrer_of has o referred) [
   | OfRegion r row found top ↦ (r, 0, all r row found, ap (λ (z : Region). z.top) (has.rows r row found) ∙ top)
   | OfShadow s row found under ↦
-      let less = older s row found in
-      let small = small_shadow has s row found in
-      absurd (omega (arith, less, small, under, enough))
+      let falls = height_falls chains ranked s row found in
+      let most = height_most (shadow_at chains) (length chains.shadows) s in
+      let here = ap (height chains) under in
+      absurd (omega (arith, falls, most, here, enough))
 ]
-up {backing_from = backing_from} has older shadows used all (suc fuel) o enough referred = elim (referrer_of has o referred) [
+up {chains = chains} {backing_from = backing_from} has ranked shadows used all (suc more) o enough referred = elim (referrer_of has o referred) [
   | OfRegion r row found top ↦ (r, 0, all r row found, ap (λ (z : Region). z.top) (has.rows r row found) ∙ top)
   | OfShadow s row found under ↦
-      let less = older s row found in
-      let above = up has older shadows used all fuel s (omega (arith, less, under, enough)) (shadows s row found) in
+      let falls = height_falls chains ranked s row found in
+      let here = ap (height chains) under in
+      let above = up has ranked shadows used all more s (omega (arith, falls, here, enough)) (shadows s row found) in
       let link = has.shadows s row found in (
         above.0,
         suc above.1,
@@ -46,11 +49,11 @@ up {backing_from = backing_from} has older shadows used all (suc fuel) o enough 
 
 -- what is referred to is in the chain of a region, where each shadow is referred to
 pub reach_up : {chains : ChainTable} {objects : ObjectTable} {ids : Ids} {region_from : ℕ → Region} {backing_from : ℕ → Backing}
-    {regions_made objects_made marked : ℕ} → HasRegions chains objects ids region_from backing_from regions_made objects_made marked → IsOlderUnder chains
+    {regions_made objects_made marked : ℕ} → HasRegions chains objects ids region_from backing_from regions_made objects_made marked → IsRanked chains
     → ((s : ℕ) (row : ShadowRow) → shadow_at chains s ≡ Some row → IsReferred objects s) → (used : ℕ → Bool)
     → ((r : ℕ) (row : RegionRow) → region_at chains r ≡ Some row → used r ≡ true)
     → (o : ℕ) → IsReferred objects o → Reaches used region_from backing_from o
-reach_up {objects_made = objects_made} has older shadows used all o referred = up has older shadows used all objects_made o (omega arith) referred
+reach_up {chains = chains} has ranked shadows used all o referred = up has ranked shadows used all (length chains.shadows) o (omega arith) referred
 
 -- a chain from an object to which something refers leads to such objects only
 pub chain_referred : {chains : ChainTable} {objects : ObjectTable} {ids : Ids} {region_from : ℕ → Region} {backing_from : ℕ → Backing}

@@ -60,6 +60,7 @@ pub objects_below : {chains : ChainTable} {objects : ObjectTable} {ids : Ids} {r
 objects_below {objects = objects} has = record {
   tops = λ r row found. let known = row_of (object_at objects row.top.0) (has.tops r row found) in small_object has row.top.0 known.0 known.1;
   shadows = λ o row found. small_shadow has o row found;
+  unders = λ o row found. small_under has o row found;
 }
 
 pub regions_below : {chains : ChainTable} {objects : ObjectTable} {ids : Ids} {region_from : ℕ → Region} {backing_from : ℕ → Backing}

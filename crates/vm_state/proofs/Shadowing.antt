@@ -15,10 +15,11 @@ use Rattle.vm_objects.specs.declared.row.ObjectRow.{ObjectRow}
 use Rattle.vm_objects.specs.declared.row.PagerState.TheVariants.{Without}
 use Rattle.vm_parts.proofs.Rows.{one_case, some_is}
 use Rattle.vm_parts.specs.Changes.{one}
+use Rattle.vm_shadow.proofs.Ranks.{ranked_over}
 use Rattle.vm_shadow.specs.Chains.{ChainTable, ShadowsRegion, region_at, shadow_at}
 use Rattle.vm_shadow.specs.declared.ids.Ids.{Ids}
 use Rattle.vm_shadow.specs.declared.region_row.RegionRow.{RegionRow}
-use Rattle.vm_state.proofs.Referring.{objects_below}
+use Rattle.vm_state.proofs.Referring.{objects_below, small_under}
 use Rattle.vm_state.proofs.Fresh.{other_test, same_test, seen, unreferenced}
 use Rattle.vm_state.proofs.Going.{below_all, one_other, one_own}
 use Rattle.vm_state.proofs.Knowing.{counts_still, known_put, known_still, referred_other, unknown_still}
@@ -99,15 +100,10 @@ regions_shadowed header past region object row new cs cs2 os os2 ids ids2 rm om 
               known_still object.0 new os os2 putting shadow.under.0 both.1,
             )
       ];
-      older = λ q shadow is. elim (shadow_cases q) [
-        | inl this ↦
-            let its : shadow.under ≡ row.top = ap (λ z. z.under) (some_is shadow (record { under = row.top; shift = row.shift }) (sym is ∙ this.1)) in
-            let low : row.top.0 < om = small_top in
-            let number : object.0 ≡ q = this.0 in
-            let same : shadow.under.0 ≡ row.top.0 = ap (λ z. z.0) its in
-            omega (arith, low, number, same, next)
-        | inr apart ↦ has.older q shadow (sym apart.1 ∙ is)
-      ];
+      ranked =
+          let low : row.top.0 < om = small_top in
+          ranked_over cs cs2 object.0 (record { under = row.top; shift = row.shift }) shadowing.under (λ e. omega (arith, low, e, next))
+          (λ q shadow is e. let small = small_under has q shadow is in omega (arith, small, e, next)) has.ranked;
       fits = fits;
       counts = counts_still object.0 new os os2 (references_to cs rm om) (references_to cs2 rm (om + 1)) putting its_own others has.counts;
     }

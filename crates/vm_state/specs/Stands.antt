@@ -24,7 +24,7 @@ use Rattle.vm_pageout.specs.Laundry.{LaundryList}
 use Rattle.vm_parts.specs.Controls.{AllLive, HasNumbers}
 use Rattle.vm_queues.specs.Queues.{is_skipped}
 use Rattle.vm_resident.specs.Resident.{ResidentTable, owner_of, row_at}
-use Rattle.vm_shadow.specs.Chains.{ChainTable, IsOlderUnder, region_at, shadow_at}
+use Rattle.vm_shadow.specs.Chains.{ChainTable, IsRanked, region_at, shadow_at}
 use Rattle.vm_shadow.specs.declared.ids.Ids.{Ids}
 use Rattle.vm_shadow.specs.declared.region_row.RegionRow.{RegionRow}
 use Rattle.vm_shadow.specs.declared.shadow_row.ShadowRow.{ShadowRow}
@@ -74,9 +74,8 @@ IsShared declared row = row.region.0 < declared → row.inherit ≢ Copy
 abbrev pub AreShared : ℕ → Mapped → Type 0
 AreShared declared maps = (task : ℕ) → AllRows (IsShared declared) (rows_in task maps)
 
--- The regions, the objects and what stands under them, and the next numbers. What a region or a shadow is over is known, and a shadow has the greater number of
--- the two. Of an object to which something refers and that is no shadow the history says so too. An object has as many references as regions and shadows are
--- over it.
+-- The regions, the objects and what stands under them, and the next numbers. What a region or a shadow is over is known, and each chain ends. Of an object to
+-- which something refers and that is no shadow the history says so too. An object has as many references as regions and shadows are over it.
 pub record HasRegions (chains : ChainTable) (objects : ObjectTable) (ids : Ids) (region_from : ℕ → Region) (backing_from : ℕ → Backing)
     (regions_made objects_made marked : ℕ) : Type 0 where
   pub region : ids.next_region ≡ regions_made
@@ -91,7 +90,7 @@ pub record HasRegions (chains : ChainTable) (objects : ObjectTable) (ids : Ids) 
   pub unknown : (o : ℕ) → objects_made ≤ o → object_at objects o ≡ None
   pub tops : (r : ℕ) (row : RegionRow) → region_at chains r ≡ Some row → IsSome (object_at objects row.top.0)
   pub unders : (o : ℕ) (row : ShadowRow) → shadow_at chains o ≡ Some row → IsSome (object_at objects o) × IsSome (object_at objects row.under.0)
-  pub older : IsOlderUnder chains
+  pub ranked : IsRanked chains
   pub fits : ChainsFit chains objects
   pub counts : (o : ℕ) (known : ObjectRow) → object_at objects o ≡ Some known → known.references ≡ references_to chains regions_made objects_made o
 

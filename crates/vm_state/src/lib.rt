@@ -8,7 +8,7 @@ ghost use Rattle.vm_legal.specs.Walks.{Reaches};
 ghost use Rattle.vm_model.specs.Regions.{Backing, Region};
 ghost use Rattle.vm_objects.specs.Objects.{ObjectTable};
 ghost use Rattle.vm_parts.specs.declared.parts.HostParts.{HostParts};
-ghost use Rattle.vm_shadow.specs.Chains.{ChainTable, IsOlderUnder, region_at, shadow_at};
+ghost use Rattle.vm_shadow.specs.Chains.{ChainTable, IsRanked, region_at, shadow_at};
 ghost use Rattle.vm_shadow.specs.declared.ids.Ids.{Ids};
 ghost use Rattle.vm_shadow.specs.declared.region_row.RegionRow.{RegionRow};
 ghost use Rattle.vm_shadow.specs.declared.shadow_row.ShadowRow.{ShadowRow};
@@ -20,7 +20,7 @@ ghost use Rattle.vm_state.specs.Stands.{HasRegions};
 #[tactic(auto, using(crate::proofs::Chains::leads_up, crate::proofs::Chains::leads_down))]
 pub fn references_are_chains()
     ensures up { (chains : ChainTable) (objects : ObjectTable) (ids : Ids) (region_from : ℕ → Region) (backing_from : ℕ → Backing)
-        (regions_made objects_made marked : ℕ) → HasRegions chains objects ids region_from backing_from regions_made objects_made marked → IsOlderUnder chains
+        (regions_made objects_made marked : ℕ) → HasRegions chains objects ids region_from backing_from regions_made objects_made marked → IsRanked chains
         → ((s : ℕ) (row : ShadowRow) → shadow_at chains s ≡ Some row → IsReferred objects s) → (used : ℕ → Bool)
         → ((r : ℕ) (row : RegionRow) → region_at chains r ≡ Some row → used r ≡ true) → (o : ℕ) → IsReferred objects o
         → Reaches used region_from backing_from o }

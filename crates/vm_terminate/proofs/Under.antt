@@ -9,7 +9,7 @@ use Rattle.vm_objects.specs.Objects.{ObjectTable, PutsObject, SameMarks, object_
 use Rattle.vm_parts.proofs.Fitting.{fit_objects, same_pages}
 use Rattle.vm_parts.specs.Fits.{Fit}
 use Rattle.vm_parts.specs.declared.parts.HostParts.{HostParts}
-use Rattle.vm_shadow.specs.Chains.{ChainTable, DropsShadow, shadow_at}
+use Rattle.vm_shadow.specs.Chains.{ChainTable, DropsShadow, IsRanked, shadow_at}
 use Rattle.vm_shadow.specs.declared.shadow_row.ShadowRow.{ShadowRow}
 use Rattle.vm_terminate.proofs.Found.{found_some}
 use Rattle.vm_terminate.specs.Finishes.{IsReferred, LosesUnder}
@@ -59,16 +59,16 @@ stays object row left parts objects old new unrefers some held room events =
 
 -- that was the last reference
 pub ends : (object : ObjectId) (row : ShadowRow) (left : ℕ) (parts : HostParts) (objects : ObjectTable) (old new : ChainTable)
-    → Unrefers object row left parts objects old new → left ≤ 0 → row.under.0 < object.0
+    → Unrefers object row left parts objects old new → left ≤ 0 → IsRanked old
     → (held : List FrameNo) (room : ℕ) (events : List Event)
     → LeavesUnder object (Some row.under) (finish_state parts old held room events) (finish_state (record parts { objects = objects }) new held room events)
-ends object row left parts objects old new unrefers none older held room events =
+ends object row left parts objects old new unrefers none ranked held room events =
     let zero : left ≡ 0 = omega arith in
     let old_state = finish_state parts old held room events in
     let new_state = finish_state (record parts { objects = objects }) new held room events in
     let lost = subst (λ (n : ℕ). LosesUnder object row unrefers.referred.row n old_state new_state) zero
     (loses object row left parts objects old new unrefers held room events) in
-    Ends row unrefers.referred.row refl lost older
+    Ends row unrefers.referred.row refl lost ranked
 
 pub fit_unreferred : (object : ObjectId) (row : ShadowRow) (left : ℕ) (parts : HostParts) (objects : ObjectTable) (old new : ChainTable)
     → Unrefers object row left parts objects old new → Fit parts

@@ -1,5 +1,5 @@
 -- Objects end down a shadow chain.
-use Rattle.std.proofs.Common.{◌≡◌, ◌∙◌, ℕ, suc, ◌<◌, ◌≤◌, Option, Some, None, inl, inr, refl, ap, sym, subst, arith}
+use Rattle.std.proofs.Common.{◌≡◌, ◌⊎◌, ◌∙◌, ℕ, suc, ◌<◌, ◌≤◌, Option, Some, None, inl, inr, refl, ap, sym, subst, arith}
 use Rattle.vm_base.specs.declared.ids.HostId.{HostId}
 use Rattle.vm_base.specs.declared.ids.ObjectId.{ObjectId}
 use Rattle.vm_objects.specs.Objects.{object_at}
@@ -8,7 +8,8 @@ use Rattle.vm_parts.proofs.Rows.{one_case, row_cases}
 use Rattle.vm_parts.specs.Fits.{Fit}
 use Rattle.vm_parts.specs.Listed.{listed_pages}
 use Rattle.vm_resident.specs.Resident.{row_at}
-use Rattle.vm_shadow.specs.Chains.{shadow_at}
+use Rattle.vm_shadow.proofs.Ranks.{height_falls}
+use Rattle.vm_shadow.specs.Chains.{IsRanked, height, shadow_at}
 use Rattle.vm_shadow.specs.declared.shadow_row.ShadowRow.{ShadowRow}
 use Rattle.vm_terminate.proofs.Leaving.{HasGone, has_gone}
 use Rattle.vm_terminate.specs.Finishes.{CanFinish, ControlEnds, EndsWith, FinishState, Finishes, Further, IsReferred, IsTold, Itself, LosesUnder, Next}
@@ -64,8 +65,8 @@ control_has_ended host object known old new (IsTold live keeps put events) =
       room = ap (λ z. z.room) keeps.is;
     }
 
--- The end has come down to an object. What has a smaller number is as it was at the start, and so are the object's own pages and its shadow; nothing refers to
--- it any more.
+-- The end has come down to an object. What is further down a chain is as it was at the start, and so are the object's own pages and its shadow; nothing refers
+-- to it any more. Each chain ends, which is known once something has ended.
 pub record HasComeTo (object : ℕ) (start now : FinishState) (o : ℕ) : Type 0 where
   pub fit : Fit now.parts
   pub ends : EndsWith start.chains start.parts.objects object o
@@ -75,9 +76,10 @@ pub record HasComeTo (object : ℕ) (start now : FinishState) (o : ℕ) : Type 0
   pub stood : ObjectRow
   pub was : object_at start.parts.objects o ≡ Some stood
   pub kind : row.kind ≡ stood.kind
-  pub below : (other : ℕ) → other < o → object_at now.parts.objects other ≡ object_at start.parts.objects other
-  pub shadows : (other : ℕ) → other ≤ o → shadow_at now.chains other ≡ shadow_at start.chains other
-  pub pages : (other p : ℕ) → other ≤ o → row_at now.parts.resident other p ≡ row_at start.parts.resident other p
+  pub ranked : (now.chains ≡ start.chains) ⊎ IsRanked start.chains
+  pub below : (other : ℕ) → height start.chains other < height start.chains o → object_at now.parts.objects other ≡ object_at start.parts.objects other
+  pub shadows : (other : ℕ) → height start.chains other ≤ height start.chains o → shadow_at now.chains other ≡ shadow_at start.chains other
+  pub pages : (other p : ℕ) → height start.chains other ≤ height start.chains o → row_at now.parts.resident other p ≡ row_at start.parts.resident other p
   pub room : listed_pages now.parts.queues ≤ now.room
 
 pub at_first : (start : FinishState) (object : ℕ) → CanFinish start object → HasComeTo object start start object
@@ -91,11 +93,26 @@ at_first start object can =
       stood = can.row;
       was = can.known;
       kind = refl;
+      ranked = inl refl;
       below = λ other less. refl;
       shadows = λ other less. refl;
       pages = λ other p less. refl;
       room = can.room;
     }
+
+start_ranked : (object : ℕ) (start now : FinishState) (o : ℕ) → HasComeTo object start now o → IsRanked now.chains → IsRanked start.chains
+start_ranked object start now o come ranked = elim come.ranked [ inl same ↦ subst IsRanked same ranked | inr known ↦ known ]
+
+-- what stands under the object is further down
+pub under_lower : (object : ℕ) (start now : FinishState) (o : ℕ) (row : ShadowRow) → HasComeTo object start now o → IsRanked now.chains
+    → shadow_at now.chains o ≡ Some row → height start.chains row.under.0 < height start.chains o
+under_lower object start now o row come ranked is =
+    let falls = height_falls start.chains (start_ranked object start now o come ranked) o row (sym (come.shadows o (omega arith)) ∙ is) in
+    omega (arith, falls)
+
+-- an object that is further down is another
+lower_apart : (start : FinishState) (o low : ℕ) → height start.chains low < height start.chains o → (o ≡ low → ⊥)
+lower_apart start o low less same = let both = ap (height start.chains) same in omega (arith, less, both)
 
 -- no page of it is asked
 pub its_pages_here : (object : ℕ) (start now : FinishState) (o : ℕ) → CanFinish start object → HasComeTo object start now o → AllHere now.parts.resident o
@@ -113,22 +130,25 @@ pub still_known : (host : HostId) (object : ObjectId) (known : ObjectRow) (now b
     → object_at bare.parts.objects object.0 ≡ Some known
 still_known host object known now bare is pages = (pages_have_left host object known 0 now bare pages).objects object.0 ∙ is
 
--- what has a smaller number is as it was
-lower_objects : (host : HostId) (object : ObjectId) (known : ObjectRow) (now bare quiet : FinishState) → IsBare host object known now bare quiet
-    → (other : ℕ) → other < object.0 → object_at quiet.parts.objects other ≡ object_at now.parts.objects other
-lower_objects host object known now bare quiet ends other less =
-    (control_has_ended host object known bare quiet ends.control).objects other (λ same. omega arith)
+-- each other is as it was
+other_objects : (host : HostId) (object : ObjectId) (known : ObjectRow) (now bare quiet : FinishState) → IsBare host object known now bare quiet
+    → (other : ℕ) → (object.0 ≡ other → ⊥) → object_at quiet.parts.objects other ≡ object_at now.parts.objects other
+other_objects host object known now bare quiet ends other apart =
+    (control_has_ended host object known bare quiet ends.control).objects other apart
     ∙ (pages_have_left host object known 0 now bare ends.pages).objects other
 
 -- what stands under it is referred to
 pub under_referred : (host : HostId) (object : ℕ) (ending : ObjectId) (known : ObjectRow) (start now bare quiet : FinishState) → CanFinish start object
     → HasComeTo object start now ending.0 → IsBare host ending known now bare quiet
-    → (row : ShadowRow) → shadow_at now.chains ending.0 ≡ Some row → row.under.0 < ending.0 → IsReferred quiet.parts.objects row.under.0
-under_referred host object ending known start now bare quiet can come ends row is less =
+    → IsRanked now.chains → (row : ShadowRow) → shadow_at now.chains ending.0 ≡ Some row → IsReferred quiet.parts.objects row.under.0
+under_referred host object ending known start now bare quiet can come ends ranked row is =
+    let less = under_lower object start now ending.0 row come ranked is in
     let there = can.under ending.0 row come.ends (sym (come.shadows ending.0 (omega arith)) ∙ is) in
     record {
       row = there.row;
-      known = lower_objects host ending known now bare quiet ends row.under.0 less ∙ (come.below row.under.0 less ∙ there.known);
+      known =
+          other_objects host ending known now bare quiet ends row.under.0 (lower_apart start ending.0 row.under.0 less)
+          ∙ (come.below row.under.0 less ∙ there.known);
       some = there.some;
     }
 
@@ -153,15 +173,20 @@ shadow_stood host object ending known under row start now bare quiet next come e
 
 pub under_stood : (host : HostId) (object : ℕ) (ending : ObjectId) (known under : ObjectRow) (row : ShadowRow) (start now bare quiet next : FinishState)
     → HasComeTo object start now ending.0 → IsBare host ending known now bare quiet
-    → LosesUnder ending row under 0 quiet next → row.under.0 < ending.0 → object_at start.parts.objects row.under.0 ≡ Some under
+    → LosesUnder ending row under 0 quiet next → height start.chains row.under.0 < height start.chains ending.0
+    → object_at start.parts.objects row.under.0 ≡ Some under
 under_stood host object ending known under row start now bare quiet next come ends loses less =
-    sym (come.below row.under.0 less) ∙ (sym (lower_objects host ending known now bare quiet ends row.under.0 less) ∙ loses.under)
+    sym (come.below row.under.0 less) ∙ (sym (other_objects host ending known now bare quiet ends row.under.0 (lower_apart start ending.0 row.under.0 less))
+    ∙ loses.under)
 
 -- the end comes down to what stands under the object
 pub come_down : (host : HostId) (object : ℕ) (ending : ObjectId) (known under : ObjectRow) (row : ShadowRow) (start now bare quiet next : FinishState)
     → HasComeTo object start now ending.0 → IsBare host ending known now bare quiet
-    → LosesUnder ending row under 0 quiet next → row.under.0 < ending.0 → Fit next.parts → HasComeTo object start next row.under.0
-come_down host object ending known under row start now bare quiet next come ends loses less fit =
+    → LosesUnder ending row under 0 quiet next → IsRanked quiet.chains → Fit next.parts → HasComeTo object start next row.under.0
+come_down host object ending known under row start now bare quiet next come ends loses rank fit =
+    let chains = chains_are host ending known now bare quiet ends in
+    let ranked : IsRanked now.chains = subst IsRanked chains rank in
+    let less = under_lower object start now ending.0 row come ranked (sym (ap (λ z. shadow_at z ending.0) chains) ∙ loses.found) in
     record {
       fit = fit;
       ends = Further ending.0 row under come.ends (shadow_stood host object ending known under row start now bare quiet next come ends loses)
@@ -172,18 +197,22 @@ come_down host object ending known under row start now bare quiet next come ends
       stood = under;
       was = under_stood host object ending known under row start now bare quiet next come ends loses less;
       kind = refl;
+      ranked = inr (start_ranked object start now ending.0 come ranked);
       below = λ other lower. elim (one_case row.under.0 other _ _ _ (loses.objects.at other)) [
-        | inl same ↦ absurd (let e = same.0 in omega arith)
-        | inr apart ↦ apart.1 ∙ (lower_objects host ending known now bare quiet ends other (omega arith) ∙ come.below other (omega arith))
+        | inl same ↦ absurd (lower_apart start row.under.0 other lower same.0)
+        | inr apart ↦ apart.1
+            ∙ (other_objects host ending known now bare quiet ends other (lower_apart start ending.0 other (omega (arith, lower, less)))
+            ∙ come.below other (omega (arith, lower, less)))
       ];
       shadows = λ other lower. elim (one_case ending.0 other _ _ _ (loses.chains.at other)) [
-        | inl same ↦ absurd (let e = same.0 in omega arith)
-        | inr apart ↦ apart.1 ∙ (ap (λ z. shadow_at z other) (chains_are host ending known now bare quiet ends) ∙ come.shadows other (omega arith))
+        | inl same ↦ absurd (lower_apart start ending.0 other (omega (arith, lower, less)) same.0)
+        | inr apart ↦ apart.1 ∙ (ap (λ z. shadow_at z other) chains ∙ come.shadows other (omega (arith, lower, less)))
       ];
       pages = λ other p lower.
           ap (λ z. row_at z.parts.resident other p) loses.rest
           ∙ ((control_has_ended host ending known bare quiet ends.control).pages other p
-          ∙ ((pages_have_left host ending known 0 now bare ends.pages).others other p (λ same. omega arith) ∙ come.pages other p (omega arith)));
+          ∙ ((pages_have_left host ending known 0 now bare ends.pages).others other p
+          (lower_apart start ending.0 other (omega (arith, lower, less))) ∙ come.pages other p (omega (arith, lower, less))));
       room =
           let gone = control_has_ended host ending known bare quiet ends.control in
           let queues = queues_are host ending known under row bare quiet next ends.control loses in
@@ -200,7 +229,7 @@ ends_there host object known next now bare quiet new ends (Nothing none no_shado
     (ap (λ z. shadow_at z.chains object.0) same ∙ no_shadow)
 ends_there host object known next now bare quiet new ends (Stays row under left none loses some) stops =
     OverOne object known under row left now bare quiet new ends.known_is ends.pages ends.control loses some
-ends_there host object known next now bare quiet new ends (Ends row under goes loses less) stops =
+ends_there host object known next now bare quiet new ends (Ends row under goes loses ranked) stops =
     absurd (let bad : None ≡ Some row.under = sym stops ∙ goes in cc)
 
 -- the end goes on with what stood under the object
@@ -209,21 +238,29 @@ pub record GoesOn (object : ObjectId) (next : ObjectId) (old new : FinishState) 
   pub known : ObjectRow
   pub is : next ≡ row.under
   pub loses : LosesUnder object row known 0 old new
-  pub less : row.under.0 < object.0
+  pub ranked : IsRanked old.chains
 
 pub goes_on : (object : ObjectId) (next : Option ObjectId) (under : ObjectId) (old new : FinishState) → LeavesUnder object next old new → next ≡ Some under
     → GoesOn object under old new
 goes_on object next under old new (Nothing none no_shadow same) goes = absurd (let bad : None ≡ Some under = sym none ∙ goes in cc)
 goes_on object next under old new (Stays row known left none loses some) goes = absurd (let bad : None ≡ Some under = sym none ∙ goes in cc)
-goes_on object next under old new (Ends row known is loses less) goes =
-    record { row = row; known = known; is = (let both : Some under ≡ Some row.under = sym goes ∙ is in cc); loses = loses; less = less }
+goes_on object next under old new (Ends row known is loses ranked) goes =
+    record { row = row; known = known; is = (let both : Some under ≡ Some row.under = sym goes ∙ is in cc); loses = loses; ranked = ranked }
+
+-- which is further down
+pub goes_lower : (host : HostId) (object : ℕ) (ending next : ObjectId) (known : ObjectRow) (start now bare quiet new : FinishState)
+    → HasComeTo object start now ending.0 → IsBare host ending known now bare quiet → (on : GoesOn ending next quiet new)
+    → height start.chains on.row.under.0 < height start.chains ending.0
+goes_lower host object ending next known start now bare quiet new come ends on =
+    let chains = chains_are host ending known now bare quiet ends in
+    under_lower object start now ending.0 on.row come (subst IsRanked chains on.ranked) (sym (ap (λ z. shadow_at z ending.0) chains) ∙ on.loses.found)
 
 pub come_on : (host : HostId) (object : ℕ) (ending next : ObjectId) (known : ObjectRow) (start now bare quiet new : FinishState)
     → HasComeTo object start now ending.0 → IsBare host ending known now bare quiet → GoesOn ending next quiet new → Fit new.parts
     → HasComeTo object start new next.0
 come_on host object ending next known start now bare quiet new come ends on fit =
     subst (λ (z : ObjectId). HasComeTo object start new z.0) (sym on.is) (come_down host object ending known on.known on.row start now bare quiet new come ends
-    on.loses on.less fit)
+    on.loses on.ranked fit)
 
 pub ends_further : (host : HostId) (ending next : ObjectId) (known : ObjectRow) (now bare quiet new end : FinishState) → IsBare host ending known now bare quiet
     → GoesOn ending next quiet new → Finishes host next new end → Finishes host ending now end

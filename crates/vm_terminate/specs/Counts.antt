@@ -1,5 +1,5 @@
 -- What the end of an object uses of the room that a host has.
-use Rattle.std.specs.Prelude.{ℕ, zero, suc, ◌≡◌, ◌≢◌, ◌+◌, ◌≤◌, Bool, false, Option, Some, None, if◌then◌else◌}
+use Rattle.std.specs.Prelude.{ℕ, zero, suc, ◌≡◌, ◌≢◌, ◌+◌, ◌<◌, ◌≤◌, Bool, false, Option, Some, None, if◌then◌else◌}
 use Rattle.vm_base.specs.declared.ids.ObjectKind.TheVariants.{Temp}
 use Rattle.vm_objects.specs.Objects.{ObjectTable, object_at}
 use Rattle.vm_objects.specs.declared.row.ObjectRow.{ObjectRow}
@@ -29,6 +29,10 @@ pub record UsesRoom (n : ℕ) (old new : HostParts) (chains_old chains_new : Cha
   pub marked : chains_new.marked ≡ chains_old.marked
   pub fewer : listed_pages new.queues ≤ listed_pages old.queues
   pub live : live_below new.objects n ≤ live_below old.objects n
+
+-- what ends with an object has numbers below this
+abbrev pub EndBelow : ℕ → ChainTable → ObjectTable → ℕ → Type 0
+EndBelow n chains objects object = (o : ℕ) → EndsWith chains objects object o → o < n
 
 -- there is a buffer for each page that is here, where an object that ends isn't temporary: its pages may go back, and those of a temporary one are dropped
 abbrev pub HasBuffers : ChainTable → HostParts → ℕ → Type 0

@@ -7,7 +7,7 @@ use Rattle.vm_objects.specs.declared.row.ObjectRow.{ObjectRow}
 use Rattle.vm_parts.specs.declared.parts.HostParts.{HostParts}
 use Rattle.vm_resident.specs.Resident.{ResidentTable, row_at}
 use Rattle.vm_resident.specs.declared.page_row.PageRow.{PageRow}
-use Rattle.vm_shadow.specs.Chains.{ChainTable, shadow_at}
+use Rattle.vm_shadow.specs.Chains.{ChainTable, IsRanked, shadow_at}
 use Rattle.vm_shadow.specs.declared.shadow_row.ShadowRow.{ShadowRow}
 use Rattle.vm_terminate.specs.Finishes.{FinishState, LosesUnder}
 
@@ -18,11 +18,11 @@ finish_state parts chains held room events = record { parts = parts; chains = ch
 abbrev pub AllHere : ResidentTable → ℕ → Type 0
 AllHere table o = (p : ℕ) (page : PageRow) → row_at table o p ≡ Some page → page.here ≡ true
 
--- What becomes of what stood under an object that has ended: nothing was there; or it stays, since something else refers to it; or it ends too, and has the
--- smaller number.
+-- What becomes of what stood under an object that has ended: nothing was there; or it stays, since something else refers to it; or it ends too, and as
+-- each chain ends, so does that.
 pub data LeavesUnder (object : ObjectId) (next : Option ObjectId) (old new : FinishState) : Type 0 where
   Nothing : next ≡ None → shadow_at old.chains object.0 ≡ None → new ≡ old → LeavesUnder object next old new
   Stays : (row : ShadowRow) → (known : ObjectRow) → (left : ℕ) → next ≡ None → LosesUnder object row known left old new → 0 < left
       → LeavesUnder object next old new
-  Ends : (row : ShadowRow) → (known : ObjectRow) → next ≡ Some row.under → LosesUnder object row known 0 old new → row.under.0 < object.0
+  Ends : (row : ShadowRow) → (known : ObjectRow) → next ≡ Some row.under → LosesUnder object row known 0 old new → IsRanked old.chains
       → LeavesUnder object next old new

@@ -6,9 +6,9 @@ ghost use Rattle.vm_model.specs.declared.event.Event.{Event};
 ghost use Rattle.vm_objects.specs.Objects.{object_at};
 ghost use Rattle.vm_parts.specs.Fits.{Fit};
 ghost use Rattle.vm_parts.specs.Listed.{listed_pages};
-ghost use Rattle.vm_shadow.specs.Chains.{ChainTable, shadow_at};
+ghost use Rattle.vm_shadow.specs.Chains.{ChainTable, IsRanked, shadow_at};
 ghost use Rattle.vm_shadow.specs.declared.shadow_row.ShadowRow.{ShadowRow};
-ghost use Rattle.vm_terminate.specs.Counts.{HasBuffers, UsesRoom, live_below};
+ghost use Rattle.vm_terminate.specs.Counts.{EndBelow, HasBuffers, UsesRoom, live_below};
 ghost use Rattle.vm_terminate.specs.Finishes.{CanFinish, ControlEnds, EndsWith, Finishes, IsReferred};
 ghost use Rattle.vm_terminate.specs.Steps.{LeavesUnder, finish_state};
 
@@ -39,12 +39,15 @@ pub fn finish<L: Holder>(
         (record { parts = parts.new; chains = chains.new; held = L.held laundry.new; room = L.room laundry.new; events = log.new.items })) }
     ensures fit { OnOk result (Fit parts.new) }
     ensures size { OnOk result (parts.new.buffers.size ≡ parts.old.buffers.size) }
-    ensures uses { (n : ℕ) → object.0 < n → OnOk result (UsesRoom n parts.old parts.new chains.old chains.new log.old.room log.new.room) }
-    ensures succeeds { (n : ℕ) → object.0 < n → listed_pages parts.old.queues + live_below parts.old.objects n ≤ log.old.room
+    ensures uses { (n : ℕ) → EndBelow n chains.old parts.old.objects object.0
+        → OnOk result (UsesRoom n parts.old parts.new chains.old chains.new log.old.room log.new.room) }
+    ensures succeeds { (n : ℕ) → EndBelow n chains.old parts.old.objects object.0
+        → listed_pages parts.old.queues + live_below parts.old.objects n ≤ log.old.room
         → HasBuffers chains.old parts.old object.0 → IsOk result }
     ensures saved { ((o : ℕ) (row : ObjectRow) → EndsWith chains.old parts.old.objects object.0 o → object_at parts.old.objects o ≡ Some row → row.kind ≡ Temp)
         → OnOk result (parts.old.buffers.count ≤ parts.new.buffers.count) }
-    ensures told { (n : ℕ) → object.0 < n → OnOk result (length log.new.items + (listed_pages parts.new.queues + live_below parts.new.objects n)
+    ensures told { (n : ℕ) → EndBelow n chains.old parts.old.objects object.0
+        → OnOk result (length log.new.items + (listed_pages parts.new.queues + live_below parts.new.objects n)
         ≤ length log.old.items + (listed_pages parts.old.queues + live_below parts.old.objects n)) }
 {
     let mut ending = object;
@@ -99,7 +102,7 @@ fn end_control(
 // is to end too.
 fn leave_under(object: ObjectId, parts: &mut HostParts, chains: &mut Chains) -> Option<ObjectId>
     requires fit { Fit parts.old }
-    requires referred { (row : ShadowRow) → shadow_at chains.old object.0 ≡ Some row → row.under.0 < object.0 → IsReferred parts.old.objects row.under.0 }
+    requires referred { IsRanked chains.old → (row : ShadowRow) → shadow_at chains.old object.0 ≡ Some row → IsReferred parts.old.objects row.under.0 }
     ensures under { (held : List FrameNo) (room : ℕ) (events : List Event) → LeavesUnder object result
         (finish_state parts.old chains.old held room events) (finish_state parts.new chains.new held room events) }
     ensures fit { Fit parts.new }

@@ -214,7 +214,7 @@ module _ (header : Header) (h : ℕ) (k : Parts) (ids next : Ids) (past new : Li
         unknown = λ o high. has.unknown o (let rise = same.objects in omega (arith, rise, high));
         tops = has.tops;
         unders = has.unders;
-        older = has.older;
+        ranked = has.ranked;
         fits = has.fits;
         counts = λ o known found.
             has.counts o known found ∙

@@ -14,6 +14,7 @@ use Rattle.vm_model.specs.Waiting.{Access}
 use Rattle.vm_objects.specs.declared.row.PagerState.TheVariants as state
 use Rattle.vm_parts.specs.Changes.{one}
 use Rattle.vm_parts.specs.Fits.{object_pages}
+use Rattle.vm_shadow.proofs.Ranks.{ranked_same}
 use Rattle.vm_shadow.specs.declared.shadow_row.ShadowRow.{ShadowRow}
 use Rattle.vm_state.proofs.Declared.{kinds_put, kinds_region, over_declared}
 use Rattle.vm_state.proofs.Fresh.{other_test, pages_put, seen}
@@ -101,7 +102,7 @@ regions_declared header past o new pages cs cs2 os os2 ids rm om marked has kind
         | inr other ↦ has.rows q region (sym other.1 ∙ found)
       ];
       shadows = λ q shadow found. has.shadows q shadow (still q ∙ found);
-      older = λ q shadow found. has.older q shadow (still q ∙ found);
+      ranked = ranked_same cs cs2 (λ q. sym (still q)) has.ranked;
       bottoms = λ q referred none. elim (known_cases o.0 new os os2 putting q) [
         | inl this ↦ ap (λ z. (backing_of header z past).backed) (sym this.0) ∙ homes.bare o.0 declared
         | inr other ↦ has.bottoms q (referred_other o.0 new os os2 putting q other.0 referred) (still q ∙ none)

@@ -261,7 +261,7 @@ regions_of cs os os2 ids region_from backing_from regions_made objects_made mark
       unknown = λ o above. same.at o ∙ has.unknown o above;
       tops = λ r row found. ap is_some (same.at row.top.0) ∙ has.tops r row found;
       unders = λ o row found. let under = has.unders o row found in (ap is_some (same.at o) ∙ under.0, ap is_some (same.at row.under.0) ∙ under.1);
-      older = has.older;
+      ranked = has.ranked;
       fits = record {
         tops = λ r row found. subst (λ (z : ℕ). row.shift + row.pages ≤ z) (sym (pages_are row.top.0)) (has.fits.tops r row found);
         unders =

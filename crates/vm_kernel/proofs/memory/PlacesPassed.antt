@@ -4,7 +4,7 @@ use Rattle.vm_kernel.proofs.Common.{Access, Bool, Event, Header, Ids, List, Matc
 use Rattle.vm_kernel.proofs.Common.{Waiting, Want, [], ap, arith, eqb_tells, false, inl, inr, named, object_at, page_on, refl, row_at, some_is, subst, suc, sym}
 use Rattle.vm_kernel.proofs.Common.{true, zero, ℕ, ◌&&◌, ◌==◌, ◌∙◌, ◌∷◌, ◌<◌, ◌≡◌, ◌≤◌}
 use Rattle.std.specs.Prelude.{if◌then◌else◌}
-use Rattle.vm_fault.specs.Walks.{IsUnder, PassesOver, Sinks, WalksTo}
+use Rattle.vm_fault.specs.Walks.{PassesOver, Sinks, WalksTo}
 use Rattle.vm_kernel.proofs.memory.WalksShown.{shown_at}
 use Rattle.vm_legal.specs.Accesses.{names}
 use Rattle.vm_legal.specs.Returned.{OnlyReturned}
@@ -18,6 +18,7 @@ use Rattle.vm_objects.specs.Objects.{ObjectTable}
 use Rattle.vm_objects.specs.declared.row.PagerState.TheVariants as state
 use Rattle.vm_resident.specs.Resident.{ResidentTable}
 use Rattle.vm_shadow.specs.Chains.{ChainTable}
+use Rattle.vm_state.proofs.Declared.{shadow_temporary}
 use Rattle.vm_state.proofs.Locks.{named_at}
 use Rattle.vm_state.proofs.Passing.{IsAbove, IsPassed, IsQuiet, IsSame, StopsAt, calm_of, effect_at, over_leads, same_of, sinks_over, stays_quiet, unmet_calm}
 use Rattle.vm_state.proofs.Passing.{walks_beside}
@@ -233,14 +234,6 @@ never_returned : (header : Header) (h : ℕ) (k : Parts) (ids : Ids) (past : Lis
     → was_returned h key.object.0 key.page.0 past ≡ false
 never_returned header h k ids past m key none only = unreturned (named header) h key.object.0 key.page.0 past only (m.controls.last key.object.0 ∙ none)
 
--- a shadow is temporary
-shadow_temporary : (header : Header) (h : ℕ) (k : Parts) (ids : Ids) (past : List Event) → Matches header h k ids [] past → (from next : PageKey)
-    → IsUnder k.chains from next → named header ≤ from.object.0
-shadow_temporary header h k ids past m from next under =
-    let low = m.kinds.unders from.object.0 under.row under.found in
-    let less = m.regions.older from.object.0 under.row under.found in
-    omega (arith, low, less)
-
 and_second : (a b : Bool) → (a && b) ≡ true → b ≡ true
 and_second true b is = is
 and_second false b is = absurd (let bad : false ≡ true = is in cc)
@@ -273,7 +266,7 @@ over_walk header h k ids past m zero from to referred walks = walks
 over_walk header h k ids past m (suc n) from to referred walks =
     let next = walks.1.0 in
     let under = walks.1.1 in (
-      passed_away header h k ids past m from (shadow_temporary header h k ids past m from next under) referred walks.0,
+      passed_away header h k ids past m from (shadow_temporary m.regions m.homeless from.object.0 under.row under.found) referred walks.0,
       (next, under, over_walk header h k ids past m n next to (referred_down (shown_at m) 1 from next referred (next, under, refl)) walks.1.2),
     )
 

@@ -1,7 +1,7 @@
 -- What the end of a region or an object spends, and that there are buffers for it.
 use Rattle.vm_kernel.proofs.Common.{Bool, ChainTable, EndsObject, Entry, Err, Event, Header, HostParts, Ids, IsBrought, IsWhole, LaundryList, List, Mapped}
-use Rattle.vm_kernel.proofs.Common.{Matches, None, ObjectId, ObjectRow, ObjectTable, Ok, OnOk, Parts, Result, Some, Temp, Woken, [], ap, arith, false}
-use Rattle.vm_kernel.proofs.Common.{frame_count, inl, inr, length, named, nat_lt, nat_tests, object_at, refl, region_at, subst, sym, true, ℕ, ◌++◌, ◌+◌, ◌<◌}
+use Rattle.vm_kernel.proofs.Common.{Matches, ObjectId, ObjectRow, ObjectTable, Ok, OnOk, Parts, Result, Some, Temp, Woken, [], ap, arith}
+use Rattle.vm_kernel.proofs.Common.{frame_count, inl, inr, length, named, object_at, refl, region_at, subst, sym, ℕ, ◌++◌, ◌+◌, ◌<◌}
 use Rattle.vm_kernel.proofs.Common.{◌∙◌, ◌∷◌, ◌≡◌, ◌≤◌}
 use Rattle.std.proofs.lemmas.Bool.Decides.{eqb_tells}
 use Rattle.vm_base.specs.Listing.{Listed}
@@ -14,9 +14,10 @@ use Rattle.vm_locks.specs.Rooms.{LeavesRoom}
 use Rattle.vm_model.specs.declared.event.Event.TheVariants as event
 use Rattle.vm_objects.specs.Objects.{SameRooms}
 use Rattle.vm_parts.specs.Listed.{listed_pages}
+use Rattle.vm_state.proofs.Referring.{small_object}
 use Rattle.vm_terminate.proofs.Living.{same_put}
-use Rattle.vm_terminate.specs.Counts.{HasBuffers as EnoughBuffers, UsesRoom, live_below}
-use Rattle.vm_terminate.specs.Finishes.{EndsWith}
+use Rattle.vm_terminate.specs.Counts.{EndBelow, HasBuffers as EnoughBuffers, UsesRoom, live_below}
+use Rattle.vm_terminate.specs.Finishes.{EndsWith, Further, Itself}
 use Rattle.vm_waits.proofs.Copies.{copies_less, copies_woken}
 use Rattle.vm_waits.specs.Waits.{WaitTable, count_copies, rows_without, woken}
 use Rattle.vm_waits.specs.declared.waiting.On.{On}
@@ -53,16 +54,16 @@ roomy_fewer a i n j k room had fewer less =
     }
 
 -- each object that ends is one of those made
-pub object_made : (header : Header) (h : ℕ) (past : List Event) (who : Woken) (k : Parts) (ids : Ids) (rest : List Entry) (object : ℕ)
-    → EndsObject header h who k ids rest object past → object < ids.next_object
-object_made header h past who k ids rest object e = by_test (nat_lt object ids.next_object) refl
+pub ends_made : (header : Header) (h : ℕ) (past : List Event) (who : Woken) (k : Parts) (ids : Ids) (rest : List Entry) (object : ℕ)
+    → EndsObject header h who k ids rest object past → EndBelow ids.next_object k.chains k.memory.objects object
+ends_made header h past who k ids rest object e = each
   where
-    by_test : (b : Bool) → nat_lt object ids.next_object ≡ b → object < ids.next_object
-    by_test true is = grind (arith, nat_tests)
-    by_test false is =
-        let made = e.runs.matches.regions.object in
-        let none = e.runs.matches.regions.unknown object (let low : ids.next_object ≤ object = grind (arith, nat_tests) in omega (arith, made, low)) in
-        absurd (let bad : None ≡ Some e.row = sym none ∙ e.known in cc)
+    made : (o : ℕ) (row : ObjectRow) → object_at k.memory.objects o ≡ Some row → o < ids.next_object
+    made o row known = let small = small_object e.runs.matches.regions o row known in let next = e.runs.matches.regions.object in omega (arith, small, next)
+
+    each : (o : ℕ) → EndsWith k.chains k.memory.objects object o → o < ids.next_object
+    each _ Itself = made object e.row e.known
+    each _ (Further o row known over shadow is one) = made row.under.0 known is
 
 -- a host keeps its frames
 pub frames_kept : (header : Header) (h : ℕ) (k l : Parts) (ids ids2 : Ids) (gone gone2 : List Entry) (past past2 : List Event)

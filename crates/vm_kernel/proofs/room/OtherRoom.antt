@@ -1,4 +1,5 @@
 -- What a kernel stands for doesn't depend on how much room its tables have.
+use Rattle.vm_kernel.proofs.Common.{refl}
 use Rattle.vm_kernel.proofs.Common.{All, Bool, Entry, Event, FrameTable, Header, List, Option, PageKey, Parts, [], inl, inr, rows_map, suc, zero, ℕ}
 use Rattle.vm_base.specs.declared.ids.FrameNo.{FrameNo}
 use Rattle.vm_fault.specs.Walks.{ChainsFit, IsAt, IsUnder}
@@ -10,6 +11,7 @@ use Rattle.vm_objects.specs.Objects.{ObjectTable}
 use Rattle.vm_parts.specs.Fits.{Fit}
 use Rattle.vm_parts.specs.declared.parts.HostParts.{HostParts}
 use Rattle.vm_resident.specs.Resident.{ResidentTable}
+use Rattle.vm_shadow.proofs.Ranks.{ranked_same}
 use Rattle.vm_shadow.specs.Chains.{ChainTable}
 use Rattle.vm_shadow.specs.declared.ids.Ids.{Ids}
 use Rattle.vm_state.specs.Filling.{AllUsed, FitsCopy, HasCopies, IsAlone}
@@ -168,7 +170,7 @@ module _ (objects : ObjectTable) (n m : ℕ) where
     unknown = was.unknown;
     tops = was.tops;
     unders = was.unders;
-    older = was.older;
+    ranked = ranked_same chains (record chains { spare = spare }) (λ o. refl) was.ranked;
     fits = fits_roomier chains spare was.fits;
     counts = was.counts;
   }

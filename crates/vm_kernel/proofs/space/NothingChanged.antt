@@ -65,7 +65,7 @@ regions_moved {cs = cs} header past past2 number object same under has =
       unknown = λ o le. has.unknown o (subst (λ (z : ℕ). z ≤ o) object le);
       tops = has.tops;
       unders = has.unders;
-      older = has.older;
+      ranked = has.ranked;
       fits = has.fits;
       counts =
           λ o known found. has.counts o known found ∙ (ap (λ z. references_to cs z (next_object header past) o) (sym number)

@@ -9,6 +9,7 @@ use Rattle.std.proofs.Math.Bool.{and-false}
 use Rattle.vm_abroad.proofs.Home.{homes_start}
 use Rattle.vm_model.specs.declared.command.Command.TheVariants as command
 use Rattle.vm_model.specs.declared.event.Event.TheVariants as event
+use Rattle.vm_shadow.proofs.Ranks.{ranked_none}
 use Rattle.vm_kernel.proofs.space.NothingChanged.{Leaves, controls_after, homeless_after, regions_after}
 use Rattle.vm_kernel.proofs.space.EntriesCounted.{by_none}
 use Rattle.vm_kernel.proofs.abroad.OwnHost.{own_host}
@@ -93,7 +94,7 @@ first_rests header h k count ranged known size host declared hosts start maps re
                   unknown = λ o le. objects o;
                   tops = λ r row is. none_of (region_at k.chains r) row (regions r) is;
                   unders = λ o row is. none_of (shadow_at k.chains o) row (shadows o) is;
-                  older = λ o row is. none_of (shadow_at k.chains o) row (shadows o) is;
+                  ranked = ranked_none k.chains shadows;
                   fits =
                       record {
                         tops = λ r row is. none_of (region_at k.chains r) row (regions r) is;

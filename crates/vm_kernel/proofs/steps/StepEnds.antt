@@ -148,7 +148,7 @@ reaches header h k ids past object rests temporary referred = elim (kind_cases h
     ]
 
     reach : Reaches used (λ r. region_of header r past) (λ o. backing_of header o past) object
-    reach = reach_up has has.older rests.referred.shadows used all object referred
+    reach = reach_up has has.ranked rests.referred.shadows used all object referred
 
 -- a declared object to which something refers is held: a task here has an entry on its region
 held : (header : Header) (h : ℕ) (k : Parts) (ids : Ids) (past : List Event) (object : ℕ) → Rests header h k ids past → object < named header

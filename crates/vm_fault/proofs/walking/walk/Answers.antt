@@ -15,5 +15,5 @@ down-preserved c =
     record {
       walks = subst (λ (n : ℕ). WalksTo k chains n c.args.top.key next) one more;
       stands = c.in-Some-under.ensures.stands;
-      count = omega (arith, c.down.invariant.count, c.in-Some-under.ensures.older);
+      count = omega (arith, c.down.invariant.count, c.in-Some-under.ensures.falls);
     }

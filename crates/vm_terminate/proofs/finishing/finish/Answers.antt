@@ -6,11 +6,12 @@ use Rattle.vm_objects.specs.Objects.{object_at}
 use Rattle.vm_objects.specs.declared.row.ObjectRow.{ObjectRow}
 use Rattle.vm_terminate.proofs.Found.{temporary}
 use Rattle.vm_terminate.specs.Finishes.{EndsWith, FinishState}
-use Rattle.vm_terminate.proofs.Walking.{GoesOn, IsBare, at_first, come_on, ends_further, ends_there, goes_on, still_known, under_referred}
+use Rattle.vm_terminate.proofs.Walking.{GoesOn, IsBare, at_first, come_on, ends_further, ends_there, goes_lower, goes_on, still_known, under_referred}
 use Rattle.vm_terminate.proofs.Living.{some_below}
 use Rattle.vm_terminate.proofs.Rooms.{TakesTurn, turn_told, turn_uses, uses_none}
 use Rattle.vm_terminate.specs.Counts.{is_live_row, live_below}
 use Rattle.vm_parts.specs.Listed.{listed_pages}
+use Rattle.vm_shadow.specs.Chains.{height}
 use Rattle.vm_terminate.specs.Steps.{finish_state}
 use Rattle.vm_terminate.proofs.finishing.finish.Given.{Over}
 use Rattle.vm_terminate.proofs.finishing.finish.Goals as goal
@@ -21,7 +22,6 @@ down-init g c =
     record {
       come = at_first _ _ c.requires;
       so_far = λ end more. more;
-      low = omega arith;
       uses = λ n less. uses_none n _ _ _;
       saved = λ each. omega arith;
       told = λ n less. omega arith;
@@ -67,7 +67,7 @@ pub returns-in_err-end_control-clause-succeeds : goal.returns-in_err-end_control
 returns-in_err-end_control-clause-succeeds g c = λ n less events pages.
     let uses = c.down.invariant.uses n less in
     let now = finish_state c.down.parts c.down.chains (g.L.Holder.held c.down.laundry) (g.L.Holder.room c.down.laundry) c.down.log.items in
-    let lives = λ (live : c.in-Some.known.live ≡ true). some_below c.down.parts.objects c.down.ending.0 n (omega (arith, c.down.invariant.low, less))
+    let lives = λ (live : c.in-Some.known.live ≡ true). some_below c.down.parts.objects c.down.ending.0 n (less c.down.ending.0 c.down.invariant.come.ends)
     (ap is_live_row (sym c.in-Some.ensures) ∙ live) in
     absurd (no_room c.in-Some.known.live false (listed_pages c.end_pages.new.parts.queues) (live_below c.down.parts.objects n) c.end_pages.new.log.room lives
     (omega (arith, uses.log, events, c.in_ok-end_pages.ensures.log)) refl c.in_err-end_control.ensures.succeeds c.in_err-end_control.ensures.idle)
@@ -144,7 +144,7 @@ returns-in_default-leave_under-clause-uses g c = λ n less.
     let turn = (goal.at.returns-in_default-leave_under-clause-uses g c).In_ok-end_control in
     turn_uses c.args.host c.down.ending c.leave_under.result c.in-Some.known c.args.parts.now c.args.chains.now (now g turn) (bare g turn) (quiet g turn)
     (behind g (goal.at.returns-in_default-leave_under-clause-uses g c).After-leave_under)
-    c.args.log.now.room c.down.log.room c.end_pages.new.log.room c.end_control.new.log.room n (omega (arith, c.down.invariant.low, less)) (is_bare g turn)
+    c.args.log.now.room c.down.log.room c.end_pages.new.log.room c.end_control.new.log.room n (less c.down.ending.0 c.down.invariant.come.ends) (is_bare g turn)
     (c.leave_under.ensures.under (g.L.Holder.held c.end_pages.new.laundry) (g.L.Holder.room c.end_pages.new.laundry) c.end_control.new.log.items)
     (takes_turn g (goal.at.returns-in_default-leave_under-clause-uses g c).After-leave_under)
     (c.down.invariant.uses n less)
@@ -173,7 +173,7 @@ returns-in_default-leave_under-clause-told g c = λ n less.
     let turn = (goal.at.returns-in_default-leave_under-clause-told g c).In_ok-end_control in
     let one = turn_told c.args.host c.down.ending c.leave_under.result c.in-Some.known (now g turn) (bare g turn) (quiet g turn)
     (behind g (goal.at.returns-in_default-leave_under-clause-told g c).After-leave_under) n
-    (omega (arith, c.down.invariant.low, less)) (is_bare g turn)
+    (less c.down.ending.0 c.down.invariant.come.ends) (is_bare g turn)
     (c.leave_under.ensures.under (g.L.Holder.held c.end_pages.new.laundry) (g.L.Holder.room c.end_pages.new.laundry) c.end_control.new.log.items) in
     let before = c.down.invariant.told n less in
     omega (arith, one, before)
@@ -194,8 +194,12 @@ on g c =
 pub down-smaller : goal.down-smaller
 down-smaller g c =
     let go = on g c in
+    let turn = (goal.at.down-smaller g c).In_ok-end_control in
     let same : c.in-Some-leave_under.under.0 ≡ go.row.under.0 = ap (λ z. z.0) go.is in
-    omega (arith, go.less, same)
+    let heights = ap (height c.args.chains.now) same in
+    let less = goes_lower c.args.host c.args.object.0 c.down.ending c.in-Some-leave_under.under c.in-Some.known (start g turn) (now g turn) (bare g turn)
+    (quiet g turn) (next g c) c.down.invariant.come (is_bare g turn) go in
+    omega (arith, less, heights)
 
 pub down-preserved : goal.down-preserved
 down-preserved g c =
@@ -208,19 +212,17 @@ down-preserved g c =
       so_far = λ end more. c.down.invariant.so_far end
           (ends_further c.args.host c.down.ending c.in-Some-leave_under.under c.in-Some.known (now g turn) (bare g turn) (quiet g turn) (next g c) end
           (is_bare g turn) (on g c) more);
-      low =
-          let go = on g c in let same : c.in-Some-leave_under.under.0 ≡ go.row.under.0 = ap (λ z. z.0) go.is in omega
-          (arith, go.less, same, c.down.invariant.low);
       uses =
           λ n less. turn_uses c.args.host c.down.ending c.leave_under.result c.in-Some.known c.args.parts.now c.args.chains.now (now g turn) (bare g turn)
           (quiet g turn) (next g c)
-          c.args.log.now.room c.down.log.room c.end_pages.new.log.room c.end_control.new.log.room n (omega (arith, c.down.invariant.low, less)) (is_bare g turn)
+          c.args.log.now.room c.down.log.room c.end_pages.new.log.room c.end_control.new.log.room n (less c.down.ending.0 c.down.invariant.come.ends)
+          (is_bare g turn)
           (c.leave_under.ensures.under (g.L.Holder.held c.end_pages.new.laundry) (g.L.Holder.room c.end_pages.new.laundry) c.end_control.new.log.items)
           (takes_turn g (goal.at.down-preserved g c).After-leave_under) (c.down.invariant.uses n less);
       saved = λ each. saved_turn g (goal.at.down-preserved g c).After-leave_under each;
       told = λ n less.
           let one = turn_told c.args.host c.down.ending c.leave_under.result c.in-Some.known (now g turn) (bare g turn) (quiet g turn) (next g c) n
-          (omega (arith, c.down.invariant.low, less)) (is_bare g turn)
+          (less c.down.ending.0 c.down.invariant.come.ends) (is_bare g turn)
           (c.leave_under.ensures.under (g.L.Holder.held c.end_pages.new.laundry) (g.L.Holder.room c.end_pages.new.laundry) c.end_control.new.log.items) in
           let before = c.down.invariant.told n less in
           omega (arith, one, before);

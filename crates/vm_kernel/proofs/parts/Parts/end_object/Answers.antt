@@ -2,8 +2,9 @@ use Rattle.vm_kernel.proofs.steps.EventsGrow.{on_ok}
 use Rattle.vm_kernel.proofs.space.ObjectsEnd.{can_finish, object_ended}
 use Rattle.vm_kernel.proofs.steps.QueueServed.{three_ok}
 use Rattle.vm_kernel.proofs.space.WhatStoodUnder.{object_under}
-use Rattle.vm_kernel.proofs.Common.{EndsObject, Event, Ids, List, Parts, arith, ℕ, ◌++◌, ◌<◌}
-use Rattle.vm_kernel.proofs.room.EndsSpend.{ended_spends, enough_buffers, buffers_left, object_made, premised_ok}
+use Rattle.vm_kernel.proofs.Common.{EndsObject, Event, Ids, List, Parts, arith, ℕ, ◌++◌}
+use Rattle.vm_kernel.proofs.room.EndsSpend.{ended_spends, enough_buffers, buffers_left, ends_made, premised_ok}
+use Rattle.vm_terminate.specs.Counts.{EndBelow}
 use Rattle.vm_kernel.proofs.parts.Parts.end_object.Given as given
 use Rattle.vm_kernel.proofs.parts.Parts.end_object.Goals as goal
 
@@ -48,10 +49,11 @@ returns-clause-under g c =
     on_ok c.finish.result _ _ (object_under g.given.header g.given.host g.given.past g.given.who c.args.self.now c.args.ids.now g.given.rest c.args.object
     c.args.log.now.items c.finish.new.log.items c.finish.new.parts c.finish.new.chains c.finish.new.laundry c.requires.0) c.finish.ensures.finished
 
--- the object is one of those made
+-- what ends was made
 made : (g : given.Over) (k : Parts) (ids : Ids) (object : ℕ) (events : List Event)
-    → EndsObject g.given.header g.given.host g.given.who k ids g.given.rest object (events ++ g.given.past) → object < ids.next_object
-made g k ids object events e = object_made g.given.header g.given.host (events ++ g.given.past) g.given.who k ids g.given.rest object e
+    → EndsObject g.given.header g.given.host g.given.who k ids g.given.rest object (events ++ g.given.past)
+    → EndBelow ids.next_object k.chains k.memory.objects object
+made g k ids object events e = ends_made g.given.header g.given.host (events ++ g.given.past) g.given.who k ids g.given.rest object e
 
 pub returns-clause-spends : goal.returns-clause-spends
 returns-clause-spends g c =

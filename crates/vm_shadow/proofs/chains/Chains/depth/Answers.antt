@@ -1,17 +1,16 @@
-use Rattle.std.proofs.Common.{◌≡◌, ◌+◌, ◌<◌, ◌^◌, sym, refl, Some, arith}
-use Rattle.vm_shadow.proofs.Tables.{deep_over, row_must, row_told}
+use Rattle.std.proofs.Common.{◌≡◌, ◌+◌, sym, refl, Some, arith}
+use Rattle.vm_shadow.proofs.Tables.{deep_over, row_told}
 use Rattle.vm_shadow.specs.Chains.{Last, region_at}
 use Rattle.vm_shadow.proofs.chains.Chains.depth.Goals as goal
 
 pub overflow_add-depth : goal.overflow_add-depth
 overflow_add-depth c =
-    let is : region_at c.args.self.now c.args.region.0 ≡ Some c.index.result.now = rw (← c.self.view_is) c.index.ensures in
-    let small : c.index.result.now.top.0 + 1 < 2 ^ 32 = row_must _ _ _ is c.requires in
-    omega (arith, small, c.down.invariant.0, c.in-Some.ensures.older)
+    let few = c.in-Some.ensures.few c.index.result.now.top.0 in
+    omega (arith, few, c.down.invariant.0, c.in-Some.ensures.falls)
 
 pub down-preserved : goal.down-preserved
 down-preserved c = (
-  omega (arith, c.down.invariant.0, c.in-Some.ensures.older),
+  omega (arith, c.down.invariant.0, c.in-Some.ensures.falls),
   λ n whole deep count. c.down.invariant.1 (n + 1) whole (deep_over _ _ _ n (sym c.in-Some.ensures.value) deep) (omega (arith, count)),
 )
 

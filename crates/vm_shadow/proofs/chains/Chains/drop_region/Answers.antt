@@ -1,5 +1,6 @@
 use Rattle.std.proofs.Common.{◌≡◌, ◌∙◌, refl, sym, Some, arith}
 use Rattle.vm_shadow.proofs.Counts.{marked_dropped}
+use Rattle.vm_shadow.proofs.Ranks.{ranked_same}
 use Rattle.vm_shadow.proofs.Tables.{row_told}
 use Rattle.vm_shadow.specs.Chains.{region_at}
 use Rattle.vm_shadow.specs.declared.region_row.RegionRow.{RegionRow}
@@ -13,7 +14,11 @@ overflow_sub-self c =
 pub invariant_of-self : goal.invariant_of-self
 invariant_of-self c =
     let dropped = marked_dropped _ _ c.args.region c.unwrap-row.result (sym c.swap_remove.ensures.value ∙ c.unwrap-row.ensures) c.swap_remove.ensures.entries in
-    record { older = c.self.invariant.older; count = grind (arith, dropped, c.self.invariant.count, c.if-row.branch) }
+    record {
+      ranked = ranked_same _ _ (λ o. refl) c.self.invariant.ranked;
+      few = c.self.invariant.few;
+      count = grind (arith, dropped, c.self.invariant.count, c.if-row.branch);
+    }
 
 pub returns-clause-dropped : goal.returns-clause-dropped
 returns-clause-dropped c = rw (← c.self.view_is) record { at = λ r. c.swap_remove.ensures.updates.0 (record { 0 = r }); shadows = refl }

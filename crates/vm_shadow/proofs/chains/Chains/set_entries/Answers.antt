@@ -1,6 +1,7 @@
 use Rattle.std.proofs.Common.{◌≡◌, ◌∙◌, sym, ap, refl, Some, arith}
 use Rattle.std.specs.Option.{option_copied_mut}
 use Rattle.vm_shadow.proofs.Counts.{marked_set}
+use Rattle.vm_shadow.proofs.Ranks.{ranked_same}
 use Rattle.vm_shadow.proofs.Tables.{row_told, some_of}
 use Rattle.vm_shadow.specs.Chains.{region_at}
 use Rattle.vm_shadow.specs.declared.region_row.RegionRow.{RegionRow}
@@ -11,7 +12,7 @@ invariant_of-self c =
     let row : RegionRow = record c.unwrap-row.result.now { entries = c.args.entries } in
     let found = sym c.get_mut.ensures.value ∙ ap option_copied_mut c.unwrap-row.ensures in
     let set = marked_set _ _ c.args.region c.unwrap-row.result.now row found (c.get_mut.follows.holds row).0 in
-    record { older = c.self.invariant.older; count = omega (arith, set, c.self.invariant.count) }
+    record { ranked = ranked_same _ _ (λ o. refl) c.self.invariant.ranked; few = c.self.invariant.few; count = omega (arith, set, c.self.invariant.count) }
 
 pub returns-clause-row : goal.returns-clause-row
 returns-clause-row c =

@@ -1,9 +1,11 @@
-use Rattle.std.proofs.Common.{◌≡◌, ◌∙◌, ◌<◌, sym, ap, Some, true, false, arith}
+use Rattle.std.proofs.Common.{◌≡◌, ◌∙◌, ℕ, ◌<◌, ◌==◌, if◌then◌else◌, sym, ap, subst, refl, Some, true, false, arith}
 use Rattle.std.specs.Option.{option_copied_mut}
 use Rattle.vm_shadow.proofs.Counts.{marked_counted, marked_set}
-use Rattle.vm_shadow.proofs.Tables.{older_shadowed, row_must, row_told, same_row, some_of}
-use Rattle.vm_shadow.specs.Chains.{region_at}
+use Rattle.vm_shadow.proofs.Ranks.{few_over, ranked_over, ranked_same}
+use Rattle.vm_shadow.proofs.Tables.{kept_same, row_must, row_told, same_row, some_of}
+use Rattle.vm_shadow.specs.Chains.{ChainTable, IsRanked, ObjectsBelow, region_at, shadow_at}
 use Rattle.vm_shadow.specs.declared.region_row.RegionRow.{RegionRow}
+use Rattle.vm_shadow.specs.declared.shadow_row.ShadowRow.{ShadowRow}
 use Rattle.vm_shadow.proofs.chains.Chains.shadow_over.Goals as goal
 
 pub overflow_sub-self : goal.overflow_sub-self
@@ -24,12 +26,26 @@ invariant_of-self-2 c =
     let same : found ≡ row = same_row _ found row there c.index-row.ensures in
     let marked : found.marked ≡ true = ap (λ (z : RegionRow). z.marked) same ∙ row_must _ _ _ is c.requires.marked in
     let set = marked_set _ _ c.args.region found shadowed there (c.get_mut.follows.holds shadowed).0 in
+    let next = c.args.ids.now.next_object in
+    let under : ShadowRow = record { under = row.top; shift = row.shift } in
+    let old : ChainTable = record { regions = c.self.inside.regions.entries; shadows = c.self.inside.shadows.entries; marked = 0; spare = 0 } in
+    let new : ChainTable = record { regions = c.self.inside.regions.entries; shadows = c.insert.new.self.entries; marked = 0; spare = 0 } in
+    let at : (o : ℕ) → shadow_at new o ≡ (if next == o then Some under else shadow_at old o) = λ o. c.in_ok-insert.ensures.updates.0 (record { 0 = o }) in
+    let named = c.requires.below in
+    let below : ObjectsBelow next old = subst (λ (z : ChainTable). ObjectsBelow next (record old { regions = z.regions; shadows = z.shadows }))
+    (sym c.self.view_is)
+    record { tops = named.tops; shadows = named.shadows; unders = named.unders } in
+    let ranked : IsRanked new = ranked_over old new next under at (λ e. omega (arith, less, e))
+    (λ o s is e. let small = below.unders o s is in omega (arith, small, e))
+    (ranked_same _ old (λ o. refl) c.self.invariant.ranked) in
     record {
-      older =
-          older_shadowed c.self.inside.shadows.entries c.insert.new.self.entries c.args.ids.now.next_object (record { under = row.top; shift = row.shift })
-          c.self.invariant.older less (λ o. c.in_ok-insert.ensures.updates.0 (record { 0 = o }));
+      ranked = ranked_same new _ (λ o. refl) ranked;
+      few = λ n o. let few = few_over old new next under below less at ranked n o in let small = c.requires.objects in omega (arith, few, small);
       count = omega (arith, rw marked at set, c.self.invariant.count);
     }
+
+pub invariant_of-self : goal.invariant_of-self
+invariant_of-self c = kept_same _ _ refl c.in_err-insert.ensures.err refl c.self.invariant
 
 pub returns-clause-ok : goal.returns-clause-ok
 returns-clause-ok c =

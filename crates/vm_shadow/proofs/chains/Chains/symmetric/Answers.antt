@@ -2,6 +2,7 @@ use Rattle.std.proofs.Common.{◌≡◌, ◌∙◌, ◌+◌, ◌<◌, ◌^◌, s
 use Rattle.std.specs.Option.{option_copied_mut}
 use Rattle.vm_base.specs.declared.ids.RegionId.{RegionId}
 use Rattle.vm_shadow.proofs.Counts.{mark, marked_made, marked_set}
+use Rattle.vm_shadow.proofs.Ranks.{ranked_same}
 use Rattle.vm_shadow.proofs.Tables.{region_copied, row_has, row_told, some_of, source_kept}
 use Rattle.vm_shadow.specs.Chains.{ChainTable, PutsRegion, copy_of, region_at}
 use Rattle.vm_shadow.specs.declared.region_row.RegionRow.{RegionRow}
@@ -29,7 +30,11 @@ invariant_of-self-2 c =
     let made = marked_made c.self.inside.regions.entries c.insert.new.self.entries copy (copy_of row c.args.offset c.args.pages) none
     c.in_ok-insert.ensures.entries in
     let set = marked_set c.insert.new.self.entries _ c.args.source found marked there (c.get_mut.follows.holds marked).0 in
-    record { older = c.self.invariant.older; count = grind (arith, made, set, ap mark same, c.self.invariant.count, c.if-row.branch) }
+    record {
+      ranked = ranked_same _ _ (λ o. refl) c.self.invariant.ranked;
+      few = c.self.invariant.few;
+      count = grind (arith, made, set, ap mark same, c.self.invariant.count, c.if-row.branch);
+    }
 
 pub returns-clause-ok : goal.returns-clause-ok
 returns-clause-ok c =
