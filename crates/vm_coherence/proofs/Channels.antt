@@ -55,18 +55,19 @@ HeadOf h o e q = Unit {0}
 took : (p : ℕ) (q : List Message) (m : Message) → first q ≡ Some m → up_words p q ≡ with_word (up_word p m) (up_words p (rest q))
 took p q m is = grind arith
 
+-- what another host does leaves it as it was
+pub others_up : (e : ActEffect) (s : Side) → (side_after s (to_others e)).up ≡ s.up
+others_up e s = grind arith
+
 sent_step : (host object : ℕ) (m : Message) (h o p : ℕ) (s : Side) (q : List Message) → s.up ≡ up_words p q
     → (side_after s (effect_on h (record { host = host; effect = if object == o then sent_act_effect p m else Nothing }))).up ≡ up_words p
     (if host == h && object == o then q ++ m ∷ [] else q)
 sent_step host object m h o p s q is = by_cases (host == h) (object == o) refl where
-  to_others_up : (e : ActEffect) (s : Side) → (side_after s (to_others e)).up ≡ s.up
-  to_others_up e s = grind arith
-
   by_cases : (b c : Bool) → (host == h) ≡ b → (side_after s (if b then (if c then sent_act_effect p m else Nothing) else to_others
       (if c then sent_act_effect p m else Nothing))).up ≡ up_words p (if b && c then q ++ m ∷ [] else q)
   by_cases true true e = sends p m s ∙ (ap (λ (l : List UpWord). l ++ with_word (up_word p m) []) is ∙ sym (words_end p q m))
   by_cases true false e = is
-  by_cases false true e = to_others_up (sent_act_effect p m) s ∙ is
+  by_cases false true e = others_up (sent_act_effect p m) s ∙ is
   by_cases false false e = is
 
 taken_step : (host object : ℕ) (m : Message) (h o p : ℕ) (s : Side) (q : List Message) → s.up ≡ up_words p q → (host ≡ h → object ≡ o → first q ≡ Some m)
@@ -79,9 +80,6 @@ taken_step host object m h o p s q is head =
 silent_event : (size o p : ℕ) (host_of : ℕ → ℕ) (means : ℕ → ℕ → Bool) (held : ℕ → ℕ → ℕ → List ℕ) (h : ℕ) (s : Side) (host : ℕ) (b : Bool) (e : ActEffect)
     → IsSilent e → (side_after s (effect_on h (act_if b host e))).up ≡ s.up
 silent_event size o p host_of means held h s host b e still = by_cases (host == h) b where
-  others_up : (e : ActEffect) (s : Side) → (side_after s (to_others e)).up ≡ s.up
-  others_up e s = grind arith
-
   by_cases : (c b : Bool) → (side_after s (if c then (if b then e else Nothing) else to_others (if b then e else Nothing))).up ≡ s.up
   by_cases true true = still_up e s still
   by_cases true false = refl

@@ -8,7 +8,7 @@ use Rattle.vm_model.specs.Words.{UpWord, Asking, Unlocking, Returning, Doing, En
 use Rattle.vm_model.specs.Words.{OtherDown, ActEffect, Opens, SendsUp, TakenUp, SentDown, TakesDown, Puts, Drops, Begins, Loads, Stores, Fails, BeginsCopy}
 use Rattle.vm_model.specs.Words.{Copies, EndsCopy, StepBegins, Nothing, Act, to_others, effect_on}
 use Rattle.vm_model.specs.Side.{Side, nobody, can_read, can_write, right_of, opened, side_sent_up, is_open_to, side_taken_down, side_after, side}
-use Rattle.vm_model.specs.Waiters.{Waiter, waiters, readers}
+use Rattle.vm_model.specs.Waiters.{Waiter, waiters, waiters_after, readers}
 use Rattle.vm_model.specs.Server.{first, Wanting, joined, line, kept}
 use Rattle.vm_model.specs.PageLicences.{HostMay, OthersHold, SupplyRow, UpgradeRow, RecallRow, ReplyCause, Cause, ActsLicensed}
 use Rattle.vm_model.specs.Coherence.{Throughout, OneWriter}
@@ -191,6 +191,12 @@ other_effect h a apart = grind (arith, nat_tests)
 
 pub own_side : (a : Act) (past : List Act) → side a.host (a ∷ past) ≡ side_after (side a.host past) a.effect
 own_side a past = ap (side_after (side a.host past)) (own_effect a)
+
+pub others_wait : (e : ActEffect) (ws : List Waiter) → waiters_after (to_others e) ws ≡ ws
+others_wait (TakenUp word) ws = refl
+others_wait (TakesDown control word) ws = refl
+others_wait StepBegins ws = refl
+others_wait e ws = refl
 
 pub other_side : (h : ℕ) (a : Act) (past : List Act) → a.host ≢ h → side h (a ∷ past) ≡ side_after (side h past) (to_others a.effect)
 other_side h a past apart = ap (side_after (side h past)) (other_effect h a apart)

@@ -494,7 +494,7 @@ ended_lives g was true rest lives = absurd (let bad : ◌≡◌ {A = Option ℕ}
 ended_lives g was false rest lives = rest lives
 
 -- a task that lives is on the host where it began last
-host_lives : (task g : ℕ) (past : List Event) → host_of task past ≡ Some g → task_host task past ≡ g
+pub host_lives : (task g : ℕ) (past : List Event) → host_of task past ≡ Some g → task_host task past ≡ g
 host_lives task g [] lives = absurd (cc)
 host_lives task g (event.TaskMade made host ∷ past) lives =
     made_lives host.0 g (host_of task past) (task_host task past) (made.0 == task) (host_lives task g past) lives
@@ -599,7 +599,7 @@ sent size h o p live s page host object m founded i = acted size live s page (ho
 
 -- what a host takes
 
-reaches_is : (live : Option ℕ) (s : Side) (control : ℕ) → (if s.live then Some s.control else None) ≡ live → is_open_to s control ≡ is_control control live
+pub reaches_is : (live : Option ℕ) (s : Side) (control : ℕ) → (if s.live then Some s.control else None) ≡ live → is_open_to s control ≡ is_control control live
 reaches_is live s control is = by_live s.live s.control ∙ ap (is_control control) is
   where
     by_live : (b : Bool) (n : ℕ) → (b && n == control) ≡ is_control control (if b then Some n else None)

@@ -104,23 +104,17 @@ unmade header outside host o [] caused none = record { control = refl; live = re
 unmade header outside host o (event.Sent (Up at to) (message.Init number size) ∷ past) caused none =
     let is : (control header host o (event.Sent (Up at to) (message.Init number size) ∷ past) ≡ 0)
     × (live_control host o (event.Sent (Up at to) (message.Init number size) ∷ past) ≡ None) =
-    begun (at.0 == host && to.0 == o) number (last_control host o past) (control header host o past) (live_control host o past) positive none
+    begun (at.0 == host && to.0 == o) number (last_control host o past) (control header host o past) (live_control host o past)
+    (λ mine. by_cause header outside (event.Sent (Up at to) (message.Init number size)) past caused.0 (λ doing c. (last_control at.0 to.0 past, c.number))) none
     (λ zero. let never : Never header host o past = unmade header outside host o past caused.1 zero in (never.control, never.live)) in
     record { control = is.0; live = is.1 }
-  where
-    positive : (at.0 == host && to.0 == o) ≡ true → (k : ℕ) × (number ≡ suc k)
-    positive mine = by_cause header outside (event.Sent (Up at to) (message.Init number size)) past caused.0
-        (λ doing c. (last_control at.0 to.0 past, c.number))
 unmade header outside host o (event.Sent (Up at to) (message.Create number size) ∷ past) caused none =
     let is : (control header host o (event.Sent (Up at to) (message.Create number size) ∷ past) ≡ 0)
     × (live_control host o (event.Sent (Up at to) (message.Create number size) ∷ past) ≡ None) =
-    begun (at.0 == host && to.0 == o) number (last_control host o past) (control header host o past) (live_control host o past) positive none
+    begun (at.0 == host && to.0 == o) number (last_control host o past) (control header host o past) (live_control host o past)
+    (λ mine. by_cause header outside (event.Sent (Up at to) (message.Create number size)) past caused.0 (λ doing c. (0, c.number))) none
     (λ zero. let never : Never header host o past = unmade header outside host o past caused.1 zero in (never.control, never.live)) in
     record { control = is.0; live = is.1 }
-  where
-    positive : (at.0 == host && to.0 == o) ≡ true → (k : ℕ) × (number ≡ suc k)
-    positive mine = by_cause header outside (event.Sent (Up at to) (message.Create number size)) past caused.0
-        (λ doing c. (0, c.number))
 unmade header outside host o (event.Sent (Up at to) (message.Terminate number) ∷ past) caused none =
     ended header host o at to number past (unmade header outside host o past caused.1 none)
 unmade header outside host o (event.Sent (Up at to) m ∷ past) caused none =

@@ -1,6 +1,7 @@
 -- What is on the way about a page of one host's memory is what its channels hold.
 use Rattle.std.proofs.Common.{ℕ, ◌≡◌, List, [], ◌∷◌, ◌++◌, length, Bool, true, false, refl, sym, ap, subst, ◌∙◌, arith, Option, Some, None, if◌then◌else◌}
 use Rattle.std.proofs.lemmas.Bool.Decides.{nat_tests}
+use Rattle.std.proofs.lemmas.Option.{none-some, same_Some}
 use Rattle.std.specs.Prelude.{◌==◌, ◌&&◌}
 use Rattle.vm_base.specs.Pages.{little_endian_bytes}
 use Rattle.vm_base.specs.declared.ids.HostId.{HostId}
@@ -513,19 +514,13 @@ pub record Locks (header : Header) (outside : Outside) (past : List Event) : Typ
   pub queued : (h o k : ℕ) → is_private header outside o ≡ true → AllBack (queue (down_port h o k) past)
   pub taken : (l : LockRequest) → is_private header outside l.object ≡ true → lock_taken past ≡ Some l → l.returns ≡ 2
 
-none_lock : (l : LockRequest) → ◌≡◌ {A = Option LockRequest} None (Some l) → ⊥
-none_lock l e = cc
-
 -- it was taken by a control that lived
 living : (b : Bool) (m l : LockRequest) → (if b then Some m else None) ≡ Some l → ◌≡◌ {A = Option LockRequest} (Some m) (Some l)
 living true m l e = e
-living false m l e = absurd (none_lock l e)
-
-some_lock : (l m : LockRequest) → ◌≡◌ {A = Option LockRequest} (Some l) (Some m) → l ≡ m
-some_lock l m e = cc
+living false m l e = absurd (none-some l e)
 
 pub locks_start : (header : Header) (outside : Outside) → Locks header outside []
-locks_start header outside = record { queued = λ h o k ours. tt; taken = λ l ours e. absurd (none_lock l e) }
+locks_start header outside = record { queued = λ h o k ours. tt; taken = λ l ours e. absurd (none-some l e) }
 
 one_back : (header : Header) (outside : Outside) (host object n : ℕ) (m : Message) (past : List Event) → MaySendDown header outside host object n m past
     → AllBack (m ∷ [])
@@ -549,16 +544,16 @@ taken_lock header outside at object n (message.Lock page count returns flush loc
       flush = flush;
       lock = lock;
       reply = reply;
-    } ≡ l = some_lock _ _ (living (is_control n (live_control at.0 object.0 past)) _ l e) in
+    } ≡ l = same_Some _ _ (living (is_control n (live_control at.0 object.0 past)) _ l e) in
     let there : is_private header outside object.0 ≡ true = subst (λ (x : LockRequest). is_private header outside x.object ≡ true) (sym same) ours in
     let all : AllBack (queue (Down at object n) past) = locks.queued at.0 object.0 n there in
     sym (ap (λ (x : LockRequest). x.returns) same) ∙ (subst (λ (q : List Message). AllBack q)
     (first_rest (queue (Down at object n) past) (message.Lock page count returns flush lock reply) head) all).0
-taken_lock header outside at object n m past locks head l ours e = absurd (none_lock l e)
+taken_lock header outside at object n m past locks head l ours e = absurd (none-some l e)
 
 pub locks_next : (header : Header) (outside : Outside) (e : Event) (past : List Event) → Locks header outside past → Sustained header outside e past
     → Locks header outside (e ∷ past)
-locks_next header outside (event.Line line) past locks c = record { queued = locks.queued; taken = λ l ours e. absurd (none_lock l e) }
+locks_next header outside (event.Line line) past locks c = record { queued = locks.queued; taken = λ l ours e. absurd (none-some l e) }
 locks_next header outside (event.Sent (Up at object) m) past locks c = record { queued = locks.queued; taken = locks.taken }
 locks_next header outside (event.Sent (Down at object n) m) past locks c =
     record {
@@ -567,7 +562,7 @@ locks_next header outside (event.Sent (Down at object n) m) past locks c =
           ours)));
       taken = locks.taken;
     }
-locks_next header outside (event.Taken (Up at object) m) past locks c = record { queued = locks.queued; taken = λ l ours e. absurd (none_lock l e) }
+locks_next header outside (event.Taken (Up at object) m) past locks c = record { queued = locks.queued; taken = λ l ours e. absurd (none-some l e) }
 locks_next header outside (event.Taken (Down at object n) m) past locks c =
     record {
       queued = λ h o k ours. back_rest_if (at.0 == h && (object.0 == o && n == k)) (queue (down_port h o k) past) (locks.queued h o k ours);

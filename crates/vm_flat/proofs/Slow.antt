@@ -62,14 +62,16 @@ under_other : (z : Ground) (x y l lp r i k q : ℕ) (past : List Deed) → World
     → (o p : ℕ) → Reach z o past → content (spot z o p past) ≡ None → (link z o past).backed ≡ true
     → under_view z o p (Copied true x y l lp r i k q ∷ past) ≡ under_view z o p past
 under_other z x y l lp r i k q past w c o p reach none backed =
-    view_other z x y l lp r i k q (link z o past).under ((link z o past).shift + p) past (seen (kind z k (top_covered z r i k q past w.shape c.tops)))
+    view_other z x y l lp r i k q (link z o past).under ((link z o past).shift + p) past by_kind
   where
     clash : (b : Bool) → b ≡ false → b ≡ true → ⊥
     clash b isnt is = cc
 
-    seen : (is_file z k ≡ true) ⊎ (z.named ≤ k) → (link z o past).under ≡ k → (link z o past).shift + p ≡ q → ⊥
-    seen (inl file) = absurd (clash (is_file z k) (sym (file_is z k q past) ∙ c.plain) file)
-    seen (inr temporary) = λ e f. w.shape.own r o c.tops.used c.unmarked (omega (arith, temporary, c.tops.object)) reach backed (e ∙ sym c.tops.object)
+    by_kind : (link z o past).under ≡ k → (link z o past).shift + p ≡ q → ⊥
+    by_kind e f = elim (kind z k (top_covered z r i k q past w.shape c.tops)) [
+      | inl file ↦ clash (is_file z k) (sym (file_is z k q past) ∙ c.plain) file
+      | inr temporary ↦ w.shape.own r o c.tops.used c.unmarked (omega (arith, temporary, c.tops.object)) reach backed (e ∙ sym c.tops.object)
+    ]
 
 -- what is below a place that is reached and not the event's own is not the event's own
 barren_other : (z : Ground) (x y l lp r i k q : ℕ) (past : List Deed) → World z past → CopiesThere z x y l lp r i k q past

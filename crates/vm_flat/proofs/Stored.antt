@@ -104,11 +104,11 @@ under_other : (z : Ground) (r i k q at : ℕ) (bytes : List ℕ) (past : List De
     → (o p : ℕ) → Reach z o past → content (spot z o p past) ≡ None → (link z o past).backed ≡ true
     → under_view z o p (Stored true r i k q at bytes ∷ past) ≡ under_view z o p past
 under_other z r i k q at bytes past w c o p reach none backed =
-    view_other z r i k q at bytes (link z o past).under ((link z o past).shift + p) past (seen (kind z k (top_covered z r i k q past w.shape c.tops)))
-  where
-    seen : (is_file z k ≡ true) ⊎ (z.named ≤ k) → (link z o past).under ≡ k → (link z o past).shift + p ≡ q → ⊥
-    seen (inl file) = λ e f. c.pushed file o p reach backed e f none
-    seen (inr temporary) = λ e f. w.shape.own r o c.tops.used c.unmarked (omega (arith, temporary, c.tops.object)) reach backed (e ∙ sym c.tops.object)
+    view_other z r i k q at bytes (link z o past).under ((link z o past).shift + p) past
+    (λ e f. elim (kind z k (top_covered z r i k q past w.shape c.tops)) [
+      | inl file ↦ c.pushed file o p reach backed e f none
+      | inr temporary ↦ w.shape.own r o c.tops.used c.unmarked (omega (arith, temporary, c.tops.object)) reach backed (e ∙ sym c.tops.object)
+    ])
 
 -- what is below a place that is reached and not the event's own is not the event's own
 barren_other : (z : Ground) (r i k q at : ℕ) (bytes : List ℕ) (past : List Deed) → World z past → StoresThere z r i k q past

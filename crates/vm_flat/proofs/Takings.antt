@@ -31,6 +31,7 @@ use Rattle.vm_model.specs.Regions.{next_object, next_region}
 use Rattle.vm_model.specs.Server.{first as oldest}
 use Rattle.vm_model.specs.Tasks.{entries_of, has_entry, host_of}
 use Rattle.vm_legal.proofs.Inside.{taken_more}
+use Rattle.vm_legal.proofs.Stretched.{inner_both}
 use Rattle.vm_legal.specs.Follows.{Follows, FollowsAnyCut, IsBegun, IsConsequence, IsGroup, IsRun, clean_head, copy_head, fork_head, head, inherits}
 use Rattle.vm_legal.specs.Follows.{inherits_all, map_head, next_behind, opening, say_head, take_head}
 use Rattle.vm_legal.specs.Frames.{frames_wired}
@@ -82,10 +83,6 @@ behind_nothing (e ∷ events) past inner none was =
 inner_onto : (events more : List Event) → AllInner events → AllInner more → AllInner (reverse_aux events more)
 inner_onto [] more one two = two
 inner_onto (e ∷ events) more one two = inner_onto events (e ∷ more) one.1 (one.0, two)
-
-inner_both : (events more : List Event) → AllInner events → AllInner more → AllInner (events ++ more)
-inner_both [] more one two = two
-inner_both (e ∷ events) more one two = (one.0, inner_both events more one.1 two)
 
 -- a head takes nothing, or it is the taking of one message
 abbrev IsHead : List Event → Type 0

@@ -19,6 +19,7 @@ use Rattle.vm_legal.specs.Outside.{Outside, are_untold, is_file, kind_of, start_
 use Rattle.vm_legal.specs.Pagers.{last_return, newer}
 use Rattle.vm_flat.specs.Told.{AnswersTold, IsToldAnswer, told, untold}
 use Rattle.vm_flat.proofs.Loads.{answers}
+use Rattle.vm_flat.proofs.Voids.{file_paged}
 
 -- f: the object is a file; u: the files are not told
 
@@ -79,13 +80,6 @@ told_answers header outside pages history causes has own copies loads =
 
 -- the other way round
 
-paged : (header : Header) (object : ℕ) → is_file header object ≡ true → is_paged header object ≡ true
-paged header object is = by (nat_lt object (named header)) (is_file header object) is
-  where
-    by : (b f : Bool) → f ≡ true → (not b || f) ≡ true
-    by true f is = is
-    by false f is = refl
-
 supplied : (f paging : Bool) (last : Option (List ℕ)) (page bytes : List ℕ)
     → ((if f then true else paging) ≡ true → newer last (if f then Some page else None) ≡ Some bytes) → f ≡ true → newer last (Some page) ≡ Some bytes
 supplied true paging last page bytes was is = was refl
@@ -108,7 +102,7 @@ told_event : (header : Header) (outside : Outside) (pages : ℕ → ℕ → List
     → Caused header (told outside pages) why e past → AnswersTold header pages e past
 told_event header outside pages why (event.Sent (Down host object control) m) past c =
     told_answer header outside pages why host.0 object.0 control m past (λ filed. paged_may header (told outside pages) why host.0 object.0 control m past
-    (paged header object.0 filed) c)
+    (file_paged header object.0 filed) c)
 told_event header outside pages why other past c = tt
 
 pub each_told : (header : Header) (outside : Outside) (pages : ℕ → ℕ → List ℕ) (history : List Event) → EachEvent (HasCause header (told outside pages)) history

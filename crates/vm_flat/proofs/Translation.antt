@@ -90,9 +90,6 @@ down header outside doing host o control (message.Lock page count returns flush 
 down header outside doing host o control (message.Ready cache strategy) past ours c = tt
 down header outside doing host o control other past ours c = tt
 
-changed_one : (dirty precious : Bool) → (dirty || precious) ≡ true → precious ≡ false → dirty ≡ true
-changed_one dirty precious one plain = grind arith
-
 up : (header : Header) (outside : Outside) (doing : Command) (host o : ℕ) (m : Message) (past : List Event) → EachEvent (HasCause header outside) past
     → is_private header outside o ≡ true → L.MaySendUp header doing host o m past → S.MaySendUp header outside host o m past
 up header outside doing host o (message.Init number size) past caused ours c =
@@ -112,8 +109,7 @@ up header outside doing host o (message.Return number page dirty keep bytes) pas
     record {
       live = c.live;
       here = c.here;
-      dirty = changed_one (page_on header host o page.0 past).dirty (page_on header host o page.0 past).precious c.due
-          (unprecious header outside host o page.0 past caused (private_paged header outside o ours));
+      dirty = let plain = unprecious header outside host o page.0 past caused (private_paged header outside o ours) in grind (arith, c.due, plain);
       same = c.same;
       flag = c.flag;
     }

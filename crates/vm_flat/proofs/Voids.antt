@@ -64,7 +64,7 @@ came_down size (event.Taken (Up at of) n ∷ past) a host object m is up = not_a
 came_down size (event.Taken (Down at of control) n ∷ past) a host object m is up = absurd (let bad : false ≡ true = ap (λ l. is_up l) up in cc)
 came_down size (e ∷ past) a host object m is up = came_down size past a host object m is up
 
-file_paged : (header : Header) (o : ℕ) → is_file header o ≡ true → is_paged header o ≡ true
+pub file_paged : (header : Header) (o : ℕ) → is_file header o ≡ true → is_paged header o ≡ true
 file_paged header o is = grind (arith, nat_tests)
 
 second : (a b : Bool) → (a && b) ≡ true → b ≡ true

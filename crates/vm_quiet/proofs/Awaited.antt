@@ -30,8 +30,8 @@ use Rattle.vm_legal.specs.Outside.{Outside, is_wild, is_wild_kind, kind_of}
 use Rattle.vm_legal.specs.Steps.{answers, is_answer, is_ready_message as says_ready, readies, since, taken_letter}
 use Rattle.vm_legal.specs.Walks.{page_on}
 use Rattle.vm_quiet.specs.Carried.{is_request, opens}
-use Rattle.vm_quiet.proofs.Letters.{never, passed}
-use Rattle.vm_quiet.proofs.Sane.{there_two, left, right, control_of}
+use Rattle.vm_quiet.proofs.Letters.{else_same, never}
+use Rattle.vm_quiet.proofs.Sane.{at_place, left, right, control_of}
 use Rattle.vm_quiet.proofs.Ways.{IsDone, OnTheWay, same_taken, some_last, way_line, way_sent, way_taken}
 
 pub done_request : (header : Header) (past : List Event) → IsPaid header past → (h o k p : ℕ) → is_paged header o ≡ true
@@ -90,7 +90,7 @@ up_asks header host at object (message.Init control size) past c all o p ours = 
         → Asking host o p (event.Sent (Up at object) (message.Init control size) ∷ past)
     by true own is = never is
     by false own is =
-        asking_sent host o p at object (message.Init control size) past (passed (at.0 == host && object.0 == o) (Some control) (live_control host o past) own)
+        asking_sent host o p at object (message.Init control size) past (else_same (at.0 == host && object.0 == o) (Some control) (live_control host o past) own)
         (all o p ours is)
 up_asks header host at object (message.Create control size) past c all o p ours = by (at.0 == host && object.0 == o) refl
   where
@@ -99,7 +99,7 @@ up_asks header host at object (message.Create control size) past c all o p ours 
         → Asking host o p (event.Sent (Up at object) (message.Create control size) ∷ past)
     by true own is = never is
     by false own is =
-        asking_sent host o p at object (message.Create control size) past (passed (at.0 == host && object.0 == o) (Some control) (live_control host o past) own)
+        asking_sent host o p at object (message.Create control size) past (else_same (at.0 == host && object.0 == o) (Some control) (live_control host o past) own)
         (all o p ours is)
 up_asks header host at object (message.Terminate control) past c all o p ours =
     by (at.0 == host && object.0 == o) (is_control control (live_control host o past)) refl refl
@@ -109,10 +109,10 @@ up_asks header host at object (message.Terminate control) past c all o p ours =
         → Asking host o p (event.Sent (Up at object) (message.Terminate control) ∷ past)
     by true true own live is = never is
     by true false own live is =
-        never (sym live ∙ control_of (live_control host o past) control (there_two (λ h k. live_control h k past ≡ Some control) at.0 object.0 host o own
+        never (sym live ∙ control_of (live_control host o past) control (at_place (λ h k. live_control h k past ≡ Some control) at.0 object.0 host o own
         c.1.live))
     by false t own live is =
-        asking_sent host o p at object (message.Terminate control) past (passed (at.0 == host && object.0 == o)
+        asking_sent host o p at object (message.Terminate control) past (else_same (at.0 == host && object.0 == o)
         (without_control control (live_control host o past)) (live_control host o past) own) (all o p ours is)
 up_asks header host at object (message.Request control page access) past c all o p ours =
     by (at.0 == host && object.0 == o) (page.0 == p) (is_control control (live_control host o past)) refl refl
@@ -122,7 +122,7 @@ up_asks header host at object (message.Request control page access) past c all o
         → Asking host o p (event.Sent (Up at object) (message.Request control page access) ∷ past)
     by true true true own its is = (
       control,
-      there_two (λ h k. live_control h k past ≡ Some control) at.0 object.0 host o own c.1.live,
+      at_place (λ h k. live_control h k past ≡ Some control) at.0 object.0 host o own c.1.live,
       inl (some_last (at.0 == host && object.0 == o) (is_request control p) (queue (up_port host o) past) (message.Request control page access) own
           (request_is control p page.0 its)),
     )

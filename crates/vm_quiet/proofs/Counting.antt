@@ -26,9 +26,9 @@ use Rattle.vm_legal.specs.Outside.{Outside}
 use Rattle.vm_legal.specs.Walks.{page_on}
 use Rattle.vm_model.proofs.Ports.{same_control}
 use Rattle.vm_quiet.specs.Places.{FramesAreCounted, has_frame}
-use Rattle.vm_quiet.proofs.Letters.{never, some_out, passed}
+use Rattle.vm_quiet.proofs.Letters.{else_same, never, some_out}
 use Rattle.vm_quiet.proofs.Places.{Held, one_if, held_none, held_same, held_more, held_less, held_some, test_there}
-use Rattle.vm_quiet.proofs.Sane.{Base, IsVacant, base_of, not_true, there, there_two, vacant_zeroed, vacant_raised, vacant_copied, left, right, control_of}
+use Rattle.vm_quiet.proofs.Sane.{Base, IsVacant, base_of, not_true, there, at_place, vacant_zeroed, vacant_raised, vacant_copied, left, right, control_of}
 
 abbrev pub framed : Header → ℕ → List Event → ℕ → ℕ → Bool
 framed header host past o p = has_frame (page_on header host o p past)
@@ -161,18 +161,18 @@ count_up header host at object (message.Init control size) past base c count =
     sent_same header host at object (message.Init control size) past
     (λ o p. kept_if header.size (at.0 == host && object.0 == o) Begins (page_on header host o p past)
     (λ is. unasked_kept header.size (page_on header host o p past) (unasked_dead header host o p past base
-    (dead_none (live_control host o past) (there_two (λ h k. live_control h k past ≡ None) at.0 object.0 host o is c.1.none)))))
+    (dead_none (live_control host o past) (at_place (λ h k. live_control h k past ≡ None) at.0 object.0 host o is c.1.none)))))
     refl refl count
 count_up header host at object (message.Create control size) past base c count =
     sent_same header host at object (message.Create control size) past
     (λ o p. kept_if header.size (at.0 == host && object.0 == o) Begins (page_on header host o p past)
     (λ is. unasked_kept header.size (page_on header host o p past) (unasked_dead header host o p past base
-    (base.numbered o (there_two (λ h k. last_control h k past ≡ 0) at.0 object.0 host o is c.1.never)))))
+    (base.numbered o (at_place (λ h k. last_control h k past ≡ 0) at.0 object.0 host o is c.1.never)))))
     refl refl count
 count_up header host at object (message.Terminate control) past base c count =
     sent_same header host at object (message.Terminate control) past
     (λ o p. kept_two header.size (at.0 == host && object.0 == o) (is_control control (live_control host o past)) Ends (page_on header host o p past)
-    (λ is t. unasked_kept header.size (page_on header host o p past) (there_two (λ h k. (page_on header h k p past).asked ≡ false) at.0 object.0 host o is
+    (λ is t. unasked_kept header.size (page_on header host o p past) (at_place (λ h k. (page_on header h k p past).asked ≡ false) at.0 object.0 host o is
     (c.1.unasked p))))
     refl refl count
 count_up header host at object (message.Request control page access) past base c count =
@@ -185,7 +185,7 @@ count_up header host at object (message.Request control page access) past base c
           (record { away = c.1.away; unasked = c.1.unasked })))
           (λ o p. asks_used header.size (at.0 == host) (object.0 == o) (page.0 == p) (is_control control (live_control host o past))
           (page_on header host o p past)
-          (λ is. control_of (live_control host o past) control (there_two (λ h k. live_control h k past ≡ Some control) at.0 object.0 host o is c.1.live)))
+          (λ is. control_of (live_control host o past) control (at_place (λ h k. live_control h k past ≡ Some control) at.0 object.0 host o is c.1.live)))
           count.held;
       sum = takes (at.0 == host) count.number (returns_out host past) (frames_held header.size host past) count.sum;
     }
@@ -262,8 +262,8 @@ and_false false = refl
 same_end : (u a ob pg live live' asked asked' : Bool) → ((ob && pg) ≡ true → live ≡ live') → ((ob && pg) ≡ true → asked ≡ asked')
     → (if a && (ob && live) then (if pg then (if asked then false else u) else u) else u) ≡ (if (a && (live' && asked')) && (ob && pg) then false else u)
 same_end u false ob pg live live' asked asked' e f = refl
-same_end u true false pg live live' asked asked' e f = sym (passed ((live' && asked') && false) false u (and_false (live' && asked')))
-same_end u true true false live live' asked asked' e f = by live ∙ sym (passed ((live' && asked') && false) false u (and_false (live' && asked')))
+same_end u true false pg live live' asked asked' e f = sym (else_same ((live' && asked') && false) false u (and_false (live' && asked')))
+same_end u true true false live live' asked asked' e f = by live ∙ sym (else_same ((live' && asked') && false) false u (and_false (live' && asked')))
   where
     by : (b : Bool) → (if b then u else u) ≡ u
     by true = refl

@@ -171,29 +171,34 @@ record IsQuiet (header : Header) (outside : Outside) (history : List Event) : Ty
   shared : SharedAreAnswered header history
   delivered : undelivered history ≡ []
 
+-- an object that is neither paged nor shared is wild
+neither_is_wild : (header : Header) (o : ℕ) → NoneIsTemporary header → (is_paged header o ≡ true → ⊥) → (is_shared header o ≡ true → ⊥)
+    → is_wild header o ≡ true
+neither_is_wild header o kinds unpaged unshared = elim (kinds_of header o kinds) [
+  | inl paged ↦ absurd (unpaged paged)
+  | inr (inl shared) ↦ absurd (unshared shared)
+  | inr (inr wild) ↦ wild
+]
+
 -- a page that is asked is a wild object's
 asked_wild : (header : Header) (outside : Outside) (history : List Event) (host o p : ℕ) → IsQuiet header outside history
     → (page_on header host o p history).asked ≡ true → is_wild header o ≡ true
-asked_wild header outside history host o p quiet is = by (kinds_of header o quiet.kinds)
-  where
-    by : (is_paged header o ≡ true) ⊎ ((is_shared header o ≡ true) ⊎ (is_wild header o ≡ true)) → is_wild header o ≡ true
-    by (inl ours) =
-        let a = asks_of header outside host history quiet.causes quiet.steps o p ours is in
-        absurd (way_none (is_request a.0 p) (is_answer p) (answers o p) host o a.0 history quiet.delivered
-        (done_request header history quiet.paid host o a.0 p ours) a.2)
-    by (inr (inl shared)) = never (sym (quiet.shared.asked host o p shared) ∙ is)
-    by (inr (inr wild)) = wild
+asked_wild header outside history host o p quiet is =
+    neither_is_wild header o quiet.kinds
+    (λ ours.
+    let a = asks_of header outside host history quiet.causes quiet.steps o p ours is in
+    way_none (is_request a.0 p) (is_answer p) (answers o p) host o a.0 history quiet.delivered
+    (done_request header history quiet.paid host o a.0 p ours) a.2)
+    (λ shared. never (sym (quiet.shared.asked host o p shared) ∙ is))
 
 -- so is a page that is here, locked against somebody, with an unlock outstanding
 locked_wild : (header : Header) (outside : Outside) (history : List Event) (host o p : ℕ) (store : Bool) → IsQuiet header outside history
     → (page_on header host o p history).here ≡ true → names (page_on header host o p history).lock store ≡ true
     → (page_on header host o p history).unlocking ≡ true → is_wild header o ≡ true
-locked_wild header outside history host o p store quiet here named unlocking = by (kinds_of header o quiet.kinds)
-  where
-    by : (is_paged header o ≡ true) ⊎ ((is_shared header o ≡ true) ⊎ (is_wild header o ≡ true)) → is_wild header o ≡ true
-    by (inl ours) = absurd (unnamed (page_on header host o p history).lock store ((no_lock header outside host o history ours quiet.causes).locks p) named)
-    by (inr (inl shared)) = never (sym (quiet.shared.unlocking host o p shared here) ∙ unlocking)
-    by (inr (inr wild)) = wild
+locked_wild header outside history host o p store quiet here named unlocking =
+    neither_is_wild header o quiet.kinds
+    (λ ours. unnamed (page_on header host o p history).lock store ((no_lock header outside host o history ours quiet.causes).locks p) named)
+    (λ shared. never (sym (quiet.shared.unlocking host o p shared here) ∙ unlocking))
 
 awaits_wild : (header : Header) (outside : Outside) (history : List Event) (host : ℕ) (store : Bool) (o p : ℕ) → IsQuiet header outside history
     → Awaits header host store o p history → is_wild header o ≡ true
@@ -311,10 +316,23 @@ none_shared header o all shared = elim (cases_lt o (named header)) [
   | inr above ↦ never (sym (temporary_unshared header o above) ∙ shared)
 ]
 
+-- nobody waits in vain where whoever waits for a wild object's page waits on that object
+pub none_in_vain : (header : Header) (history : List Event) → OnlyWildAreAwaited header history
+    → ((host task : ℕ) (access : Access) → WaitsForWild header host task access history → WaitsOnWild header host task access history)
+    → NobodyWaitsInVain header history
+none_in_vain header history only on =
+    record { short = λ host task access below waiting lives. by host task access (only.short host task access below waiting lives) }
+  where
+    by : (host task : ℕ) (access : Access) → WaitsForWild header host task access history ⊎ IsShortOfFrames header host history
+        → WaitsOnWild header host task access history ⊎ IsShortOfFrames header host history
+    by host task access (inl for) = inl (on host task access for)
+    by host task access (inr frames) = inr frames
+
 pub quiet : (header : Header) (outside : Outside) (history : List Event) → AllPaged header → EachEvent (HasCause header outside) history
     → BeforeSteps (IsPaid header) history → IsPaid header history → Prompt header history → undelivered history ≡ [] → NobodyWaitsInVain header history
 quiet header outside history all causes steps paid prompt delivered =
-    record { short = λ host task access below waiting lives. short host task access (only.short host task access below waiting lives) }
+    none_in_vain header history only
+    (λ host task access for. never (sym (paged_supplied header for.what.object (paged header all for.what.object)) ∙ for.wild))
   where
     only : OnlyWildAreAwaited header history
     only =
@@ -323,11 +341,6 @@ quiet header outside history all causes steps paid prompt delivered =
           asked = λ host o p shared. absurd (none_shared header o all shared);
           unlocking = λ host o p shared here. absurd (none_shared header o all shared);
         }) prompt delivered
-
-    short : (host task : ℕ) (access : Access) → WaitsForWild header host task access history ⊎ IsShortOfFrames header host history
-        → WaitsOnWild header host task access history ⊎ IsShortOfFrames header host history
-    short host task access (inl for) = never (sym (paged_supplied header for.what.object (paged header all for.what.object)) ∙ for.wild)
-    short host task access (inr frames) = inr frames
 
 -- where no object is wild, no frame is held for a pager that the script drives
 

@@ -58,8 +58,8 @@ there P a b c h o p is holds =
     third : (a b c h o p : ℕ) → (a == h && (b == o && c == p)) ≡ true → c ≡ p
     third a b c h o p is = grind (arith, nat_tests)
 
-pub there_two : (P : ℕ → ℕ → Type 0) (a b h o : ℕ) → (a == h && b == o) ≡ true → P a b → P h o
-there_two P a b h o is holds = subst (λ x. P h x) (second a b h o is) (subst (λ x. P x b) (only a b h o is) holds)
+pub at_place : (P : ℕ → ℕ → Type 0) (a b h o : ℕ) → (a == h && b == o) ≡ true → P a b → P h o
+at_place P a b h o is holds = subst (λ x. P h x) (second a b h o is) (subst (λ x. P x b) (only a b h o is) holds)
   where
     only : (a b h o : ℕ) → (a == h && b == o) ≡ true → a ≡ h
     only a b h o is = grind (arith, nat_tests)
@@ -214,7 +214,7 @@ up_allowed header host at object (message.Create control size) past o p c =
     begins_allowed (at.0 == host && object.0 == o) control (page_on header host o p past) (live_control host o past)
 up_allowed header host at object (message.Terminate control) past o p c =
     by (at.0 == host && object.0 == o) (is_control control (live_control host o past))
-    (λ is. control_of (live_control host o past) control (there_two (λ h k. live_control h k past ≡ Some control) at.0 object.0 host o is c.1.live))
+    (λ is. control_of (live_control host o past) control (at_place (λ h k. live_control h k past ≡ Some control) at.0 object.0 host o is c.1.live))
   where
     by : (b t : Bool) → (b ≡ true → t ≡ true) → Allowed (if b then (if t then Ends else Elsewhere) else Elsewhere) (page_on header host o p past)
         (live_control host o past) (if b then without_control control (live_control host o past) else live_control host o past)
@@ -228,7 +228,7 @@ up_allowed header host at object (message.Request control page access) past o p 
       there (λ h k q. IsVacant (page_on header h k q past)) at.0 object.0 page.0 host o p
           (join (at.0 == host) (object.0 == o) (page.0 == p) s (left (page.0 == p) (is_control control (live_control host o past)) t))
           (record { away = c.1.away; unasked = c.1.unasked }),
-      is_some_of (live_control host o past) control (there_two (λ h k. live_control h k past ≡ Some control) at.0 object.0 host o s c.1.live),
+      is_some_of (live_control host o past) control (at_place (λ h k. live_control h k past ≡ Some control) at.0 object.0 host o s c.1.live),
     ))
     (λ is. is)
 up_allowed header host at object (message.Return control page dirty keep bytes) past o p c =
@@ -280,7 +280,7 @@ allowed_next header outside host (event.Raised at lower lower_page upper upper_p
 allowed_next header outside host (event.CopiedPage task page object object_page target) past c o p =
     allowed_if (is_on host (host_of task.0 past) && (target.0 == o && page.0 == p)) (Raises (page_on header host object.0 object_page.0 past).bytes)
     (page_on header host o p past) (live_control host o past) (live_control host o past)
-    (λ is. there_two (λ k q. IsVacant (page_on header host k q past)) target.0 page.0 o p
+    (λ is. at_place (λ k q. IsVacant (page_on header host k q past)) target.0 page.0 o p
     (right (is_on host (host_of task.0 past)) (target.0 == o && page.0 == p) is)
     (vacant_copied header host task.0 page.0 object.0 object_page.0 target.0 past c.1
     (left (is_on host (host_of task.0 past)) (target.0 == o && page.0 == p) is)))

@@ -26,7 +26,7 @@ use Rattle.vm_legal.specs.Licences.{HasCause, MaySendDown, is_paged}
 use Rattle.vm_legal.specs.Outside.{Outside}
 use Rattle.vm_legal.specs.Walks.{page_on}
 use Rattle.vm_quiet.proofs.Letters.{never}
-use Rattle.vm_quiet.proofs.Sane.{there_two}
+use Rattle.vm_quiet.proofs.Sane.{at_place}
 
 -- an effect that locks nothing
 abbrev pub LocksNothing : LocalEffect → Type 0
@@ -175,7 +175,7 @@ nothing_next header outside host o (event.Dropped at object page) past h c p = i
 nothing_next header outside host o (event.Sent (Up at object) m) past h c p = up_nothing header host at object m past o p
 nothing_next header outside host o (event.Taken (Down at object control) m) past h c p =
     down_nothing header host at object control m past o p
-    (λ is. plain_first (queue (down_port host o control) past) m (there_two (λ g k. first (queue (down_port g k control) past) ≡ Some m) at.0 object.0 host o is
+    (λ is. plain_first (queue (down_port host o control) past) m (at_place (λ g k. first (queue (down_port g k control) past) ≡ Some m) at.0 object.0 host o is
     c.1.0) (h.plain control))
 nothing_next header outside host o e past h c p = tt
 

@@ -1,36 +1,19 @@
 -- What else holds of a history follows from what is tested in it.
-use Rattle.std.proofs.Common.{List, [], ◌∷◌, sym}
+use Rattle.std.proofs.Common.{List}
 use Rattle.vm_model.specs.declared.command.Numbered.{Numbered}
 use Rattle.vm_model.specs.declared.event.Event.{Event}
 use Rattle.vm_model.specs.declared.script.Header.{Header}
 use Rattle.vm_model.specs.declared.script.Script.{Script}
-use Rattle.vm_model.specs.Moments.{EachEvent, EachMoment}
+use Rattle.vm_model.specs.Moments.{EachEvent}
 use Rattle.vm_legal.proofs.Groups.{any_cut_caused, open_of}
 use Rattle.vm_legal.proofs.Turns.{any_cut, legal_of, so_far_of}
-use Rattle.vm_legal.specs.Bytes.{FlatBytes, OwnBytes}
 use Rattle.vm_legal.specs.Follows.{FollowsAnyCut, FollowsSoFar}
-use Rattle.vm_legal.specs.Legal.{CanonicalFor, CanonicalSoFar, HasOneWriter, Holds, LegalFor, LegalSoFar}
+use Rattle.vm_legal.specs.Legal.{CanonicalFor, CanonicalSoFar, Holds, LegalFor, LegalSoFar}
 use Rattle.vm_legal.specs.Licences.{HasCause}
 use Rattle.vm_legal.specs.Outside.{NoneIsTemporary, Outside}
-use Rattle.vm_flat.proofs.Loads.{answers}
-use Rattle.vm_shared.proofs.Currents.{copies_current, loads_current}
-use Rattle.vm_shared.proofs.Pages.{legal, one_writer}
+use Rattle.vm_shared.proofs.Currents.{flat_of}
+use Rattle.vm_shared.proofs.Pages.{legal, writers}
 use Rattle.vm_rules.specs.Tests.{Tests}
-
--- where each load answers from its own host's page it answers the flat map's bytes
-pub flat_of : (header : Header) (outside : Outside) (history : List Event) → NoneIsTemporary header → EachEvent (HasCause header outside) history
-    → EachEvent (OwnBytes header) history → EachEvent (FlatBytes header outside) history
-flat_of header outside history kinds caused own =
-    answers header outside history caused own (copies_current header outside history kinds caused own) (loads_current header outside history caused own)
-
--- a shared page has one writer at every moment
-pub writers : (header : Header) (outside : Outside) (history : List Event) → EachEvent (HasCause header outside) history → EachEvent (OwnBytes header) history
-    → EachMoment (HasOneWriter header) history
-writers header outside [] caused own = λ g h o p shared apart. one_writer header outside [] caused own h g o p shared (λ same. apart (sym same))
-writers header outside (e ∷ past) caused own = (
-  λ g h o p shared apart. one_writer header outside (e ∷ past) caused own h g o p shared (λ same. apart (sym same)),
-  writers header outside past caused.1 own.1,
-)
 
 pub holds_of : (header : Header) (outside : Outside) (run : List Numbered) (history : List Event) → NoneIsTemporary header → Tests header outside run history
     → Holds header outside history

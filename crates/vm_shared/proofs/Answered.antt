@@ -31,12 +31,12 @@ use Rattle.vm_coherence.proofs.Law.{world}
 use Rattle.vm_coherence.proofs.Locals.{side_is_local}
 use Rattle.vm_coherence.proofs.Still.{answered}
 use Rattle.vm_coherence.specs.Locals.{SideIsLocal, right_now}
+use Rattle.vm_flat.proofs.Locals.{each_founded}
 use Rattle.vm_quiet.proofs.Letters.{none_queued}
-use Rattle.vm_quiet.proofs.Quiet.{only_wild, ready_now, shared_supplied}
+use Rattle.vm_quiet.proofs.Quiet.{none_in_vain, only_wild, ready_now, shared_supplied}
 use Rattle.vm_quiet.specs.Quiet.{IsShortOfFrames, NobodyWaitsInVain, OnlyWildAreAwaited, SharedAreAnswered, WaitsForWild, WaitsOnWild}
 use Rattle.vm_shared.proofs.Causes.{licensed}
 use Rattle.vm_shared.proofs.Declared.{place_own}
-use Rattle.vm_shared.proofs.Founded.{founded}
 use Rattle.vm_shared.proofs.Numbering.{Numbering, at_made, numbering}
 use Rattle.vm_shared.proofs.Order.{down_in_order, up_in_order}
 use Rattle.vm_shared.proofs.Stepped.{stepped_of}
@@ -73,7 +73,7 @@ quiet_part header outside history o p still shared licensed =
     }
   where
     known : EachEvent (IsFounded header.size) history
-    known = founded header outside history still.causes
+    known = each_founded header outside history still.causes
 
     by : (h : ℕ) (b : Bool) → (side h (page_part header.size o p history)).live ≡ b → (side h (page_part header.size o p history)).down ≡ []
     by h true live =
@@ -105,7 +105,7 @@ all_answered header outside history still licensed served =
     }
   where
     tied : (h o p : ℕ) → SideIsLocal (live_control h o history) (side h (page_part header.size o p history)) (page_on header h o p history)
-    tied h o p = side_is_local header.size history h o p (founded header outside history still.causes)
+    tied h o p = side_is_local header.size history h o p (each_founded header outside history still.causes)
 
     none : (o p : ℕ) → is_shared header o ≡ true → NothingIsAsked (page_part header.size o p history)
     none o p shared =
@@ -122,7 +122,7 @@ shared_are_answered header outside history causes own steps paid served delivere
 
 -- whoever waits for a wild object's place waits on its region
 
-wild_declared : (header : Header) (o : ℕ) → is_wild header o ≡ true → o < named header
+pub wild_declared : (header : Header) (o : ℕ) → is_wild header o ≡ true → o < named header
 wild_declared header o wild =
     ⊎_elim (λ less. less) (λ above. let bad : true ≡ false = sym wild ∙ paged_supplied header o (later_paged header o above) in absurd (cc))
     (cases_lt o (named header))
@@ -141,14 +141,9 @@ pub nobody_waits : (header : Header) (outside : Outside) (history : List Event) 
     → EachEvent (OwnBytes header) history → BeforeSteps (IsPaid header) history → IsPaid header history → AllServed header history → Prompt header history
     → undelivered history ≡ [] → NobodyWaitsInVain header history
 nobody_waits header outside history kinds causes own steps paid served prompt delivered =
-    record { short = λ host task access below waits lives. by host task access (only.short host task access below waits lives) }
+    none_in_vain header history only (λ host task access is. on_wild header outside history host task access causes is)
   where
     only : OnlyWildAreAwaited header history
     only =
         only_wild header outside history kinds causes steps paid (shared_are_answered header outside history causes own steps paid served delivered) prompt
         delivered
-
-    by : (host task : ℕ) (access : Access) → WaitsForWild header host task access history ⊎ IsShortOfFrames header host history
-        → WaitsOnWild header host task access history ⊎ IsShortOfFrames header host history
-    by host task access (inl is) = inl (on_wild header outside history host task access causes is)
-    by host task access (inr frames) = inr frames

@@ -35,17 +35,17 @@ use Rattle.vm_legal.specs.Walks.{page_on}
 use Rattle.vm_coherence.specs.Locals.{SideIsLocal}
 use Rattle.vm_coherence.proofs.Channels.{page_queue}
 use Rattle.vm_coherence.proofs.Descent.{page_control, page_descent}
-use Rattle.vm_coherence.proofs.Locals.{side_is_local}
+use Rattle.vm_coherence.proofs.Locals.{host_lives, side_is_local}
 use Rattle.vm_flat.proofs.Locals.{each_founded}
 use Rattle.vm_quiet.proofs.Letters.{never}
 use Rattle.vm_shared.proofs.Declared.{shared_declared}
 use Rattle.vm_shared.proofs.Kept.{IsShareds, lives_of, shareds_of, still_lives, uncopied, unraised, unzeroed}
 use Rattle.vm_shared.proofs.Order.{down_in_order, up_in_order}
 use Rattle.vm_shared.proofs.Rows.{asks_row, completes_row, drops_row, ends_row, hears_row, kept_reply, load_row, locked_step, names_store, opens_row}
-use Rattle.vm_shared.proofs.Rows.{returns_row, store_row, takes_row, unlocks_row}
+use Rattle.vm_shared.proofs.Rows.{not_given, returns_row, store_row, takes_row, unlocks_row}
 use Rattle.vm_shared.proofs.Servers.{IsElsewhere, IsServersLock, IsServersRequest, lock_is, none_fails, shared_sends}
 use Rattle.vm_shared.proofs.Stepped.{SteppedAt, step_in, stepped_of}
-use Rattle.vm_shared.proofs.Waiters.{asks_reason, loads_waiter, on_host, stores_waiter, unlocks_store}
+use Rattle.vm_shared.proofs.Waiters.{asks_reason, loads_waiter, stores_waiter, unlocks_store}
 
 -- what is known of a shared page and its part at a host
 
@@ -286,16 +286,12 @@ drop_clean header outside doing h o p past caused shared (L.DropCause.Flushed re
       reply = locked.reply;
     } in
     let one : returns ≡ 1 = kind locked.reply (servers_lock header outside past caused r locked.taken shared) in
-    clean (page_on header h o p past).dirty (page_on header h o p past).precious (subst
+    not_given (page_on header h o p past).dirty (page_on header h o p past).precious (subst
     (λ n. gives_back n (page_on header h o p past).dirty (page_on header h o p past).precious ≡ false) one none)
   where
     kind : (reply : Bool) → IsServersLock locked.count returns true locked.lock reply → returns ≡ 1
     kind true is = is.1
     kind false is = absurd is
-
-    clean : (dirty precious : Bool) → gives_back 1 dirty precious ≡ false → dirty ≡ false
-    clean true precious is = is
-    clean false precious is = refl
 
 dropped : (header : Header) (outside : Outside) (doing : Command) (h o p : ℕ) (past : List Event) → EachEvent (HasCause header outside) past
     → is_shared header o ≡ true → L.Drops header doing h o p past → Cause header.size h Drops (page_part header.size o p past)
@@ -333,7 +329,7 @@ loaded header outside task o p value past caused shared c own =
     own.number ∙ ap (λ h. number_at (page_on header h o p past).bytes header.size own.address own.bytes) host
     ∙ ap (λ a. number_at (page_on header c.waits.at.host o p past).bytes header.size a own.bytes) same.address
     ∙ ap (λ b. number_at (page_on header c.waits.at.host o p past).bytes header.size c.address b) same.bytes in
-    subst (λ h. Cause header.size h (Loads task value) (page_part header.size o p past)) (sym (on_host task c.waits.at.host past c.waits.at.lives))
+    subst (λ h. Cause header.size h (Loads task value) (page_part header.size o p past)) (sym (host_lives task c.waits.at.host past c.waits.at.lives))
     (load_row header.size (waiter_of task (waiters c.waits.at.host (page_part header.size o p past))) _ (side c.waits.at.host (page_part header.size o p past))
     (page_on header c.waits.at.host o p past) (live_control c.waits.at.host o past) value c.address c.bytes k.is can number
     (loads_waiter header outside task o p past caused shared c) refl refl refl)
@@ -345,7 +341,7 @@ stored header outside task o p at bytes value past caused shared c own =
     let host : own.waits.at.host ≡ c.waits.at.host = same_host task own.waits.at.host c.waits.at.host past own.waits.at.lives c.waits.at.lives in
     let k : Known header c.waits.at.host o p past = known header outside past caused c.waits.at.host o p shared in
     let can : CanWrite (page_on header c.waits.at.host o p past) = subst (λ h. CanWrite (page_on header h o p past)) host own.writable in
-    subst (λ h. Cause header.size h (Stores task at bytes value) (page_part header.size o p past)) (sym (on_host task c.waits.at.host past c.waits.at.lives))
+    subst (λ h. Cause header.size h (Stores task at bytes value) (page_part header.size o p past)) (sym (host_lives task c.waits.at.host past c.waits.at.lives))
     (store_row (waiter_of task (waiters c.waits.at.host (page_part header.size o p past))) _ (side c.waits.at.host (page_part header.size o p past))
     (page_on header c.waits.at.host o p past) (live_control c.waits.at.host o past) at bytes value k.is can
     (stores_waiter header outside task o p at bytes value past caused shared c) refl c.place refl refl)

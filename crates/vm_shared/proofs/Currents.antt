@@ -17,7 +17,7 @@ use Rattle.vm_model.specs.Named.{declared, named}
 use Rattle.vm_model.specs.Tasks.{entries_of, host_of}
 use Rattle.vm_model.specs.Waiting.{Access, Loading, next_page}
 use Rattle.vm_legal.specs.Accesses.{Waits}
-use Rattle.vm_legal.specs.Bytes.{AnswersOwn, CopiesCurrent, LoadsCurrent, OwnBytes}
+use Rattle.vm_legal.specs.Bytes.{AnswersOwn, CopiesCurrent, FlatBytes, LoadsCurrent, OwnBytes}
 use Rattle.vm_legal.specs.Flat.{flat_page}
 use Rattle.vm_legal.specs.Licences as L
 use Rattle.vm_legal.specs.Licences.{HasCause}
@@ -25,6 +25,7 @@ use Rattle.vm_legal.specs.Living.{lives_on}
 use Rattle.vm_legal.specs.Outside.{NoneIsTemporary, Outside, is_file, is_file_kept, is_file_kind, is_private, is_shared, is_shared_kind, is_wild, is_wild_kind}
 use Rattle.vm_legal.specs.Outside.{kind_in, kind_of}
 use Rattle.vm_legal.specs.Walks.{page_on}
+use Rattle.vm_flat.proofs.Loads.{answers}
 use Rattle.vm_shared.proofs.Declared.{comes_from_declared, declared_top_own, shared_declared}
 use Rattle.vm_shared.proofs.Flat.{current_is_flat}
 use Rattle.vm_shared.proofs.Numbering.{numbering}
@@ -166,3 +167,9 @@ pub loads_current : (header : Header) (outside : Outside) (history : List Event)
 loads_current header outside [] caused own = tt
 loads_current header outside (e ∷ past) caused own =
     (load_current header outside e past caused.1 own.1 caused.0 own.0, loads_current header outside past caused.1 own.1)
+
+-- where each load answers from its own host's page it answers the flat map's bytes
+pub flat_of : (header : Header) (outside : Outside) (history : List Event) → NoneIsTemporary header → EachEvent (HasCause header outside) history
+    → EachEvent (OwnBytes header) history → EachEvent (FlatBytes header outside) history
+flat_of header outside history kinds caused own =
+    answers header outside history caused own (copies_current header outside history kinds caused own) (loads_current header outside history caused own)

@@ -29,6 +29,7 @@ use Rattle.vm_legal.specs.Walks.{IsTop}
 use Rattle.vm_legal.proofs.Unshared.{file_unshared}
 use Rattle.vm_flat.proofs.Caused.{change_is}
 use Rattle.vm_flat.proofs.Numbers.{NumberedAt}
+use Rattle.vm_quiet.proofs.Letters.{else_same}
 use Rattle.vm_shared.proofs.Declared.{declared_top_own, overs_later, shared_declared}
 use Rattle.vm_shared.proofs.Numbering.{Numbering, at_made, numbering}
 
@@ -90,14 +91,11 @@ bytes_stay size o p e past is =
 
 -- what others' regions, copies and answers are to the flat map of a shared region: nothing
 
-else_same : {A : Type 0} (b : Bool) (x y : A) → b ≡ false → (if b then x else y) ≡ y
-else_same b x y is = rw is refl
-
 unlike : (a b : ℕ) → a ≢ b → (a == b) ≡ false
 unlike a b apart = grind (arith, nat_tests)
 
 -- a shared object is no file
-shared_no_file : (header : Header) (o : ℕ) → is_shared header o ≡ true → is_file header o ≡ false
+pub shared_no_file : (header : Header) (o : ℕ) → is_shared header o ≡ true → is_file header o ≡ false
 shared_no_file header o shared = by (is_file header o) refl
   where
     by : (b : Bool) → is_file header o ≡ b → b ≡ false

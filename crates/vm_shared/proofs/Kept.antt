@@ -22,7 +22,7 @@ use Rattle.vm_legal.specs.Licences.{Bottoms, CopiesPage, Fills, HasCause, LockRe
 use Rattle.vm_legal.specs.Outside.{Outside, is_shared}
 use Rattle.vm_legal.specs.Walks.{page_on}
 use Rattle.vm_quiet.proofs.Letters.{never}
-use Rattle.vm_quiet.proofs.Sane.{right, there_two}
+use Rattle.vm_quiet.proofs.Sane.{right, at_place}
 use Rattle.vm_shared.proofs.Numbering.{numbering}
 use Rattle.vm_shared.proofs.Servers.{IsElsewhere, IsLock, IsServers, IsServersLock, none_lacks, taken_servers}
 
@@ -204,7 +204,7 @@ gentle header outside (event.Raised at lower lower_page upper upper_page) past c
 gentle header outside (event.CopiedPage task page object object_page target) past caused c h o p shared =
     gentle_if (is_on h (host_of task.0 past) && (target.0 == o && page.0 == p)) (Raises _)
     (λ is. uncopied header outside task.0 page.0 object.0 object_page.0 target.0 past caused
-    (subst (λ k. is_shared header k ≡ true) (sym (there_two (λ k q. target.0 ≡ k) target.0 page.0 o p (right (is_on h (host_of task.0 past)) _ is) refl))
+    (subst (λ k. is_shared header k ≡ true) (sym (at_place (λ k q. target.0 ≡ k) target.0 page.0 o p (right (is_on h (host_of task.0 past)) _ is) refl))
     shared) c.1)
 gentle header outside (event.Stored task object page at size value) past caused c h o p shared =
     gentle_if (is_on h (host_of task.0 past) && (object.0 == o && page.0 == p)) (Stores at (little_endian_bytes size value)) (λ is. tt)
@@ -270,11 +270,11 @@ lives_next header outside (event.Line line) past caused c h o p shared was here 
 lives_next header outside (event.Taken (Up host object) m) past caused c h o p shared was here = refl
 lives_next header outside (event.Taken (Down host object control) (message.Lock page count returns flush lock reply)) past caused c h o p shared was here =
     lives_if (is_control control (live_control host.0 object.0 past)) h o _ (live_control h o past)
-    (λ same is. there_two (λ g k. is_control control (live_control g k past) ≡ true) host.0 object.0 h o same is)
+    (λ same is. at_place (λ g k. is_control control (live_control g k past) ≡ true) host.0 object.0 h o same is)
 lives_next header outside (event.Taken (Down host object control) m) past caused c h o p shared was here = refl
 lives_next header outside (event.Sent (Up host object) (message.Init control size)) past caused c h o p shared was here =
     opened_lives (host.0 == h && object.0 == o) h o control (lock_taken past) (live_control h o past)
-    (λ is. there_two (λ g k. live_control g k past ≡ None) host.0 object.0 h o is c.1.none)
+    (λ is. at_place (λ g k. live_control g k past ≡ None) host.0 object.0 h o is c.1.none)
     (was (here_was header.size (if host.0 == h && object.0 == o then Begins else Elsewhere) (page_on header h o p past)
     (gentle_if (host.0 == h && object.0 == o) Begins (λ is. tt)) (none_if (host.0 == h && object.0 == o) Begins tt) here))
 lives_next header outside (event.Sent (Up host object) (message.Create control size)) past caused c h o p shared was here =
@@ -289,7 +289,7 @@ lives_next header outside (event.Sent (Up host object) (message.Terminate contro
     (gentle_if (host.0 == h && object.0 == o) effect (λ is. gentle_sent p (live_control h o past) (message.Terminate control)))
     (none_if (host.0 == h && object.0 == o) effect (none_sent p (live_control h o past) (message.Terminate control))) here in
     same_if (host.0 == h && object.0 == o) h o (lock_taken past) (live_control h o past) _
-    (λ is. never (sym (there_two (λ g k. (page_on header g k p past).here ≡ false) host.0 object.0 h o is (c.1.away p)) ∙ now)) (was now)
+    (λ is. never (sym (at_place (λ g k. (page_on header g k p past).here ≡ false) host.0 object.0 h o is (c.1.away p)) ∙ now)) (was now)
 lives_next header outside (event.Sent (Up host object) m) past caused c h o p shared was here =
     let effect : LocalEffect = sent_effect p (live_control h o past) m in
     was (here_was header.size (if host.0 == h && object.0 == o then effect else Elsewhere) (page_on header h o p past)

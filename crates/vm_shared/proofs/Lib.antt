@@ -1,4 +1,3 @@
-pub mod Founded
 pub mod Speakers
 pub mod Order
 pub mod Numbering

@@ -21,10 +21,12 @@ use Rattle.vm_legal.specs.Licences as L
 use Rattle.vm_legal.specs.Licences.{HasCause}
 use Rattle.vm_legal.specs.Outside.{Outside, is_shared}
 use Rattle.vm_abroad.specs.Whose.{IsNewTask}
+use Rattle.vm_coherence.proofs.Law.{others_wait}
+use Rattle.vm_quiet.proofs.Letters.{else_same, then_same}
 use Rattle.vm_shared.proofs.Declared.{comes_from_declared, declared_top_own, place_from_declared, shared_declared}
 use Rattle.vm_shared.proofs.Numbering.{IsOwn, numbering}
-use Rattle.vm_shared.proofs.Waiters.{IsPlainAccess, at_address, copies_plain, else_same, is_of, itself, none_waits, number_is, same, spares, spares_on}
-use Rattle.vm_shared.proofs.Waiters.{then_same, waiter_for, waiter_stays}
+use Rattle.vm_shared.proofs.Waiters.{IsPlainAccess, at_address, copies_plain, is_of, itself, none_waits, number_is, same, spares, spares_on, waiter_for}
+use Rattle.vm_shared.proofs.Waiters.{waiter_stays}
 
 -- a task waits on the host with a load or a store of page p of o, and wants this of the page
 pub record IsWaiting (size o p h task : ℕ) (w : Waiter) (past : List Event) : Type 0 where
@@ -44,12 +46,6 @@ Keeps (Stores task at size value) = ⊥
 Keeps (Fails task) = ⊥
 Keeps e = Unit {0}
 
-others_keep : (e : ActEffect) (ws : List Waiter) → waiters_after (to_others e) ws ≡ ws
-others_keep (TakenUp word) ws = refl
-others_keep (TakesDown control word) ws = refl
-others_keep StepBegins ws = refl
-others_keep e ws = refl
-
 keeps_on : (h : ℕ) (a : Act) (ws : List Waiter) → Keeps a.effect → waiters_after (effect_on h a) ws ≡ ws
 keeps_on h a ws is = by (a.host == h)
   where
@@ -62,7 +58,7 @@ keeps_on h a ws is = by (a.host == h)
 
     by : (b : Bool) → waiters_after (if b then a.effect else to_others a.effect) ws ≡ ws
     by true = own a.effect is
-    by false = others_keep a.effect ws
+    by false = others_wait a.effect ws
 
 keeps_if : (b : Bool) (e f : ActEffect) → Keeps e → Keeps f → Keeps (if b then e else f)
 keeps_if true e f one other = one
@@ -91,7 +87,7 @@ ended_only {A} h on owner task b e f ws w mine goes keeps before found = by b re
 
     away : (x : ActEffect) → (on == h) ≡ false → waiter_of task (waiters_after (to_others x) ws) ≡ Some w → A
     away x there found =
-        let old : waiter_of task ws ≡ Some w = sym (ap (waiter_of task) (others_keep x ws)) ∙ found in
+        let old : waiter_of task ws ≡ Some w = sym (ap (waiter_of task) (others_wait x ws)) ∙ found in
         let bad : false ≡ true = sym there ∙ (ap (λ n. n == h) (before old).0 ∙ itself h) in absurd (cc)
 
     at_place : (c : Bool) → (on == h) ≡ c → waiter_of task (waiters_after (if c then e else to_others e) ws) ≡ Some w → A

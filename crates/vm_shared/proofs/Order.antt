@@ -24,7 +24,7 @@ use Rattle.vm_model.specs.Words.{Asking, Unlocking, Returning, OtherUp, ActEffec
 use Rattle.vm_model.specs.Words.{times_meant, to_others, up_word}
 use Rattle.vm_legal.specs.Licences.{HasCause, MaySendDown, MaySendUp, PagerSends, Says, ServerSends}
 use Rattle.vm_legal.specs.Outside.{Outside, kind_of}
-use Rattle.vm_quiet.proofs.Sane.{there_two}
+use Rattle.vm_quiet.proofs.Sane.{at_place}
 use Rattle.vm_shared.proofs.Speakers.{Numbers, first_up_to, last_grows, numbers_of, speaker}
 
 takes_first : (header : Header) (outside : Outside) (e : Event) (past : List Event) → HasCause header outside e past → TakesFirst e past
@@ -97,7 +97,7 @@ heard_next header outside (event.Sent (Down host object control) m) past n c h o
 heard_next header outside (event.Taken (Up host object) m) past n c h o p small =
     hears_act p (last_control h o past) (host.0 == h) (object.0 == o) m (side h (page_part header.size o p past))
     (λ same. first_up_to (last_control h o past) (queue (up_port h o) past) m (n.sent h o)
-    (there_two (λ g j. first (queue (up_port g j) past) ≡ Some m) host.0 object.0 h o same c.1.0)) small
+    (at_place (λ g j. first (queue (up_port g j) past) ≡ Some m) host.0 object.0 h o same c.1.0)) small
 heard_next header outside (event.Taken (Down host object control) m) past n c h o p small = deaf_act _ h host.0 _ _ (deaf_if (object.0 == o) _ _ tt tt) small
 heard_next header outside (event.Dropped host object page) past n c h o p small =
     deaf_act _ h host.0 _ _ (deaf_if (object.0 == o && page.0 == p) _ _ tt tt) small

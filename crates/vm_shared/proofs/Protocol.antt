@@ -23,7 +23,7 @@ use Rattle.vm_legal.specs.Bytes.{OwnBytes}
 use Rattle.vm_legal.specs.Debts.{IsPaid}
 use Rattle.vm_legal.specs.Licences.{HasCause, LockRequest, MaySendUp, lock_taken}
 use Rattle.vm_legal.specs.Outside.{Outside, is_shared}
-use Rattle.vm_coherence.proofs.Channels.{page_queue}
+use Rattle.vm_coherence.proofs.Channels.{others_up, page_queue}
 use Rattle.vm_coherence.proofs.Protocol.{completed_awaited, ended_awaited, ended_unasked, one_request, one_unlock}
 use Rattle.vm_quiet.proofs.Letters.{never}
 use Rattle.vm_shared.proofs.Causes.{licensed as part_licensed}
@@ -100,9 +100,6 @@ numbered_own size h (TakenUp (Ending control)) past c all = numbered_rest (side 
 numbered_own size h (TakenUp OtherUp) past c all = all
 numbered_own size h e past c all = subst (λ (q : List UpWord). AreNumbered q) (sym (mute e (side h past) tt)) all
 
-mute_others : (e : ActEffect) (s : Side) → (side_after s (to_others e)).up ≡ s.up
-mute_others e s = grind arith
-
 numbered_next : (size : ℕ) (a : Act) (past : List Act) → Cause size a.host a.effect past → (h : ℕ) → AreNumbered (side h past).up
     → AreNumbered (side h (a ∷ past)).up
 numbered_next size a past licensed h all = by (a.host == h) refl
@@ -112,7 +109,7 @@ numbered_next size a past licensed h all = by (a.host == h) refl
 
     by : (b : Bool) → (a.host == h) ≡ b → AreNumbered (side_after (side h past) (if b then a.effect else to_others a.effect)).up
     by true own = numbered_own size h a.effect past (subst (λ g. Cause size g a.effect past) (same a.host h own) licensed) all
-    by false other = subst (λ (q : List UpWord). AreNumbered q) (sym (mute_others a.effect (side h past))) all
+    by false other = subst (λ (q : List UpWord). AreNumbered q) (sym (others_up a.effect (side h past))) all
 
 pub numbered : (size : ℕ) (past : List Act) → ActsLicensed size past → (h : ℕ) → AreNumbered (side h past).up
 numbered size [] licensed h = tt

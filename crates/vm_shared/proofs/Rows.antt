@@ -89,7 +89,8 @@ names_store lock store (inr writing) named = (go store (subst (λ n. names n sto
     go true is = refl
     go false is = is
 
-behind_step : (h o p : ℕ) (lock : Option LockRequest) (done : Bool) (live : Option ℕ) → (is_answered_over h o p lock ≡ true → done ≡ true)
+-- no step is left where the lock's completion was sent
+pub behind_step : (h o p : ℕ) (lock : Option LockRequest) (done : Bool) (live : Option ℕ) → (is_answered_over h o p lock ≡ true → done ≡ true)
     → step_in h o p lock done live ≡ 0
 behind_step h o p None done live behind = refl
 behind_step h o p (Some r) done live behind = by (is_answered_over h o p (Some r)) done (is_control r.control live) (kind_of r.flush) behind
@@ -139,12 +140,14 @@ returns_row ws rs s page live control n now dirty keep bytes i shared steps live
 
 -- a lock is done
 
+-- what a lock that returns changed pages leaves is unchanged
+pub not_given : (dirty precious : Bool) → gives_back 1 dirty precious ≡ false → dirty ≡ false
+not_given true precious is = is
+not_given false precious is = refl
+
 pub done_flag : (page : Local) (returns : ℕ) (flush : Bool) → returns ≡ 1 → IsDoneAt returns flush page → page.here ≡ true → page.dirty ≡ false
-done_flag page returns flush one done here = by page.dirty page.precious (subst (λ n. gives_back n page.dirty page.precious ≡ false) one (done here).1)
-  where
-    by : (dirty precious : Bool) → gives_back 1 dirty precious ≡ false → dirty ≡ false
-    by true precious is = is
-    by false precious is = refl
+done_flag page returns flush one done here =
+    not_given page.dirty page.precious (subst (λ n. gives_back n page.dirty page.precious ≡ false) one (done here).1)
 
 not_alone : (s : Side) (page : Local) (live : Option ℕ) → SideIsLocal live s page → (page.here ≡ true → page.dirty ≡ false) → has_alone s ≡ false
 not_alone s page live i clean = by page.here refl

@@ -120,9 +120,6 @@ pub taken_servers : (header : Header) (outside : Outside) (host : HostId) (objec
 taken_servers header outside host object control m past caused head shared =
     servers_first (queue (down_port host.0 object.0 control) past) m head (servers_of header outside past caused host.0 object.0 control shared)
 
-no_request : (r : LockRequest) → ◌≡◌ {A = Option LockRequest} None (Some r) → ⊥
-no_request r e = cc
-
 -- the lock that a step took
 abbrev pub IsServersRequest : Option LockRequest → Header → Type 0
 IsServersRequest None header = Unit {0}

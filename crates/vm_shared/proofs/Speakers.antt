@@ -20,7 +20,7 @@ use Rattle.vm_legal.specs.Outside.{Outside}
 use Rattle.vm_legal.specs.Pagers.{known_after, known_control}
 use Rattle.vm_legal.specs.Steps.{Letter, taken_letter}
 use Rattle.vm_quiet.proofs.Letters.{never}
-use Rattle.vm_quiet.proofs.Sane.{there_two}
+use Rattle.vm_quiet.proofs.Sane.{at_place}
 
 -- the control that a message begins, or for which it asks
 abbrev pub speaker : Message → ℕ
@@ -72,10 +72,10 @@ grow_if false control last is = omega arith
 pub last_grows : (header : Header) (outside : Outside) (e : Event) (past : List Event) → HasCause header outside e past → (h o : ℕ)
     → last_control h o past ≤ last_control h o (e ∷ past)
 last_grows header outside (event.Sent (Up host object) (message.Init control size)) past c h o =
-    grow_if (host.0 == h && object.0 == o) control (last_control h o past) (λ is. there_two (λ g k. last_control g k past ≤ control) host.0 object.0 h o is
+    grow_if (host.0 == h && object.0 == o) control (last_control h o past) (λ is. at_place (λ g k. last_control g k past ≤ control) host.0 object.0 h o is
     (omega (arith, c.1.number)))
 last_grows header outside (event.Sent (Up host object) (message.Create control size)) past c h o =
-    grow_if (host.0 == h && object.0 == o) control (last_control h o past) (λ is. there_two (λ g k. last_control g k past ≤ control) host.0 object.0 h o is
+    grow_if (host.0 == h && object.0 == o) control (last_control h o past) (λ is. at_place (λ g k. last_control g k past ≤ control) host.0 object.0 h o is
     (omega (arith, c.1.never)))
 last_grows header outside e past c h o = omega arith
 
@@ -115,7 +115,7 @@ sent_said : (header : Header) (doing : Command) (host : HostId) (object : Object
 sent_said header doing host object (message.Init control size) past n c h o is = own_if (host.0 == h && object.0 == o) control (last_control h o past) is
 sent_said header doing host object (message.Create control size) past n c h o is = own_if (host.0 == h && object.0 == o) control (last_control h o past) is
 sent_said header doing host object (message.Request control page access) past n c h o is =
-    there_two (λ g k. control ≤ last_control g k past) host.0 object.0 h o is (omega (arith, n.live host.0 object.0 control c.live))
+    at_place (λ g k. control ≤ last_control g k past) host.0 object.0 h o is (omega (arith, n.live host.0 object.0 control c.live))
 sent_said header doing host object m past n c h o is = omega arith
 
 sent_next : (header : Header) (outside : Outside) (e : Event) (past : List Event) → Numbers past → HasCause header outside e past → (h o : ℕ)
@@ -166,7 +166,7 @@ known_next : (header : Header) (outside : Outside) (e : Event) (past : List Even
 known_next header outside (event.Taken (Up host object) m) past n c h o k is =
     known_if (host.0 == h && object.0 == o) m (known_control h o past) (last_control h o past) k
     (λ same. first_up_to (last_control h o past) (queue (up_port h o) past) m (n.sent h o)
-    (there_two (λ g j. first (queue (up_port g j) past) ≡ Some m) host.0 object.0 h o same c.1.0)) (n.known h o) is
+    (at_place (λ g j. first (queue (up_port g j) past) ≡ Some m) host.0 object.0 h o same c.1.0)) (n.known h o) is
 known_next header outside (event.Sent channel said) past n c h o k is =
     omega (arith, n.known h o k is, last_grows header outside (event.Sent channel said) past c h o)
 known_next header outside e past n c h o k is = n.known h o k is

@@ -27,10 +27,10 @@ use Rattle.vm_legal.specs.Licences.{Completes, HasCause, LockRequest, MaySendUp,
 use Rattle.vm_legal.specs.Outside.{Outside, is_shared}
 use Rattle.vm_legal.specs.Steps.{completes, since}
 use Rattle.vm_coherence.specs.Locals.{SideIsLocal}
-use Rattle.vm_coherence.proofs.Locals.{side_is_local}
+use Rattle.vm_coherence.proofs.Locals.{reaches_is, side_is_local}
 use Rattle.vm_flat.proofs.Locals.{each_founded}
-use Rattle.vm_quiet.proofs.Letters.{never}
-use Rattle.vm_quiet.proofs.Sane.{there_two}
+use Rattle.vm_quiet.proofs.Letters.{else_same, never, then_same}
+use Rattle.vm_quiet.proofs.Sane.{at_place}
 use Rattle.vm_shared.proofs.Declared.{shared_declared}
 use Rattle.vm_shared.proofs.Speakers.{last_grows, numbers_of}
 
@@ -158,11 +158,7 @@ took_act now after n m false true control w s was mine none = record { ready = �
 took_act now after n m false false control w s was mine none = record { ready = λ live. was.ready live ∙ sym (none refl).0; step = sym (none refl).1 }
 
 open_is : (live : Option ℕ) (s : Side) (page : Local) (control : ℕ) → SideIsLocal live s page → is_open_to s control ≡ is_control control live
-open_is live s page control i = by s.live s.control ∙ ap (is_control control) i.control
-  where
-    by : (b : Bool) (n : ℕ) → (b && n == control) ≡ is_control control (if b then Some n else None)
-    by true n = refl
-    by false n = refl
+open_is live s page control i = reaches_is live s control i.control
 
 answer_if : (b : Bool) (v w : DownWord) → IsAnswer v → IsAnswer w → IsAnswer (if b then v else w)
 answer_if true v w one two = one
@@ -299,14 +295,6 @@ completed_else true true c is = never (sym is)
 completed_else true false c is = refl
 completed_else false b c is = refl
 
-chosen : {A : Type 0} (b : Bool) (x y : A) → b ≡ false → (if b then x else y) ≡ y
-chosen false x y is = refl
-chosen true x y is = never (sym is)
-
-picked : {A : Type 0} (b : Bool) (x y : A) → b ≡ true → (if b then x else y) ≡ x
-picked true x y is = refl
-picked false x y is = never is
-
 dead_step : (h o p : ℕ) (lock : Option LockRequest) (done : Bool) → step_in h o p lock done None ≡ 0
 dead_step h o p None done = refl
 dead_step h o p (Some r) done = grind arith
@@ -336,7 +324,7 @@ new_step h o p n control (Some r) done up less = by (is_answered_over h o p (Som
       where
         by_done : (d : Bool) → (control == r.control) ≡ false → (if not d && control == r.control then kind_of r.flush else 0) ≡ 0
         by_done true e = refl
-        by_done false e = chosen (control == r.control) (kind_of r.flush) 0 e
+        by_done false e = else_same (control == r.control) (kind_of r.flush) 0 e
 
 both : (a b : Bool) → a ≡ true → b ≡ true → (a && b) ≡ true
 both true b one two = two
@@ -379,15 +367,15 @@ sent_init header host object control size past h o p s dead less up was =
     let zero_now : step_in h o p (lock_taken past) ((host.0 == h && (object.0 == o && false)) || since (completes h o) past)
     (if host.0 == h && object.0 == o then Some control else live_control h o past) ≡ 0 =
     ap (λ (l : Option ℕ). step_in h o p (lock_taken past) ((host.0 == h && (object.0 == o && false)) || since (completes h o) past) l)
-    (picked (host.0 == h && object.0 == o) (Some control) (live_control h o past) is)
+    (then_same (host.0 == h && object.0 == o) (Some control) (live_control h o past) is)
     ∙ new_step h o p (last_control h o past) control (lock_taken past) ((host.0 == h && (object.0 == o && false)) || since (completes h o) past) up (less is) in
-    record { ready = λ live. sym (picked (host.0 == h && object.0 == o) false (is_ready h o past) is); step = was.step ∙ zero_then ∙ sym zero_now })
+    record { ready = λ live. sym (then_same (host.0 == h && object.0 == o) false (is_ready h o past) is); step = was.step ∙ zero_then ∙ sym zero_now })
     (λ none. (
-      chosen (host.0 == h && object.0 == o) false (is_ready h o past) none,
+      else_same (host.0 == h && object.0 == o) false (is_ready h o past) none,
       ap (λ (d : Bool). step_in h o p (lock_taken past) d (if host.0 == h && object.0 == o then Some control else live_control h o past))
           (uncompleted (host.0 == h) (object.0 == o) (since (completes h o) past))
           ∙ ap (λ (l : Option ℕ). step_in h o p (lock_taken past) (since (completes h o) past) l)
-          (chosen (host.0 == h && object.0 == o) (Some control) (live_control h o past) none),
+          (else_same (host.0 == h && object.0 == o) (Some control) (live_control h o past) none),
     ))
 
 gone : (control : ℕ) (live : Option ℕ) → live ≡ Some control → without_control control live ≡ None
@@ -410,7 +398,7 @@ sent_terminate header host object control past h o p s lives was =
     let d : Bool = (host.0 == h && (object.0 == o && false)) || since (completes h o) past in
     let zero_now : step_in h o p (lock_taken past) d (if host.0 == h && object.0 == o then without_control control (live_control h o past) else live_control h o
     past) ≡ 0 =
-    ap (λ (l : Option ℕ). step_in h o p (lock_taken past) d l) (picked (host.0 == h && object.0 == o) (without_control control (live_control h o past))
+    ap (λ (l : Option ℕ). step_in h o p (lock_taken past) d l) (then_same (host.0 == h && object.0 == o) (without_control control (live_control h o past))
     (live_control h o past) is ∙ gone control (live_control h o past) (lives is)) ∙ dead_step h o p (lock_taken past) d in
     record { ready = λ live. never live; step = sym zero_now })
     (λ none. (
@@ -418,7 +406,7 @@ sent_terminate header host object control past h o p s lives was =
       ap (λ (d : Bool). step_in h o p (lock_taken past) d (if host.0 == h && object.0 == o then without_control control (live_control h o past) else
           live_control h o past)) (uncompleted (host.0 == h) (object.0 == o) (since (completes h o) past))
           ∙ ap (λ (l : Option ℕ). step_in h o p (lock_taken past) (since (completes h o) past) l)
-          (chosen (host.0 == h && object.0 == o) (without_control control (live_control h o past)) (live_control h o past) none),
+          (else_same (host.0 == h && object.0 == o) (without_control control (live_control h o past)) (live_control h o past) none),
     ))
 
 -- a lock over another page is no step of this one
@@ -480,8 +468,8 @@ sent : (header : Header) (why : Command) (host : HostId) (object : ObjectId) (m 
     (side_after s (if host.0 == h then (if object.0 == o then sent_act_effect p m else Nothing) else to_others
     (if object.0 == o then sent_act_effect p m else Nothing)))
 sent header why host object (message.Init control size) past h o p s shared c up was =
-    sent_init header host object control size past h o p s (λ is. there_two (λ g k. live_control g k past ≡ None) host.0 object.0 h o is c.none)
-    (λ is. there_two (λ g k. last_control g k past < control) host.0 object.0 h o is (omega (arith, c.number))) up was
+    sent_init header host object control size past h o p s (λ is. at_place (λ g k. live_control g k past ≡ None) host.0 object.0 h o is c.none)
+    (λ is. at_place (λ g k. last_control g k past < control) host.0 object.0 h o is (omega (arith, c.number))) up was
 sent header why host object (message.Create control size) past h o p s shared c up was =
     let alone : (host.0 == h && object.0 == o) ≡ true → ⊥ = λ is. let less = shared_declared header o shared in let over = c.temporary in apart host.0 object.0
     h o is less over in
@@ -490,7 +478,7 @@ sent header why host object (message.Create control size) past h o p s shared c 
     apart : (a b h o : ℕ) → (a == h && b == o) ≡ true → o < named header → named header ≤ b → ⊥
     apart a b h o is less over = grind (arith, nat_tests)
 sent header why host object (message.Terminate control) past h o p s shared c up was =
-    sent_terminate header host object control past h o p s (λ is. there_two (λ g k. live_control g k past ≡ Some control) host.0 object.0 h o is c.live) was
+    sent_terminate header host object control past h o p s (λ is. at_place (λ g k. live_control g k past ≡ Some control) host.0 object.0 h o is c.live) was
 sent header why host object (message.Completed control page count) past h o p s shared c up was =
     sent_completed header host object control page.0 count past h o p s c was
 sent header why host object (message.Request control page access) past h o p s shared c up was =
@@ -525,7 +513,7 @@ lock_small header outside [] caused h o = tt
 lock_small header outside (event.Line line ∷ past) caused h o = tt
 lock_small header outside (event.Taken (Down host object control) (message.Lock page count returns flush lock reply) ∷ past) caused h o =
     lock_if (is_control control (live_control host.0 object.0 past)) h o (last_control h o past) _
-    (λ is same. there_two (λ g k. control ≤ last_control g k past) host.0 object.0 h o same
+    (λ is same. at_place (λ g k. control ≤ last_control g k past) host.0 object.0 h o same
     (omega (arith, (numbers_of header outside past caused.1).live host.0 object.0 control (is_number control (live_control host.0 object.0 past) is))))
 lock_small header outside (event.Taken (Down host object control) m ∷ past) caused h o = tt
 lock_small header outside (event.Taken (Up host object) m ∷ past) caused h o = tt

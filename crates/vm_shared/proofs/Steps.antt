@@ -20,6 +20,7 @@ use Rattle.vm_legal.specs.Licences.{HasCause, LockRequest, is_answered_over, loc
 use Rattle.vm_legal.specs.Outside.{Outside, is_shared}
 use Rattle.vm_legal.specs.Steps.{completes, since}
 use Rattle.vm_quiet.proofs.Letters.{never}
+use Rattle.vm_shared.proofs.Rows.{behind_step}
 use Rattle.vm_shared.proofs.Stepped.{step_in, stepped_of}
 
 -- a step that has paid has done the lock that it took
@@ -43,16 +44,10 @@ paid_step : (header : Header) (h o p : ℕ) (past : List Event) → IsPaid heade
     → step_in h o p (lock_taken past) (since (completes h o) past) (live_control h o past) ≡ 0
 paid_step header h o p past paid = by (lock_taken past) refl
   where
-    none : (over done lives : Bool) (n : ℕ) → (over ≡ true → done ≡ true) → (if over && (not done && lives) then n else 0) ≡ 0
-    none true true lives n is = refl
-    none true false lives n is = never (is refl)
-    none false done lives n is = refl
-
     by : (taken : Option LockRequest) → lock_taken past ≡ taken → step_in h o p taken (since (completes h o) past) (live_control h o past) ≡ 0
     by None e = refl
     by (Some r) e =
-        none (is_answered_over h o p (Some r)) (since (completes h o) past) (is_control r.control (live_control h o past)) (kind_of r.flush)
-        (told_done header h o p past r paid e)
+        behind_step h o p (Some r) (since (completes h o) past) (live_control h o past) (told_done header h o p past r paid e)
 
 pub done_now : (header : Header) (outside : Outside) (o p : ℕ) (past : List Event) → is_shared header o ≡ true → EachEvent (HasCause header outside) past
     → IsPaid header past → Done (page_part header.size o p past)

@@ -30,6 +30,8 @@ use Rattle.vm_legal.specs.Accesses.{At, Waits, page_of}
 use Rattle.vm_legal.specs.Licences as L
 use Rattle.vm_legal.specs.Licences.{HasCause}
 use Rattle.vm_legal.specs.Outside.{Outside, is_shared}
+use Rattle.vm_coherence.proofs.Locals.{host_lives}
+use Rattle.vm_quiet.proofs.Letters.{else_same, then_same}
 use Rattle.vm_shared.proofs.Declared.{declared_top_own, shared_declared}
 use Rattle.vm_shared.proofs.Numbering.{Numbering, at_made, comes_own, numbering, top_own}
 
@@ -159,12 +161,6 @@ spares task size o p hosts means held other is = tt
 
 -- the waiters of others
 
-pub else_same : {A : Type 0} (b : Bool) (x y : A) → b ≡ false → (if b then x else y) ≡ y
-else_same b x y is = rw is refl
-
-pub then_same : {A : Type 0} (b : Bool) (x y : A) → b ≡ true → (if b then x else y) ≡ x
-then_same b x y is = rw is refl
-
 pub number_is : (a b : ℕ) → (a == b) ≡ true → a ≡ b
 number_is a b is = grind (arith, nat_tests)
 
@@ -214,22 +210,6 @@ idle task owner access past is none some = none_waits task access past (ap (λ t
 ended : {A : Type 0} (b : Bool) (access : Access) (was : Option Access) → b ≡ true → (if b then None else was) ≡ Some access → A
 ended b access was is some = let bad : None ≡ Some access = sym (then_same b None was is) ∙ some in absurd (cc)
 
--- a task that lives is on the host where it began last
-pub on_host : (task h : ℕ) (past : List Event) → host_of task past ≡ Some h → task_host task past ≡ h
-on_host task h [] lives = absurd (cc)
-on_host task h (event.TaskMade made host ∷ past) lives = by (made.0 == task) lives (on_host task h past)
-  where
-    by : (b : Bool) → (if b then Some host.0 else host_of task past) ≡ Some h → (host_of task past ≡ Some h → task_host task past ≡ h)
-        → (if b then host.0 else task_host task past) ≡ h
-    by true is later = cc
-    by false is later = later is
-on_host task h (event.TaskEnded gone ∷ past) lives = by (gone.0 == task) lives (on_host task h past)
-  where
-    by : (b : Bool) → (if b then None else host_of task past) ≡ Some h → (host_of task past ≡ Some h → task_host task past ≡ h) → task_host task past ≡ h
-    by true is later = absurd (cc)
-    by false is later = later is
-on_host task h (e ∷ past) lives = on_host task h past lives
-
 -- the task of a slow copy's page waits with that copy
 pub copies_plain : {A : Type 0} (task : ℕ) (access : Access) (address bytes to : ℕ) (past : List Event) → IsPlainAccess access
     → waiting task past ≡ Some (Copying address bytes to) → waiting task past ≡ Some access → A
@@ -266,11 +246,11 @@ begun size o p h task owner address bytes value store access past mine is none l
         (Begins owner b (address % size) bytes value))) (waiters h (page_part size o p past))) ≡ Some (waiter_for size task access)
     by true is none =
         begins_there size h (task_host owner past) task owner true (means_page size o p owner address past) (address % size) bytes value
-        (waiters h (page_part size o p past)) own (ap (λ t. task_host t past) own ∙ on_host task h past lives) (place (ap at_address is))
+        (waiters h (page_part size o p past)) own (ap (λ t. task_host t past) own ∙ host_lives task h past lives) (place (ap at_address is))
         ∙ ap (λ a. Some (waiter_for size task a)) (sym is)
     by false is none =
         begins_there size h (task_host owner past) task owner false (means_page size o p owner address past) (address % size) bytes value
-        (waiters h (page_part size o p past)) own (ap (λ t. task_host t past) own ∙ on_host task h past lives) (place (ap at_address is))
+        (waiters h (page_part size o p past)) own (ap (λ t. task_host t past) own ∙ host_lives task h past lives) (place (ap at_address is))
         ∙ (ap (λ v. Some (record { task = task; store = false; at = address % size; size = bytes; value = v })) (none refl)
         ∙ ap (λ a. Some (waiter_for size task a)) (sym is))
 
@@ -412,7 +392,7 @@ copy_begun : (size o p h task owner address bytes : ℕ) (past : List Event) →
     })) (readers h (page_part size o p past)))
 copy_begun size o p h task owner address bytes past mine lives =
     let own : owner ≡ task = number_is owner task mine in
-    let on : (task_host owner past == h) ≡ true = ap (λ n. n == h) (ap (λ t. task_host t past) own ∙ on_host task h past lives) ∙ itself h in
+    let on : (task_host owner past == h) ≡ true = ap (λ n. n == h) (ap (λ t. task_host t past) own ∙ host_lives task h past lives) ∙ itself h in
     let from : address + 0 * size ≡ address = omega arith in
     let all : bytes / size - 0 ≡ bytes / size = omega arith in
     let enough = own_more task owner (times_meant size (λ at. means_page size o p owner at past) address (bytes / size)) (readers h (page_part size o p past))
@@ -483,7 +463,7 @@ copied_noted header o p h task address bytes to owner index object page target p
     let own : owner.0 ≡ task = number_is owner.0 task mine in
     let c : L.CopiesPage header task index.0 object.0 page.0 target.0 past = subst (λ (t : ℕ). L.CopiesPage header t index.0 object.0 page.0 target.0 past) own
     cause in
-    let on : (task_host owner.0 past == h) ≡ true = ap (λ n. n == h) (ap (λ t. task_host t past) own ∙ on_host task h past lives) ∙ itself h in
+    let on : (task_host owner.0 past == h) ≡ true = ap (λ n. n == h) (ap (λ t. task_host t past) own ∙ host_lives task h past lives) ∙ itself h in
     let temporary = k.fills task (record { region = c.region; object = target.0 }) c.filled in
     let other : (target.0 == o && index.0 == p) ≡ false = grind (arith, nat_tests) in
     let left = copied_count task owner.0 h (task_host owner.0 past) (target.0 == o && index.0 == p) (object.0 == o && page.0 == p)
@@ -611,7 +591,15 @@ pub record WaitersAgree (header : Header) (o p : ℕ) (past : List Event) : Type
 
 pub waiters_agree : (header : Header) (outside : Outside) (o p : ℕ) (past : List Event) → EachEvent (HasCause header outside) past → is_shared header o ≡ true
     → WaitersAgree header o p past
-waiters_agree header outside o p past caused shared = record { there = there; reads = reads }
+waiters_agree header outside o p past caused shared = record {
+  there = there;
+  reads = λ task address bytes to waits region page left.
+      let noted = are_noted header outside o p past caused (shared_declared header o shared) waits.at.host task address bytes to waits.waits waits.at.lives in
+      let means = led_means header o p task (address + next_page task past * header.size) past waits.at region page in
+      some_reader task (readers waits.at.host (page_part header.size o p past))
+      (first_noted header.size o p address bytes (next_page task past) (count_in task (readers waits.at.host (page_part header.size o p past)))
+      (entries_of header.size task past) noted left means);
+}
   where
     there : (task : ℕ) (access : Access) → IsPlainAccess access → (waits : Waits header task access past) → waits.at.entry.region.0 ≡ o
         → page_of header task access past waits.at.entry ≡ p → IsThere header.size o p waits.at.host task access past
@@ -622,16 +610,6 @@ waiters_agree header outside o p past caused shared = record { there = there; re
         is_there header outside o p past caused waits.at.host task (Storing address bytes value) tt waits.waits waits.at.lives
         (led_means header o p task address past waits.at region page)
     there task (Copying address bytes to) plain waits region page = absurd plain
-
-    reads : (task address bytes to : ℕ) → (waits : Waits header task (Copying address bytes to) past) → waits.at.entry.region.0 ≡ o
-        → page_of header task (Copying address bytes to) past waits.at.entry ≡ p → next_page task past < bytes / header.size
-        → any_reader (readers waits.at.host (page_part header.size o p past)) ≡ true
-    reads task address bytes to waits region page left =
-        let noted = are_noted header outside o p past caused (shared_declared header o shared) waits.at.host task address bytes to waits.waits waits.at.lives in
-        let means = led_means header o p task (address + next_page task past * header.size) past waits.at region page in
-        some_reader task (readers waits.at.host (page_part header.size o p past))
-        (first_noted header.size o p address bytes (next_page task past) (count_in task (readers waits.at.host (page_part header.size o p past)))
-        (entries_of header.size task past) noted left means)
 
 -- what the rows of a shared page have
 

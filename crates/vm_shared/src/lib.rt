@@ -60,7 +60,7 @@ pub fn shared_pages_are_one_memory()
 /// control that did not begin, and controls of an object have rising numbers on each host. And what the
 /// page law takes for granted of each event: its page is here, its task lives, its control is the live
 /// one.
-#[tactic(auto, using(crate::proofs::Order::up_in_order, crate::proofs::Order::down_in_order, crate::proofs::Founded::founded))]
+#[tactic(auto, using(crate::proofs::Order::up_in_order, crate::proofs::Order::down_in_order, vm_flat::proofs::Locals::each_founded))]
 pub fn channels_are_in_order()
     ensures up { (header : Header) (outside : Outside) (history : List Event) → EachEvent (HasCause header outside) history → UpInOrder history }
     ensures down { (header : Header) (outside : Outside) (history : List Event) → EachEvent (HasCause header outside) history → DownInOrder history }
