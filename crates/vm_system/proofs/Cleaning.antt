@@ -12,7 +12,7 @@ use Rattle.vm_model.specs.declared.command.Command.TheVariants as command
 use Rattle.vm_model.specs.declared.event.Event.TheVariants as event
 use Rattle.vm_model.specs.declared.message.Message.TheVariants as message
 use Rattle.vm_system.proofs.Agreeing.{IsSpared}
-use Rattle.vm_system.proofs.Homes.{file_paged}
+use Rattle.vm_flat.proofs.Voids.{file_paged}
 use Rattle.vm_system.proofs.Sayings.{orderly_cleaned}
 
 -- the pager of an object knows the control that it knew in front of a line

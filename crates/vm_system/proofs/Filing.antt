@@ -1,22 +1,12 @@
 -- What leaves the files' pagers, and the files.
 use Rattle.vm_system.proofs.Apart.{IsAbout}
-use Rattle.vm_system.proofs.Common.{AllFilesServe, Bool, Down, EachOf, Event, FileKept, FileTable, FilesCarry, Header, HostId, List, MayHave, Message, None}
-use Rattle.vm_system.proofs.Common.{ObjectId, Option, SameAreas, Some, Told, Up, [], ap, arith, false, false≢true, home_of, homes_stay, inl, inr, is_file}
-use Rattle.vm_system.proofs.Common.{name_of, named, nat_lt, nat_tests, none-some, refl, sym, true, ℕ, ◌&&◌, ◌++◌, ◌<◌, ◌∙◌, ◌∷◌, ◌≡◌, ◌≢◌}
+use Rattle.vm_system.proofs.Common.{AllFilesServe, Down, EachOf, Event, FileKept, FileTable, FilesCarry, Header, HostId, List, MayHave, Message, None}
+use Rattle.vm_system.proofs.Common.{ObjectId, Option, SameAreas, Some, Told, Up, [], ap, false, false≢true, home_of, homes_stay, inl, inr, is_file}
+use Rattle.vm_system.proofs.Common.{name_of, none-some, refl, sym, true, ℕ, ◌++◌, ◌∙◌, ◌∷◌, ◌≡◌, ◌≢◌}
 use Rattle.pg_file.proofs.Carrying.{others_carry}
 use Rattle.pg_file.proofs.Standing.{others}
 use Rattle.pg_file.specs.Stands.{IsOther, PagerStands as FileStands}
-use Rattle.vm_legal.specs.Outside.{is_file_kept}
-use Rattle.vm_model.specs.Named.{declared}
 use Rattle.vm_model.specs.declared.event.Event.TheVariants as event
-
--- a file is declared
-pub is_declared : (header : Header) (object : ℕ) → is_file header object ≡ true → object < named header
-is_declared header object file = by (nat_lt object (named header)) refl file
-  where
-    by : (low : Bool) → nat_lt object (named header) ≡ low → (low && is_file_kept (declared header object)) ≡ true → object < named header
-    by true low file = grind (arith, nat_tests, low)
-    by false low file = absurd (false≢true file)
 
 -- who may have a file's pages might before
 pub may_back : (host object : ℕ) (events past : List Event) → MayHave host object (events ++ past) → MayHave host object past

@@ -1,8 +1,10 @@
 -- The files hold the flat map: where all was taken, no call of the files has failed, and no control lives.
+use Rattle.std.proofs.lemmas.Option.{same_Some}
+use Rattle.vm_quiet.proofs.Letters.{then_same}
 use Rattle.std.proofs.Common.{ℕ, ◌≡◌, ◌<◌, ◌≤◌, ◌*◌, ◌==◌, ◌&&◌, ◌||◌, not, inl, inr, Bool, true, false, List, [], ◌∷◌, Option, Some, None, refl, sym, ap, ◌∙◌}
 use Rattle.std.proofs.Common.{arith, if◌then◌else◌, length}
 use Rattle.std.proofs.lemmas.Bool.Decides.{nat_tests}
-use Rattle.std.specs.Prelude.{drop, unwrap_or}
+use Rattle.std.specs.Prelude.{unwrap_or}
 use Rattle.vm_model.specs.declared.command.Numbered.{Numbered}
 use Rattle.vm_model.specs.declared.event.Device.TheVariants as device
 use Rattle.vm_model.specs.declared.event.Event.{Event}
@@ -33,7 +35,7 @@ use Rattle.vm_flat.proofs.Staying.{none_here}
 use Rattle.vm_flat.proofs.Using.{by_cause}
 use Rattle.vm_quiet.proofs.Letters.{none_queued}
 use Rattle.vm_outside.specs.Areas.{Told, read_at}
-use Rattle.pg_file.specs.Stands.{FileKept, IsStartTold, name_of}
+use Rattle.pg_file.specs.Stands.{FileKept, IsStartTold}
 use Rattle.vm_system.specs.Flat.{FilesAreFlat, HasFlatPages, files_failed}
 use Rattle.vm_system.specs.Keeping.{FilesAreTold, FilesCarry, MayHave}
 use Rattle.vm_legal.proofs.Turns.{any_cut, so_far_of}
@@ -87,13 +89,6 @@ told_not_said true true paging is tells = absurd (let bad : false ≡ true = tel
 told_not_said false true paging is tells = refl
 told_not_said said false paging is tells = absurd (let bad : false ≡ true = is in cc)
 
-chosen : {A : Type 0} (b : Bool) (x y : A) → b ≡ true → (if b then x else y) ≡ x
-chosen true x y is = refl
-chosen false x y is = absurd (let bad : false ≡ true = is in cc)
-
-same_bytes : (a b : List ℕ) → Some a ≡ Some b → a ≡ b
-same_bytes a b is = cc
-
 -- some host has the file, or none has it yet
 somebody : (object : ℕ) (history : List Event) → (host : ℕ) × MayHave host object history
 somebody object history = by (home_of object history) refl
@@ -105,18 +100,16 @@ somebody object history = by (home_of object history) refl
 pub flat_files : (header : Header) (outside : Outside) (start areas : List ℕ → Told) (run : List Numbered) (h : List Event) → CanonicalOpen header outside run h
     → EachEvent (CopiesCurrent header outside) h → FilesAreTold header outside start → FilesCarry header start areas h
     → FilesAreFlat header outside start areas h
-flat_files header outside start areas run h legal current told carry = record { beyond = beyond; pages = pages }
+flat_files header outside start areas run h legal current told carry = record {
+  beyond = λ o was file is.
+      let kept = carry.kept o was file is in
+      let who = somebody o h in
+      (kept.0, kept.1, (kept.2 who.0 who.1).beyond (declared_pages header o) (λ p above. none_beyond header outside h causes current who.0 o p file above));
+  pages = pages;
+}
   where
     causes : EachEvent (HasCause header outside) h
     causes = so_far header outside run h (so_far_of header outside run h legal.follows)
-
-    beyond : (o : ℕ) (was : Option (List ℕ)) → is_file header o ≡ true → start (name_of header o) ≡ Some was
-        → (now : Option (List ℕ)) × (areas (name_of header o) ≡ Some now)
-        × (drop (declared_pages header o * header.size) (unwrap_or now []) ≡ drop (declared_pages header o * header.size) (unwrap_or was []))
-    beyond o was file is =
-        let kept = carry.kept o was file is in
-        let who = somebody o h in
-        (kept.0, kept.1, (kept.2 who.0 who.1).beyond (declared_pages header o) (λ p above. none_beyond header outside h causes current who.0 o p file above))
 
     -- the file has what its pager has
     holds : (host o p : ℕ) (was now : Option (List ℕ)) → is_file header o ≡ true → is_lost o p h ≡ false → IsStartTold header outside o was
@@ -125,7 +118,7 @@ flat_files header outside start areas run h legal current told carry = record { 
         let start_is : start_page header outside o p ≡ read_at (unwrap_or was []) (p * header.size) header.size = ap
         (λ (files : FilesAtStart). start_in header files o p) at.told ∙ at.page p in
         let begun : (if is_file header o then Some (start_page header outside o p) else None) ≡ Some
-        (read_at (unwrap_or was []) (p * header.size) header.size) = chosen (is_file header o) (Some (start_page header outside o p)) None file
+        (read_at (unwrap_or was []) (p * header.size) header.size) = then_same (is_file header o) (Some (start_page header outside o p)) None file
         ∙ ap Some start_is in
         kept.page p fine ∙ ap (λ (x : Option (List ℕ)). newer (last_return host o p h) x) (sym begun)
 
@@ -144,6 +137,6 @@ flat_files header outside start areas run h legal current told carry = record { 
               let has : pager_has header outside host o p h ≡ Some (flat_page header outside o p h) =
               settled header outside h causes current host o p file silent used less (none_queued (up_port host o) h delivered)
               (λ here. absurd (let bad : false ≡ true = sym away ∙ here in cc)) in
-              same_bytes (read_at (unwrap_or kept.0 []) (p * header.size) header.size) (flat_page header outside o p h)
+              same_Some (read_at (unwrap_or kept.0 []) (p * header.size) header.size) (flat_page header outside o p h)
               (holds host o p at.0 kept.0 file (never_lost header outside o p h causes file fine) at.2 (kept.2 host may) ∙ has),
         )

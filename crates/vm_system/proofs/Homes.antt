@@ -14,15 +14,7 @@ pub homes : (header : Header) (outside : Outside) (past : List Event) → EachEv
 homes header outside [] causes = homes_start header
 homes header outside (e ∷ past) causes = homes_next header outside e past causes.0 (homes header outside past causes.1)
 
--- a file is one that its pager serves, and of the declared objects no other is served by a file's pager or a default pager
-
-pub file_paged : (header : Header) (o : ℕ) → is_file header o ≡ true → is_paged header o ≡ true
-file_paged header o file = either (not (nat_lt o (named header))) (is_file header o) file
-  where
-    either : (b c : Bool) → c ≡ true → b || c ≡ true
-    either true c is = refl
-    either false c is = is
-
+-- of the declared objects none but a file is served by a file's pager or a default pager
 pub paged_file : (header : Header) (o : ℕ) → o < named header → is_paged header o ≡ true → is_file header o ≡ true
 paged_file header o low paged = by (nat_lt o (named header)) (is_file_kept (found header o)) (grind (arith, nat_tests)) paged
   where

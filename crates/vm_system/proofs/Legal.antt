@@ -4,9 +4,9 @@ use Rattle.vm_base.specs.declared.ids.ObjectId.{ObjectId}
 use Rattle.vm_base.specs.declared.ids.TaskId.{TaskId}
 use Rattle.vm_legal.specs.Follows.{clean_head, map_head}
 use Rattle.vm_system.proofs.Common.{AllInner, NoneIsTemporary, AllInTurn, AllServed, Began, Bool, Code, Command, EachEvent, EachIn, EachOf, Entry, Event}
-use Rattle.vm_system.proofs.Common.{FlatBytes, FollowsSoFarInTurn, FramesSuffice, HasCause, Header, Holds, HostTable, IfNone, IsAtRest, IsConsequence}
+use Rattle.vm_system.proofs.Common.{FollowsSoFarInTurn, FramesSuffice, HasCause, Header, Holds, HostTable, IfNone, IsAtRest, IsConsequence}
 use Rattle.vm_system.proofs.Common.{IsDoneInTurn, IsGroupInTurn, IsPaid, IsRunInTurn, IsWholeInTurn, IsWholeSoFarInTurn, KeepsCanonical, List, MomentsIn, None}
-use Rattle.vm_system.proofs.Common.{Numbered, Option, Outside, OwnBytes, Prompt, Some, Went, [], acting, answers, ap, code_where, copies, copies_from}
+use Rattle.vm_system.proofs.Common.{Numbered, Option, Outside, OwnBytes, Prompt, Some, Went, [], acting, ap, code_where, copies, copies_from}
 use Rattle.vm_system.proofs.Common.{copy_refusal, each_both, each_whole, entries_of, entry_at, false, has_copy_mark, head, host_of, if◌then◌else◌, inl}
 use Rattle.vm_system.proofs.Common.{inner_both, is_copied, is_copy_full, is_elsewhere, is_fork_full, is_full, is_idle, is_none, is_range, is_some, length}
 use Rattle.vm_system.proofs.Common.{licensed_both, marked_below, marked_regions, meets_range, moment_last, moments_both, moments_whole, most_entries, nat_le}
@@ -21,8 +21,8 @@ use Rattle.vm_model.specs.declared.command.Command.TheVariants as command
 use Rattle.vm_system.proofs.Cleaning.{IsAsked, known_line}
 use Rattle.vm_system.proofs.Silent.{all_settled, paid_inner, prompt_code, prompt_line}
 use Rattle.sms_server.specs.Stands.{IsOther as IsServerOther}
-use Rattle.vm_shared.proofs.Currents.{copies_current, loads_current}
-use Rattle.vm_system.proofs.Sharing.{writers as one_writer}
+use Rattle.vm_shared.proofs.Currents.{flat_of}
+use Rattle.vm_shared.proofs.Pages.{writers as one_writer}
 use Rattle.vm_shared.proofs.Pages.{legal as pages_legal}
 use Rattle.sms_server.proofs.Acting.{others_recall as recalled_other, others_serve as served_other}
 use Rattle.vm_system.proofs.Lawfulness.{others_said, recalled_more, served_more}
@@ -164,12 +164,6 @@ recalled_said : (header : Header) (line : ℕ) (h events : List Event) → EachO
     → AllRecalled header (events ++ event.Line line ∷ h)
 recalled_said header line h events silent recalled =
     recalled_more header events (event.Line line ∷ h) silent (recalled_other header (event.Line line) h tt recalled)
-
--- where each load answers from its own host's page it answers the flat map's bytes
-pub flat_of : (header : Header) (outside : Outside) (h : List Event) → NoneIsTemporary header → EachEvent (HasCause header outside) h
-    → EachEvent (OwnBytes header) h → EachEvent (FlatBytes header outside) h
-flat_of header outside h kinds causes own =
-    answers header outside h causes own (copies_current header outside h (kinds) causes own) (loads_current header outside h causes own)
 
 -- a command that is no settle is whole so far, where it is whole
 so_far_of : (header : Header) (c : Numbered) (h events : List Event) → (settles c.command ≡ None → IsWholeInTurn header h c events)

@@ -13,7 +13,8 @@ use Rattle.vm_model.specs.Controls.{is_control}
 use Rattle.vm_system.proofs.Endings.{ends_taken}
 use Rattle.vm_system.proofs.Hearing.{heard_next}
 use Rattle.vm_system.proofs.Homes.{elsewhere_taken, home_kept, home_taken, home_temporary}
-use Rattle.vm_system.proofs.Makings.{at_place, ended_is, is_open, made_kept, made_none, made_taken, own}
+use Rattle.vm_quiet.proofs.Sane.{at_place}
+use Rattle.vm_system.proofs.Makings.{ended_is, is_open, made_kept, made_none, made_taken, own}
 use Rattle.vm_system.proofs.Washings.{some_washed, washed_taken}
 
 -- the channels of one history are made in another

@@ -23,6 +23,7 @@ pub mod Makings
 pub mod Numbers
 pub mod Opening
 pub mod Posting
+pub mod Replied
 pub mod Resting
 pub mod Roomed
 pub mod Sayings

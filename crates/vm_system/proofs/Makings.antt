@@ -4,14 +4,11 @@ use Rattle.vm_system.proofs.Common.{first, host_id, if◌then◌else◌, inl, in
 use Rattle.vm_system.proofs.Common.{nat_tests, never, queue, refl, rest, subst, sym, true, up, without_control, ℕ, ◌&&◌, ◌+◌, ◌++◌, ◌<◌, ◌==◌, ◌||◌, ◌∙◌, ◌∷◌}
 use Rattle.vm_system.proofs.Common.{◌≡◌, ◌⊎◌}
 use Rattle.vm_model.specs.declared.event.Event.TheVariants as event
+use Rattle.vm_quiet.proofs.Sane.{at_place}
 use Rattle.vm_model.specs.declared.message.Message.TheVariants as message
 
 pub own : (o : ℕ) → o == o ≡ true
 own o = grind (arith, nat_tests)
-
--- the place of a host and an object
-pub at_place : (P : ℕ → ℕ → Type 0) (a n h o : ℕ) → (a == h && n == o) ≡ true → P a n → P h o
-at_place P a n h o is p = subst (λ (k : ℕ). P k o) (grind (arith, nat_tests)) (subst (λ (k : ℕ). P a k) (grind (arith, nat_tests)) p)
 
 same_test : (m n : ℕ) → m == n ≡ n == m
 same_test m n = grind (arith, nat_tests)

@@ -10,9 +10,10 @@ use Rattle.vm_model.specs.declared.event.Event.TheVariants as event
 use Rattle.vm_ports.specs.Ports.{oldest as oldest_on}
 use Rattle.vm_ports.specs.declared.letter.Letter.{Letter as Posted}
 use Rattle.vm_system.proofs.Numbers.{is_same}
-use Rattle.vm_system.proofs.Sharing.{none_temporary, writers as one_writer}
+use Rattle.vm_shared.proofs.Currents.{flat_of}
+use Rattle.vm_shared.proofs.Pages.{writers as one_writer}
+use Rattle.vm_system.proofs.Sharing.{none_temporary}
 use Rattle.vm_shared.proofs.Pages.{legal as pages_legal}
-use Rattle.vm_system.proofs.Legal.{flat_of}
 use Rattle.vm_legal.proofs.Turns.{so_far_of as weak_so_far}
 use Rattle.vm_legal.specs.InTurn.{AllRecalled, StepIsInTurn}
 use Rattle.vm_system.proofs.Awake.{awake_of}

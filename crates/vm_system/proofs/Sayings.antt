@@ -19,7 +19,8 @@ use Rattle.vm_legal.specs.Licences.{ServerSends, desired_access}
 use Rattle.vm_system.proofs.Hearing.{heard_next}
 use Rattle.vm_system.proofs.Homes.{home_declared, home_kept, home_temporary, paged_file}
 use Rattle.vm_system.proofs.Letters.{Grew, lettered, letters_end, letters_stay, orderly_silent, queued}
-use Rattle.vm_system.proofs.Makings.{at_place, made_completed, made_created, made_kept, made_opened, made_requested, made_returned, made_terminated}
+use Rattle.vm_quiet.proofs.Sane.{at_place}
+use Rattle.vm_system.proofs.Makings.{made_completed, made_created, made_kept, made_opened, made_requested, made_returned, made_terminated}
 use Rattle.vm_system.proofs.Makings.{made_unlocked, of_number, own}
 use Rattle.vm_system.proofs.Washings.{washed_sent}
 use Rattle.vm_legal.proofs.Turns.{cause_of}

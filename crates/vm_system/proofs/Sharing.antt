@@ -1,7 +1,7 @@
 -- What the laws of shared memory say of a system's history, and of the server that stands for it.
-use Rattle.vm_system.proofs.Common.{BeforeSteps, NoneIsTemporary, Bool, EachEvent, EachMoment, Event, HasCause, HasOneWriter, Header, IsPaid, List}
+use Rattle.vm_system.proofs.Common.{BeforeSteps, NoneIsTemporary, Bool, EachEvent, Event, HasCause, Header, IsPaid, List}
 use Rattle.vm_system.proofs.Common.{MeetsProtocol, Message, ObjectId, Outside, OwnBytes, [], arith, false, is_shared, named, nat_lt, nat_tests, never}
-use Rattle.vm_system.proofs.Common.{page_part, queue, refl, subst, sym, true, up, up_word, ℕ, ◌∷◌, ◌≡◌, first, if◌then◌else◌, AllServed, IsRanged, ap, kind_of}
+use Rattle.vm_system.proofs.Common.{page_part, queue, refl, subst, sym, true, up, up_word, ℕ, ◌≡◌, first, if◌then◌else◌, AllServed, IsRanged, ap, kind_of}
 use Rattle.vm_system.proofs.Common.{◌≤◌, ◌==◌, ◌≢◌, ◌∙◌}
 use Rattle.vm_base.specs.declared.ids.ObjectKind.TheVariants as kinds
 use Rattle.vm_legal.specs.Outside.{kind_in}
@@ -12,7 +12,6 @@ use Rattle.std.proofs.Common.{Option, Some}
 use Rattle.vm_model.specs.Side.{side}
 use Rattle.vm_model.specs.Words.{Asking, Doing, OtherUp, Returning, Unlocking, in_range}
 use Rattle.vm_model.specs.declared.message.Message.TheVariants as message
-use Rattle.vm_shared.proofs.Pages.{one_writer}
 use Rattle.vm_shared.proofs.Protocol.{completed_mine, ended_mine, request_alone, unlock_alone}
 
 -- no declared object is temporary
@@ -33,15 +32,6 @@ undeclared header o ranged is = by (nat_lt o (named header)) refl
     by : (b : Bool) → nat_lt o (named header) ≡ b → named header ≤ o
     by true low = absurd (none_temporary header ranged o (grind (arith, nat_tests, low)) is)
     by false high = grind (arith, nat_tests, high)
-
--- a shared page has one writer at every moment
-pub writers : (header : Header) (outside : Outside) (history : List Event) → EachEvent (HasCause header outside) history → EachEvent (OwnBytes header) history
-    → EachMoment (HasOneWriter header) history
-writers header outside [] causes own = λ g h o p shared apart. one_writer header outside [] causes own h g o p shared (λ same. apart (sym same))
-writers header outside (e ∷ past) causes own = (
-  λ g h o p shared apart. one_writer header outside (e ∷ past) causes own h g o p shared (λ same. apart (sym same)),
-  writers header outside past causes.1 own.1,
-)
 
 -- a message about a shared object is what its server is promised
 pub protocol_met : (header : Header) (outside : Outside) (h : ℕ) (object : ObjectId) (m : Message) (past : List Event) → is_shared header object.0 ≡ true

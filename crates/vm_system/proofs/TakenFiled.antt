@@ -1,12 +1,14 @@
 -- A message about a declared object is taken by the pager of its file, which answers.
-use Rattle.vm_system.proofs.Common.{AllFilesServe, AllInTurn, AllServe, AnswersKept, Bool, CanTellAll, CarriesFile, ChannelId, Content, DevicesHaveCause}
-use Rattle.vm_system.proofs.Common.{EachIn, Err, Event, FileAnswer, FileKept, FileTable, FilesAreKept, FilesCarry, Followed, FramesSuffice, Header, HostId}
-use Rattle.vm_system.proofs.Common.{IsConsequence, LeavesFile, List, Listed, MayHave, MayTake, MayTakeFrom, Message, MomentsIn, None, ObjectId, Ok, Option}
-use Rattle.vm_system.proofs.Common.{Outside, OwnBytes, PagerHasAnswered, PagingIsKept, Posts, SameAreas, SlotTable, SlotsFit, Some, SparesPaging, State, Step}
-use Rattle.vm_system.proofs.Common.{TellsPage, Told, Took, Up, [], ap, append_assoc, arith, content_of, devices, each_both, first, gives_frame, home_of, inl}
-use Rattle.vm_system.proofs.Common.{inner_both, inr, is_file, length, length-set, licensed_both, moments_both, name_of, nat_tests, none-some, others}
-use Rattle.vm_system.proofs.Common.{others_carry, queue, refl, same_Some, set, slice_get, slice_get_within, subst, sym, tells, true, false, ℕ, ◌++◌, ◌<◌, ◌==◌}
-use Rattle.vm_system.proofs.Common.{◌∙◌, ◌∷◌, ◌≡◌, ◌≢◌, ◌⊎◌, reverse}
+use Rattle.vm_system.proofs.Common.{AllFilesServe, AllInTurn, AnswersKept, Bool, CanTellAll, CarriesFile, ChannelId, DevicesHaveCause}
+use Rattle.vm_system.proofs.Common.{Err, Event, FileAnswer, FileKept, FileTable, FilesAreKept, FilesCarry, Followed, Header, HostId}
+use Rattle.vm_system.proofs.Common.{LeavesFile, List, Listed, MayHave, MayTake, MayTakeFrom, Message, None, ObjectId, Ok, Option}
+use Rattle.vm_system.proofs.Common.{Outside, PagerHasAnswered, SameAreas, Some, SparesPaging, State, Step}
+use Rattle.vm_system.proofs.Common.{TellsPage, Told, Took, Up, [], ap, arith, devices, first, gives_frame, home_of, inl}
+use Rattle.vm_system.proofs.Common.{inr, is_file, length, length-set, name_of, nat_tests, none-some}
+use Rattle.vm_system.proofs.Common.{queue, refl, same_Some, set, slice_get, slice_get_within, subst, sym, tells, true, false, ℕ, ◌++◌, ◌<◌, ◌==◌}
+use Rattle.vm_system.proofs.Common.{◌∙◌, ◌∷◌, ◌≡◌, ◌≢◌, ◌⊎◌}
+use Rattle.vm_abroad.proofs.Home.{file_named}
+use Rattle.vm_flat.proofs.Voids.{file_paged}
 use Rattle.pg_file.proofs.Carrying.{carries, others_carry as carries_apart}
 use Rattle.pg_file.proofs.Causes.{causes}
 use Rattle.pg_file.proofs.Debts.{paid}
@@ -17,22 +19,18 @@ use Rattle.vm_base.specs.declared.failure.NoMemory.{NoMemory}
 use Rattle.vm_model.specs.declared.event.Device.TheVariants.{Files, Paging}
 use Rattle.vm_model.specs.declared.event.Event.TheVariants as event
 use Rattle.vm_model.specs.declared.message.Message.TheVariants as message
-use Rattle.vm_system.proofs.Answering.{reply_consequences, reply_frames, reply_inner, reply_nobodys, reply_own, reply_spares}
-use Rattle.vm_system.proofs.Apart.{apart_of, declared_fit, declared_stand, set_cases}
+use Rattle.vm_system.proofs.Answering.{reply_spares}
+use Rattle.vm_system.proofs.Apart.{set_cases}
 use Rattle.vm_system.proofs.Filed.{IsFiled, filed_of, word_filed}
-use Rattle.vm_system.proofs.Filing.{carry_areas, is_declared, kept_about, may_back, stands_about}
+use Rattle.vm_system.proofs.Filing.{carry_areas, kept_about, may_back, stands_about}
 use Rattle.vm_legal.proofs.Unshared.{file_unshared}
-use Rattle.sms_server.proofs.Acting.{others_recall as recalled_other, others_serve as served_other, others_stand as server_other}
-use Rattle.vm_system.proofs.Following.{kept_at}
-use Rattle.vm_system.proofs.Homes.{file_paged, home_declared}
-use Rattle.vm_system.proofs.Lawfulness.{lawful_more, lawful_taken, others_about, recalled_more, served_more, server_more}
-use Rattle.vm_system.proofs.Letters.{known_first, letter_first, orderly_taken, washed_out}
+use Rattle.vm_system.proofs.Homes.{home_declared}
+use Rattle.vm_system.proofs.Letters.{known_first, letter_first, orderly_taken}
 use Rattle.vm_system.proofs.Makings.{is_open}
 use Rattle.vm_system.proofs.Sayings.{can_file, orderly_filed}
-use Rattle.vm_system.proofs.Taken.{Front, devices_lined, front_carry, front_content, front_of, front_settled, front_suffice, taken_licensed, takes_step}
-use Rattle.vm_system.proofs.Taken.{taken_suffice}
-use Rattle.vm_system.proofs.TakenUp.{device_cause, going, up_letter}
-use Rattle.vm_system.proofs.Silent.{ends_up}
+use Rattle.vm_system.proofs.Taken.{Front, devices_lined, front_carry, front_of}
+use Rattle.vm_system.proofs.Replied.{AnswerKeeps, Replied, answered, going, paged_apart, spares_paging, stands_unshared, took, up_letter}
+use Rattle.vm_system.proofs.TakenUp.{device_cause}
 
 pub up_filed : (given : Step) (line : Option ℕ) (number : ChannelId) (host : HostId) (object : ObjectId) (m : Message) (s : State)
     → MayTakeFrom given line number (Up host object) s
@@ -44,7 +42,7 @@ pub filed_known : (given : Step) (line : Option ℕ) (number : ChannelId) (host 
     → MayTakeFrom given line number (Up host object) s → is_file given.header object.0 ≡ true → object.0 < length s.files.items
 filed_known given line number host object s may file =
     let count = may.stands.agrees.files.count in
-    let declared = is_declared given.header object.0 file in
+    let declared = file_named given.header object.0 file in
     omega (arith, count, declared)
 
 -- what the file's pager answers to a message that stands in front
@@ -62,7 +60,7 @@ pub record Filed (given : Step) (host : HostId) (object : ObjectId) (m : Message
 home_filed : (given : Step) (host : HostId) (object : ObjectId) (m : Message) (s : State) → Front given s → is_file given.header object.0 ≡ true
     → first (queue (Up host object) given.past) ≡ Some m → home_of object.0 given.past ≡ Some host.0
 home_filed given host object m s front file head =
-    sym (home_declared given.header object.0 given.past (is_declared given.header object.0 file))
+    sym (home_declared given.header object.0 given.past (file_named given.header object.0 file))
     ∙ (front.orderly.home host.0 object.0).made (file_paged given.header object.0 file)
     (is_open host.0 object.0 m given.past (front.orderly.made host.0 object.0) head)
 
@@ -164,51 +162,21 @@ serve_filed given host object m s old new events filed = record {
         filed).about other
         (others_file given.header o pager taken given.past other (filed.front.files.stand o pager file apart.1))
 
--- and no default pager has a part in it
-paged_filed : (given : Step) (host : HostId) (object : ObjectId) (m : Message) (s : State) (old new : FileTable) (events : List Event)
-    → Filed given host object m s old new events
-    → AllServe given.header s.pagers.items (events ++ event.Taken (Up host object) m ∷ given.past)
-paged_filed given host object m s old new events filed =
-    let header = given.header in
-    let taken = event.Taken (Up host object) m in
-    record {
-      numbered = filed.front.pagers.numbered;
-      stand =
-          λ h pager at. declared_stand header h pager object events (taken ∷ given.past) (is_declared header object.0 filed.file)
-          (filed_events given host object m s old new events (taken ∷ given.past) filed).about
-          (others header h pager taken given.past (inl (is_declared header object.0 filed.file)) (filed.front.pagers.stand h pager at));
-    }
+-- what its answer has in common with others
+replied_filed : (given : Step) (host : HostId) (object : ObjectId) (m : Message) (s : State) (old new : FileTable) (events : List Event)
+    → Filed given host object m s old new events → Replied Files given host object m s events
+replied_filed given host object m s old new events filed =
+    let its = filed_events given host object m s old new events (event.Taken (Up host object) m ∷ given.past) filed in
+    record { front = filed.front; head = filed.head; may = filed.may; replies = its.replies; about = its.about; licensed = filed.licensed }
 
 pub spares_filed : (given : Step) (line : Option ℕ) (number : ChannelId) (host : HostId) (object : ObjectId) (m : Message) (s now : State) (old new : FileTable)
     (events : List Event) → MayTakeFrom given line number (Up host object) s
     → Filed given host object m s old new events → now.pagers.items ≡ s.pagers.items → now.history.items ≡ events ++ event.Taken (Up host object) m ∷ given.past
     → SparesPaging given.header given.outside s now
-spares_filed given line number host object m s now old new events may filed pagers items = record {
-  kept =
-      λ areas kept. kept_at header given.outside areas now s.pagers.items (events ++ past) pagers items (paged_filed given host object m s old new events filed)
-      kept.told (λ on h pager at. fit areas kept on h pager at);
-  devices =
-      ap (devices Paging) items ∙ reply_spares Files Paging events past refl is.replies ∙ ap (devices Paging) may.past
-      ∙ devices_lined Paging line s.history.items;
-}
-  where
-    header : Header
-    header = given.header
-
-    past : List Event
-    past = event.Taken (Up host object) m ∷ given.past
-
-    is : IsFiled object events past
-    is = filed_events given host object m s old new events past filed
-
-    fit : (areas : List ℕ → Told) → PagingIsKept header given.outside areas s → given.outside.paging ≡ true → (h : ℕ) (pager : SlotTable)
-        → slice_get s.pagers.items h ≡ Some pager → SlotsFit areas pager (content_of header h (events ++ past))
-    fit areas kept on h pager at =
-        let told = kept.told on h pager at in
-        let own = apart_of header past (orderly_taken header (Up host object) m given.past filed.front.orderly filed.head) h in
-        let over = others_carry header h pager (event.Taken (Up host object) m) given.past areas (inl (is_declared header object.0 filed.file)) own in
-        let was = subst (λ (z : Content). SlotsFit areas pager z) (sym (front_content given line number (Up host object) s may h)) (kept.fits on h pager at) in
-        declared_fit header h pager object areas events past (is_declared header object.0 filed.file) is.about own told (over.fits told was)
+spares_filed given line number host object m s now old new events may filed pagers items =
+    let replied = replied_filed given host object m s old new events filed in
+    spares_paging Files given line number host object m s now events may replied (file_named given.header object.0 filed.file)
+    (reply_spares Files Paging events (event.Taken (Up host object) m ∷ given.past) refl replied.replies) pagers items
 
 -- the file has what was returned to it, and all others what they had
 carry_filed : (given : Step) (host : HostId) (object : ObjectId) (m : Message) (s : State) (old new : FileTable) (events : Listed Event)
@@ -320,95 +288,29 @@ filed_failed header outside m table s now before after e files leaves items kept
 
 -- the hosts' part begins
 pub answered_filed : (given : Step) (host : HostId) (object : ObjectId) (m : Message) (s now : State) (old new : FileTable) (events : List Event)
-    → Filed given host object m s old new events → now.pagers.items ≡ s.pagers.items
-    → now.files.items ≡ set s.files.items object.0 new → now.declared.items ≡ reverse given.header.objects.items → now.server ≡ s.server → now.hosts ≡ s.hosts
-    → now.size ≡ given.header.size
-    → now.history.items ≡ events ++ event.Taken (Up host object) m ∷ given.past → Posts now now.history.items → now.log.items ≡ []
+    → Filed given host object m s old new events → now.pagers.items ≡ s.pagers.items → now.files.items ≡ set s.files.items object.0 new → now.server ≡ s.server
+    → AnswerKeeps given.header s now (events ++ event.Taken (Up host object) m ∷ given.past)
     → PagerHasAnswered (going given host object m events) host (gives_frame m) now
-answered_filed given host object m s now old new events filed pagers files declared server hosts size items posts none =
+answered_filed given host object m s now old new events filed pagers files server keeps =
     let header = given.header in
-    let front = filed.front in
-    let taken = event.Taken (Up host object) m in
-    let letter = letter_first header (Up host object) m given.past front.orderly filed.head in
-    let orderly = orderly_taken header (Up host object) m given.past front.orderly filed.head in
+    let orderly = orderly_taken header (Up host object) m given.past filed.front.orderly filed.head in
+    let letter = letter_first header (Up host object) m given.past filed.front.orderly filed.head in
     let is = filed.serves.stands in
     let plain = file_unshared header object.0 filed.file in
-    let past = taken ∷ given.past in
-    let its = filed_events given host object m s old new events past filed in
-    let silent = others_about header object events plain its.about in
-    let licence = taken_licensed header given.outside given.command (Up host object) m given.past filed.head filed.may (front_settled given s front) in
-    record {
-      built = front.built;
-      is = items ∙ sym (append_assoc events (taken ∷ []) given.past);
-      rests = rw hosts front.rests;
-      agrees = record {
-        size = size;
-        declared = declared;
-        pagers = rw (pagers, items) (paged_filed given host object m s old new events filed);
-        files = rw (files, items) (serve_filed given host object m s old new events filed);
-        server = rw (server, items) (server_more header s.server events past silent (server_other header s.server taken given.past plain front.server));
-        posts = posts;
-        orderly = rw items (orderly_filed header host.0 object m given.past old new events orderly letter is.object_is is.size_is plain filed.serves.answered);
-        lawful =
-            rw items (lawful_more header given.outside given.command events past filed.licensed (reply_own header Files events past its.replies)
-            (reply_inner Files events its.replies)
-            (lawful_taken header given.outside given.command (Up host object) m given.past licence front.paid front.lawful));
-      };
-      paid = rw items (paid header host.0 given.past object.0 m old new events filed.serves);
-      served = rw items (served_more header events past silent (served_other header taken given.past plain front.served));
-      recalled = rw items (recalled_more header events past silent (recalled_other header taken given.past plain front.recalled));
-      log = none;
-      answers = record {
-        known = letter.0;
-        object = object;
-        m = m;
-        told = events;
-        is = refl;
-        gives = refl;
-        out = λ washed. washed_out header host.0 object m given.past front.orderly filed.head washed;
-        nobodys = reply_nobodys Files events its.replies;
-        inner = reply_inner Files events its.replies;
-        licensed = licensed_both header given.outside given.command events (taken ∷ []) given.past filed.licensed (licence, tt);
-      };
-    }
+    let replied = replied_filed given host object m s old new events filed in
+    answered Files given host object m s now events replied
+    (stands_unshared Files given host object m s now events replied plain
+    (rw pagers (paged_apart Files given host object m s events replied (file_named header object.0 filed.file)))
+    (rw files (serve_filed given host object m s old new events filed)) server
+    (orderly_filed header host.0 object m given.past old new events orderly letter is.object_is is.size_is plain filed.serves.answered)
+    (paid header host.0 given.past object.0 m old new events filed.serves)) keeps
 
 -- the hosts went on behind the answer
 pub took_filed : (given : Step) (host : HostId) (object : ObjectId) (m : Message) (s new : State) (old table : FileTable) (events : List Event)
     → Filed given host object m s old table events
     → Followed (going given host object m events) new → Took given new
 took_filed given host object m s new old table events filed followed =
-    let header = given.header in
-    let outside = given.outside in
-    let doing = given.command in
-    let front = filed.front in
-    let past = event.Taken (Up host object) m ∷ given.past in
-    let told = (filed_events given host object m s old table events past filed).replies in
-    let suffice = front_suffice given s front in
-    let same : (events ++ event.Taken (Up host object) m ∷ []) ++ given.past ≡ events ++ past = append_assoc events (event.Taken (Up host object) m ∷ [])
-    given.past in
-    let more = followed.more in
-    let stretch = followed.follows.stretch in
-    let items : new.history.items ≡ more ++ (events ++ past) = followed.is ∙ ap (λ (z : List Event). more ++ z) same in
-    let licensed = licensed_both header outside doing more events past (subst (λ (z : List Event). AllInTurn header outside doing more z) same stretch.licensed)
-    filed.licensed in
-    let own = each_both (OwnBytes header) more events past (subst (λ (z : List Event). EachIn (OwnBytes header) more z) same stretch.own_bytes)
-    (reply_own header Files events past told) in
-    let frames = moments_both (FramesSuffice header) more events past (subst (λ (z : List Event). MomentsIn (FramesSuffice header) more z) same stretch.frames)
-    (reply_frames header Files events past told (taken_suffice header (Up host object) m given.past suffice)) in
-    record {
-      stands = followed.stands;
-      step =
-          takes_step given (Up host object) m (more ++ events) new.history.items (items ∙ sym (append_assoc more events past)) filed.head filed.may
-          (front_settled given s front) suffice
-          (each_both IsConsequence more events past (subst (λ (z : List Event). EachIn IsConsequence more z) same followed.follows.follows)
-          (reply_consequences Files events past told)) licensed own frames (inner_both more events stretch.inner (reply_inner Files events told));
-      prompt = followed.prompt;
-      paid = followed.stands.paid;
-      ended =
-          rw (items ∙ sym (append_assoc more events past)) (ends_up header host object m (more ++ events) given.past
-          (inner_both more events stretch.inner (reply_inner Files events told)));
-      turns = followed.turns;
-    }
+    took Files given host object m s new events (replied_filed given host object m s old table events filed) followed
 
 pub devices_filed : (given : Step) (line : Option ℕ) (number : ChannelId) (host : HostId) (object : ObjectId) (m : Message) (s : State) (old table : FileTable)
     (events : Listed Event) (before now : ℕ) (new : List Event)

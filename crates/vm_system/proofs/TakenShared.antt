@@ -1,11 +1,11 @@
 -- A message about a shared object is taken by its server, which answers.
-use Rattle.vm_system.proofs.Common.{AllFilesServe, AllInner, AllInTurn, AllServe, AreServerWords, Bool, CanTellAll, Channel, ChannelId, Command, Content}
-use Rattle.vm_system.proofs.Common.{Device, Down, EachIn, EachOf, Event, Followed, FramesSuffice, Header, HostId, IsConsequence, IsHostLetter, IsOrderly}
-use Rattle.vm_system.proofs.Common.{IsServerWord, IsSharedWord, IsToServer, IsWord, IsWordUp, List, LicensedInTurn, MayTake, MayTakeFrom, Message, MomentsIn}
-use Rattle.vm_system.proofs.Common.{None, ObjectId, Option, Outside, OwnBytes, PagerHasAnswered, PagingIsKept, Posts, ServerAnswer, ServerServes, ServerTable}
-use Rattle.vm_system.proofs.Common.{SlotTable, SlotsFit, Some, Spares, State, Step, Told, Took, Up, [], ap, append_assoc, arith, content_of, devices, each_both}
-use Rattle.vm_system.proofs.Common.{false, first, gives_frame, host_id, inl, inner_both, inr, is_file, is_made, is_shared, kind_of, length, licensed_both}
-use Rattle.vm_system.proofs.Common.{moments_both, named, never, nat_lt, others, others_carry, page_part, queue, refl, reverse, slice_get, subst, sym}
+use Rattle.vm_system.proofs.Common.{AllInner, AllInTurn, AreServerWords, Bool, CanTellAll, Channel, ChannelId, Command}
+use Rattle.vm_system.proofs.Common.{Device, Down, EachOf, Event, Followed, Header, HostId, IsHostLetter, IsOrderly}
+use Rattle.vm_system.proofs.Common.{IsServerWord, IsSharedWord, IsToServer, IsWord, IsWordUp, List, MayTake, MayTakeFrom, Message}
+use Rattle.vm_system.proofs.Common.{None, ObjectId, Option, Outside, PagerHasAnswered, ServerAnswer, ServerServes, ServerTable}
+use Rattle.vm_system.proofs.Common.{Some, Spares, State, Step, Took, Up, [], ap, arith, devices}
+use Rattle.vm_system.proofs.Common.{false, first, gives_frame, host_id, inl, inr, is_made, is_shared, kind_of, length}
+use Rattle.vm_system.proofs.Common.{never, page_part, queue, refl, subst, sym}
 use Rattle.vm_system.proofs.Common.{taken_letter, taken_more, true, up, ℕ, ◌++◌, ◌<◌, ◌∙◌, ◌∷◌, ◌≡◌, ◌⊎◌, Letter, same_Some}
 use Rattle.vm_model.specs.declared.event.Device.TheVariants.{Files, Paging}
 use Rattle.vm_model.specs.declared.event.Event.TheVariants as event
@@ -15,43 +15,25 @@ use Rattle.vm_base.specs.declared.ids.ObjectKind.TheVariants as kinds
 use Rattle.vm_model.specs.PageLicences.{RecallRow}
 use Rattle.vm_model.specs.Server.{Wanting, line}
 use Rattle.vm_model.specs.Side.{side}
-use Rattle.vm_legal.proofs.Unshared.{file_unshared, temporary_unshared}
 use Rattle.vm_legal.specs.Licences.{PagerSends, ServerSends}
 use Rattle.vm_legal.specs.Outside.{is_shared_kind}
 use Rattle.sms_server.specs.Stands.{IsCreate}
 use Rattle.sms_server.specs.Answers.{ReturnsWhole}
-use Rattle.vm_system.proofs.Answering.{IsReply, reply_consequences, reply_frames, reply_inner, reply_nobodys, reply_own}
-use Rattle.vm_system.proofs.Apart.{IsAbout, apart_of, declared_fit, declared_stand}
+use Rattle.vm_system.proofs.Answering.{IsReply, reply_inner}
+use Rattle.vm_system.proofs.Apart.{IsAbout}
 use Rattle.vm_shared.proofs.Causes.{licensed}
 use Rattle.sms_server.proofs.Whole.{causes as server_causes, recalled as server_recalled, served as server_served, stands as server_stands}
 use Rattle.sms_server.proofs.Paying.{paid as server_paid}
 use Rattle.vm_system.proofs.Sharing.{protocol_met}
-use Rattle.vm_system.proofs.Filing.{carry_about, files_about}
-use Rattle.vm_system.proofs.Following.{filed_spares, kept_at}
 use Rattle.vm_system.proofs.Hearing.{granted, made_all, upgraded}
-use Rattle.vm_system.proofs.Lawfulness.{lawful_more, lawful_taken}
-use Rattle.vm_system.proofs.Letters.{letter_first, orderly_taken, washed_out}
+use Rattle.vm_system.proofs.Lawfulness.{lawful_taken}
+use Rattle.vm_system.proofs.Letters.{letter_first, orderly_taken}
 use Rattle.vm_system.proofs.Sayings.{AllTold, page_of_answer, sent_down, told_none}
-use Rattle.vm_system.proofs.Taken.{Front, devices_lined, front_carry, front_content, front_of, front_settled, front_suffice, taken_licensed, takes_step}
-use Rattle.vm_system.proofs.Taken.{taken_suffice}
-use Rattle.vm_system.proofs.TakenUp.{going, up_letter}
-use Rattle.vm_system.proofs.Silent.{ends_up}
-
--- a shared object is declared, and no file
-
-pub shared_unfiled : (header : Header) (o : ℕ) → is_shared header o ≡ true → is_file header o ≡ false
-shared_unfiled header o shared = by (is_file header o) refl
-  where
-    by : (b : Bool) → is_file header o ≡ b → is_file header o ≡ false
-    by true file = never (sym (file_unshared header o file) ∙ shared)
-    by false none = none
-
-pub shared_declared : (header : Header) (o : ℕ) → is_shared header o ≡ true → o < named header
-shared_declared header o shared = by (nat_lt o (named header)) refl
-  where
-    by : (b : Bool) → nat_lt o (named header) ≡ b → o < named header
-    by true low = grind (arith, low)
-    by false high = never (sym (temporary_unshared header o (grind (arith, high))) ∙ shared)
+use Rattle.vm_system.proofs.Taken.{Front, front_of}
+use Rattle.vm_shared.proofs.Declared.{shared_declared}
+use Rattle.vm_shared.proofs.Flat.{shared_no_file}
+use Rattle.vm_system.proofs.Replied.{AnswerKeeps, Replied, answered, files_apart, going, paged_apart, spares_files, spares_paging, taking_licence, took}
+use Rattle.vm_system.proofs.Replied.{up_letter}
 
 -- what the server answers to a message that stands in front
 pub record Shared (given : Step) (host : HostId) (object : ObjectId) (m : Message) (s : State) (old new : ServerTable) (events : List Event) : Type 0 where
@@ -61,13 +43,6 @@ pub record Shared (given : Step) (host : HostId) (object : ObjectId) (m : Messag
   pub serves : ServerServes given.header host.0 given.past object m old new events
   pub words : AreServerWords given.header.size object events
   pub licensed : AllInTurn given.header given.outside given.command events (event.Taken (Up host object) m ∷ given.past)
-
--- the taking has its cause
-shared_licence : (given : Step) (host : HostId) (object : ObjectId) (m : Message) (s : State) → Front given s
-    → first (queue (Up host object) given.past) ≡ Some m → MayTake given.command (Up host object) given.past
-    → LicensedInTurn given.header given.outside given.command (event.Taken (Up host object) m) given.past
-shared_licence given host object m s front head may =
-    taken_licensed given.header given.outside given.command (Up host object) m given.past head may (front_settled given s front)
 
 -- what the server is told
 
@@ -95,7 +70,7 @@ shared_reply given line number host object m s new events may shared head answer
     let header = given.header in
     let front = front_of given line number (Up host object) s may in
     let told = up_shared given line number host object m s may shared head in
-    let licence = shared_licence given host object m s front head may.may in
+    let licence = taking_licence given host object m s front head may.may in
     let lawful = lawful_taken header given.outside given.command (Up host object) m given.past licence front.paid front.lawful in
     let serves : ServerServes header host.0 given.past object m s.server new events = record {
       shared = shared;
@@ -255,72 +230,42 @@ pub can_reply_shared : (given : Step) (host : HostId) (object : ObjectId) (m : M
     → CanTellAll given.header.size events (event.Taken (Up host object) m ∷ given.past)
 can_reply_shared given host object m s old new events said = (shared_told given host object m s old new events said).can
 
+-- what its answer has in common with others
+replied_shared : (given : Step) (host : HostId) (object : ObjectId) (m : Message) (s : State) (old new : ServerTable) (events : List Event)
+    → Shared given host object m s old new events → Replied Files given host object m s events
+replied_shared given host object m s old new events said = record {
+  front = said.front;
+  head = said.head;
+  may = said.may;
+  replies = shared_replies given.header.size object events said.words;
+  about = shared_about given.header.size object events said.words;
+  licensed = said.licensed;
+}
+
 -- no other pager has a part in it
-
-paged_shared : (given : Step) (host : HostId) (object : ObjectId) (m : Message) (s : State) (old new : ServerTable) (events : List Event)
-    → Shared given host object m s old new events
-    → AllServe given.header s.pagers.items (events ++ event.Taken (Up host object) m ∷ given.past)
-paged_shared given host object m s old new events said =
-    let header = given.header in
-    let taken = event.Taken (Up host object) m in
-    let declared = shared_declared header object.0 said.serves.shared in
-    record {
-      numbered = said.front.pagers.numbered;
-      stand =
-          λ h pager at. declared_stand header h pager object events (taken ∷ given.past) declared (shared_about header.size object events said.words)
-          (others header h pager taken given.past (inl declared) (said.front.pagers.stand h pager at));
-    }
-
-files_shared : (given : Step) (host : HostId) (object : ObjectId) (m : Message) (s : State) (old new : ServerTable) (events : List Event)
-    → Shared given host object m s old new events
-    → AllFilesServe given.header s.files.items (events ++ event.Taken (Up host object) m ∷ given.past)
-files_shared given host object m s old new events said =
-    files_about given.header s.files.items host object m events given.past (shared_about given.header.size object events said.words)
-    (shared_unfiled given.header object.0 said.serves.shared) said.front.files
-
 pub spares_shared : (given : Step) (line : Option ℕ) (number : ChannelId) (host : HostId) (object : ObjectId) (m : Message) (s now : State)
     (old new : ServerTable) (events : List Event) → MayTakeFrom given line number (Up host object) s
     → Shared given host object m s old new events → now.pagers.items ≡ s.pagers.items → now.files.items ≡ s.files.items
     → now.history.items ≡ events ++ event.Taken (Up host object) m ∷ given.past → Spares given.header given.outside s now
-spares_shared given line number host object m s now old new events may said pagers files items = record {
-  paging = record {
-    kept =
-        λ areas kept. kept_at header given.outside areas now s.pagers.items (events ++ past) pagers items
-        (paged_shared given host object m s old new events said) kept.told (λ on h pager at. fit areas kept on h pager at);
-    devices = same Paging;
-  };
-  files = filed_spares header given.outside s now (rw (files, items) (files_shared given host object m s old new events said))
-      (λ start areas carry. rw items (carry_about header start areas host object m events given.past (shared_about header.size object events said.words)
-      (shared_unfiled header object.0 said.serves.shared)
-      (front_carry given line number (Up host object) s may start areas carry))) (same Files);
-}
+spares_shared given line number host object m s now old new events may said pagers files items =
+    let replied = replied_shared given host object m s old new events said in
+    record {
+      paging =
+          spares_paging Files given line number host object m s now events may replied (shared_declared given.header object.0 said.serves.shared)
+          (silent Paging events said.words) pagers items;
+      files =
+          spares_files Files given line number host object m s now events may replied (shared_no_file given.header object.0 said.serves.shared)
+          (silent Files events said.words) files items;
+    }
   where
-    header : Header
-    header = given.header
-
     past : List Event
     past = event.Taken (Up host object) m ∷ given.past
 
-    silent : (who : Device) (events : List Event) → AreServerWords header.size object events → devices who (events ++ past) ≡ devices who past
+    silent : (who : Device) (events : List Event) → AreServerWords given.header.size object events → devices who (events ++ past) ≡ devices who past
     silent who [] words = refl
     silent who (event.Sent (Down at about control) n ∷ events) words = silent who events words.1
     silent who (event.Sent (Up at about) n ∷ events) words = absurd words.0
     silent who (e ∷ events) words = absurd words.0
-
-    same : (who : Device) → devices who now.history.items ≡ devices who s.history.items
-    same who = ap (devices who) items ∙ silent who events said.words ∙ ap (devices who) may.past ∙ devices_lined who line s.history.items
-
-    declared : object.0 < named header
-    declared = shared_declared header object.0 said.serves.shared
-
-    fit : (areas : List ℕ → Told) → PagingIsKept header given.outside areas s → given.outside.paging ≡ true → (h : ℕ) (pager : SlotTable)
-        → slice_get s.pagers.items h ≡ Some pager → SlotsFit areas pager (content_of header h (events ++ past))
-    fit areas kept on h pager at =
-        let told = kept.told on h pager at in
-        let own = apart_of header past (orderly_taken header (Up host object) m given.past said.front.orderly said.head) h in
-        let over = others_carry header h pager (event.Taken (Up host object) m) given.past areas (inl declared) own in
-        let was = subst (λ (z : Content). SlotsFit areas pager z) (sym (front_content given line number (Up host object) s may h)) (kept.fits on h pager at) in
-        declared_fit header h pager object areas events past declared (shared_about header.size object events said.words) own told (over.fits told was)
 
 -- no kernel makes a first control of a shared object
 uncreated : (given : Step) (host : HostId) (object : ObjectId) (m : Message) (s : State) → Front given s → is_shared given.header object.0 ≡ true
@@ -333,90 +278,28 @@ uncreated given host object m s front shared head = by m ((letter_first given.he
 
 -- the hosts' part begins
 pub answered_shared : (given : Step) (host : HostId) (object : ObjectId) (m : Message) (s now : State) (old new : ServerTable) (events : List Event)
-    → Shared given host object m s old new events → now.pagers.items ≡ s.pagers.items
-    → now.files.items ≡ s.files.items → now.declared.items ≡ reverse given.header.objects.items → now.server ≡ new → now.hosts ≡ s.hosts
-    → now.size ≡ given.header.size
-    → now.history.items ≡ events ++ event.Taken (Up host object) m ∷ given.past → Posts now now.history.items → now.log.items ≡ []
+    → Shared given host object m s old new events → now.pagers.items ≡ s.pagers.items → now.files.items ≡ s.files.items → now.server ≡ new
+    → AnswerKeeps given.header s now (events ++ event.Taken (Up host object) m ∷ given.past)
     → PagerHasAnswered (going given host object m events) host (gives_frame m) now
-answered_shared given host object m s now old new events said pagers files declared server hosts size items posts none =
+answered_shared given host object m s now old new events said pagers files server keeps =
     let header = given.header in
     let front = said.front in
-    let taken = event.Taken (Up host object) m in
-    let letter = letter_first header (Up host object) m given.past front.orderly said.head in
-    let past = taken ∷ given.past in
-    let replies = shared_replies header.size object events said.words in
-    let licence = shared_licence given host object m s front said.head said.may in
-    record {
-      built = front.built;
-      is = items ∙ sym (append_assoc events (taken ∷ []) given.past);
-      rests = rw hosts front.rests;
-      agrees = record {
-        size = size;
-        declared = declared;
-        pagers = rw (pagers, items) (paged_shared given host object m s old new events said);
-        files = rw (files, items) (files_shared given host object m s old new events said);
-        server = rw (server, items) (server_stands header host.0 given.past object m old new events said.serves);
-        posts = posts;
-        orderly = rw items (shared_told given host object m s old new events said).orderly;
-        lawful =
-            rw items (lawful_more header given.outside given.command events past said.licensed (reply_own header Files events past replies)
-            (reply_inner Files events replies)
-            (lawful_taken header given.outside given.command (Up host object) m given.past licence front.paid front.lawful));
-      };
+    let replied = replied_shared given host object m s old new events said in
+    answered Files given host object m s now events replied
+    (record {
+      pagers = rw pagers (paged_apart Files given host object m s events replied (shared_declared header object.0 said.serves.shared));
+      files = rw files (files_apart Files given host object m s events replied (shared_no_file header object.0 said.serves.shared));
+      server = rw server (server_stands header host.0 given.past object m old new events said.serves);
+      orderly = (shared_told given host object m s old new events said).orderly;
       paid =
-          rw items (server_paid header host.0 given.past object m old new events said.serves
-          (uncreated given host object m s front said.serves.shared said.head));
-      served = rw items (server_served header host.0 given.past object m old new events said.serves front.served);
-      recalled = rw items (server_recalled header host.0 given.past object m old new events said.serves front.recalled);
-      log = none;
-      answers = record {
-        known = letter.0;
-        object = object;
-        m = m;
-        told = events;
-        is = refl;
-        gives = refl;
-        out = λ washed. washed_out header host.0 object m given.past front.orderly said.head washed;
-        nobodys = reply_nobodys Files events replies;
-        inner = reply_inner Files events replies;
-        licensed = licensed_both header given.outside given.command events (taken ∷ []) given.past said.licensed (licence, tt);
-      };
-    }
+          server_paid header host.0 given.past object m old new events said.serves (uncreated given host object m s front said.serves.shared said.head);
+      served = server_served header host.0 given.past object m old new events said.serves front.served;
+      recalled = server_recalled header host.0 given.past object m old new events said.serves front.recalled;
+    }) keeps
 
 -- the hosts went on behind the answer
 pub took_shared : (given : Step) (host : HostId) (object : ObjectId) (m : Message) (s new : State) (old table : ServerTable) (events : List Event)
     → Shared given host object m s old table events
     → Followed (going given host object m events) new → Took given new
 took_shared given host object m s new old table events said followed =
-    let header = given.header in
-    let outside = given.outside in
-    let doing = given.command in
-    let front = said.front in
-    let past = event.Taken (Up host object) m ∷ given.past in
-    let replies = shared_replies header.size object events said.words in
-    let suffice = front_suffice given s front in
-    let same : (events ++ event.Taken (Up host object) m ∷ []) ++ given.past ≡ events ++ past = append_assoc events (event.Taken (Up host object) m ∷ [])
-    given.past in
-    let more = followed.more in
-    let stretch = followed.follows.stretch in
-    let items : new.history.items ≡ more ++ (events ++ past) = followed.is ∙ ap (λ (z : List Event). more ++ z) same in
-    let licensed = licensed_both header outside doing more events past (subst (λ (z : List Event). AllInTurn header outside doing more z) same stretch.licensed)
-    said.licensed in
-    let own = each_both (OwnBytes header) more events past (subst (λ (z : List Event). EachIn (OwnBytes header) more z) same stretch.own_bytes)
-    (reply_own header Files events past replies) in
-    let frames = moments_both (FramesSuffice header) more events past (subst (λ (z : List Event). MomentsIn (FramesSuffice header) more z) same stretch.frames)
-    (reply_frames header Files events past replies (taken_suffice header (Up host object) m given.past suffice)) in
-    record {
-      stands = followed.stands;
-      step =
-          takes_step given (Up host object) m (more ++ events) new.history.items (items ∙ sym (append_assoc more events past)) said.head said.may
-          (front_settled given s front) suffice
-          (each_both IsConsequence more events past (subst (λ (z : List Event). EachIn IsConsequence more z) same followed.follows.follows)
-          (reply_consequences Files events past replies)) licensed own frames (inner_both more events stretch.inner (reply_inner Files events replies));
-      prompt = followed.prompt;
-      paid = followed.stands.paid;
-      ended =
-          rw (items ∙ sym (append_assoc more events past)) (ends_up header host object m (more ++ events) given.past
-          (inner_both more events stretch.inner (reply_inner Files events replies)));
-      turns = followed.turns;
-    }
+    took Files given host object m s new events (replied_shared given host object m s old table events said) followed

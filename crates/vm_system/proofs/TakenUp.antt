@@ -1,41 +1,29 @@
 -- A message about a temporary object is taken by the default pager of a host, which answers.
-use Rattle.vm_system.proofs.Common.{AllFilesServe, AllInTurn, AllServe, AnswerHasCause, AreNumbered, CanTellAll, CarriesContent, ChannelId, Content, CountRises}
-use Rattle.vm_system.proofs.Common.{Device, DevicesHaveCause, EachIn, Err, Event, Followed, FramesSuffice, Going, Header, HostId, IsAreaTold, IsConsequence}
-use Rattle.vm_system.proofs.Common.{IsHostLetter, IsToPager, KeepsShape, LeavesAreas, List, Listed, MayTake, MayTakeFrom, Message, MomentsIn, ObjectId, Ok}
-use Rattle.vm_system.proofs.Common.{Option, Outside, OwnBytes, PagerHasAnswered, PagerServes, PagerStands, PagingIsKept, Posts, ReturnsWhole, SameAreas}
+use Rattle.vm_system.proofs.Common.{AllInTurn, AllServe, AnswerHasCause, AreNumbered, CanTellAll, CarriesContent, ChannelId, Content, CountRises}
+use Rattle.vm_system.proofs.Common.{Device, DevicesHaveCause, Err, Event, Followed, Header, HostId, IsAreaTold}
+use Rattle.vm_system.proofs.Common.{IsHostLetter, IsToPager, KeepsShape, LeavesAreas, List, Listed, MayTake, MayTakeFrom, Message, ObjectId, Ok}
+use Rattle.vm_system.proofs.Common.{Option, Outside, PagerHasAnswered, PagerServes, PagerStands, PagingIsKept, ReturnsWhole, SameAreas}
 use Rattle.vm_system.proofs.Common.{SlotTable, SlotsFit, Some, SparesFiles, State, Step, SuppliesStored, TellsFault, Told, Took, Up, [], after_message, ap}
-use Rattle.vm_system.proofs.Common.{append_assoc, area_name, arith, carries, causes, content_of, devices, each_both, first, get_or, gives_frame, inl}
-use Rattle.vm_system.proofs.Common.{inner_both, inr, is_heard_elsewhere, length, length-append, length-set, licensed_both, moments_both, named, others}
+use Rattle.vm_system.proofs.Common.{area_name, arith, carries, causes, content_of, devices, first, get_or, gives_frame, inl}
+use Rattle.vm_system.proofs.Common.{inr, is_heard_elsewhere, length, length-append, length-set, named, others}
 use Rattle.vm_system.proofs.Common.{others_carry, paid, queue, refl, same_Some, set, slice_get, slice_get-get_or, slice_get_within, stands, subst, suc, sym}
-use Rattle.vm_system.proofs.Common.{take, true, zero, ℕ, ◌++◌, ◌+◌, ◌<◌, ◌∙◌, ◌∷◌, ◌≡◌, ◌≤◌, ◌⊎◌, reverse}
+use Rattle.vm_system.proofs.Common.{take, true, zero, ℕ, ◌++◌, ◌+◌, ◌<◌, ◌∙◌, ◌∷◌, ◌≡◌, ◌≤◌, ◌⊎◌}
 use Rattle.std.proofs.Common.{◌≢◌}
 use Rattle.pg_default.specs.Answers.{PagerAnswer as Answers}
 use Rattle.vm_base.specs.declared.failure.NoMemory.{NoMemory}
 use Rattle.vm_model.specs.declared.event.Device.TheVariants.{Files, Paging}
 use Rattle.vm_model.specs.declared.event.Event.TheVariants as event
 use Rattle.vm_model.specs.declared.message.Message.TheVariants as message
-use Rattle.vm_system.proofs.Answering.{Faults, faults, replies, reply_consequences, reply_frames, reply_inner, reply_nobodys, reply_own, reply_spares}
+use Rattle.vm_system.proofs.Answering.{Faults, faults, replies, reply_spares}
 use Rattle.vm_system.proofs.Answering.{told_after, word_up}
 use Rattle.vm_system.proofs.Apart.{about, apart_of, areas_others, fits_still, other_area, others_fit, others_stand, set_cases, told_still}
-use Rattle.vm_system.proofs.Filing.{carry_about, files_about}
 use Rattle.vm_legal.proofs.Files.{not_file}
 use Rattle.vm_legal.proofs.Unshared.{temporary_unshared}
-use Rattle.sms_server.proofs.Acting.{others_recall as recalled_other, others_serve as served_other, others_stand as server_other}
-use Rattle.vm_system.proofs.Lawfulness.{lawful_more, lawful_taken, others_about, recalled_more, served_more, server_more}
-use Rattle.vm_system.proofs.Letters.{elsewhere_first, home_first, letter_first, orderly_taken, unended_first, washed_out}
+use Rattle.vm_system.proofs.Letters.{elsewhere_first, home_first, letter_first, orderly_taken, unended_first}
 use Rattle.vm_system.proofs.Sayings.{can_answer, orderly_answered}
-use Rattle.vm_system.proofs.Following.{filed_spares, kept_at}
-use Rattle.vm_system.proofs.Taken.{Front, devices_lined, front_carry, front_content, front_of, front_settled, front_suffice, taken_licensed, takes_step}
-use Rattle.vm_system.proofs.Taken.{taken_suffice}
-use Rattle.vm_system.proofs.Silent.{ends_up}
-
--- what stands on a channel up is a host's letter
-pub up_letter : (given : Step) (line : Option ℕ) (number : ChannelId) (host : HostId) (object : ObjectId) (m : Message) (s : State)
-    → MayTakeFrom given line number (Up host object) s
-    → first (queue (Up host object) given.past) ≡ Some m → IsHostLetter given.header given.past (record { channel = Up host object; message = m })
-up_letter given line number host object m s may head =
-    let front = front_of given line number (Up host object) s may in
-    letter_first given.header (Up host object) m given.past front.orderly head
+use Rattle.vm_system.proofs.Following.{kept_at}
+use Rattle.vm_system.proofs.Taken.{Front, devices_lined, front_content, front_of}
+use Rattle.vm_system.proofs.Replied.{AnswerKeeps, Replied, answered, files_apart, going, spares_files, stands_unshared, took, up_letter}
 
 pub up_word : (given : Step) (line : Option ℕ) (number : ChannelId) (host : HostId) (object : ObjectId) (m : Message) (s : State)
     → MayTakeFrom given line number (Up host object) s
@@ -167,122 +155,51 @@ serve_up given host object m s old new events reply = record {
         (away_from given host object m s old new events reply g apart.0)
         (others given.header g pager (event.Taken (Up host object) m) given.past (inr (λ same. apart.0 (sym same))) (reply.front.pagers.stand g pager apart.1))
 
--- the files' pagers have no part in it
-
-files_up : (given : Step) (host : HostId) (object : ObjectId) (m : Message) (s : State) (old new : SlotTable) (events : List Event)
-    → Reply given host object m s old new events
-    → AllFilesServe given.header s.files.items (events ++ event.Taken (Up host object) m ∷ given.past)
-files_up given host object m s old new events reply =
-    files_about given.header s.files.items host object m events given.past (about m object old new events reply.answered)
-    (not_file given.header object.0 reply.temporary) reply.front.files
+-- what its answer has in common with others
+replied_up : (given : Step) (host : HostId) (object : ObjectId) (m : Message) (s : State) (old new : SlotTable) (events : List Event)
+    → Reply given host object m s old new events → Replied Paging given host object m s events
+replied_up given host object m s old new events reply = record {
+  front = reply.front;
+  head = reply.head;
+  may = reply.may;
+  replies = replies m object old new events reply.answered;
+  about = about m object old new events reply.answered;
+  licensed = reply.licensed;
+}
 
 pub spares_up : (given : Step) (line : Option ℕ) (number : ChannelId) (host : HostId) (object : ObjectId) (m : Message) (s now : State) (old new : SlotTable)
     (events : List Event) → MayTakeFrom given line number (Up host object) s
     → Reply given host object m s old new events → now.files.items ≡ s.files.items → now.history.items ≡ events ++ event.Taken (Up host object) m ∷ given.past
     → SparesFiles given.header given.outside s now
 spares_up given line number host object m s now old new events may reply files items =
-    let header = given.header in
-    let past = event.Taken (Up host object) m ∷ given.past in
-    filed_spares header given.outside s now (rw (files, items) (files_up given host object m s old new events reply))
-    (λ start areas carry. rw items (carry_about header start areas host object m events given.past (about m object old new events reply.answered)
-    (not_file header object.0 reply.temporary) (front_carry given line number (Up host object) s may start areas carry)))
-    (ap (devices Files) items ∙ reply_spares Paging Files events past refl (replies m object old new events reply.answered) ∙ ap (devices Files) may.past
-    ∙ devices_lined Files line s.history.items)
+    let replied = replied_up given host object m s old new events reply in
+    spares_files Paging given line number host object m s now events may replied (not_file given.header object.0 reply.temporary)
+    (reply_spares Paging Files events (event.Taken (Up host object) m ∷ given.past) refl replied.replies) files items
 
 -- the hosts' part begins
-abbrev pub going : Step → HostId → ObjectId → Message → List Event → Going
-going given host object m events =
-    record { header = given.header; outside = given.outside; command = given.command; past = given.past; front = events ++ event.Taken (Up host object) m ∷ [] }
-
 pub answered_up : (given : Step) (host : HostId) (object : ObjectId) (m : Message) (s now : State) (old new : SlotTable) (events : List Event)
-    → Reply given host object m s old new events → now.pagers.items ≡ set s.pagers.items host.0 new
-    → now.files.items ≡ s.files.items → now.declared.items ≡ reverse given.header.objects.items → now.server ≡ s.server → now.hosts ≡ s.hosts
-    → now.size ≡ given.header.size → now.history.items ≡ events ++ event.Taken (Up host object) m ∷ given.past → Posts now now.history.items
-    → now.log.items ≡ [] → PagerHasAnswered (going given host object m events) host (gives_frame m) now
-answered_up given host object m s now old new events reply pagers files declared server hosts size items posts none =
+    → Reply given host object m s old new events → now.pagers.items ≡ set s.pagers.items host.0 new → now.files.items ≡ s.files.items → now.server ≡ s.server
+    → AnswerKeeps given.header s now (events ++ event.Taken (Up host object) m ∷ given.past)
+    → PagerHasAnswered (going given host object m events) host (gives_frame m) now
+answered_up given host object m s now old new events reply pagers files server keeps =
     let header = given.header in
-    let front = reply.front in
-    let told = replies m object old new events reply.answered in
-    let taken = event.Taken (Up host object) m in
+    let orderly = orderly_taken header (Up host object) m given.past reply.front.orderly reply.head in
     let letter = reply_letter given host object m s old new events reply in
-    let orderly = orderly_taken header (Up host object) m given.past front.orderly reply.head in
-    let pager = front.pagers.stand host.0 old reply.at in
+    let pager = reply.front.pagers.stand host.0 old reply.at in
     let plain = temporary_unshared header object.0 reply.temporary in
-    let past = taken ∷ given.past in
-    let silent = others_about header object events plain (about m object old new events reply.answered) in
-    let licence = taken_licensed header given.outside given.command (Up host object) m given.past reply.head reply.may (front_settled given s front) in
-    record {
-      built = front.built;
-      is = items ∙ sym (append_assoc events (taken ∷ []) given.past);
-      rests = rw hosts front.rests;
-      agrees = record {
-        size = size;
-        declared = declared;
-        pagers = rw (pagers, items) (serve_up given host object m s old new events reply);
-        files = rw (files, items) (files_up given host object m s old new events reply);
-        server = rw (server, items) (server_more header s.server events past silent (server_other header s.server taken given.past plain front.server));
-        posts = posts;
-        orderly = rw items (orderly_answered header host.0 object m given.past old new events orderly letter pager.host_is pager.size plain reply.answered);
-        lawful =
-            rw items (lawful_more header given.outside given.command events past reply.licensed (reply_own header Paging events past told)
-            (reply_inner Paging events told)
-            (lawful_taken header given.outside given.command (Up host object) m given.past licence front.paid front.lawful));
-      };
-      paid = rw items (paid header host.0 given.past object m old new events (reply_serves given host object m s old new events reply));
-      served = rw items (served_more header events past silent (served_other header taken given.past plain front.served));
-      recalled = rw items (recalled_more header events past silent (recalled_other header taken given.past plain front.recalled));
-      log = none;
-      answers = record {
-        known = letter.0;
-        object = object;
-        m = m;
-        told = events;
-        is = refl;
-        gives = refl;
-        out = λ washed. washed_out header host.0 object m given.past front.orderly reply.head washed;
-        nobodys = reply_nobodys Paging events told;
-        inner = reply_inner Paging events told;
-        licensed = licensed_both header given.outside given.command events (taken ∷ []) given.past reply.licensed (licence, tt);
-      };
-    }
+    let replied = replied_up given host object m s old new events reply in
+    answered Paging given host object m s now events replied
+    (stands_unshared Paging given host object m s now events replied plain (rw pagers (serve_up given host object m s old new events reply))
+    (rw files (files_apart Paging given host object m s events replied (not_file header object.0 reply.temporary))) server
+    (orderly_answered header host.0 object m given.past old new events orderly letter pager.host_is pager.size plain reply.answered)
+    (paid header host.0 given.past object m old new events (reply_serves given host object m s old new events reply))) keeps
 
 -- the hosts went on behind the answer
 pub took_up : (given : Step) (host : HostId) (object : ObjectId) (m : Message) (s new : State) (old slots : SlotTable) (events : List Event)
     → Reply given host object m s old slots events
     → Followed (going given host object m events) new → Took given new
 took_up given host object m s new old slots events reply followed =
-    let header = given.header in
-    let outside = given.outside in
-    let doing = given.command in
-    let front = reply.front in
-    let told = replies m object old slots events reply.answered in
-    let past = event.Taken (Up host object) m ∷ given.past in
-    let suffice = front_suffice given s front in
-    let same : (events ++ event.Taken (Up host object) m ∷ []) ++ given.past ≡ events ++ past = append_assoc events (event.Taken (Up host object) m ∷ [])
-    given.past in
-    let more = followed.more in
-    let stretch = followed.follows.stretch in
-    let items : new.history.items ≡ more ++ (events ++ past) = followed.is ∙ ap (λ (z : List Event). more ++ z) same in
-    let licensed = licensed_both header outside doing more events past (subst (λ (z : List Event). AllInTurn header outside doing more z) same stretch.licensed)
-    reply.licensed in
-    let own = each_both (OwnBytes header) more events past (subst (λ (z : List Event). EachIn (OwnBytes header) more z) same stretch.own_bytes)
-    (reply_own header Paging events past told) in
-    let frames = moments_both (FramesSuffice header) more events past (subst (λ (z : List Event). MomentsIn (FramesSuffice header) more z) same stretch.frames)
-    (reply_frames header Paging events past told (taken_suffice header (Up host object) m given.past suffice)) in
-    record {
-      stands = followed.stands;
-      step =
-          takes_step given (Up host object) m (more ++ events) new.history.items (items ∙ sym (append_assoc more events past)) reply.head reply.may
-          (front_settled given s front) suffice
-          (each_both IsConsequence more events past (subst (λ (z : List Event). EachIn IsConsequence more z) same followed.follows.follows)
-          (reply_consequences Paging events past told)) licensed own frames (inner_both more events stretch.inner (reply_inner Paging events told));
-      prompt = followed.prompt;
-      paid = followed.stands.paid;
-      ended =
-          rw (items ∙ sym (append_assoc more events past)) (ends_up header host object m (more ++ events) given.past
-          (inner_both more events stretch.inner (reply_inner Paging events told)));
-      turns = followed.turns;
-    }
+    took Paging given host object m s new events (replied_up given host object m s old slots events reply) followed
 
 -- what was stored stands in the areas behind the answer
 pub kept_up : (given : Step) (line : Option ℕ) (number : ChannelId) (host : HostId) (object : ObjectId) (m : Message) (s now : State) (old slots : SlotTable)

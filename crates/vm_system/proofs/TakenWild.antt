@@ -1,25 +1,20 @@
 -- A message about a wild object is taken, and nobody answers: what its pager says is the script's.
-use Rattle.vm_system.proofs.Common.{AllFilesServe, AllServe, Bool, Channel, Down, ChannelId, Content, Device, Event, Followed, Header, HostId, IsPaid, Letter}
-use Rattle.vm_system.proofs.Common.{LicensedInTurn, List, MayTake, MayTakeFrom, Message, None, ObjectId, Option, PagerHasAnswered, PagingIsKept, Posts}
-use Rattle.vm_system.proofs.Common.{SlotTable, SlotsFit, Some, Spares, State, Step, Told, Took, Up, [], ap, arith, content_of, devices, false, first}
-use Rattle.vm_system.proofs.Common.{gives_frame, if◌then◌else◌, inl, is_file, is_paged, is_shared, is_wild, named, nat_lt, nat_tests, never, no_request}
-use Rattle.vm_system.proofs.Common.{none-some, not, others, others_carry, queue, refl, reverse, slice_get, subst, sym, true, ℕ, ◌&&◌, ◌<◌, ◌∙◌, ◌∷◌, ◌≡◌, ◌||◌}
+use Rattle.vm_system.proofs.Common.{Bool, Channel, Down, ChannelId, Followed, Header, HostId, IsPaid, Letter}
+use Rattle.vm_system.proofs.Common.{MayTakeFrom, Message, None, ObjectId, Option, PagerHasAnswered}
+use Rattle.vm_system.proofs.Common.{Some, Spares, State, Step, Took, Up, [], ap, arith, false, first}
+use Rattle.vm_system.proofs.Common.{gives_frame, if◌then◌else◌, is_file, is_paged, is_shared, is_wild, named, nat_lt, nat_tests, never, no_request}
+use Rattle.vm_system.proofs.Common.{none-some, not, queue, refl, subst, sym, true, ℕ, ◌&&◌, ◌∙◌, ◌∷◌, ◌≡◌, ◌||◌}
 use Rattle.vm_base.specs.declared.ids.ObjectKind.{ObjectKind}
 use Rattle.vm_base.specs.declared.ids.ObjectKind.TheVariants as kinds
 use Rattle.vm_legal.specs.Outside.{is_file_kept, is_file_kind, is_shared_kind, is_wild_kind, kind_in}
 use Rattle.vm_model.specs.Named.{declared}
-use Rattle.vm_model.specs.declared.event.Device.TheVariants.{Files, Paging}
+use Rattle.vm_model.specs.declared.event.Device.TheVariants.{Files}
 use Rattle.vm_model.specs.declared.event.Event.TheVariants as event
 use Rattle.vm_model.specs.declared.script.Declared.{Declared}
-use Rattle.sms_server.proofs.Acting.{others_recall as recalled_other, others_serve as served_other, others_stand as server_other}
-use Rattle.vm_system.proofs.Apart.{apart_of}
-use Rattle.vm_system.proofs.Filing.{carry_about, files_about}
-use Rattle.vm_system.proofs.Following.{filed_spares, kept_at}
-use Rattle.vm_system.proofs.Lawfulness.{lawful_taken}
-use Rattle.vm_system.proofs.Letters.{letter_first, orderly_taken, washed_out}
-use Rattle.vm_system.proofs.Taken.{Front, devices_lined, front_carry, front_content, front_of, front_settled, front_suffice, taken_licensed, takes_step}
-use Rattle.vm_system.proofs.TakenUp.{going}
-use Rattle.vm_system.proofs.Silent.{ends_up}
+use Rattle.vm_system.proofs.Letters.{orderly_taken}
+use Rattle.vm_system.proofs.Taken.{front_of}
+use Rattle.vm_shared.proofs.Answered.{wild_declared}
+use Rattle.vm_system.proofs.Replied.{AnswerKeeps, Replied, answered, files_apart, going, paged_apart, spares_files, spares_paging, stands_unshared, took}
 
 -- a wild object is declared, and neither a file nor shared
 
@@ -31,13 +26,6 @@ wild_plain kinds.Wild is = (refl, refl)
 
 pub wild_unshared : (header : Header) (o : ℕ) → is_wild header o ≡ true → is_shared header o ≡ false
 wild_unshared header o wild = (wild_plain _ wild).0
-
-pub wild_declared : (header : Header) (o : ℕ) → is_wild header o ≡ true → o < named header
-wild_declared header o wild = by (nat_lt o (named header)) refl wild
-  where
-    by : (b : Bool) → nat_lt o (named header) ≡ b → is_wild_kind (if b then kind_in (declared header o) else kinds.Temp) ≡ true → o < named header
-    by true low wild = grind (arith, nat_tests, low)
-    by false high wild = never wild
 
 pub wild_unfiled : (header : Header) (o : ℕ) → is_wild header o ≡ true → is_file header o ≡ false
 wild_unfiled header o wild = by (nat_lt o (named header)) (declared header o) wild
@@ -57,23 +45,26 @@ wild_unpaged header o wild = by (nat_lt o (named header)) (is_file header o) low
     by true c low none = none
     by false c low none = never low
 
--- a message about a wild object that stands in front
+-- a message about a wild object that stands in front: its answer is none
 pub record Heard (given : Step) (host : HostId) (object : ObjectId) (m : Message) (s : State) : Type 0 where
-  pub front : Front given s
-  pub head : first (queue (Up host object) given.past) ≡ Some m
-  pub may : MayTake given.command (Up host object) given.past
+  pub reply : Replied Files given host object m s []
   pub wild : is_wild given.header object.0 ≡ true
 
 pub heard_of : (given : Step) (line : Option ℕ) (number : ChannelId) (host : HostId) (object : ObjectId) (m : Message) (s : State)
     → MayTakeFrom given line number (Up host object) s → is_wild given.header object.0 ≡ true
     → first (queue (Up host object) given.past) ≡ Some m → Heard given host object m s
 heard_of given line number host object m s may wild head =
-    record { front = front_of given line number (Up host object) s may; head = head; may = may.may; wild = wild }
-
-wild_licence : (given : Step) (host : HostId) (object : ObjectId) (m : Message) (s : State) → Heard given host object m s
-    → LicensedInTurn given.header given.outside given.command (event.Taken (Up host object) m) given.past
-wild_licence given host object m s heard =
-    taken_licensed given.header given.outside given.command (Up host object) m given.past heard.head heard.may (front_settled given s heard.front)
+    record {
+      reply = record {
+        front = front_of given line number (Up host object) s may;
+        head = head;
+        may = may.may;
+        replies = tt;
+        about = tt;
+        licensed = tt;
+      };
+      wild = wild;
+    }
 
 -- its taking owes nothing
 
@@ -106,113 +97,30 @@ paid_wild given host object m s heard = record {
     unpaged o same = wild_unpaged given.header o (its o same)
 
 -- no other pager has a part in it
-
-paged_wild : (given : Step) (host : HostId) (object : ObjectId) (m : Message) (s : State) → Heard given host object m s
-    → AllServe given.header s.pagers.items (event.Taken (Up host object) m ∷ given.past)
-paged_wild given host object m s heard = record {
-  numbered = heard.front.pagers.numbered;
-  stand =
-      λ h pager at. others given.header h pager (event.Taken (Up host object) m) given.past (inl (wild_declared given.header object.0 heard.wild))
-      (heard.front.pagers.stand h pager at);
-}
-
-files_wild : (given : Step) (host : HostId) (object : ObjectId) (m : Message) (s : State) → Heard given host object m s
-    → AllFilesServe given.header s.files.items (event.Taken (Up host object) m ∷ given.past)
-files_wild given host object m s heard =
-    files_about given.header s.files.items host object m [] given.past tt (wild_unfiled given.header object.0 heard.wild) heard.front.files
-
 pub spares_wild : (given : Step) (line : Option ℕ) (number : ChannelId) (host : HostId) (object : ObjectId) (m : Message) (s now : State)
     → MayTakeFrom given line number (Up host object) s → Heard given host object m s
     → now.pagers.items ≡ s.pagers.items → now.files.items ≡ s.files.items → now.history.items ≡ event.Taken (Up host object) m ∷ given.past
     → Spares given.header given.outside s now
 spares_wild given line number host object m s now may heard pagers files items = record {
-  paging = record {
-    kept =
-        λ areas kept. kept_at header given.outside areas now s.pagers.items past pagers items (paged_wild given host object m s heard) kept.told
-        (λ on h pager at. fit areas kept on h pager at);
-    devices = same Paging;
-  };
-  files = filed_spares header given.outside s now (rw (files, items) (files_wild given host object m s heard))
-      (λ start areas carry. rw items (carry_about header start areas host object m [] given.past tt (wild_unfiled header object.0 heard.wild)
-      (front_carry given line number (Up host object) s may start areas carry))) (same Files);
+  paging =
+      spares_paging Files given line number host object m s now [] may heard.reply (wild_declared given.header object.0 heard.wild) refl pagers items;
+  files = spares_files Files given line number host object m s now [] may heard.reply (wild_unfiled given.header object.0 heard.wild) refl files items;
 }
-  where
-    header : Header
-    header = given.header
-
-    past : List Event
-    past = event.Taken (Up host object) m ∷ given.past
-
-    same : (who : Device) → devices who now.history.items ≡ devices who s.history.items
-    same who = ap (devices who) items ∙ ap (devices who) may.past ∙ devices_lined who line s.history.items
-
-    fit : (areas : List ℕ → Told) → PagingIsKept header given.outside areas s → given.outside.paging ≡ true → (h : ℕ) (pager : SlotTable)
-        → slice_get s.pagers.items h ≡ Some pager → SlotsFit areas pager (content_of header h past)
-    fit areas kept on h pager at =
-        let told = kept.told on h pager at in
-        let own = apart_of header past (orderly_taken header (Up host object) m given.past heard.front.orderly heard.head) h in
-        let over = others_carry header h pager (event.Taken (Up host object) m) given.past areas (inl (wild_declared header object.0 heard.wild)) own in
-        let was = subst (λ (z : Content). SlotsFit areas pager z) (sym (front_content given line number (Up host object) s may h)) (kept.fits on h pager at) in
-        over.fits told was
 
 -- the hosts' part begins
 pub answered_wild : (given : Step) (host : HostId) (object : ObjectId) (m : Message) (s now : State) → Heard given host object m s
-    → now.pagers.items ≡ s.pagers.items → now.files.items ≡ s.files.items
-    → now.declared.items ≡ reverse given.header.objects.items → now.server ≡ s.server → now.hosts ≡ s.hosts → now.size ≡ given.header.size
-    → now.history.items ≡ event.Taken (Up host object) m ∷ given.past
-    → Posts now now.history.items → now.log.items ≡ [] → PagerHasAnswered (going given host object m []) host (gives_frame m) now
-answered_wild given host object m s now heard pagers files declared server hosts size items posts none =
+    → now.pagers.items ≡ s.pagers.items → now.files.items ≡ s.files.items → now.server ≡ s.server
+    → AnswerKeeps given.header s now (event.Taken (Up host object) m ∷ given.past)
+    → PagerHasAnswered (going given host object m []) host (gives_frame m) now
+answered_wild given host object m s now heard pagers files server keeps =
     let header = given.header in
-    let front = heard.front in
-    let taken = event.Taken (Up host object) m in
-    let plain = wild_unshared header object.0 heard.wild in
-    let licence = wild_licence given host object m s heard in
-    record {
-      built = front.built;
-      is = items;
-      rests = rw hosts front.rests;
-      agrees = record {
-        size = size;
-        declared = declared;
-        pagers = rw (pagers, items) (paged_wild given host object m s heard);
-        files = rw (files, items) (files_wild given host object m s heard);
-        server = rw (server, items) (server_other header s.server taken given.past plain front.server);
-        posts = posts;
-        orderly = rw items (orderly_taken header (Up host object) m given.past front.orderly heard.head);
-        lawful = rw items (lawful_taken header given.outside given.command (Up host object) m given.past licence front.paid front.lawful);
-      };
-      paid = rw items (paid_wild given host object m s heard);
-      served = rw items (served_other header taken given.past plain front.served);
-      recalled = rw items (recalled_other header taken given.past plain front.recalled);
-      log = none;
-      answers = record {
-        known = (letter_first header (Up host object) m given.past front.orderly heard.head).0;
-        object = object;
-        m = m;
-        told = [];
-        is = refl;
-        gives = refl;
-        out = λ washed. washed_out header host.0 object m given.past front.orderly heard.head washed;
-        nobodys = tt;
-        inner = tt;
-        licensed = (licence, tt);
-      };
-    }
+    answered Files given host object m s now [] heard.reply
+    (stands_unshared Files given host object m s now [] heard.reply (wild_unshared header object.0 heard.wild)
+    (rw pagers (paged_apart Files given host object m s [] heard.reply (wild_declared header object.0 heard.wild)))
+    (rw files (files_apart Files given host object m s [] heard.reply (wild_unfiled header object.0 heard.wild))) server
+    (orderly_taken header (Up host object) m given.past heard.reply.front.orderly heard.reply.head) (paid_wild given host object m s heard)) keeps
 
 -- the hosts went on
 pub took_wild : (given : Step) (host : HostId) (object : ObjectId) (m : Message) (s new : State) → Heard given host object m s
     → Followed (going given host object m []) new → Took given new
-took_wild given host object m s new heard followed =
-    let header = given.header in
-    let stretch = followed.follows.stretch in
-    record {
-      stands = followed.stands;
-      step =
-          takes_step given (Up host object) m followed.more new.history.items followed.is heard.head heard.may (front_settled given s heard.front)
-          (front_suffice given s heard.front) followed.follows.follows
-          stretch.licensed stretch.own_bytes stretch.frames stretch.inner;
-      prompt = followed.prompt;
-      paid = followed.stands.paid;
-      ended = rw followed.is (ends_up header host object m followed.more given.past stretch.inner);
-      turns = followed.turns;
-    }
+took_wild given host object m s new heard followed = took Files given host object m s new [] heard.reply followed

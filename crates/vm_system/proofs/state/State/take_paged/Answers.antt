@@ -1,10 +1,11 @@
-use Rattle.vm_system.proofs.Common.{Channel, Event, Followed, Going, List, Listed, None, PagerHasAnswered, SlotTable, Up, [], ap, arith, devices, length, queue}
+use Rattle.vm_system.proofs.Common.{Channel, Event, Followed, Going, List, None, PagerHasAnswered, SlotTable, Up, [], ap, arith, devices, length, queue}
 use Rattle.vm_system.proofs.Common.{refl}
 use Rattle.vm_system.proofs.Common.{set, subst, sym, take, ℕ, ◌++◌, ◌+◌, ◌∙◌, ◌∷◌, ◌≡◌}
 use Rattle.vm_model.specs.declared.event.Device.TheVariants.{Paging}
 use Rattle.vm_model.specs.declared.event.Event.TheVariants as event
 use Rattle.vm_system.proofs.Beginning.{same_hosts}
-use Rattle.vm_system.proofs.Following.{both_filing, kept_same, same_files, same_filing, same_declared, same_pagers}
+use Rattle.vm_system.proofs.Following.{both_filing, kept_same, same_files, same_filing, same_pagers}
+use Rattle.vm_system.proofs.Replied.{answer_keeps}
 use Rattle.vm_system.proofs.Roomed.{arming_kept, behind_answers, behind_first, may_roomed, on_err, ready_still, room_for, roomed_files, roomed_pagers}
 use Rattle.vm_system.proofs.Roomed.{still_alike, still_roomed}
 use Rattle.vm_system.proofs.Taken.{first_told, may_head, may_only, may_port, may_read, may_some, may_there}
@@ -180,9 +181,8 @@ follow-requires g c =
     items in
     let going : List Event → Going = λ z. record { header = given.header; outside = given.outside; command = given.command; past = given.past; front = z } in
     let done : PagerHasAnswered (going (take n now.history.items)) c.args.host c.gives_frame-washed.result now =
-    rw (front, c.gives_frame-washed.ensures) (answered_up given c.args.host c.args.object m t now old slots events reply pagers (same_files _ _ both)
-    (same_declared _ _ both ∙ any.stands.agrees.declared) both.server both.hosts (both.size ∙ any.stands.agrees.size) items c.commit.ensures.posts
-    (ap (λ (z : Listed Event). z.items) both.log ∙ any.stands.log)) in
+    rw (front, c.gives_frame-washed.ensures) (answered_up given c.args.host c.args.object m t now old slots events reply pagers (same_files _ _ both) both.server
+    (answer_keeps given c.args.line c.args.number channel t _ now _ any refl refl refl refl both items c.commit.ensures.posts)) in
     let ready = c.in_ok-prepare.ensures.ready in
     let room = behind_answers ready.0 2 (length events) c.take_first.new.self now c.in_ok-answers.ensures.few
     (behind_first ready.0 2 t c.take_first.new.self ready.1.room (λ n h d s l. c.take_first.ensures.room n

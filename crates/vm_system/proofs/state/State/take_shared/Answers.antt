@@ -1,15 +1,16 @@
-use Rattle.vm_system.proofs.Common.{Channel, Event, Followed, Going, List, Listed, None, PagerHasAnswered, State, Up, [], ap, arith, length, HasRoom, queue}
+use Rattle.vm_system.proofs.Common.{Channel, Event, Followed, Going, List, None, PagerHasAnswered, State, Up, [], ap, arith, length, HasRoom, queue}
 use Rattle.vm_system.proofs.Common.{refl}
 use Rattle.vm_system.proofs.Common.{subst, sym, take, ℕ, ◌++◌, ◌+◌, ◌∙◌, ◌∷◌, ◌≡◌}
 use Rattle.vm_model.specs.declared.event.Event.TheVariants as event
 use Rattle.vm_system.proofs.Beginning.{same_hosts}
-use Rattle.vm_system.proofs.Following.{both_spares, same_all, same_declared, same_files, same_pagers}
+use Rattle.vm_system.proofs.Following.{both_spares, same_all, same_files, same_pagers}
 use Rattle.vm_system.proofs.Roomed.{behind_answers, behind_first, head_still, may_roomed, may_server, on_err, ready_still, room_for, shared_few, spares_roomed}
 use Rattle.vm_system.proofs.Roomed.{spares_server, stands_server, still_of, still_server}
 use Rattle.vm_system.proofs.Taken.{first_told, may_head, may_only, may_port, may_read, may_some, may_there}
 use Rattle.vm_system.proofs.TakenShared.{answered_shared, can_reply_shared, shared_reply, spares_shared, took_shared, up_shared}
 use Rattle.vm_system.proofs.TakenUp.{front_is, front_length}
 use Rattle.vm_kernel.specs.declared.breadth.Breadth.TheVariants as wide
+use Rattle.vm_system.proofs.Replied.{answer_keeps}
 use Rattle.vm_system.proofs.state.State.take_shared.Goals as goal
 
 pub head-requires : goal.head-requires
@@ -152,9 +153,8 @@ follow-requires g c =
     let going : List Event → Going = λ z. record { header = given.header; outside = given.outside; command = given.command; past = given.past; front = z } in
     let done : PagerHasAnswered (going (take n now.history.items)) c.args.host c.gives_frame-washed.result now =
     rw (front, c.gives_frame-washed.ensures)
-    (answered_shared given c.args.host c.args.object m t now t.server table events reply (same_pagers _ _ both) (same_files _ _ both)
-    (same_declared _ _ both ∙ any.stands.agrees.declared) both.server both.hosts
-    (both.size ∙ any.stands.agrees.size) items c.commit.ensures.posts (ap (λ (z : Listed Event). z.items) both.log ∙ any.stands.log)) in
+    (answered_shared given c.args.host c.args.object m t now t.server table events reply (same_pagers _ _ both) (same_files _ _ both) both.server
+    (answer_keeps given c.args.line c.args.number channel t _ now _ any refl refl refl refl both items c.commit.ensures.posts)) in
     let ready = c.in_ok-prepare.ensures.ready in
     let more = c.in_ok-most.most in
     let few = shared_few given c.args.line c.args.number channel c.args.object c.in-Some.index.now c.sent-message.result.now c.in_ok-most.most

@@ -1,8 +1,9 @@
-use Rattle.vm_system.proofs.Common.{Channel, Event, Followed, Going, List, Listed, None, PagerHasAnswered, Up, [], ap, arith, queue, refl, subst, sym, take}
+use Rattle.vm_system.proofs.Common.{Channel, Event, Followed, Going, List, None, PagerHasAnswered, Up, [], ap, arith, queue, refl, subst, sym, take}
 use Rattle.vm_system.proofs.Common.{◌∙◌, ◌∷◌}
 use Rattle.vm_system.proofs.Common.{◌≡◌}
 use Rattle.vm_model.specs.declared.event.Event.TheVariants as event
-use Rattle.vm_system.proofs.Following.{both_spares, same_all, same_declared, same_files, same_pagers}
+use Rattle.vm_system.proofs.Following.{both_spares, same_all, same_files, same_pagers}
+use Rattle.vm_system.proofs.Replied.{answer_keeps}
 use Rattle.vm_system.proofs.Roomed.{behind_all, may_roomed, on_err, ready_still, room_for, roomed_files, roomed_pagers, spares_roomed, still_roomed}
 use Rattle.vm_system.proofs.Taken.{first_told, may_head, may_only, may_port, may_read, may_some, may_there}
 use Rattle.vm_system.proofs.TakenUp.{front_is, front_length}
@@ -84,8 +85,8 @@ follow-requires g c =
     } in
     let done : PagerHasAnswered (with_front (take 1 now.history.items)) c.args.host c.gives_frame-washed.result now =
     rw (front, c.gives_frame-washed.ensures)
-    (answered_wild given c.args.host c.args.object m t now heard (same_pagers _ _ f) (same_files _ _ f) (same_declared _ _ f ∙ any.stands.agrees.declared)
-    f.server f.hosts (f.size ∙ any.stands.agrees.size) items c.take_first.ensures.posts (ap (λ (z : Listed Event). z.items) f.log ∙ any.stands.log)) in
+    (answered_wild given c.args.host c.args.object m t now heard (same_pagers _ _ f) (same_files _ _ f) f.server
+    (answer_keeps given c.args.line c.args.number channel t _ now _ any refl refl refl refl f items c.take_first.ensures.posts)) in
     let ready = c.in_ok-prepare.ensures.ready in (
       front_length 1 now.history.items [] (event.Taken channel m) front refl,
       (
