@@ -19,7 +19,7 @@ rests_skip header h new old ids past was =
             size = m.size;
             host = m.host;
             declared = m.declared;
-            fits = record { parts = m.fits.parts; plain = m.fits.plain; buffers = m.fits.buffers };
+            fits = m.fits;
             tasks = m.tasks;
             regions = m.regions;
             kinds = m.kinds;

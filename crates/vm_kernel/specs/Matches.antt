@@ -70,7 +70,7 @@ pub record Matches (header : Header) (h : ℕ) (k : Parts) (ids : Ids) (gone : L
   pub size : k.size ≡ header.size
   pub host : k.host.0 ≡ h
   pub declared : k.declared.items ≡ header.objects.items
-  pub fits : PartsFit k
+  pub fits : PartsFit k.memory k.size
   pub tasks : HasTasks h header.size k.maps (λ task. host_of task past) (λ task. entries_of header.size task past)
   pub regions : HasRegions k.chains k.memory.objects ids (λ r. region_of header r past) (λ o. backing_of header o past) (next_region header past)
       (next_object header past) (marked_regions header past)

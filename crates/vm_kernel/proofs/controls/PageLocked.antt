@@ -53,7 +53,7 @@ pub record Mid (header : Header) (h : ℕ) (k : Parts) (ids : Ids) (past : List 
   pub size : k.size ≡ header.size
   pub host : k.host.0 ≡ h
   pub declared : k.declared.items ≡ header.objects.items
-  pub fits : PartsFit k
+  pub fits : PartsFit k.memory k.size
   pub tasks : HasTasks h header.size k.maps (λ task. host_of task past) (λ task. entries_of header.size task past)
   pub regions : HasRegions k.chains k.memory.objects ids (λ r. region_of header r past) (λ o. backing_of header o past) (next_region header past)
       (next_object header past) (marked_regions header past)
@@ -242,7 +242,7 @@ quiet_completed {header = header} {h = h} {past = past} object control page coun
 
 -- what is of pages, where each object is known as before
 pub record Moved (header : Header) (h : ℕ) (k : Parts) (memory : HostParts) (laundry : LaundryList) (past now : List Event) : Type 0 where
-  pub fits : PartsFit (record k { memory = memory; laundry = laundry })
+  pub fits : PartsFit memory k.size
   pub away : KeepsAway k.memory.resident memory.resident
   pub objects : SameObjects k.memory.objects memory.objects
   pub kinds : HasKinds header memory.objects k.chains

@@ -234,7 +234,7 @@ failed_one header h outside doing past old events key k ids w waits f found pass
           known = was.known;
           size = was.size;
           host = was.host;
-          fits = record { parts = was.fits.parts; plain = was.fits.plain; buffers = was.fits.buffers };
+          fits = was.fits;
           tasks = was.tasks;
           regions = regions_moved header moment (e ∷ moment) refl refl (λ r. refl) (λ o. refl) was.regions;
           entries = was.entries;

@@ -36,7 +36,7 @@ rests_skip {header} {h} {ids} {past} {k} {k2} is rests =
             known = m.known;
             size = m.size;
             host = m.host;
-            fits = record { parts = m.fits.parts; plain = m.fits.plain; buffers = m.fits.buffers };
+            fits = m.fits;
             tasks = m.tasks;
             regions = m.regions;
             entries = m.entries;

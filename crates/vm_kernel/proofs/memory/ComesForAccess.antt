@@ -259,7 +259,7 @@ works_loaded header h past k ids w key value waits2 number works is now put =
         known = m.known;
         size = m.size;
         host = m.host;
-        fits = record { parts = m.fits.parts; plain = m.fits.plain; buffers = m.fits.buffers };
+        fits = m.fits;
         tasks = m.tasks;
         regions = regions_behind header e past k.chains k.memory.objects ids (λ r. refl) m.regions;
         homes = m.homes;
@@ -344,7 +344,7 @@ works_stored header h past k ids w key frame at size value row memory waits2 num
         known = m.known;
         size = m.size;
         host = m.host;
-        fits = record { parts = fits2.parts; plain = fits2.plain; buffers = fits2.buffers };
+        fits = fits2;
         tasks = m.tasks;
         regions = rw plan.objects (regions_behind header e past k.chains k.memory.objects ids (λ r. refl) m.regions);
         homes = m.homes;

@@ -91,7 +91,7 @@ unsent skip rs o p row locked found unskipped = by row.unlock_sent refl
     by true is = absurd (let bad : false ≡ true = sym unskipped ∙ locked o p row found is in cc)
 
 -- the parts fit still, with fewer rows
-fits_of : (k k2 : Parts) → Beside k k2 → PartsFit k → ArePlain k2.memory.resident → PartsFit k2
+fits_of : (k k2 : Parts) → Beside k k2 → PartsFit k.memory k.size → ArePlain k2.memory.resident → PartsFit k2.memory k2.size
 fits_of k k2 beside fits plain = record { parts = beside.fit; plain = plain; buffers = beside.buffers ∙ (fits.buffers ∙ sym beside.size) }
 
 -- a page whose frame is skipped is no victim, so it stays

@@ -19,8 +19,8 @@ plain_changed key frame was now held bytes lists old new plain c is o p row foun
     ]
 
 pub fits_changed : (key : PageKey) (frame : FrameNo) (was now : Option PageRow) (held : Bool) (bytes : List ℕ) (lists : Queues) (k : Parts) (memory : HostParts)
-    → PartsFit k → Fit memory → memory.buffers ≡ k.memory.buffers
-    → Changes key frame was now held bytes lists k.memory memory → IfSome now IsPlainAway → PartsFit (record k { memory = memory })
+    → PartsFit k.memory k.size → Fit memory → memory.buffers ≡ k.memory.buffers
+    → Changes key frame was now held bytes lists k.memory memory → IfSome now IsPlainAway → PartsFit memory k.size
 fits_changed key frame was now held bytes lists k memory fits fit buffers c is =
     record {
       parts = fit;

@@ -273,7 +273,7 @@ ran_protect header h outside task address bytes prot past events k ids maps chai
             known = m.known;
             size = m.size;
             host = m.host;
-            fits = record { parts = m.fits.parts; plain = m.fits.plain; buffers = m.fits.buffers };
+            fits = m.fits;
             tasks =
                 tasks_changed h header.size task.0 k.maps maps (λ t. host_of t past) (λ t. entries_of header.size t past)
                 (protected header.size address bytes prot) m.tasks same lives;
@@ -385,7 +385,7 @@ ran_inherit header h outside task address bytes inherit past events k ids maps c
             known = m.known;
             size = m.size;
             host = m.host;
-            fits = record { parts = m.fits.parts; plain = m.fits.plain; buffers = m.fits.buffers };
+            fits = m.fits;
             tasks =
                 tasks_changed h header.size task.0 k.maps maps (λ t. host_of t past) (λ t. entries_of header.size t past)
                 (inherited header.size address bytes inherit) m.tasks same lives;

@@ -78,7 +78,7 @@ runs_less header h outside doing past k ids entry rest events chains s put =
         known = m.known;
         size = m.size;
         host = m.host;
-        fits = record { parts = m.fits.parts; plain = m.fits.plain; buffers = m.fits.buffers };
+        fits = m.fits;
         tasks = m.tasks;
         regions =
             recount_regions count k.chains chains k.memory.objects ids (λ r. region_of header r moment) (λ o. backing_of header o moment)

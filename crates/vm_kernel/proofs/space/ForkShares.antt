@@ -207,12 +207,7 @@ rests_shared header h outside doing task row past k k2 ids before after rests ma
             known = m.known;
             size = s.size ∙ m.size;
             host = rw s.host m.host;
-            fits =
-                record {
-                  parts = subst Fit (sym s.memory) m.fits.parts;
-                  plain = subst (λ (z : HostParts). ArePlain z.resident) (sym s.memory) m.fits.plain;
-                  buffers = ap (λ (z : HostParts). z.buffers.size) s.memory ∙ (m.fits.buffers ∙ sym s.size);
-                };
+            fits = rw (s.memory, s.size) m.fits;
             tasks = tasks_entered h size k.maps k2.maps past task row m.tasks s.maps lives;
             regions =
                 rw s.memory (regions_behind header e past k2.chains k.memory.objects ids (λ r. refl)

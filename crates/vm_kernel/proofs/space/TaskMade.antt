@@ -93,7 +93,7 @@ rests_made header h task past k ids maps rests changes free below =
             known = m.known;
             size = m.size;
             host = m.host;
-            fits = record { parts = m.fits.parts; plain = m.fits.plain; buffers = m.fits.buffers };
+            fits = m.fits;
             tasks = tasks_made h header.size k.maps maps past task m.tasks changes;
             regions = regions_after leaves m.regions;
             entries = entries_made header.size k.maps maps k.chains task.0 m.entries changes free below;

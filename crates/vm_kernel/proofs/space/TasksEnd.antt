@@ -99,7 +99,7 @@ sweeps_exit header h outside task past events k ids maps gone s value changes =
           known = m.known;
           size = m.size;
           host = m.host;
-          fits = record { parts = m.fits.parts; plain = m.fits.plain; buffers = m.fits.buffers };
+          fits = m.fits;
           tasks = shown_tasks;
           regions = regions_moved header past (event.TaskEnded task ∷ past) refl refl (λ r. refl) (λ o. refl) c.regions;
           entries = c.entries;
@@ -189,7 +189,7 @@ sweeps_removed header h outside task address bytes past events k ids maps chains
           known = m.known;
           size = m.size;
           host = m.host;
-          fits = record { parts = m.fits.parts; plain = m.fits.plain; buffers = m.fits.buffers };
+          fits = m.fits;
           tasks = shown_tasks;
           regions = regions_moved header past (event.Removed task address bytes ∷ past) refl refl (λ r. refl) (λ o. refl) c.regions;
           entries = c.entries;

@@ -155,7 +155,7 @@ begun_matches header h k ids past waits task (Loads address size) rows same m li
       known = m.known;
       size = m.size;
       host = m.host;
-      fits = record { parts = m.fits.parts; plain = m.fits.plain; buffers = m.fits.buffers };
+      fits = m.fits;
       tasks = m.tasks;
       regions = regions_after leaves m.regions;
       entries = m.entries;
@@ -191,7 +191,7 @@ begun_matches header h k ids past waits task (Stores address size value) rows sa
       known = m.known;
       size = m.size;
       host = m.host;
-      fits = record { parts = m.fits.parts; plain = m.fits.plain; buffers = m.fits.buffers };
+      fits = m.fits;
       tasks = m.tasks;
       regions = regions_after leaves m.regions;
       entries = m.entries;

@@ -392,7 +392,7 @@ matches_ended header h outside doing k ids past w address pages target next c la
       size = m.size;
       host = m.host;
       declared = m.declared;
-      fits = record { parts = m.fits.parts; plain = m.fits.plain; buffers = m.fits.buffers };
+      fits = m.fits;
       tasks = tasks_entered h size k.maps k2.maps (first ∷ past) w.task row m.tasks changes e.lives;
       regions =
           regions_behind header second (first ∷ past) k2.chains k.memory.objects ids (λ q. refl)
