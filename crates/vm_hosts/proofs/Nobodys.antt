@@ -1,18 +1,18 @@
 -- What is no host's leaves all kernels what they stand for.
 use Rattle.vm_hosts.proofs.Common.{AllInner, AllInTurn, AllQueued, AllRest, Code, Command, Down, EachIn, EachOf, EntersNext, Event, HasCause, Header, HostTable}
 use Rattle.vm_hosts.proofs.Common.{Ids, InRange, IsAbroad, IsCommon, IsNobodys, LicensedInTurn, List, Message, None, ObjectKind, Outside, PagerSends, Says}
-use Rattle.vm_hosts.proofs.Common.{Temp, Up, [], ap, false, inl, inr, just_begun, kind_of, length, next_object, next_region, nobodys_abroad, nobodys_shut, owed}
-use Rattle.vm_hosts.proofs.Common.{queue_abroad, refl, region_of, rests_abroad, sound_caused, subst, sym, true, ℕ, ◌++◌, ◌∙◌, ◌∷◌, ◌≡◌, ◌≤◌, ◌⊎◌}
+use Rattle.vm_hosts.proofs.Common.{Temp, Up, [], false, inl, inr, just_begun, kind_of, length, next_object, next_region, nobodys_abroad, nobodys_shut, owed}
+use Rattle.vm_hosts.proofs.Common.{queue_abroad, refl, rests_abroad, sound_caused, subst, sym, true, ℕ, ◌++◌, ◌∙◌, ◌∷◌, ◌≡◌, ◌≤◌, ◌⊎◌}
 use Rattle.vm_legal.proofs.Owing.{behind_none}
 use Rattle.vm_model.specs.declared.event.Event.TheVariants as event
 use Rattle.vm_model.specs.declared.message.Message.TheVariants as message
 use Rattle.vm_model.specs.declared.command.Command.TheVariants as command
 use Rattle.vm_base.specs.declared.ids.ObjectKind.TheVariants.{File, Shared, Wild}
 use Rattle.vm_hosts.proofs.Acting.{MakesOn, homes_more, tasks_more}
-use Rattle.std.proofs.Common.{suc, zero, ◌+◌}
+use Rattle.std.proofs.Common.{◌+◌}
 use Rattle.vm_abroad.proofs.Home.{homes_next}
 use Rattle.vm_base.specs.Limits.{most_objects}
-use Rattle.vm_model.specs.Regions.{marked_below, marked_regions}
+use Rattle.vm_state.specs.Counts.{marks_of}
 use Rattle.vm_hosts.proofs.Tables.{common_all}
 use Rattle.vm_kernel.proofs.controls.LockReplied.{nobody_replied}
 use Rattle.vm_legal.proofs.Turns.{cause_of}
@@ -94,25 +94,14 @@ none_owed_behind other past nobodys none = refl
 pub record SameTables (header : Header) (past new : List Event) : Type 0 where
   pub region : next_region header new ≡ next_region header past
   pub object : next_object header new ≡ next_object header past
-  pub regions : (r : ℕ) → region_of header r new ≡ region_of header r past
+  pub marks : marks_of header new ≡ marks_of header past
 
 same_tables : (header : Header) (e : Event) (past : List Event) → IsNobodys e → SameTables header past (e ∷ past)
 same_tables header (event.RegionMade region object pages) past nobodys = absurd nobodys
 same_tables header (event.RegionCopied region source offset pages) past nobodys = absurd nobodys
 same_tables header (event.Shadowed region new old) past nobodys = absurd nobodys
 same_tables header (event.Entered task address bytes region offset prot inherit) past nobodys = absurd nobodys
-same_tables header other past nobodys = record { region = refl; object = refl; regions = λ r. refl }
-
--- so as many regions are marked
-marks_same : (header : Header) (past new : List Event) → ((r : ℕ) → region_of header r new ≡ region_of header r past) → (n : ℕ)
-    → marked_below header n new ≡ marked_below header n past
-marks_same header past new same zero = refl
-marks_same header past new same (suc n) = rw (ap (λ z. z.mark) (same n), marks_same header past new same n) refl
-
-marked_same : (header : Header) (past new : List Event) → SameTables header past new → marked_regions header new ≡ marked_regions header past
-marked_same header past new same =
-    subst (λ (z : ℕ). marked_below header z new ≡ marked_regions header past) (sym same.region)
-    (marks_same header past new same.regions (next_region header past))
+same_tables header other past nobodys = record { region = refl; object = refl; marks = refl }
 
 common_more : (header : Header) (outside : Outside) (doing : Command) (ids : Ids) (events past : List Event) → EachOf MakesNoControl events
     → EachOf IsNobodys events → AllInTurn header outside doing events past → IsCommon header ids past → IsCommon header ids (events ++ past)
@@ -120,14 +109,13 @@ common_more header outside doing ids [] past none nobodys licensed common = comm
 common_more header outside doing ids (e ∷ events) past none nobodys licensed common =
     let before = common_more header outside doing ids events past none.1 nobodys.1 licensed.1 common in
     let same = same_tables header e (events ++ past) nobodys.0 in
-    let marks = marked_same header (events ++ past) (e ∷ events ++ past) same in
     record {
       region = before.region ∙ sym same.region;
       object = before.object ∙ sym same.object;
-      marks = before.marks ∙ sym marks;
+      marks = before.marks ∙ sym same.marks;
       few =
-          subst (λ (z : ℕ). z + marked_regions header (e ∷ events ++ past) ≤ most_objects) (sym same.object)
-          (subst (λ (z : ℕ). next_object header (events ++ past) + z ≤ most_objects) (sym marks) before.few);
+          subst (λ (z : ℕ). z + marks_of header (e ∷ events ++ past) ≤ most_objects) (sym same.object)
+          (subst (λ (z : ℕ). next_object header (events ++ past) + z ≤ most_objects) (sym same.marks) before.few);
       homeless = homes_next header outside e (events ++ past) (doing, cause_of header outside doing e (events ++ past) licensed.0.0) before.homeless;
       settled = record { none_owed = none_owed_behind e (events ++ past) nobodys.0 none.0; shut = nobodys_shut (e ∷ events) past nobodys common.settled.shut };
       replied = nobody_replied e (events ++ past) nobodys.0 before.replied;

@@ -75,7 +75,7 @@ pub use Rattle.vm_model.specs.Local.{Asks, Begins, Drops, Elsewhere, Ends, Local
 pub use Rattle.vm_model.specs.Local.{TakesPage, Unlocks, Zeroes, away, is_known_absent, is_on, local, local_after, local_with_page, taken_effect}
 pub use Rattle.vm_model.specs.Named.{named}
 pub use Rattle.vm_model.specs.Ranges.{InRange}
-pub use Rattle.vm_model.specs.Regions.{Backing, Region, backing_of, marked_below, marked_regions, next_object, next_region, region_of}
+pub use Rattle.vm_model.specs.Regions.{Backing, Region, backing_of, marked_regions, next_object, next_region, region_of}
 pub use Rattle.vm_model.specs.Rows.{AllRows, FoundRow, HoldsOfParts, Inside, found_row, inside_part, page_below, part, rows_cut, rows_entered, rows_flat}
 pub use Rattle.vm_model.specs.Rows.{rows_known, rows_map, rows_rewritten}
 pub use Rattle.vm_model.specs.Tasks.{copies, copies_from, entries_of, has_entry, host_of, is_copied, is_shared, new_marks, shared, sources}
@@ -133,7 +133,7 @@ pub use Rattle.vm_kernel.specs.Abroad.{IsCommon, IsNobodys}
 pub use Rattle.vm_kernel.specs.Begun.{CreatesHere, Grows, IsInStep, IsLaundered, IsLined, IsMine, KernelSays, LegalEvents, Passed, Ran, Served, Starts, acts_on}
 pub use Rattle.vm_kernel.specs.Built.{changes_entries, kernel_runs}
 pub use Rattle.vm_kernel.specs.Changes.{MadeRange, entering, inheritance, protection, removal, whole_entry}
-pub use Rattle.vm_state.specs.Counts.{count_by, count_on}
+pub use Rattle.vm_state.specs.Counts.{count_by, count_on, marked_in, marks_of}
 unfoldable pub use Rattle.vm_state.specs.Counts.{all_tasks}
 pub use Rattle.vm_kernel.specs.Fits.{ArePlain, IsPlainRow, PartsFit}
 pub use Rattle.vm_kernel.specs.Forking.{CanCopy, CanShare, EntersCopy, Shares, entry_on, got}

@@ -12,7 +12,7 @@ use Rattle.vm_model.specs.Controls.{last_control, live_control}
 use Rattle.vm_model.specs.Ranges.{IsBetween}
 use Rattle.vm_model.specs.Local.{local}
 use Rattle.vm_model.specs.Named.{named}
-use Rattle.vm_model.specs.Regions.{backing_of, marked_regions, next_object, next_region, region_of}
+use Rattle.vm_model.specs.Regions.{backing_of, next_object, next_region, region_of}
 use Rattle.vm_model.specs.Tasks.{entries_of, host_of}
 use Rattle.vm_model.specs.Waiting.{copy_target, next_page, waiting}
 use Rattle.vm_legal.specs.Accesses.{begun_at, is_ready}
@@ -37,6 +37,7 @@ use Rattle.vm_shadow.specs.declared.ids.Ids.{Ids}
 use Rattle.vm_kernel.specs.Fits.{PartsFit}
 use Rattle.vm_state.specs.Places.{known_local, place_of}
 use Rattle.vm_kernel.specs.declared.parts.Parts.{Parts}
+use Rattle.vm_state.specs.Counts.{marks_of}
 
 -- the host with a number
 abbrev pub host_id : ℕ → HostId
@@ -73,7 +74,7 @@ pub record Matches (header : Header) (h : ℕ) (k : Parts) (ids : Ids) (gone : L
   pub fits : PartsFit k.memory k.size
   pub tasks : HasTasks h header.size k.maps (λ task. host_of task past) (λ task. entries_of header.size task past)
   pub regions : HasRegions k.chains k.memory.objects ids (λ r. region_of header r past) (λ o. backing_of header o past) (next_region header past)
-      (next_object header past) (marked_regions header past)
+      (next_object header past) (marks_of header past)
   pub kinds : HasKinds header k.memory.objects k.chains
   pub homes : HasHomes header h k.chains (λ r. home_of r past)
   pub files : KnowsFiles header h k.memory.objects (λ o. home_of o past)

@@ -7,8 +7,9 @@ use Rattle.vm_base.specs.declared.ids.RegionId.{RegionId}
 use Rattle.vm_model.specs.declared.event.Event.{Event}
 use Rattle.vm_model.specs.declared.event.Event.TheVariants as event
 use Rattle.vm_model.specs.declared.script.Header.{Header}
-use Rattle.vm_model.specs.Regions.{marked_below, marked_regions, next_region, region_of}
+use Rattle.vm_model.specs.Regions.{Region, marked_below, marked_regions, next_region, region_of}
 use Rattle.vm_parts.specs.Changes.{one}
+use Rattle.vm_state.specs.Counts.{marked_in, marks_of}
 use Rattle.vm_state.specs.References.{tally}
 use Rattle.vm_state.proofs.Tallies.{tally_put, tally_same, tally_some}
 
@@ -16,19 +17,32 @@ use Rattle.vm_state.proofs.Tallies.{tally_put, tally_same, tally_some}
 abbrev pub is_marked : Header → List Event → ℕ → Bool
 is_marked header past r = (region_of header r past).mark
 
+-- the regions that the history counts
+pub regions_marked : (header : Header) (past : List Event) → marked_regions header past ≡ marks_of header past
+regions_marked header past = go (next_region header past)
+  where
+    go : (n : ℕ) → marked_below header n past ≡ marked_in n (λ r. region_of header r past)
+    go zero = refl
+    go (suc n) = ap (λ z. if (region_of header n past).mark then z + 1 else z) (go n)
+
+-- as many are marked where each has its mark still
+pub marks_still : (n : ℕ) (was now : ℕ → Region) → ((r : ℕ) → (now r).mark ≡ (was r).mark) → marked_in n now ≡ marked_in n was
+marks_still zero was now same = refl
+marks_still (suc n) was now same = rw (same n, marks_still n was now same) refl
+
 one_more : (b : Bool) (n : ℕ) → (if b then n + 1 else n) ≡ one b + n
 one_more true n = omega arith
 one_more false n = omega arith
 
-pub marks_counted : (header : Header) (n : ℕ) (past : List Event) → marked_below header n past ≡ tally (is_marked header past) n
+pub marks_counted : (header : Header) (n : ℕ) (past : List Event) → marked_in n (λ r. region_of header r past) ≡ tally (is_marked header past) n
 marks_counted header zero past = refl
 marks_counted header (suc n) past =
-    one_more (is_marked header past n) (marked_below header n past) ∙ ap (λ z. one (is_marked header past n) + z) (marks_counted header n past)
+    one_more (is_marked header past n) (marked_in n (λ r. region_of header r past)) ∙ ap (λ z. one (is_marked header past n) + z) (marks_counted header n past)
 
 -- with one number more
-marks_next : (header : Header) (n : ℕ) (past : List Event) → marked_below header (n + 1) past ≡ one (is_marked header past n) + tally (is_marked header past) n
+marks_next : (header : Header) (n : ℕ) (past : List Event) → marked_in (n + 1) (λ r. region_of header r past) ≡ one (is_marked header past n) + tally (is_marked header past) n
 marks_next header n past =
-    subst (λ (k : ℕ). marked_below header k past ≡ one (is_marked header past n) + tally (is_marked header past) n)
+    subst (λ (k : ℕ). marked_in k (λ r. region_of header r past) ≡ one (is_marked header past n) + tally (is_marked header past) n)
     (let same : suc n ≡ n + 1 = omega arith in same) (marks_counted header (suc n) past)
 
 is_self : (n m : ℕ) → n ≡ m → (n == m) ≡ true
@@ -38,7 +52,7 @@ not_self : (n m : ℕ) → (n ≡ m → ⊥) → (n == m) ≡ false
 not_self n m apart = grind (arith, nat_tests)
 
 pub marked_some : (header : Header) (past : List Event) (r : ℕ) → r < next_region header past → (region_of header r past).mark ≡ true
-    → 0 < marked_regions header past
+    → 0 < marks_of header past
 marked_some header past r less marked =
     let some = tally_some (is_marked header past) (next_region header past) r less marked in
     let is = marks_counted header (next_region header past) past in
@@ -47,7 +61,7 @@ marked_some header past r less marked =
 -- a region that gets an object of its own loses its mark
 pub marked_shadowed : (header : Header) (past : List Event) (region : RegionId) (new old : ObjectId) → region.0 < next_region header past
     → (region_of header region.0 past).mark ≡ true
-    → marked_regions header (event.Shadowed region new old ∷ past) + 1 ≡ marked_regions header past
+    → marks_of header (event.Shadowed region new old ∷ past) + 1 ≡ marks_of header past
 marked_shadowed header past region new old less marked =
     let now = event.Shadowed region new old ∷ past in
     let n = next_region header past in
@@ -61,7 +75,7 @@ marked_shadowed header past region new old less marked =
 
 -- a new region has no mark
 pub marked_made : (header : Header) (past : List Event) (region : RegionId) (object : ObjectId) (pages : ℕ) → region.0 ≡ next_region header past
-    → marked_regions header (event.RegionMade region object pages ∷ past) ≡ marked_regions header past
+    → marks_of header (event.RegionMade region object pages ∷ past) ≡ marks_of header past
 marked_made header past region object pages new =
     let now = event.RegionMade region object pages ∷ past in
     let n = next_region header past in
@@ -80,7 +94,7 @@ source_marked header past source r = if r == source then true else is_marked hea
 -- a copy has a mark, and its source has one from then on
 pub marked_copied : (header : Header) (past : List Event) (region source : RegionId) (offset pages : ℕ) → region.0 ≡ next_region header past
     → source.0 < next_region header past
-    → marked_regions header (event.RegionCopied region source offset pages ∷ past) ≡ marked_regions header
+    → marks_of header (event.RegionCopied region source offset pages ∷ past) ≡ marks_of header
     past + (if (region_of header source.0 past).mark then 1 else 2)
 marked_copied header past region source offset pages new less =
     let now = event.RegionCopied region source offset pages ∷ past in

@@ -1,9 +1,9 @@
 -- A step takes its memory in front: nothing but room changes, and where memory is wanting nothing is done.
-use Rattle.vm_system.proofs.Common.{AllQueued, AllRest, ArmedLater, Arming, Breadth, Channel, ChannelId, Command, Event, HasRoom, Header, HostId, HostTable}
+use Rattle.vm_system.proofs.Common.{AllQueued, AllRest, ArmedLater, Arming, Breadth, Channel, ChannelId, Event, HasRoom, Header, HostId, HostTable}
 use Rattle.vm_system.proofs.Common.{IsReady}
 use Rattle.vm_system.proofs.Common.{IsSent, List, Listed, Makes, MayTakeFrom, Message, None, Numbered, ObjectId, OnErr, OnlyRoom, Option, Outside, Result}
-use Rattle.vm_system.proofs.Common.{SameHosts, ServerStands, ServerTable, Some, Spares, StandsStill, State, Step, SystemStands, [], all_lined, ap, arith}
-use Rattle.vm_system.proofs.Common.{last_control, lined, live_control, marked_regions, named, next_object, next_region, object_home, refl, region_of, slice_get}
+use Rattle.vm_system.proofs.Common.{SameHosts, ServerStands, ServerTable, Some, Spares, StandsStill, State, Step, SystemStands, [], ap, arith}
+use Rattle.vm_system.proofs.Common.{last_control, lined, live_control, named, object_home, refl, slice_get}
 use Rattle.vm_system.proofs.Common.{subst, sym, ℕ, ◌++◌, ◌+◌, ◌∙◌, ◌∷◌, ◌≡◌, ◌≤◌}
 use Rattle.sms_server.specs.Answers.{most_told}
 use Rattle.sms_server.specs.Table.{IsSameTable}
@@ -18,9 +18,8 @@ use Rattle.std.specs.Prelude.{Err, Ok, ◌*◌}
 use Rattle.vm_outside.specs.Arming.{KeepsArming}
 use Rattle.vm_abroad.specs.Home.{home_at, region_for}
 use Rattle.vm_legal.specs.Accesses.{is_ready}
-use Rattle.vm_model.specs.Regions.{backing_of}
 use Rattle.vm_ports.specs.Ports.{spare_channels}
-use Rattle.vm_state.specs.Stands.{HasControls, HasRegions}
+use Rattle.vm_state.specs.Stands.{HasControls}
 use Rattle.vm_system.proofs.Following.{same_all}
 
 -- a system that has more room stands for what it stood for
@@ -160,14 +159,8 @@ homes_unlined line past o = by (region_for o past)
     by None = refl
     by (Some region) = refl
 
-module _ (header : Header) (outside : Outside) (doing : Command) (hosts new : HostTable) (line : ℕ) (past : List Event) (all : AllRest header hosts past)
+module _ (header : Header) (hosts new : HostTable) (line : ℕ) (past : List Event) (all : AllRest header hosts past)
     (later : AllRest header new (event.Line line ∷ past)) where
-  marks_unlined : marked_regions header (event.Line line ∷ past) ≡ marked_regions header past
-  marks_unlined =
-      let before = common_all header hosts past all in
-      let behind = common_all header hosts (event.Line line ∷ past) (all_lined header outside doing hosts line past all) in
-      sym behind.marks ∙ before.marks
-
   matches_unlined : (h : ℕ) (k : Parts) → Matches header h k new.ids [] (event.Line line ∷ past) → Matches header h k new.ids [] past
   matches_unlined h k m =
       let common = common_all header hosts past all in
@@ -179,9 +172,7 @@ module _ (header : Header) (outside : Outside) (doing : Command) (hosts new : Ho
         declared = m.declared;
         fits = m.fits;
         tasks = m.tasks;
-        regions =
-            subst (λ (n : ℕ). HasRegions k.chains k.memory.objects new.ids (λ r. region_of header r past) (λ o. backing_of header o past)
-            (next_region header past) (next_object header past) n) marks_unlined m.regions;
+        regions = m.regions;
         kinds = m.kinds;
         homes = m.homes;
         files = m.files;
@@ -377,8 +368,8 @@ still_taken given (Some line) number channel t hosts log may rests queues none =
     let stands = may.stands in
     let lined : AllRest given.header hosts (event.Line line ∷ h) = subst (λ (z : List Event). AllRest given.header hosts z) may.past rests in
     let queued : AllQueued given.header hosts (event.Line line ∷ h) = subst (λ (z : List Event). AllQueued given.header hosts z) may.past queues in
-    stands_kept given.header given.outside t hosts log stands (all_unlined given.header given.outside given.command t.hosts hosts line h stands.rests lined)
-    (queued_unlined given.header given.outside given.command t.hosts hosts line h stands.rests lined queued) none
+    stands_kept given.header given.outside t hosts log stands (all_unlined given.header t.hosts hosts line h stands.rests lined)
+    (queued_unlined given.header t.hosts hosts line h stands.rests lined queued) none
 
 -- making room for events alone
 

@@ -20,7 +20,7 @@ use Rattle.vm_state.specs.Places.{known_local}
 use Rattle.vm_state.specs.Waiters.{waiting_in}
 use Rattle.vm_abroad.proofs.Home.{homes_abroad, named_objects, objects_stay}
 use Rattle.vm_abroad.specs.Home.{object_home}
-use Rattle.vm_model.specs.Regions.{marked_regions}
+use Rattle.vm_model.specs.Regions.{}
 use Rattle.vm_parts.specs.Changes.{one}
 use Rattle.vm_shadow.specs.Chains.{ChainTable, shadow_at}
 use Rattle.vm_shadow.specs.declared.shadow_row.ShadowRow.{ShadowRow}
@@ -44,6 +44,7 @@ use Rattle.vm_model.specs.declared.message.Message.TheVariants as message
 use Rattle.vm_state.proofs.Bypassing.{waits_beyond}
 use Rattle.vm_state.proofs.Passing.{only_before}
 use Rattle.vm_state.specs.Passed.{IsAway, IsUnmet, StaysAway}
+use Rattle.vm_state.specs.Counts.{marks_of}
 
 -- what a kernel says of all hosts
 
@@ -199,7 +200,7 @@ module _ (header : Header) (h : ℕ) (k : Parts) (ids next : Ids) (past new : Li
       }
 
   regions_same : HasRegions k.chains k.memory.objects next (λ r. region_of header r new) (λ o. backing_of header o new) (next_region header new)
-      (next_object header new) (marked_regions header new)
+      (next_object header new) (marks_of header new)
   regions_same =
       let has = rests.matches.regions in
       record {

@@ -5,7 +5,7 @@ use Rattle.vm_kernel.proofs.Common.{Outside, Parts, Plays, PutsObject, PutsRegio
 use Rattle.vm_kernel.proofs.Common.{Starts, TaskId, Temp, Up, [], all_tasks, ap, arith, code_where, entered, entering, entries_in, entries_in_row, entries_of}
 use Rattle.vm_kernel.proofs.Common.{entry, entry_at, eqb_tells, false, get_or, got, has_pager, head, holds, home_of, homes_next, homes_stay, host_id, host_of}
 use Rattle.vm_kernel.proofs.Common.{if◌then◌else◌, in_use, inl, inr, is_none, is_on, is_range, is_ready, is_some, is_woken, last_control, length, live_control}
-use Rattle.vm_kernel.proofs.Common.{live_in, lives_on, local, marked_regions, meets_range, most_entries, named, nat_tests, next_object, next_region, object_at}
+use Rattle.vm_kernel.proofs.Common.{live_in, lives_on, local, marks_of, meets_range, most_entries, named, nat_tests, next_object, next_region, object_at}
 use Rattle.vm_kernel.proofs.Common.{object_home, page_below, pages_in, paging, place_of, refl, region_at, region_entries, region_of, region_pages, reverse}
 use Rattle.vm_kernel.proofs.Common.{rows_in, slice_get, some_is, subst, sym, tasks, true, waiting, with_entries, ℕ, ◌%◌, ◌&&◌, ◌+◌, ◌-◌, ◌/◌, ◌<◌, ◌==◌, ◌^◌}
 use Rattle.vm_kernel.proofs.Common.{◌||◌, ◌∙◌, ◌∷◌, ◌≡◌, ◌≤◌, ◌⊎◌}
@@ -46,7 +46,7 @@ use Rattle.vm_state.specs.Places.{known_local}
 use Rattle.vm_state.specs.References.{is_over}
 use Rattle.vm_supply.specs.declared.woken.Woken.TheVariants as woken
 use Rattle.vm_kernel.specs.Mapping.{Again, Begins as BeginsControl, First, Holds, IsOpen, Opens, declared_region, referred, shared_entry}
-use Rattle.vm_kernel.proofs.space.NothingChanged.{controls_stay, regions_moved}
+use Rattle.vm_kernel.proofs.space.NothingChanged.{controls_stay}
 use Rattle.vm_kernel.proofs.space.RegionCopied.{file_of, no_row}
 use Rattle.vm_kernel.proofs.space.EntriesCounted.{most_is}
 use Rattle.vm_kernel.proofs.controls.DeclaredRegion.{BecomesKnown, controls_opened, declared_references, entries_declared, fit_declared, kinds_declared}
@@ -332,9 +332,8 @@ rests_opened header h outside doing task address bytes object offset pages new p
                 };
             tasks = tasks_entered h size k.maps maps past task row m.tasks o.changes lives;
             regions =
-                regions_moved header past now refl refl (λ r. refl) (λ x. refl)
-                (regions_declared header past object new pages k.chains chains k.memory.objects objects ids (next_region header past) (next_object header past)
-                (marked_regions header past) m.regions m.kinds m.homeless may.declared regions known_objects o.free o.sized o.known o.region o.put);
+                regions_declared header past object new pages k.chains chains k.memory.objects objects ids (next_region header past) (next_object header past)
+                (marks_of header past) m.regions m.kinds m.homeless may.declared regions known_objects o.free o.sized o.known o.region o.put;
             homes = λ r region paged found. elim (region_cases object.0 (Some (own_region object pages)) k.chains chains o.region r) [
               | inl same ↦
                   subst (λ (z : ℕ). home_of z now ≡ Some h) same.0
@@ -415,7 +414,7 @@ unreferred_row header h past k ids o row rests less free found =
     let m = rests.matches in
     let more = named_regions header past in
     m.regions.counts o row found
-    ∙ (declared_references header past k.chains k.memory.objects ids (next_region header past) (next_object header past) (marked_regions header past) o
+    ∙ (declared_references header past k.chains k.memory.objects ids (next_region header past) (next_object header past) (marks_of header past) o
     m.regions m.kinds m.homeless less (omega (arith, less, more))
     ∙ ap (λ z. one (is_over o z)) free)
 
@@ -791,7 +790,7 @@ few_refer header h past k ids o rests less = by (object_at k.memory.objects o) r
         let m = rests.matches in
         let more = named_regions header past in
         let count = m.regions.counts o row is in
-        let all = declared_references header past k.chains k.memory.objects ids (next_region header past) (next_object header past) (marked_regions header past)
+        let all = declared_references header past k.chains k.memory.objects ids (next_region header past) (next_object header past) (marks_of header past)
         o m.regions m.kinds m.homeless less (omega (arith, less, more)) in
         let single = most (is_over o (region_at k.chains o)) in
         omega (arith, count, all, single)

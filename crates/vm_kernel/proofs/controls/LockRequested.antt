@@ -7,7 +7,7 @@ use Rattle.vm_kernel.proofs.Common.{◌∷◌, ◌≡◌, ◌⊎◌}
 use Rattle.vm_state.proofs.Filling.{KeepsAway, away_back, fills_waked, used_away, used_waked, uses_refilled}
 use Rattle.vm_waits.specs.Waits.{Waked}
 use Rattle.std.specs.Prelude.{nat_le, nat_lt, option_map, ◌+◌}
-use Rattle.vm_kernel.proofs.space.NothingChanged.{Leaves, controls_after, homeless_after, regions_after}
+use Rattle.vm_kernel.proofs.space.NothingChanged.{Leaves, controls_after, homeless_after}
 use Rattle.vm_kernel.proofs.controls.AnswerEffects.{on_page}
 use Rattle.vm_kernel.proofs.memory.WhatIsKnown.{other_if, pages_known}
 use Rattle.vm_kernel.proofs.controls.PageLocked.{Mid, asks}
@@ -358,7 +358,7 @@ mid_taken header h k ids past object control page count returns lock flush reply
         buffers = m.fits.buffers;
       };
       tasks = m.tasks;
-      regions = regions_after leaves m.regions;
+      regions = m.regions;
       kinds = m.kinds;
       homes = m.homes;
       files = m.files;

@@ -23,7 +23,7 @@ use Rattle.vm_kernel.proofs.memory.PartsStillFit.{fits_changed}
 use Rattle.vm_kernel.proofs.steps.RowsInOrder.{PutsInOrder}
 use Rattle.vm_kernel.proofs.abroad.OwnHost.{own_host}
 use Rattle.vm_kernel.proofs.memory.PagesShown.{asking, asking_it, asking_other, frames_changed, itself, laundry_changed, pages_changed}
-use Rattle.vm_kernel.proofs.space.NothingChanged.{controls_stay, regions_behind}
+use Rattle.vm_kernel.proofs.space.NothingChanged.{controls_stay}
 use Rattle.vm_kernel.proofs.abroad.OtherLists.{matches_with}
 use Rattle.vm_kernel.proofs.controls.LockReplied.{replied_behind}
 use Rattle.vm_legal.specs.Walks.{page_on}
@@ -68,7 +68,7 @@ matches_asked header h k ids past key control access frame memory m live c plan 
       host = m.host;
       fits = fits_changed key frame _ _ _ _ _ k memory m.fits plan.fit plan.buffers c (λ away. record { lock = refl; precious = refl; unlock_sent = refl });
       tasks = m.tasks;
-      regions = rw plan.objects (regions_behind header (requesting h key control access) past k.chains k.memory.objects ids (λ r. refl) m.regions);
+      regions = rw plan.objects m.regions;
       homes = m.homes;
       files = rw plan.objects m.files;
       entries = m.entries;

@@ -6,12 +6,12 @@ use Rattle.vm_kernel.proofs.Common.{LocalEffect, None, ObjectId, ObjectRow, Obje
 use Rattle.vm_kernel.proofs.Common.{Queues, ResidentTable, Returns, SameObjects, Some, Suffice, Up, UsesAll, Works, [], absent_at, ap, arith, away, backing_of}
 use Rattle.vm_kernel.proofs.Common.{entries_of, false, fit_objects, frame_count, frame_here, frames_held, frames_wired, holds, home_of, host_id, host_of}
 use Rattle.vm_kernel.proofs.Common.{if◌then◌else◌, in_use, inl, inr, is_on, is_ready, is_some, is_woken, last_control, length, live_control, live_in, local}
-use Rattle.vm_kernel.proofs.Common.{local_after, local_of_row, marked_regions, named, nat_tests, next_object, next_page, next_region, not, object_at}
+use Rattle.vm_kernel.proofs.Common.{local_after, local_of_row, marks_of, named, nat_tests, next_object, next_page, next_region, not, object_at}
 use Rattle.vm_kernel.proofs.Common.{object_home, page_in, pages_of_row, paging, place_of, queues_except, ready_in, refl, region_of, returns_out, reverse}
 use Rattle.vm_kernel.proofs.Common.{row_at, slice_get, some_is, subst, sym, true, waiting, ℕ, ◌&&◌, ◌++◌, ◌+◌, ◌-◌, ◌<◌, ◌==◌, ◌||◌, ◌∙◌, ◌∷◌, ◌≡◌}
 use Rattle.vm_state.proofs.Filling.{KeepsAway, away_put, used_away, used_told}
 use Rattle.vm_state.specs.Stands.{KnowsFiles}
-use Rattle.vm_kernel.proofs.space.NothingChanged.{Leaves, controls_after, homeless_after, regions_after}
+use Rattle.vm_kernel.proofs.space.NothingChanged.{Leaves, controls_after, homeless_after}
 use Rattle.vm_kernel.proofs.controls.AnswerEffects.{hears}
 use Rattle.vm_kernel.proofs.memory.PartsStillFit.{plain_changed, plain_here, IsPlainAway}
 use Rattle.vm_kernel.proofs.steps.EventsGrow.{Follows, suffices}
@@ -56,7 +56,7 @@ pub record Mid (header : Header) (h : ℕ) (k : Parts) (ids : Ids) (past : List 
   pub fits : PartsFit k.memory k.size
   pub tasks : HasTasks h header.size k.maps (λ task. host_of task past) (λ task. entries_of header.size task past)
   pub regions : HasRegions k.chains k.memory.objects ids (λ r. region_of header r past) (λ o. backing_of header o past) (next_region header past)
-      (next_object header past) (marked_regions header past)
+      (next_object header past) (marks_of header past)
   pub kinds : HasKinds header k.memory.objects k.chains
   pub homes : HasHomes header h k.chains (λ r. home_of r past)
   pub files : KnowsFiles header h k.memory.objects (λ o. home_of o past)
@@ -118,6 +118,9 @@ pub record Quiet (header : Header) (h : ℕ) (k : Parts) (past now : List Event)
   pub tasks : HasTasks h header.size k.maps (λ task. host_of task now) (λ task. entries_of header.size task now)
   pub uses : HasUse header k.maps k.waits.rows (λ r. in_use header h r now) (made_tasks now) (λ task r. holds header.size task r now) (next_region header now)
   pub homes : HasHomes header h k.chains (λ r. home_of r now)
+  pub regions : {cs : ChainTable} {os : ObjectTable} {ids : Ids} → HasRegions cs os ids (λ r. region_of header r past) (λ o. backing_of header o past)
+      (next_region header past) (next_object header past) (marks_of header past)
+      → HasRegions cs os ids (λ r. region_of header r now) (λ o. backing_of header o now) (next_region header now) (next_object header now) (marks_of header now)
   pub controls : {os : ObjectTable} → HasControls (named header) h os (λ o. last_control h o past) (λ o. live_control h o past) (λ o. is_ready h o past)
       (λ o. object_home o past)
       → HasControls (named header) h os (λ o. last_control h o now) (λ o. live_control h o now) (λ o. is_ready h o now) (λ o. object_home o now)
@@ -144,6 +147,7 @@ quiet_none rests =
       tasks = m.tasks;
       uses = m.uses;
       homes = m.homes;
+      regions = λ has. has;
       controls = λ has. has;
       waits = λ t. refl;
       order = rests.order;
@@ -174,6 +178,7 @@ quiet_dropped {header = header} {h = h} {past = past} key rests =
       tasks = m.tasks;
       uses = m.uses;
       homes = m.homes;
+      regions = λ has. has;
       controls = λ has. controls_after leaves has;
       waits = λ t. refl;
       order = rests.order;
@@ -204,6 +209,7 @@ quiet_given {header = header} {h = h} {past = past} key control dirty keep bytes
       tasks = m.tasks;
       uses = m.uses;
       homes = m.homes;
+      regions = λ has. has;
       controls = λ has. controls_after leaves has;
       waits = λ t. refl;
       order = rests.order;
@@ -234,6 +240,7 @@ quiet_completed {header = header} {h = h} {past = past} object control page coun
       tasks = m.tasks;
       uses = m.uses;
       homes = m.homes;
+      regions = λ has. has;
       controls = λ has. controls_after leaves has;
       waits = λ t. refl;
       order = rests.order;
@@ -268,7 +275,7 @@ rests_moved header h k ids memory laundry past now rests quiet moved =
       host = m.host;
       fits = moved.fits;
       tasks = quiet.tasks;
-      regions = regions_after quiet.leaves (regions_of k.chains k.memory.objects memory.objects ids _ _ _ _ _ m.regions moved.objects);
+      regions = quiet.regions (regions_of k.chains k.memory.objects memory.objects ids _ _ _ _ _ m.regions moved.objects);
       homes = quiet.homes;
       files = λ o is. ap (λ z. is_on h z) (quiet.leaves.home o) ∙ (m.files o is ∙ ap is_some (sym (moved.objects.at o)));
       entries = m.entries;

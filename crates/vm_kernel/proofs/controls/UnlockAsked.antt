@@ -9,7 +9,7 @@ use Rattle.vm_abroad.proofs.Home.{object_stays}
 use Rattle.vm_fault.specs.Faults.{KeepsPlan}
 use Rattle.vm_fault.specs.Walks.{Finds, is_storing, keeps_out, wanted_number}
 use Rattle.vm_kernel.proofs.memory.ComesForAccess.{asks_none_now, page_referred, same_lock}
-use Rattle.vm_kernel.proofs.space.NothingChanged.{controls_stay, regions_behind}
+use Rattle.vm_kernel.proofs.space.NothingChanged.{controls_stay}
 use Rattle.vm_kernel.proofs.memory.PartsStillFit.{fits_changed, plain_here}
 use Rattle.vm_kernel.proofs.steps.AccessCauses.{asks_for, comes_at}
 use Rattle.vm_kernel.proofs.steps.EventsGrow.{Follows}
@@ -78,7 +78,7 @@ matches_unlocked header h k ids past key row control access memory m here c plan
       host = m.host;
       fits = fits_changed key row.frame _ _ _ _ _ k memory m.fits plan.fit plan.buffers c (plain_here row2 here);
       tasks = m.tasks;
-      regions = rw plan.objects (regions_behind header e past k.chains k.memory.objects ids (λ r. refl) m.regions);
+      regions = rw plan.objects m.regions;
       homes = m.homes;
       files = rw plan.objects m.files;
       entries = m.entries;

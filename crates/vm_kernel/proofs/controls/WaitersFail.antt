@@ -22,7 +22,7 @@ use Rattle.vm_waits.specs.declared.waiting.Destination.{Destination}
 use Rattle.vm_legal.specs.Living.{tasks as made_tasks}
 use Rattle.vm_supply.specs.declared.woken.Woken.TheVariants as who
 use Rattle.vm_waits.specs.declared.waiting.On.TheVariants as on
-use Rattle.vm_kernel.proofs.space.NothingChanged.{controls_stay, regions_moved}
+use Rattle.vm_kernel.proofs.space.NothingChanged.{controls_stay}
 use Rattle.vm_kernel.proofs.steps.EventsGrow.{goes_both, goes_more, suffices}
 use Rattle.vm_kernel.proofs.steps.RowsInOrder.{PutsInOrder, oldest_first}
 use Rattle.vm_kernel.proofs.memory.WalksShown.{page_left, place_at, want_address}
@@ -236,7 +236,7 @@ failed_one header h outside doing past old events key k ids w waits f found pass
           host = was.host;
           fits = was.fits;
           tasks = was.tasks;
-          regions = regions_moved header moment (e ∷ moment) refl refl (λ r. refl) (λ o. refl) was.regions;
+          regions = was.regions;
           entries = was.entries;
           pages = was.pages;
           uses = uses_failed header h k ids moment key w.task waits.rows f.works (fills_here {past = e ∷ moment} has2 copies)

@@ -7,7 +7,7 @@ use Rattle.vm_kernel.proofs.Common.{PageNo, PageRow, Parts, PutsObject, PutsRow,
 use Rattle.vm_kernel.proofs.Common.{Supplies, TakesError, TakesNothing, TakesPage, Waiting, Want, Woken, Works, Zeroes, [], absent_at, added, ap, arith}
 use Rattle.vm_kernel.proofs.Common.{asked_is, asked_row, away, backing_of, clean_row, count_released, entries_of, eqb_tells, false, frames_held, frames_wired}
 use Rattle.vm_kernel.proofs.Common.{holds, home_of, host_id, host_of, if◌then◌else◌, in_use, inl, inr, is_control, is_on, is_ready, is_some, is_woken, key_of}
-use Rattle.vm_kernel.proofs.Common.{last_control, last_in, live_control, live_in, local, local_after, local_of_row, lock_numbered, marked_regions, named}
+use Rattle.vm_kernel.proofs.Common.{last_control, last_in, live_control, live_in, local, local_after, local_of_row, lock_numbered, marks_of, named}
 use Rattle.vm_kernel.proofs.Common.{nat_lt, nat_tests, next_object, next_page, next_region, not, object_at, object_home, one_case, page_in, page_key, place_of}
 use Rattle.vm_kernel.proofs.Common.{ready_in, refl, region_of, replicate, returns_out, reverse, row_at, row_cases, slice_get, some_is, subst, sym, true}
 use Rattle.vm_kernel.proofs.Common.{unlocked, waiting, ℕ, ◌&&◌, ◌+◌, ◌-◌, ◌<◌, ◌==◌, ◌^◌, ◌∙◌, ◌∷◌, ◌≡◌, ◌≤◌, ◌⊎◌}
@@ -15,7 +15,7 @@ use Rattle.vm_model.specs.declared.message.Message.TheVariants as message
 use Rattle.vm_objects.specs.declared.row.PagerState.TheVariants as state
 use Rattle.vm_supply.specs.declared.woken.Woken.TheVariants as woken
 use Rattle.vm_waits.specs.declared.waiting.On.TheVariants as on
-use Rattle.vm_kernel.proofs.space.NothingChanged.{Leaves, controls_after, controls_stay, homeless_after, regions_after}
+use Rattle.vm_kernel.proofs.space.NothingChanged.{Leaves, controls_after, controls_stay, homeless_after}
 use Rattle.vm_kernel.proofs.controls.AnswerEffects.{IsLeft, IsNothing, asked_shows, hears, left_failed, left_lacked, lives, on_page, same_effect}
 use Rattle.vm_kernel.proofs.memory.PartsStillFit.{plain_changed}
 use Rattle.vm_kernel.proofs.memory.PagesShown.{bytes_now, effect_on, frames_changed, laundry_changed, pages_changed, pages_marked, pages_moved}
@@ -105,7 +105,7 @@ pub record Changed (header : Header) (h : ℕ) (k : Parts) (ids : Ids) (who : Wo
   pub plain : ArePlain new.resident
   pub away : KeepsAway k.memory.resident new.resident
   pub regions : HasRegions k.chains new.objects ids (λ r. region_of header r past) (λ o. backing_of header o past) (next_region header past)
-      (next_object header past) (marked_regions header past)
+      (next_object header past) (marks_of header past)
   pub kinds : HasKinds header new.objects k.chains
   pub files : KnowsFiles header h new.objects (λ o. home_of o past)
   pub pages : HasPages new.frames new.resident new.objects (λ o p. known_local header o p (local header.size h (place_of o p) now))
@@ -132,6 +132,9 @@ pub record Stays (header : Header) (h : ℕ) (k : Parts) (past now : List Event)
   pub tasks : HasTasks h header.size k.maps (λ task. host_of task now) (λ task. entries_of header.size task now)
   pub uses : HasUse header k.maps k.waits.rows (λ r. in_use header h r now) (made_tasks now) (λ task r. holds header.size task r now) (next_region header now)
   pub waits : (t : ℕ) → waiting t now ≡ waiting t past
+  pub regions : {cs : ChainTable} {os : ObjectTable} {ids : Ids} → HasRegions cs os ids (λ r. region_of header r past) (λ o. backing_of header o past)
+      (next_region header past) (next_object header past) (marks_of header past)
+      → HasRegions cs os ids (λ r. region_of header r now) (λ o. backing_of header o now) (next_region header now) (next_object header now) (marks_of header now)
   pub controls : {os : ObjectTable} → HasControls (named header) h os (λ o. last_control h o past) (λ o. live_control h o past) (λ o. is_ready h o now)
       (λ o. object_home o past)
       → HasControls (named header) h os (λ o. last_control h o now) (λ o. live_control h o now) (λ o. is_ready h o now) (λ o. object_home o now)
@@ -162,6 +165,7 @@ stays_heard header h k ids past object control m rests none =
       tasks = was.tasks;
       uses = was.uses;
       waits = λ t. refl;
+      regions = λ has. has;
       controls = λ has. controls_after leaves has;
       homes = was.homes;
       order = rests.order;
@@ -192,6 +196,7 @@ stays_zeroed header h k past now object page stays =
       tasks = stays.tasks;
       uses = stays.uses;
       waits = stays.waits;
+      regions = stays.regions;
       controls = λ has. controls_stay (λ o is. object_stays o h (zeros h object page) now is) (stays.controls has);
       homes = stays.homes;
       order = stays.order;
@@ -218,7 +223,7 @@ works_of header h k ids who new past now rests stays fit same c =
             host = was.host;
             fits = record { parts = fit; plain = c.plain; buffers = ap (λ z. z.size) same ∙ was.fits.buffers };
             tasks = stays.tasks;
-            regions = regions_after stays.leaves c.regions;
+            regions = stays.regions c.regions;
             entries = was.entries;
             pages = c.pages;
             uses = stays.uses;
@@ -452,7 +457,7 @@ changed_ready header h k ids events after past object control cache strategy who
       away = λ o p none. none;
       regions =
           regions_controlled object.0 known (record known { state = state.Ready }) k.chains k.memory.objects new.objects ids (λ r. region_of header r past)
-          (λ o. backing_of header o past) (next_region header past) (next_object header past) (marked_regions header past)
+          (λ o. backing_of header o past) (next_region header past) (next_object header past) (marks_of header past)
           readies.found readies.ready refl refl was.regions;
       kinds =
           kinds_put header object.0 (record known { state = state.Ready }) k.memory.objects new.objects k.chains readies.ready readies.marks
@@ -593,7 +598,7 @@ changed_supplied header h k ids events after past object control page lock preci
       plain = plain_changed key row.frame _ _ _ _ _ k.memory new was.fits.plain comes (λ gone. absurd (let bad : true ≡ false = gone in cc));
       regions =
           regions_of k.chains k.memory.objects new.objects ids (λ r. region_of header r past) (λ o. backing_of header o past) (next_region header past)
-          (next_object header past) (marked_regions header past) was.regions same;
+          (next_object header past) (marks_of header past) was.regions same;
       kinds = kinds_same header k.memory.objects new.objects k.chains same (same_marks k.memory.objects new.objects supplies.objects) was.kinds;
       files = files_same header h k.memory.objects new.objects (λ o. home_of o past) same was.files;
       pages =
@@ -662,7 +667,7 @@ changed_ended header h k ids past object control page m effect who row new rests
       plain = plain_changed key row.frame _ _ _ _ _ k.memory new was.fits.plain ends tt;
       regions =
           regions_of k.chains k.memory.objects new.objects ids (λ r. region_of header r past) (λ o. backing_of header o past) (next_region header past)
-          (next_object header past) (marked_regions header past) was.regions same;
+          (next_object header past) (marks_of header past) was.regions same;
       kinds = kinds;
       files = files_same header h k.memory.objects new.objects (λ o. home_of o past) same was.files;
       pages = pages_eq new.frames new.resident new.objects (λ o p. known_local header o p (effect_on header.size key effect local_at o p))
@@ -823,7 +828,7 @@ changed_zeroed header h k ids host after past object control page who new rests 
       plain = plain_changed key row.frame _ _ _ _ _ k.memory new was.fits.plain comes (λ gone. absurd (let bad : true ≡ false = gone in cc));
       regions =
           regions_of k.chains k.memory.objects new.objects ids (λ r. region_of header r past) (λ o. backing_of header o past) (next_region header past)
-          (next_object header past) (marked_regions header past) was.regions same;
+          (next_object header past) (marks_of header past) was.regions same;
       kinds = kinds_same header k.memory.objects new.objects k.chains same (same_marks k.memory.objects new.objects zeroes.objects) was.kinds;
       files = files_same header h k.memory.objects new.objects (λ o. home_of o past) same was.files;
       pages = subst (λ (z : ObjectTable). HasPages new.frames new.resident z local_now) (sym zeroes.objects) pages;

@@ -25,7 +25,7 @@ use Rattle.vm_kernel.proofs.steps.RowsInOrder.{PutsInOrder}
 use Rattle.vm_kernel.proofs.abroad.OwnHost.{lives_here, own_host}
 use Rattle.vm_kernel.proofs.memory.PagesShown.{bytes_now, frames_changed, laundry_changed, pages_moved, shown_as, shown_here}
 use Rattle.vm_kernel.proofs.space.RegionsInUse.{holds_waits, uses_still}
-use Rattle.vm_kernel.proofs.space.NothingChanged.{controls_stay, regions_behind}
+use Rattle.vm_kernel.proofs.space.NothingChanged.{controls_stay}
 use Rattle.vm_kernel.proofs.abroad.OtherLists.{matches_with}
 use Rattle.vm_kernel.proofs.controls.LockReplied.{replied_behind}
 use Rattle.vm_state.specs.References.{MayLock}
@@ -92,7 +92,7 @@ matches_zeroed header h k ids past key frame memory m c plan =
       host = m.host;
       fits = fits_changed key frame _ _ _ _ _ k memory m.fits plan.fit plan.buffers c (λ away. record { lock = refl; precious = refl; unlock_sent = refl });
       tasks = m.tasks;
-      regions = rw plan.objects (regions_behind header (event.Zeroed (host_id h) key.object key.page) past k.chains k.memory.objects ids (λ r. refl) m.regions);
+      regions = rw plan.objects m.regions;
       homes = m.homes;
       files = rw plan.objects m.files;
       entries = m.entries;
@@ -163,8 +163,7 @@ matches_raised header h k ids past low top row frame memory m found here c plan 
       fits = fits_changed top frame _ _ _ _ _ k memory m.fits plan.fit plan.buffers c (λ away. record { lock = refl; precious = refl; unlock_sent = refl });
       tasks = m.tasks;
       regions =
-          rw plan.objects (regions_behind header (event.Raised (host_id h) low.object low.page top.object top.page) past k.chains k.memory.objects ids
-          (λ r. refl) m.regions);
+          rw plan.objects m.regions;
       homes = m.homes;
       files = rw plan.objects m.files;
       entries = m.entries;
@@ -261,7 +260,7 @@ works_loaded header h past k ids w key value waits2 number works is now put =
         host = m.host;
         fits = m.fits;
         tasks = m.tasks;
-        regions = regions_behind header e past k.chains k.memory.objects ids (λ r. refl) m.regions;
+        regions = m.regions;
         homes = m.homes;
         files = m.files;
         entries = m.entries;
@@ -346,7 +345,7 @@ works_stored header h past k ids w key frame at size value row memory waits2 num
         host = m.host;
         fits = fits2;
         tasks = m.tasks;
-        regions = rw plan.objects (regions_behind header e past k.chains k.memory.objects ids (λ r. refl) m.regions);
+        regions = rw plan.objects m.regions;
         homes = m.homes;
         files = rw plan.objects m.files;
         entries = m.entries;

@@ -9,7 +9,7 @@ use Rattle.vm_base.specs.declared.code.Code.TheVariants as code
 use Rattle.vm_model.specs.declared.event.Event.TheVariants as event
 use Rattle.vm_model.specs.declared.command.Command.TheVariants as command
 use Rattle.vm_state.specs.Places.{known_local}
-use Rattle.vm_kernel.proofs.space.NothingChanged.{Leaves, controls_after, homeless_after, regions_after}
+use Rattle.vm_kernel.proofs.space.NothingChanged.{Leaves, controls_after, homeless_after}
 use Rattle.vm_kernel.proofs.steps.EventsGrow.{free_is, suffices}
 use Rattle.vm_kernel.proofs.steps.HeadAlone.{heads_one, passed, ran_head}
 use Rattle.vm_kernel.proofs.abroad.OwnHost.{named_host, own_host}
@@ -98,7 +98,7 @@ ran_wired header h outside doing past k ids wired rests few first done =
             host = m.host;
             fits = record { parts = fit_wired k.memory wired m.fits.parts; plain = m.fits.plain; buffers = m.fits.buffers };
             tasks = m.tasks;
-            regions = regions_after leaves m.regions;
+            regions = m.regions;
             entries = m.entries;
             pages =
                 pages_wired k.memory.frames k.memory.resident k.memory.objects (λ o p. known_local header o p (local header.size h (place_of o p) past)) wired

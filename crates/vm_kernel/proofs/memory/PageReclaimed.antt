@@ -31,7 +31,7 @@ use Rattle.vm_kernel.proofs.memory.PageReturned.{controls_begun, controls_same, 
 use Rattle.vm_kernel.proofs.memory.PageReturned.{kinds_controlled, pages_created, ready_controlled, told_controlled, unasked, untold_temporary}
 use Rattle.vm_abroad.specs.Home.{object_home}
 use Rattle.vm_legal.specs.Prompt.{IsSource}
-use Rattle.vm_model.specs.Regions.{marked_regions}
+use Rattle.vm_model.specs.Regions.{}
 use Rattle.vm_parts.proofs.Rows.{stood}
 use Rattle.vm_state.specs.Places.{known_local}
 use Rattle.vm_state.specs.Stands.{HasHomes, IsOfKind, KnowsFiles}
@@ -43,7 +43,7 @@ use Rattle.vm_state.proofs.Told.{waiters_lost}
 use Rattle.vm_kernel.proofs.memory.FramesWashed.{laundry_room, laundry_returned}
 use Rattle.vm_kernel.proofs.abroad.OwnHost.{named_host, own_host}
 use Rattle.vm_kernel.proofs.abroad.OwnEvents.{mine_of, own_named}
-use Rattle.vm_kernel.proofs.space.NothingChanged.{controls_stay, regions_behind}
+use Rattle.vm_kernel.proofs.space.NothingChanged.{controls_stay}
 use Rattle.vm_kernel.proofs.controls.LockReplied.{replied_behind}
 use Rattle.vm_kernel.proofs.lists.PagesSpared.{waits_unlocked}
 use Rattle.vm_kernel.specs.Matches.{IsReplied}
@@ -51,6 +51,7 @@ use Rattle.vm_legal.specs.Accesses.{WaitsUnlocked}
 use Rattle.vm_legal.specs.InTurn.{ReturnsInTurn}
 use Rattle.vm_state.proofs.Bypassing.{waits_quiet, waits_returned}
 use Rattle.vm_state.proofs.Passing.{quiet_if}
+use Rattle.vm_state.specs.Counts.{marks_of}
 
 -- all but what a reclaim changes is as it was, and what it changes fits
 pub record Beside (k k2 : Parts) : Type 0 where
@@ -220,7 +221,7 @@ took_freed header h outside doing past ids skip k k2 before after rests beside l
                   host = rw beside.host m.host;
                   fits = fits_of k k2 beside m.fits (plain_changed key row.frame _ _ _ _ _ (looked k.memory) k2.memory m.fits.plain page tt);
                   tasks = rw beside.maps m.tasks;
-                  regions = rw (beside.chains, freed.objects) (regions_behind header e moment k.chains k.memory.objects ids (λ r. refl) m.regions);
+                  regions = rw (beside.chains, freed.objects) m.regions;
                   entries = rw (beside.chains, beside.maps) m.entries;
                   pages = rw (freed.objects, own_host h)
                       (known_on header header.size key Leaves (λ o p. local header.size h (place_of o p) moment) tt
@@ -303,7 +304,7 @@ on_its_way h skip k k2 before after beside claims left less out stay =
 record Before (header : Header) (h : ℕ) (k : Parts) (ids : Ids) (past : List Event) : Type 0 where
   tasks : HasTasks h header.size k.maps (λ task. host_of task past) (λ task. entries_of header.size task past)
   regions : HasRegions k.chains k.memory.objects ids (λ r. region_of header r past) (λ o. backing_of header o past) (next_region header past)
-      (next_object header past) (marked_regions header past)
+      (next_object header past) (marks_of header past)
   pages : HasPages k.memory.frames k.memory.resident k.memory.objects (λ o p. known_local header o p (local header.size h (place_of o p) past))
   uses : HasUse header k.maps k.waits.rows (λ r. in_use header h r past) (made_tasks past) (λ t r. holds header.size t r past) (next_region header past)
   homeless : HaveHomes header past
@@ -350,7 +351,7 @@ returned_rests header h ids skip k k2 before after moment past control rests bes
     let local_at = λ (o p : ℕ). known_local header o p (local header.size h (place_of o p) moment) in
     let e = returning h key control row.dirty (page_in k.memory.frames row.frame.0) in
     let regions : HasRegions k.chains k2.memory.objects ids (λ r. region_of header r moment) (λ o. backing_of header o moment) (next_region header moment)
-    (next_object header moment) (marked_regions header moment) =
+    (next_object header moment) (marks_of header moment) =
     regions_controlled o is.object (controlled is.object) k.chains k.memory.objects k2.memory.objects ids _ _ _ _ _ is.known is.objects counts.references
     counts.pages b.regions in
     let moved = pages_moved header.size (Returns false) key row.frame _ _ _ _ _ (looked k.memory) k2.memory k2.memory.objects local_at fit b.pages page
@@ -375,7 +376,7 @@ returned_rests header h ids skip k k2 before after moment past control rests bes
             host = rw beside.host m.host;
             fits = fits_of k k2 beside m.fits (plain_changed key row.frame _ _ _ _ _ (looked k.memory) k2.memory m.fits.plain page tt);
             tasks = rw beside.maps b.tasks;
-            regions = rw beside.chains (regions_behind header e moment k.chains k2.memory.objects ids (λ r. refl) regions);
+            regions = rw beside.chains regions;
             entries = rw (beside.chains, beside.maps) m.entries;
             pages = rw (own_host h) pages;
             uses = rw (beside.maps, beside.waits) b.uses;
@@ -579,7 +580,7 @@ took_first header h outside doing past ids skip k k2 before after rests beside l
     let b : Before header h k ids moment =
     record {
       tasks = m.tasks;
-      regions = regions_behind header e1 h0 k.chains k.memory.objects ids (λ r. refl) m.regions;
+      regions = m.regions;
       pages = pages;
       uses = m.uses;
       homeless =

@@ -7,7 +7,7 @@ use Rattle.vm_kernel.proofs.Common.{slice_get, subst, suc, sym, true, zero, ℕ,
 use Rattle.vm_model.specs.declared.event.Event.TheVariants as event
 use Rattle.vm_model.specs.declared.message.Message.TheVariants as message
 use Rattle.vm_state.specs.Places.{known_local}
-use Rattle.vm_kernel.proofs.space.NothingChanged.{Leaves, controls_after, homeless_after, regions_after}
+use Rattle.vm_kernel.proofs.space.NothingChanged.{Leaves, controls_after, homeless_after}
 use Rattle.vm_kernel.proofs.abroad.OwnHost.{own_host}
 use Rattle.vm_kernel.proofs.controls.LockReplied.{replied_none}
 use Rattle.vm_state.specs.Places.{known_local}
@@ -115,7 +115,7 @@ rests_taken header h k ids past object control page dirty bytes f fs laundry res
                   buffers = was.fits.buffers;
                 };
             tasks = was.tasks;
-            regions = regions_after leaves was.regions;
+            regions = was.regions;
             entries = was.entries;
             pages =
                 pages_same k.memory.frames fs k.memory.resident k.memory.objects (λ o p. known_local header o p (local header.size h (place_of o p) past)) f.0

@@ -1,7 +1,7 @@
 -- What a shadow leaves of the kernel, which a store's region gets first where that is marked.
 use Rattle.vm_kernel.proofs.Common.{ChainTable, Event, HasEntries, Header, HostParts, Ids, Inside, IsInside, List, Matches, None, ObjectId, ObjectTable, Parts}
 use Rattle.vm_kernel.proofs.Common.{PutsObject, Region, RegionRow, SameMarks, Some, Works, [], ap, arith, false, has_region, home_of, if◌then◌else◌, inl, inr}
-use Rattle.vm_kernel.proofs.Common.{is_some, is_woken, local_of_row, marked_regions, next_object, next_region, object_at, one_case, pages_in, refl, region_at}
+use Rattle.vm_kernel.proofs.Common.{is_some, is_woken, local_of_row, marks_of, next_object, next_region, object_at, one_case, pages_in, refl, region_at}
 use Rattle.vm_kernel.proofs.Common.{region_pages, row_at, rows_in, rows_map, some_is, subst, sym, true, waiting, ℕ, ◌+◌, ◌-◌, ◌<◌, ◌==◌, ◌∙◌, ◌∷◌, ◌≡◌, ◌≤◌}
 use Rattle.vm_kernel.proofs.Common.{◌⊎◌}
 use Rattle.vm_kernel.proofs.space.RegionsFilled.{shadowed_filled, unknown_unfilled}
@@ -110,7 +110,7 @@ shadowed_with header h past k ids region object row chains objects works there c
         regions =
             regions_shadowed header past region object row (new_object row.pages) k.chains chains k.memory.objects objects ids
             (record ids { next_object = ids.next_object + 1; marks = ids.marks - 1 })
-            (next_region header past) (next_object header past) (marked_regions header past) (marked_regions header (e ∷ past)) made there number refl put fits
+            (next_region header past) (next_object header past) (marks_of header past) (marks_of header (e ∷ past)) made there number refl put fits
             refl refl marks_now few_now m.regions;
         homes =
             λ r found paged is. elim (one_case region.0 r (Some (record row { top = object; shift = 0; marked = false })) (region_at k.chains r)
@@ -192,15 +192,15 @@ shadowed_with header h past k ids region object row chains objects works there c
     keeps : KeepsRegions k.chains chains
     keeps = keeps_shadowed region.0 object row k.chains chains made there
 
-    one_less : marked_regions header (e ∷ past) + 1 ≡ marked_regions header past
+    one_less : marks_of header (e ∷ past) + 1 ≡ marks_of header past
     one_less =
         marked_shadowed header past region object row.top (small_region m.regions region.0 row there)
         (ap (λ (z : Region). z.mark) (m.regions.rows region.0 row there) ∙ marked)
 
-    marks_now : ids.marks - 1 ≡ marked_regions header (e ∷ past)
+    marks_now : ids.marks - 1 ≡ marks_of header (e ∷ past)
     marks_now = omega (arith, one_less, m.regions.marks)
 
-    few_now : next_object header past + 1 + marked_regions header (e ∷ past) ≤ most_objects
+    few_now : next_object header past + 1 + marks_of header (e ∷ past) ≤ most_objects
     few_now = let few = m.regions.few in omega (arith, one_less, few)
 
 pub works_shadowed : (header : Header) (h : ℕ) (past : List Event) (k : Parts) (ids : Ids) (region : RegionId) (row : RegionRow) (old new : FaultState)

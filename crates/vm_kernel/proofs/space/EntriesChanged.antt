@@ -4,7 +4,7 @@ use Rattle.vm_kernel.proofs.Common.{HasPages, HasRegions, HasUse, HasWaiters, He
 use Rattle.vm_kernel.proofs.Common.{Parts, Prot, Raised, Ran, RegionRow, Rests, Some, Starts, TaskId, Waiting, [], acting, all_tasks, ap, arith, backing_of}
 use Rattle.vm_kernel.proofs.Common.{code_where, copy_target, count_by, count_on, cut_at_ends, entries_in, entries_in_row, entries_of, entry, eqb_tells, false}
 use Rattle.vm_kernel.proofs.Common.{fills, has_entry, has_region, holds, home_of, host_of, if◌then◌else◌, in_use, inheritance, inherited, inl, inr, is_copied}
-use Rattle.vm_kernel.proofs.Common.{is_none, is_range, is_some, is_woken, local, marked_regions, meets_declared, most_entries, named, next_object, next_page}
+use Rattle.vm_kernel.proofs.Common.{is_none, is_range, is_some, is_woken, local, marks_of, meets_declared, most_entries, named, next_object, next_page}
 use Rattle.vm_kernel.proofs.Common.{next_region, not-false, place_of, protected, protection, refl, region_at, region_entries, region_of, removed, rows_in}
 use Rattle.vm_kernel.proofs.Common.{rows_map, subst, suc, sym, tasks, true, unwrap_or, waiting, waiting_in, zero, ℕ, ◌&&◌, ◌*◌, ◌+◌, ◌-◌, ◌<◌, ◌==◌, ◌^◌, ◌||◌}
 use Rattle.vm_kernel.proofs.Common.{◌∙◌, ◌∷◌, ◌≡◌, ◌≤◌}
@@ -19,7 +19,7 @@ use Rattle.vm_legal.specs.Refusal.{are_too_many}
 use Rattle.vm_model.specs.declared.event.Event.TheVariants as event
 use Rattle.vm_model.specs.declared.command.Command.TheVariants as command
 use Rattle.vm_supply.specs.declared.woken.Woken.TheVariants as woken
-use Rattle.vm_kernel.proofs.space.NothingChanged.{Leaves, controls_after, homeless_after, regions_after}
+use Rattle.vm_kernel.proofs.space.NothingChanged.{Leaves, controls_after, homeless_after}
 use Rattle.vm_kernel.proofs.space.EntriesCounted.{by_changed, by_few, most_is}
 use Rattle.vm_kernel.proofs.space.EntriesCut.{Cuts, MayCut, inherit_cuts, may_cut, protect_cuts}
 use Rattle.vm_kernel.proofs.steps.EventsGrow.{suffices}
@@ -100,7 +100,7 @@ none_among r rows made own none = by (count_on r made) refl
 pub record Changed (header : Header) (h : ℕ) (past : List Event) (k : Parts) (ids : Ids) (maps : Mapped) (chains : ChainTable) (lost : List Entry) : Type 0
   where
     pub regions : HasRegions chains k.memory.objects ids (λ r. region_of header r past) (λ o. backing_of header o past) (next_region header past)
-        (next_object header past) (marked_regions header past)
+        (next_object header past) (marks_of header past)
     pub entries : HasEntries header.size maps chains lost
     pub kinds : HasKinds header k.memory.objects chains
     pub homes : HasHomes header h chains (λ r. home_of r past)
@@ -122,7 +122,7 @@ changed_by header h past k ids maps chains task rows lost more rests idle change
     record {
       regions =
           recount_regions count k.chains chains k.memory.objects ids (λ r. region_of header r past) (λ o. backing_of header o past) (next_region header past)
-          (next_object header past) (marked_regions header past) is m.regions;
+          (next_object header past) (marks_of header past) is m.regions;
       entries =
           entries_changed header.size task k.maps maps k.chains chains count rows lost m.entries changes lives is
           (λ r there. let sum = cuts.sums r in omega arith) cuts.inside cuts.known cuts.few;
@@ -277,7 +277,7 @@ ran_protect header h outside task address bytes prot past events k ids maps chai
             tasks =
                 tasks_changed h header.size task.0 k.maps maps (λ t. host_of t past) (λ t. entries_of header.size t past)
                 (protected header.size address bytes prot) m.tasks same lives;
-            regions = regions_after leaves c.regions;
+            regions = c.regions;
             entries = c.entries;
             pages = c.pages;
             uses =
@@ -389,7 +389,7 @@ ran_inherit header h outside task address bytes inherit past events k ids maps c
             tasks =
                 tasks_changed h header.size task.0 k.maps maps (λ t. host_of t past) (λ t. entries_of header.size t past)
                 (inherited header.size address bytes inherit) m.tasks same lives;
-            regions = regions_after leaves c.regions;
+            regions = c.regions;
             entries = c.entries;
             pages = c.pages;
             uses =

@@ -48,7 +48,7 @@ use Rattle.vm_kernel.proofs.space.RegionRows.{region_row}
 use Rattle.vm_kernel.proofs.steps.RoomOfFork.{HasRoom, room_copied, room_more, room_of, room_other}
 use Rattle.vm_kernel.proofs.space.TaskTables.{Keeps, entries_changed, inside_kept, tasks_entered}
 use Rattle.vm_kernel.proofs.space.SharedEntries.{kinds_recounted, shared_entered}
-use Rattle.vm_kernel.proofs.space.NothingChanged.{controls_stay, regions_behind}
+use Rattle.vm_kernel.proofs.space.NothingChanged.{controls_stay}
 use Rattle.vm_kernel.proofs.space.EntriesRewritten.{lives_below}
 use Rattle.vm_kernel.proofs.controls.LockReplied.{replied_behind}
 use Rattle.vm_state.specs.Passed.{IsUnmet, StaysAway}
@@ -210,8 +210,7 @@ rests_shared header h outside doing task row past k k2 ids before after rests ma
             fits = rw (s.memory, s.size) m.fits;
             tasks = tasks_entered h size k.maps k2.maps past task row m.tasks s.maps lives;
             regions =
-                rw s.memory (regions_behind header e past k2.chains k.memory.objects ids (λ r. refl)
-                (regions_recounted k.chains k2.chains k.memory.objects ids _ _ _ _ _ recount m.regions));
+                rw s.memory (regions_recounted k.chains k2.chains k.memory.objects ids _ _ _ _ _ recount m.regions);
             files = rw s.memory (files_entered header h task row k.memory.objects past (λ file. m.homes r there.0 (paged_file header r file) there.1) m.files);
             homes = λ q now paged found. home_stays q h e past (m.homes q (was_row recount q now found).0 paged (was_row recount q now found).1);
             entries = entries_share size k.maps k2.maps k.chains k2.chains task.0 row m.entries may.inside s.counts s.maps below free.room;

@@ -6,7 +6,7 @@ use Rattle.vm_kernel.proofs.Common.{Matches, None, ObjectId, ObjectRow, ObjectTa
 use Rattle.vm_kernel.proofs.Common.{Region, RegionRow, ResidentTable, ReturnCause, Returns, SameMarks, SameObjects, Some, Unreached, Up, UsesAll, Woken, []}
 use Rattle.vm_kernel.proofs.Common.{absent_at, all_tasks, ap, arith, away, backing_of, entries_in, entries_of, eqb_tells, false, fit_objects, frames_held}
 use Rattle.vm_kernel.proofs.Common.{frames_wired, has_entry, has_region, home_of, host_id, if◌then◌else◌, in_use, inl, inr, is_control, is_ready, is_some}
-use Rattle.vm_kernel.proofs.Common.{is_woken, last_control, last_in, length, live_control, live_in, local, local_after, local_of_row, marked_regions, named}
+use Rattle.vm_kernel.proofs.Common.{is_woken, last_control, last_in, length, live_control, live_in, local, local_after, local_of_row, marks_of, named}
 use Rattle.vm_kernel.proofs.Common.{nat_tests, next_object, next_region, not, object_at, one_case, page_in, pages_in, pages_of_row, paging, place_of}
 use Rattle.vm_kernel.proofs.Common.{queues_except, ready_in, refl, region_at, region_of, returns_out, reverse, row_at, row_cases, rows_in, rows_map, same_pages}
 use Rattle.vm_kernel.proofs.Common.{slice_get, some_is, subst, suc, sym, true, waiting, without_control, zero, ℕ, ◌&&◌, ◌++◌, ◌+◌, ◌-◌, ◌<◌, ◌==◌, ◌^◌, ◌||◌}
@@ -23,7 +23,7 @@ use Rattle.vm_parts.proofs.Fitting.{fit_changed}
 use Rattle.vm_parts.specs.Changes.{Discards, Removes}
 use Rattle.vm_shadow.specs.Chains.{DropsShadow, shadow_at}
 use Rattle.vm_shadow.specs.declared.shadow_row.ShadowRow.{ShadowRow}
-use Rattle.vm_kernel.proofs.space.NothingChanged.{Leaves, controls_after, homeless_after, regions_after}
+use Rattle.vm_kernel.proofs.space.NothingChanged.{Leaves, controls_after, homeless_after}
 use Rattle.vm_kernel.proofs.memory.PartsStillFit.{plain_changed}
 use Rattle.vm_kernel.proofs.space.EntriesCounted.{by_some}
 use Rattle.vm_kernel.proofs.steps.EventsGrow.{goes_one, suffices}
@@ -155,7 +155,7 @@ ends_lost header h outside doing past who k ids rest key row memory events e fir
           buffers = ap (λ z. z.size) buffers ∙ m.fits.buffers;
         };
         tasks = m.tasks;
-        regions = rw objects (regions_after leaves m.regions);
+        regions = rw objects m.regions;
         homes = m.homes;
         files = rw objects m.files;
         entries = m.entries;
@@ -380,9 +380,9 @@ ends_returned header h outside doing past who k ids rest key known row memory la
         };
         tasks = m.tasks;
         regions =
-            regions_after leaves (regions_controlled o known known k.chains k.memory.objects memory.objects ids (λ r. region_of header r moment)
-            (λ o2. backing_of header o2 moment) (next_region header moment) (next_object header moment) (marked_regions header moment) goes.found put refl refl
-            m.regions);
+            regions_controlled o known known k.chains k.memory.objects memory.objects ids (λ r. region_of header r moment)
+            (λ o2. backing_of header o2 moment) (next_region header moment) (next_object header moment) (marks_of header moment) goes.found put refl refl
+            m.regions;
         homes = m.homes;
         files = files_same header h k.memory.objects memory.objects (λ o2. home_of o2 moment) goes.objects m.files;
         entries = m.entries;
@@ -675,9 +675,9 @@ ends_told header h outside doing past who k ids rest object events row objects s
             };
         tasks = m.tasks;
         regions =
-            regions_after leaves (regions_controlled o row (quiet_row row) k.chains k.memory.objects objects ids (λ r. region_of header r moment)
-            (λ o2. backing_of header o2 moment) (next_region header moment) (next_object header moment) (marked_regions header moment) found put refl refl
-            m.regions);
+            regions_controlled o row (quiet_row row) k.chains k.memory.objects objects ids (λ r. region_of header r moment)
+            (λ o2. backing_of header o2 moment) (next_region header moment) (next_object header moment) (marks_of header moment) found put refl refl
+            m.regions;
         homes = m.homes;
         files = files_put header h o row (quiet_row row) k.memory.objects objects (λ o2. home_of o2 moment) found put m.files;
         entries = m.entries;
@@ -847,7 +847,7 @@ runs_dropped header h past who k ids rest o left row known events chains objects
         tasks = m.tasks;
         regions =
             regions_dropped o left row e.row known k.chains chains k.memory.objects objects ids (λ r. region_of header r moment)
-            (λ o2. backing_of header o2 moment) (next_region header moment) (next_object header moment) (marked_regions header moment)
+            (λ o2. backing_of header o2 moment) (next_region header moment) (next_object header moment) (marks_of header moment)
             leaves.found e.known e.none leaves.drops leaves.under leaves.less leaves.put m.regions;
         homes = λ r region paged found. m.homes r region paged (sym (ap (λ f. f r) leaves.drops.regions) ∙ found);
         files =

@@ -23,7 +23,6 @@ use Rattle.vm_model.specs.Regions as R
 use Rattle.vm_kernel.proofs.space.EntriesCounted.{by_none, most_is, none_on, on_entered, one_on}
 use Rattle.vm_kernel.proofs.steps.EventsGrow.{licensed, suffices}
 use Rattle.vm_kernel.proofs.steps.HeadAlone.{passed, ran_head}
-use Rattle.vm_kernel.proofs.space.NothingChanged.{regions_moved}
 use Rattle.vm_kernel.proofs.space.TaskMade.{controls_made, idle_of, new_object}
 use Rattle.vm_kernel.proofs.abroad.OwnEvents.{mine_of, own_task}
 use Rattle.vm_kernel.proofs.space.RegionCases.{region_cases}
@@ -38,7 +37,7 @@ use Rattle.vm_base.specs.Limits.{most_objects}
 use Rattle.vm_state.proofs.Bare.{next_bare}
 use Rattle.vm_state.proofs.Files.{files_entered, files_temporary, no_file}
 use Rattle.vm_state.proofs.Making.{regions_made}
-use Rattle.vm_state.proofs.Marks.{marked_made}
+use Rattle.vm_state.proofs.Marks.{marked_made, regions_marked}
 use Rattle.vm_state.proofs.Places.{keeps_made}
 use Rattle.vm_state.proofs.Referred.{referred_put}
 use Rattle.vm_state.proofs.Told.{knows_made, waits_known}
@@ -49,6 +48,7 @@ use Rattle.vm_kernel.proofs.memory.PagesShown.{pages_marked}
 use Rattle.vm_kernel.proofs.controls.LockReplied.{replied_behind}
 use Rattle.std.proofs.lemmas.Bool.{not-false, or_parts}
 use Rattle.vm_state.specs.References.{is_live_in}
+use Rattle.vm_state.specs.Counts.{marks_of}
 
 -- what an allocation that isn't refused has
 pub record MayRange (size : ℕ) (k : Parts) (ids : Ids) (task address bytes : ℕ) : Type 0 where
@@ -96,7 +96,7 @@ may_range header h task address bytes past k ids events s =
     let objects : nat_le 8192 (next_object header past + marked_regions header past) ≡ false = counts.2 in
     let next_one = m.regions.region in
     let next_two = m.regions.object in
-    let marked = m.regions.marks in
+    let marked : ids.marks ≡ marked_regions header past = m.regions.marks ∙ sym (regions_marked header past) in
     record {
       lives = lives;
       whole = grind (arith, nat_tests);
@@ -425,21 +425,20 @@ range_regions : (header : Header) (h : ℕ) (task : TaskId) (address bytes : ℕ
     (λ o. backing_of header o (ranged task ids address bytes (bytes / header.size) ++ past))
     (next_region header (ranged task ids address bytes (bytes / header.size) ++ past))
     (next_object header (ranged task ids address bytes (bytes / header.size) ++ past))
-    (marked_regions header (ranged task ids address bytes (bytes / header.size) ++ past))
+    (marks_of header (ranged task ids address bytes (bytes / header.size) ++ past))
 range_regions header h task address bytes past k k2 ids rests may made =
     let m = rests.matches in
     let pages = bytes / header.size in
     let region : RegionId = record { 0 = ids.next_region } in
     let object : ObjectId = record { 0 = ids.next_object } in
     let e : Event = event.RegionMade region object pages in
-    let room : next_object header past + marked_regions header past < most_objects = omega (arith, may.marks, m.regions.object, m.regions.marks) in
+    let room : next_object header past + marks_of header past < most_objects = omega (arith, may.marks, m.regions.object, m.regions.marks) in
     let now = regions_made header past region object (new_region object pages) (new_object pages) pages k.chains k2.chains k.memory.objects k2.memory.objects
-    ids (next_region header past) (next_object header past) (marked_regions header past)
+    ids (next_region header past) (next_object header past) (marks_of header past)
     m.regions.region m.regions.object room (next_bare header past m.homeless) refl refl made.region_row made.object_row m.regions in
-    let marks : marked_regions header (e ∷ past) ≡ marked_regions header past = marked_made header past region object pages m.regions.region in
-    regions_moved header (e ∷ past) (ranged task ids address bytes pages ++ past) refl refl (λ r. refl) (λ o. refl)
-    (subst (λ (z : ℕ). HasRegions k2.chains k2.memory.objects (ids_after ids) (λ r. region_of header r (e ∷ past)) (λ o. backing_of header o (e ∷ past))
-    (next_region header past + 1) (next_object header past + 1) z) (sym marks) now)
+    let marks : marks_of header (e ∷ past) ≡ marks_of header past = marked_made header past region object pages m.regions.region in
+    subst (λ (z : ℕ). HasRegions k2.chains k2.memory.objects (ids_after ids) (λ r. region_of header r (e ∷ past)) (λ o. backing_of header o (e ∷ past))
+    (next_region header past + 1) (next_object header past + 1) z) (sym marks) now
 
 -- the numbers of the next region and object are those of temporary ones
 pub record AreTemporary (header : Header) (ids : Ids) : Type 0 where

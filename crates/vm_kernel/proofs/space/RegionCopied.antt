@@ -6,7 +6,7 @@ use Rattle.vm_kernel.proofs.Common.{Region, RegionRow, ResidentTable, Rests, Sam
 use Rattle.vm_kernel.proofs.Common.{code_where, count_again, count_by, count_on, entered, entering, entries_in, entries_of, entry, entry_at, eqb_tells, false}
 use Rattle.vm_kernel.proofs.Common.{fit_objects, found_row, got, has_entry, head, holds, home_entered, home_of, home_stays, homes_next, host_of, if◌then◌else◌}
 use Rattle.vm_kernel.proofs.Common.{in_use, inl, inr, is_none, is_on, is_range, is_ready, is_some, is_woken, last_control, length, length_entered, live_control}
-use Rattle.vm_kernel.proofs.Common.{lives_on, local_of_row, marked_regions, meets_range, most_entries, named, nat_le, nat_tests, next_object, next_region}
+use Rattle.vm_kernel.proofs.Common.{lives_on, local_of_row, marks_of, meets_range, most_entries, named, nat_le, nat_tests, next_object, next_region}
 use Rattle.vm_kernel.proofs.Common.{object_at, one_case, page_at, page_below, pages_in, pages_of_row, place_at, refl, region_at, region_entries, region_of}
 use Rattle.vm_kernel.proofs.Common.{region_pages, row_at, rows_entered, rows_in, rows_map, same_pages, some_is, subst, suc, sym, tasks, true, waiting}
 use Rattle.vm_kernel.proofs.Common.{waiting_in, whole_entry, zero, ℕ, ◌%◌, ◌&&◌, ◌++◌, ◌+◌, ◌-◌, ◌/◌, ◌<◌, ◌==◌, ◌^◌, ◌||◌, ◌∙◌, ◌∷◌, ◌≡◌, ◌≤◌, ◌⊎◌}
@@ -32,7 +32,7 @@ use Rattle.vm_state.proofs.Changing.{SameButEntries, regions_recounted}
 use Rattle.vm_state.proofs.Copying.{regions_copied}
 use Rattle.vm_state.proofs.Counting.{elsewhere}
 use Rattle.vm_state.proofs.Files.{files_entered, files_put, no_file}
-use Rattle.vm_state.proofs.Marks.{marked_copied}
+use Rattle.vm_state.proofs.Marks.{marked_copied, regions_marked}
 use Rattle.vm_state.proofs.Referred.{referred_copied, referred_recounted}
 use Rattle.vm_state.proofs.Waited.{KeepsPlaces, waits_changed, told_changed}
 use Rattle.vm_state.specs.Places.{with_entries}
@@ -58,12 +58,13 @@ use Rattle.vm_kernel.proofs.space.CountsChanged.{recounts_put}
 use Rattle.vm_kernel.proofs.space.RegionRows.{apart_there, none_leads, region_row}
 use Rattle.vm_kernel.proofs.space.TaskTables.{Keeps, entries_changed, inside_kept, tasks_entered}
 use Rattle.vm_kernel.proofs.space.SharedEntries.{shared_entered, temporary_shared}
-use Rattle.vm_kernel.proofs.space.NothingChanged.{controls_stay, regions_behind}
+use Rattle.vm_kernel.proofs.space.NothingChanged.{controls_stay}
 use Rattle.vm_kernel.proofs.space.EntriesRewritten.{lives_below}
 use Rattle.vm_kernel.proofs.space.RegionEnds.{controls_referred}
 use Rattle.vm_kernel.proofs.controls.LockReplied.{replied_behind}
 use Rattle.std.proofs.lemmas.Bool.{and_parts, not-false, or_parts}
 use Rattle.vm_state.specs.Passed.{IsUnmet, StaysAway}
+use Rattle.vm_model.specs.Regions.{marked_regions}
 
 -- regions that count other entries
 
@@ -289,7 +290,7 @@ pub record MayCopy (header : Header) (task : ℕ) (source : RegionId) (offset : 
   pub temporary : named header ≤ source.0
   pub inside : offset + row.bytes / header.size ≤ region.pages
   pub regions : next_region header past + 1 ≤ most_regions
-  pub objects : next_object header past + (marked_regions header past + (if (region_of header source.0 past).mark then 1 else 2)) ≤ most_objects
+  pub objects : next_object header past + (marks_of header past + (if (region_of header source.0 past).mark then 1 else 2)) ≤ most_objects
   pub from : IsFrom header source.0 offset (row.bytes / header.size) past
 
 -- of a list of tests that finds nothing, each found nothing
@@ -509,10 +510,10 @@ rests_copied header h outside doing task source offset row past k k2 ids ids2 be
     let small = small_region m.regions source.0 s.region s.there in
     let marked = marked_copied header past s.copy source offset pages number small in
     let mark : (region_of header source.0 past).mark ≡ s.region.marked = ap (λ z. z.mark) (m.regions.rows source.0 s.region s.there) in
-    let marks : ids2.marks ≡ marked_regions header (now ∷ past) =
+    let marks : ids2.marks ≡ marks_of header (now ∷ past) =
     ap (λ z. z.marks) s.ids ∙ (ap (λ z. z + (if s.region.marked then 1 else 2)) m.regions.marks
-    ∙ (ap (λ (b : Bool). marked_regions header past + (if b then 1 else 2)) (sym mark) ∙ sym marked)) in
-    let few : next_object header past + marked_regions header (now ∷ past) ≤ most_objects = subst (λ (z : ℕ). next_object header past + z ≤ most_objects)
+    ∙ (ap (λ (b : Bool). marks_of header past + (if b then 1 else 2)) (sym mark) ∙ sym marked)) in
+    let few : next_object header past + marks_of header (now ∷ past) ≤ most_objects = subst (λ (z : ℕ). next_object header past + z ≤ most_objects)
     (sym marked) may.objects in
     let counted : 0 < s.region.entries = subst (λ (z : RegionRow). 0 < z.entries) same may.counted in
     let within : offset + pages ≤ s.region.pages = subst (λ (z : RegionRow). offset + pages ≤ z.pages) same may.inside in
@@ -559,12 +560,11 @@ rests_copied header h outside doing task source offset row past k k2 ids ids2 be
                 };
             tasks = tasks_entered h size k.maps k2.maps (now ∷ past) task new m.tasks s.maps lives;
             regions =
-                regions_behind header e (now ∷ past) k2.chains k2.memory.objects ids2 (λ r. refl)
-                (regions_recounted s.mid k2.chains k2.memory.objects ids2 _ _ _ _ _ recount
+                regions_recounted s.mid k2.chains k2.memory.objects ids2 _ _ _ _ _ recount
                 (regions_copied header past s.copy source offset pages s.region s.known k.chains s.mid k.memory.objects k2.memory.objects ids ids2
-                (next_region header past) (next_object header past) (marked_regions header past) (marked_regions header (now ∷ past)) s.there number within
+                (next_region header past) (next_object header past) (marks_of header past) (marks_of header (now ∷ past)) s.there number within
                 copies s.object s.refers
-                (ap (λ z. z.next_region) s.ids) (ap (λ z. z.next_object) s.ids) marks few m.regions));
+                (ap (λ z. z.next_region) s.ids) (ap (λ z. z.next_object) s.ids) marks few m.regions);
             files =
                 files_entered header h task new k2.memory.objects (now ∷ past) (λ file. absurd
                 (no_file header s.copy.0 (let more = named_regions header past in omega (arith, number, more)) file))
@@ -842,8 +842,8 @@ may_place header h task address bytes target to past k ids events s =
     }
   where
     few_objects : (n : ℕ) → nat_lt most_objects (next_object header past + marked_regions header past + n) ≡ false
-        → next_object header past + (marked_regions header past + n) ≤ most_objects
-    few_objects n not_more = grind (arith, nat_tests)
+        → next_object header past + (marks_of header past + n) ≤ most_objects
+    few_objects n not_more = let same = regions_marked header past in grind (arith, nat_tests)
 
     idle_both : (x y : Option Access) → (is_some x || is_some y) ≡ false → y ≡ None
     idle_both (Some x) y e = absurd (let bad : true ≡ false = e in cc)

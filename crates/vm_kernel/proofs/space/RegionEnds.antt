@@ -3,7 +3,7 @@ use Rattle.vm_kernel.proofs.Common.{AllEntriesInside, AllRows, Bool, ChainTable,
 use Rattle.vm_kernel.proofs.Common.{IfSome, Inside, IsAmid, IsReferred, IsSome, IsWhole, List, Mapped, Matches, None, ObjectId, ObjectRow, ObjectTable, Option}
 use Rattle.vm_kernel.proofs.Common.{Parts, PutsObject, PutsRegion, RegionRow, SameMarks, Some, UsesAll, Woken, [], all_tasks, ap, arith, backing_of, count_by}
 use Rattle.vm_kernel.proofs.Common.{count_on, entries_in_row, eqb_tells, false, fit_objects, has_entry, has_region, home_of, inl, inr, is_some, is_woken}
-use Rattle.vm_kernel.proofs.Common.{last_in, live_in, local_of_row, marked_regions, nat_lt, nat_tests, next_object, next_region, object_at, one_case, pages_in}
+use Rattle.vm_kernel.proofs.Common.{last_in, live_in, local_of_row, marks_of, nat_lt, nat_tests, next_object, next_region, object_at, one_case, pages_in}
 use Rattle.vm_kernel.proofs.Common.{ready_in, refl, region_at, region_entries, region_of, row_at, rows_in, same_pages, some_is, subst, sym, true, unwrap_or}
 use Rattle.vm_kernel.proofs.Common.{waiting, ℕ, ◌++◌, ◌+◌, ◌-◌, ◌<◌, ◌^◌, ◌∙◌, ◌∷◌, ◌≡◌, ◌≢◌, ◌≤◌}
 use Rattle.vm_kernel.proofs.space.RegionsFilled.{copies_gone}
@@ -233,7 +233,7 @@ runs_gone header h past who k ids rest r left events object chains objects e los
         tasks = m.tasks;
         regions =
             regions_gone r left loses.row was k.chains chains k.memory.objects objects ids (λ r. region_of header r moment) (λ o. backing_of header o moment)
-            (next_region header moment) (next_object header moment) (marked_regions header moment) loses.found loses.region loses.known loses.less loses.put
+            (next_region header moment) (next_object header moment) (marks_of header moment) loses.found loses.region loses.known loses.less loses.put
             m.regions;
         homes = λ r2 row paged found. m.homes r2 row paged (other_row r k.chains chains loses.region r2 row found).1;
         files = files_put header h top was (record was { references = left }) k.memory.objects objects (λ o. home_of o moment) loses.known loses.put m.files;

@@ -14,7 +14,7 @@ use Rattle.vm_maps.specs.Maps.{entries_in}
 use Rattle.vm_state.specs.Stands.{AreShared, IsShared}
 use Rattle.vm_model.specs.declared.event.Event.TheVariants as event
 use Rattle.vm_model.specs.declared.command.Command.TheVariants as command
-use Rattle.vm_kernel.proofs.space.NothingChanged.{Leaves, controls_after, homeless_after, regions_after}
+use Rattle.vm_kernel.proofs.space.NothingChanged.{Leaves, controls_after, homeless_after}
 use Rattle.vm_kernel.proofs.space.EntriesCounted.{most_is}
 use Rattle.vm_kernel.proofs.steps.EventsGrow.{suffices}
 use Rattle.vm_kernel.proofs.steps.HeadAlone.{heads_one, ran_head}
@@ -95,7 +95,7 @@ rests_made header h task past k ids maps rests changes free below =
             host = m.host;
             fits = m.fits;
             tasks = tasks_made h header.size k.maps maps past task m.tasks changes;
-            regions = regions_after leaves m.regions;
+            regions = m.regions;
             entries = entries_made header.size k.maps maps k.chains task.0 m.entries changes free below;
             pages = m.pages;
             uses =

@@ -6,7 +6,7 @@ use Rattle.vm_kernel.proofs.Common.{if◌then◌else◌, in_use, inl, inr, is_on
 use Rattle.vm_kernel.proofs.Common.{rows_rewritten, subst, sym, true, unwrap_or, waiting, ℕ, ◌++◌, ◌==◌, ◌∙◌, ◌∷◌, ◌≡◌}
 use Rattle.std.proofs.Common.{is_some}
 use Rattle.vm_abroad.proofs.Home.{homes_next, object_stays}
-use Rattle.vm_kernel.proofs.space.NothingChanged.{controls_stay, regions_moved}
+use Rattle.vm_kernel.proofs.space.NothingChanged.{controls_stay}
 use Rattle.vm_model.specs.declared.event.Event.TheVariants as event
 use Rattle.vm_model.specs.declared.command.Command.TheVariants as command
 use Rattle.vm_supply.specs.declared.woken.Woken.TheVariants as woken
@@ -101,7 +101,7 @@ sweeps_exit header h outside task past events k ids maps gone s value changes =
           host = m.host;
           fits = m.fits;
           tasks = shown_tasks;
-          regions = regions_moved header past (event.TaskEnded task ∷ past) refl refl (λ r. refl) (λ o. refl) c.regions;
+          regions = c.regions;
           entries = c.entries;
           pages = m.pages;
           uses =
@@ -191,7 +191,7 @@ sweeps_removed header h outside task address bytes past events k ids maps chains
           host = m.host;
           fits = m.fits;
           tasks = shown_tasks;
-          regions = regions_moved header past (event.Removed task address bytes ∷ past) refl refl (λ r. refl) (λ o. refl) c.regions;
+          regions = c.regions;
           entries = c.entries;
           pages = m.pages;
           uses =

@@ -17,7 +17,7 @@ use Rattle.vm_model.specs.declared.command.Command.TheVariants as command
 use Rattle.vm_supply.specs.declared.woken.Woken.TheVariants as woken
 use Rattle.vm_waits.specs.declared.waiting.On.TheVariants as on
 use Rattle.vm_waits.specs.declared.waiting.Want.TheVariants as want
-use Rattle.vm_kernel.proofs.space.NothingChanged.{Leaves, controls_after, homeless_after, regions_after}
+use Rattle.vm_kernel.proofs.space.NothingChanged.{Leaves, controls_after, homeless_after}
 use Rattle.vm_kernel.proofs.space.EntriesChanged.{acts}
 use Rattle.vm_kernel.proofs.steps.EventsGrow.{grows_goes, suffices}
 use Rattle.vm_kernel.proofs.steps.RowsInOrder.{begun_below, begun_order}
@@ -157,7 +157,7 @@ begun_matches header h k ids past waits task (Loads address size) rows same m li
       host = m.host;
       fits = m.fits;
       tasks = m.tasks;
-      regions = regions_after leaves m.regions;
+      regions = m.regions;
       entries = m.entries;
       pages = m.pages;
       uses =
@@ -193,7 +193,7 @@ begun_matches header h k ids past waits task (Stores address size value) rows sa
       host = m.host;
       fits = m.fits;
       tasks = m.tasks;
-      regions = regions_after leaves m.regions;
+      regions = m.regions;
       entries = m.entries;
       pages = m.pages;
       uses =

@@ -2,7 +2,7 @@
 use Rattle.vm_kernel.proofs.Common.{All, BeganInOrder, Declared, EachApart, Event, Header, Ids, IsRanged, IsStart, IsUsed, IsWashed, List, None, Parts, Rests}
 use Rattle.vm_kernel.proofs.Common.{Some, Starts, TaskId, Waiting, [], absent_among, absent_at, all_tasks, ap, arith, away, begun_at, claimed, count_again}
 use Rattle.vm_kernel.proofs.Common.{count_by, count_claims, entry, false, fills_in, first_ids, frame_count, host_id, in_use, inl, inr, is_some, last_in, length}
-use Rattle.vm_kernel.proofs.Common.{length-replicate, live_in, marked_below, marked_regions, named, nat_lt, nat_tests, none_of, not, object_among, object_at}
+use Rattle.vm_kernel.proofs.Common.{length-replicate, live_in, named, nat_lt, nat_tests, none_of, not, object_among, object_at}
 use Rattle.vm_kernel.proofs.Common.{refl, region_at, replicate, reverse, reverse-append, row_at, shadow_at, slice_get, subst, suc, sym, take, true, waiting_in}
 use Rattle.vm_kernel.proofs.Common.{zero, ℕ, ◌+◌, ◌<◌, ◌∙◌, ◌∷◌, ◌≡◌, ◌≤◌}
 use Rattle.std.proofs.Math.Bool.{and-false}
@@ -10,11 +10,13 @@ use Rattle.vm_abroad.proofs.Home.{homes_start}
 use Rattle.vm_model.specs.declared.command.Command.TheVariants as command
 use Rattle.vm_model.specs.declared.event.Event.TheVariants as event
 use Rattle.vm_shadow.proofs.Ranks.{ranked_none}
-use Rattle.vm_kernel.proofs.space.NothingChanged.{Leaves, controls_after, homeless_after, regions_after}
+use Rattle.vm_kernel.proofs.space.NothingChanged.{Leaves, controls_after, homeless_after}
 use Rattle.vm_kernel.proofs.space.EntriesCounted.{by_none}
 use Rattle.vm_kernel.proofs.abroad.OwnHost.{own_host}
 use Rattle.vm_kernel.proofs.space.CountsChanged.{more_taken}
 use Rattle.vm_kernel.proofs.controls.LockReplied.{replied_none}
+use Rattle.vm_model.specs.Regions.{region_of}
+use Rattle.vm_state.specs.Counts.{marked_in, marks_of}
 
 no_claims : (n : ℕ) → count_claims (replicate n false) ≡ 0
 no_claims zero = refl
@@ -39,7 +41,7 @@ unused header h r temporary =
     rw (new, nothing) refl
 
 -- no region is marked yet
-unmarked : (header : Header) (n : ℕ) → marked_below header n [] ≡ 0
+unmarked : (header : Header) (n : ℕ) → marked_in n (λ r. region_of header r []) ≡ 0
 unmarked header zero = refl
 unmarked header (suc n) = unmarked header n
 
@@ -54,7 +56,7 @@ first_rests header h k count ranged known size host declared hosts start maps re
     let claims : k.memory.frames.claims ≡ replicate count false = ap (λ z. z.claims) frames in
     let counted : frame_count k.memory.frames ≡ count = ap length claims ∙ length-replicate count false in
     let nothing : claimed k.memory.frames ≡ 0 = ap count_claims claims ∙ no_claims count in
-    let no_marks : marked_regions header [] ≡ 0 = unmarked header (named header) in
+    let no_marks : marks_of header [] ≡ 0 = unmarked header (named header) in
     let few = ranged.objects in
     let objects : (o : ℕ) → object_at k.memory.objects o ≡ None = λ o. ap (object_among o) start.objects in
     let marks : (o p : ℕ) → absent_at k.memory.objects o p ≡ false = λ o p. ap (absent_among o p) start.absent in
@@ -211,7 +213,7 @@ rests_line header h k ids line past rests =
             host = m.host;
             fits = m.fits;
             tasks = m.tasks;
-            regions = regions_after leaves m.regions;
+            regions = m.regions;
             entries = m.entries;
             pages = m.pages;
             uses = m.uses;

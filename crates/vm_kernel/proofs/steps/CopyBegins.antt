@@ -18,7 +18,6 @@ use Rattle.vm_base.specs.Limits.{most_objects, most_regions}
 use Rattle.vm_base.specs.Pages.{page_positive}
 use Rattle.vm_base.specs.declared.ids.Inherit.TheVariants.{Copy}
 use Rattle.vm_base.specs.declared.ids.Access.TheVariants as need
-use Rattle.vm_kernel.proofs.space.NothingChanged.{regions_moved}
 use Rattle.vm_kernel.proofs.steps.AccessBegins.{lined_below, waits_added}
 use Rattle.vm_kernel.proofs.space.RegionCopied.{heads_more, is_full_copy, may_place, no_row, same_put}
 use Rattle.vm_kernel.proofs.space.EntriesCounted.{by_none}
@@ -50,7 +49,7 @@ use Rattle.vm_state.proofs.Declared.{kind_new, kinds_put, kinds_region}
 use Rattle.vm_state.proofs.Files.{files_temporary, no_file}
 use Rattle.vm_state.proofs.Filling.{copies_kept, copies_told, rows_unmade}
 use Rattle.vm_state.proofs.Making.{regions_made}
-use Rattle.vm_state.proofs.Marks.{marked_made}
+use Rattle.vm_state.proofs.Marks.{marked_made, regions_marked}
 use Rattle.vm_state.proofs.Places.{keeps_made}
 use Rattle.vm_state.proofs.Referred.{referred_put}
 use Rattle.vm_state.proofs.Told.{knows_made, waits_known}
@@ -62,6 +61,7 @@ use Rattle.vm_supply.specs.declared.woken.Woken.TheVariants as woken
 use Rattle.vm_waits.specs.declared.waiting.On.TheVariants as on
 use Rattle.vm_waits.specs.declared.waiting.Want.TheVariants as want
 use Rattle.vm_state.specs.Passed.{IsUnmet, StaysAway}
+use Rattle.vm_state.specs.Counts.{marks_of}
 
 -- An address behind another in its entry is in the same entry.
 
@@ -164,7 +164,7 @@ may_begin header h task address bytes to past k ids before s is_declared order =
     let objects : nat_lt most_objects (next_object header past + marked_regions header past + 1) ≡ false = counts.1 in
     let next = m.regions.region in
     let number = m.regions.object in
-    let marked = m.regions.marks in
+    let marked : ids.marks ≡ marked_regions header past = m.regions.marks ∙ sym (regions_marked header past) in
     record {
       row = p.entry;
       lives = p.lives;
@@ -337,21 +337,21 @@ module _ (header : Header) (h : ℕ) (outside : Outside) (task : TaskId) (addres
   homeless_front = homes_next header outside begun past (command.Copy task address bytes task to, may.idle) rests.matches.homeless
 
   regions_front : HasRegions k.chains k.memory.objects ids (λ r. region_of header r front) (λ o. backing_of header o front) (next_region header front)
-      (next_object header front) (marked_regions header front)
-  regions_front = regions_moved header past front refl refl (λ r. refl) (λ o. refl) rests.matches.regions
+      (next_object header front) (marks_of header front)
+  regions_front = rests.matches.regions
 
   regions_now : HasRegions k2.chains k2.memory.objects (ids_after ids) (λ r. region_of header r now) (λ o. backing_of header o now) (next_region header now)
-      (next_object header now) (marked_regions header now)
+      (next_object header now) (marks_of header now)
   regions_now =
       let mid : ChainTable = record k.chains { regions = (region, new_region target pages) ∷ k.chains.regions } in
       let put = put_first region (new_region target pages) k.chains in
-      let few : next_object header past + marked_regions header front < most_objects = let room = may.marks in let number = rests.matches.regions.object in let
+      let few : next_object header past + marks_of header front < most_objects = let room = may.marks in let number = rests.matches.regions.object in let
       marks = regions_front.marks in omega (arith, room, number, marks) in
       let there = regions_made header front region target (new_region target pages) (new_object pages) pages k.chains mid k.memory.objects k2.memory.objects ids
-      (next_region header past) (next_object header past) (marked_regions header front)
+      (next_region header past) (next_object header past) (marks_of header front)
       numbers.0 numbers.1 few (next_bare header front homeless_front) refl refl put made.object_row regions_front in
       let counted = same_put n 0 mid k2.chains (counts_put n (new_region target pages) 0 k.chains mid k2.chains put made.region_row) in
-      let marked : marked_regions header now ≡ marked_regions header front = marked_made header front region target pages numbers.0 in
+      let marked : marks_of header now ≡ marks_of header front = marked_made header front region target pages numbers.0 in
       subst (λ (z : ℕ). HasRegions k2.chains k2.memory.objects (ids_after ids) (λ r. region_of header r now) (λ o. backing_of header o now)
       (next_region header past + 1) (next_object header past + 1) z) (sym marked)
       (regions_recounted mid k2.chains k2.memory.objects (ids_after ids) _ _ _ _ _ counted there)

@@ -12,7 +12,7 @@ use Rattle.std.specs.Prelude.{MatchOption}
 use Rattle.vm_abroad.proofs.Home.{object_stays}
 use Rattle.vm_base.specs.Pages.{IsPageSize}
 use Rattle.vm_kernel.proofs.memory.ComesForAccess.{asks_none_now}
-use Rattle.vm_kernel.proofs.space.NothingChanged.{controls_stay, regions_behind}
+use Rattle.vm_kernel.proofs.space.NothingChanged.{controls_stay}
 use Rattle.vm_kernel.proofs.space.RegionCopied.{keeps_recounted, same_put}
 use Rattle.vm_kernel.proofs.space.RegionsFilled.{same_waiting}
 use Rattle.vm_kernel.proofs.steps.CopyGoesOn.{Copying}
@@ -395,9 +395,7 @@ matches_ended header h outside doing k ids past w address pages target next c la
       fits = m.fits;
       tasks = tasks_entered h size k.maps k2.maps (first ∷ past) w.task row m.tasks changes e.lives;
       regions =
-          regions_behind header second (first ∷ past) k2.chains k.memory.objects ids (λ q. refl)
-          (regions_behind header first past k2.chains k.memory.objects ids (λ q. refl)
-          (regions_recounted k.chains k2.chains k.memory.objects ids _ _ _ _ _ recount m.regions));
+          regions_recounted k.chains k2.chains k.memory.objects ids _ _ _ _ _ recount m.regions;
       kinds = kinds_recounted header _ k.memory.objects k.chains k2.chains (recounts_put r 1 k.chains k2.chains counts) m.kinds;
       homes =
           λ q found_row paged found. let was = row_before _ k.chains k2.chains (recounts_put r 1 k.chains k2.chains counts) q found_row found in home_stays q h

@@ -13,7 +13,7 @@ use Rattle.vm_base.specs.declared.ids.Access.TheVariants as need
 use Rattle.vm_fault.specs.Faults.{CopiesPage, KeepsPlan, References, copied_key}
 use Rattle.vm_fault.specs.Walks.{Finds, WalksTo, keeps_out}
 use Rattle.vm_kernel.proofs.memory.ComesForAccess.{asks_none_now, page_referred, page_waits}
-use Rattle.vm_kernel.proofs.space.NothingChanged.{controls_stay, regions_behind}
+use Rattle.vm_kernel.proofs.space.NothingChanged.{controls_stay}
 use Rattle.vm_kernel.proofs.memory.PartsStillFit.{fits_changed}
 use Rattle.vm_kernel.proofs.steps.AccessCauses.{read_at}
 use Rattle.vm_kernel.proofs.steps.EventsGrow.{Follows, suffices}
@@ -112,7 +112,7 @@ matches_copied header h k ids past task low target next row frame memory m lives
       host = m.host;
       fits = fits_changed top frame _ _ _ _ _ k memory m.fits plan.fit plan.buffers c (λ away. record { lock = refl; precious = refl; unlock_sent = refl });
       tasks = m.tasks;
-      regions = rw plan.objects (regions_behind header e past k.chains k.memory.objects ids (λ r. refl) m.regions);
+      regions = rw plan.objects m.regions;
       homes = m.homes;
       files = rw plan.objects m.files;
       entries = m.entries;

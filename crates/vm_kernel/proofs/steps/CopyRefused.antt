@@ -16,6 +16,7 @@ use Rattle.vm_kernel.specs.Refusing.{is_copy_full, is_uncopied, is_wild_row, sou
 use Rattle.vm_kernel.proofs.space.RegionCopied.{is_full_copy}
 use Rattle.vm_kernel.proofs.abroad.OwnHost.{lives_in, on_is, own_host, rows_here}
 use Rattle.vm_kernel.proofs.space.RegionRows.{region_row}
+use Rattle.vm_state.proofs.Marks.{regions_marked}
 
 -- lists of tests with two in one
 
@@ -49,7 +50,7 @@ full_same header h k ids past r rests there =
     ∙ (ap (λ (z : ℕ). nat_le most_regions ids.next_region || nat_lt most_objects (z + marked_regions header
     past + (if nat_lt r (length k.declared.items) || is_marked k.chains r then 1 else 2))) (sym m.regions.object)
     ∙ ap (λ (z : ℕ). nat_le most_regions ids.next_region || nat_lt most_objects (ids.next_object + z + (if nat_lt r (length k.declared.items) || is_marked
-    k.chains r then 1 else 2))) (sym m.regions.marks)))
+    k.chains r then 1 else 2))) (regions_marked header past ∙ sym m.regions.marks)))
 
 -- a declared object whose region is there is known by its kind
 wild_is : (header : Header) (h : ℕ) (k : Parts) (ids : Ids) (past : List Event) (r : ℕ) → Rests header h k ids past → has_region k.chains r ≡ true

@@ -16,6 +16,7 @@ use Rattle.vm_kernel.proofs.steps.CopyRefused.{copy_refused, declared_are, waits
 use Rattle.vm_kernel.proofs.steps.EventsGrow.{free_is}
 use Rattle.vm_kernel.proofs.abroad.OwnHost.{host_same, lives_in, on_is, rows_here}
 use Rattle.vm_kernel.proofs.space.RegionRows.{region_row}
+use Rattle.vm_state.proofs.Marks.{regions_marked}
 
 -- a task that lives here has its entries in the maps
 has_entries : {h size : ℕ} {maps : Mapped} {host_at : ℕ → Option ℕ} {rows_at : ℕ → List Entry} (task : ℕ) → HasTasks h size maps host_at rows_at
@@ -59,7 +60,7 @@ objects_are : (header : Header) (h : ℕ) (k : Parts) (ids : Ids) (past : List E
     → next_object header past + marked_regions header past ≡ object_total ids
 objects_are header h k ids past rests =
     let regions = rests.matches.regions in
-    omega (arith, regions.object, regions.marks)
+    omega (arith, regions.object, regions.marks, regions_marked header past)
 
 -- why a range is not allocated
 

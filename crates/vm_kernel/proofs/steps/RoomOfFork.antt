@@ -1,12 +1,11 @@
 -- What a fork still needs of regions, and of objects with those that marked regions may get.
 use Rattle.vm_kernel.proofs.Common.{Bool, Entry, Event, Header, List, [], ap, arith, copies, copies_from, eqb_tells, false, has_copy_mark, if◌then◌else◌, inl}
-use Rattle.vm_kernel.proofs.Common.{inr, is_copied, is_fork_full, marked_below, marked_regions, nat_lt, nat_tests, new_marks, next_object, next_region, not}
-use Rattle.vm_kernel.proofs.Common.{refl, region_of, sym, true, ℕ, ◌&&◌, ◌+◌, ◌<◌, ◌==◌, ◌||◌, ◌∙◌, ◌∷◌, ◌≡◌, ◌≤◌}
+use Rattle.vm_kernel.proofs.Common.{inr, is_copied, is_fork_full, marked_in, marked_regions, marks_of, nat_lt, nat_tests, new_marks, next_object, next_region, not}
+use Rattle.vm_kernel.proofs.Common.{refl, region_of, subst, sym, true, ℕ, ◌&&◌, ◌+◌, ◌<◌, ◌==◌, ◌||◌, ◌∙◌, ◌∷◌, ◌≡◌, ◌≤◌}
 use Rattle.vm_base.specs.declared.ids.RegionId.{RegionId}
 use Rattle.vm_base.specs.Limits.{most_objects, most_regions}
-use Rattle.vm_state.proofs.Marks.{marked_copied}
+use Rattle.vm_state.proofs.Marks.{marked_copied, marks_still, regions_marked}
 use Rattle.vm_kernel.proofs.space.RegionCopied.{copied}
-use Rattle.vm_kernel.proofs.space.NothingChanged.{marks_still}
 use Rattle.std.proofs.lemmas.Bool.{and_parts, or_parts}
 
 -- regions that are marked in more cases leave fewer to mark
@@ -67,7 +66,7 @@ marks_once a b r (row ∷ rows) more isnt is from = by (λ found. marks_once a b
 -- the fork of these entries fits
 pub record HasRoom (header : Header) (rows : List Entry) (past : List Event) : Type 0 where
   pub regions : next_region header past + copies rows ≤ most_regions
-  pub objects : next_object header past + marked_regions header past + copies rows + new_marks (has_copy_mark header past) rows ≤ most_objects
+  pub objects : next_object header past + marks_of header past + copies rows + new_marks (has_copy_mark header past) rows ≤ most_objects
 
 pub room_of : (header : Header) (rows : List Entry) (past : List Event) → is_fork_full header rows past ≡ false → HasRoom header rows past
 room_of header rows past fits =
@@ -77,7 +76,9 @@ room_of header rows past fits =
     let objects = both.1 in
     record {
       regions = few most_regions (next_region header past + copies rows) regions;
-      objects = few most_objects (next_object header past + marked_regions header past + copies rows + new_marks (has_copy_mark header past) rows) objects;
+      objects =
+          subst (λ (z : ℕ). next_object header past + z + copies rows + new_marks (has_copy_mark header past) rows ≤ most_objects) (regions_marked header past)
+          (few most_objects (next_object header past + marked_regions header past + copies rows + new_marks (has_copy_mark header past) rows) objects);
     }
   where
     few : (most n : ℕ) → nat_lt most n ≡ false → n ≤ most
@@ -88,8 +89,8 @@ pub room_more : (header : Header) (rows : List Entry) (past past2 : List Event) 
     → next_object header past2 ≡ next_object header past → ((r : ℕ) → (region_of header r past2).mark ≡ (region_of header r past).mark)
     → HasRoom header rows past → HasRoom header rows past2
 room_more header rows past past2 regions objects same room =
-    let marked : marked_regions header past2 ≡ marked_regions header past = marks_still header (next_region header past2) past past2 same
-    ∙ ap (λ z. marked_below header z past) regions in
+    let marked : marks_of header past2 ≡ marks_of header past = marks_still (next_region header past2) (λ r. region_of header r past)
+    (λ r. region_of header r past2) same ∙ ap (λ z. marked_in z (λ r. region_of header r past)) regions in
     let tests : has_copy_mark header past2 ≡ has_copy_mark header past = λ i r. same r i in
     let new : new_marks (has_copy_mark header past2) rows ≡ new_marks (has_copy_mark header past) rows = ap (λ f. new_marks f rows) tests in
     record { regions = omega (arith, room.regions, regions); objects = omega (arith, room.objects, objects, marked, new) }

@@ -3,7 +3,7 @@ use Rattle.vm_kernel.proofs.Common.{Access, Bool, Event, FrameTable, HasQueue, H
 use Rattle.vm_kernel.proofs.Common.{Matches, None, NoneInVain, ObjectRow, On, Option, PageRow, Parts, PromptAt, QueueIsServed, Reach, Reason, RegionRow, Rests}
 use Rattle.vm_kernel.proofs.Common.{Some, Waiting, Waits, WaitsForPager, Want, [], absent_at, access_in, all_tasks, ap, arith, backing_of, copies_to, count_by}
 use Rattle.vm_kernel.proofs.Common.{entries_in, entry, false, has_entry, if◌then◌else◌, in_use, inl, inr, is_again, is_frame, is_on, is_store, live_in}
-use Rattle.vm_kernel.proofs.Common.{local_of_row, marked_regions, named, nat_lt, nat_tests, next_object, next_region, none_again, none_queued, object_at}
+use Rattle.vm_kernel.proofs.Common.{local_of_row, marks_of, named, nat_lt, nat_tests, next_object, next_region, none_again, none_queued, object_at}
 use Rattle.vm_kernel.proofs.Common.{page_on, refl, region_at, region_of, row_at, rows_in, subst, sym, true, waiting, waiting_in, ℕ, ◌<◌, ◌≤◌, ◌||◌, ◌∙◌, ◌≡◌}
 use Rattle.vm_kernel.proofs.Common.{◌⊎◌}
 use Rattle.vm_kernel.proofs.space.RegionsFilled.{filled_temporary, row_use}
@@ -130,7 +130,7 @@ reaches header h k ids past object rests temporary referred = elim (kind_cases h
 ]
   where
     has : HasRegions k.chains k.memory.objects ids (λ r. region_of header r past) (λ o. backing_of header o past) (next_region header past)
-        (next_object header past) (marked_regions header past)
+        (next_object header past) (marks_of header past)
     has = rests.matches.regions
 
     -- a declared region counts as used here

@@ -167,8 +167,8 @@ returns-in_err-begin-clause-err g c =
     (queued_lined given.header given.outside doing t.hosts c.args.line h stands.rests stands.queues) in
     let queued : AllQueued given.header hosts (event.Line c.args.line ∷ h) = subst (λ (z : Step). AllQueued z.header hosts z.past) is (e.1.0 was) in
     still_of given.header given.outside s _ (stands_kept given.header given.outside t hosts c.begin.new.log stands
-    (all_unlined given.header given.outside doing t.hosts hosts c.args.line h stands.rests lined)
-    (queued_unlined given.header given.outside doing t.hosts hosts c.args.line h stands.rests lined queued) e.1.1) r.history)
+    (all_unlined given.header t.hosts hosts c.args.line h stands.rests lined)
+    (queued_unlined given.header t.hosts hosts c.args.line h stands.rests lined queued) e.1.1) r.history)
 
 pub returns-in_err-begin-clause-spares : goal.returns-in_err-begin-clause-spares
 returns-in_err-begin-clause-spares g c =
