@@ -6,7 +6,7 @@ use crate::shows::shows;
 use std::alloc::Global;
 use std::test::Fail;
 use vm_base::{NoMemory, ObjectId, PageKey, PageNo, RegionId};
-use vm_shadow::{Chains, Ids, RegionRow};
+use vm_shadow::{Chains, Ids, RegionRow, ShadowRow};
 
 const FIRST: RegionId = RegionId(5);
 
@@ -110,5 +110,82 @@ fn shadowed(rt: HostRuntime) -> Result<(), Fail> {
     };
     shows(&rt, below(&chains, ObjectId(10)) == Some(place));
     shows(&rt, chains.drop_object(ObjectId(10)) == Some(ObjectId(9)));
+    Ok(())
+}
+
+// A region to which no entry leads is dropped.
+fn drop_region(chains: &mut Chains, region: RegionId) -> Result<(), Fail> {
+    match chains.region(region) {
+        Some(row) if row.entries == 0 => {
+            let _ = chains.drop_region(region);
+            Ok(())
+        }
+        _ => Err(Fail::from("no such region")),
+    }
+}
+
+// An object is merged into the shadow that is its one reference.
+fn merge(chains: &mut Chains, upper: ObjectId, lower: ObjectId) -> Result<(), Fail> {
+    let Some(up) = chains.backing(upper) else {
+        return Err(Fail::from("no shadow"));
+    };
+    let shift = match chains.backing(lower) {
+        Some(low) => low.shift,
+        None => 0,
+    };
+    if up.under != lower || up.shift > 100 || shift > 100 || chains.references(lower) != 1 {
+        return Err(Fail::from("not alone"));
+    }
+    chains.merge(upper, lower);
+    Ok(())
+}
+
+// The mark is taken off a region whose top nothing else refers to.
+fn unmark(chains: &mut Chains, ids: &mut Ids, region: RegionId) -> Result<(), Fail> {
+    match chains.region(region) {
+        Some(row) if row.marked && ids.marks > 0 && chains.references(row.top) == 1 => {
+            chains.unmark(region, ids);
+            Ok(())
+        }
+        _ => Err(Fail::from("shared")),
+    }
+}
+
+// Regions 5 and 8 over object 11 over object 10 over object 9, from its page 2 on. Regions 6 and 7 are over objects 9 and 10.
+fn chain(alloc: Global, ids: &mut Ids) -> Result<Chains, Fail>
+    requires region { 5 < ids.old.next_region }
+    requires object { 9 < ids.old.next_object }
+{
+    let mut chains = first(alloc, *ids)?;
+    let _ = copy(&mut chains, ids)?;
+    let _ = shadow(&mut chains, ids, FIRST)?;
+    let _ = copy(&mut chains, ids)?;
+    let _ = shadow(&mut chains, ids, FIRST)?;
+    let _ = copy(&mut chains, ids)?;
+    Ok(chains)
+}
+
+#[test]
+fn merged(rt: HostRuntime) -> Result<(), Fail> {
+    let mut ids = Ids {
+        next_object: 10,
+        next_region: 6,
+        marks: 0,
+    };
+    let mut chains = chain(rt.alloc(), &mut ids)?;
+    for region in 6..9 {
+        drop_region(&mut chains, RegionId(region))?;
+    }
+    unmark(&mut chains, &mut ids, FIRST)?;
+    shows(&rt, chains.marked() == 0 && ids.marks == 3);
+    merge(&mut chains, ObjectId(11), ObjectId(10))?;
+    let under = ShadowRow {
+        under: ObjectId(9),
+        shift: 2,
+    };
+    shows(&rt, chains.backing(ObjectId(11)) == Some(under));
+    shows(&rt, chains.references(ObjectId(10)) == 0);
+    merge(&mut chains, ObjectId(11), ObjectId(9))?;
+    shows(&rt, depth(&chains, FIRST) == 1);
     Ok(())
 }

@@ -40,7 +40,7 @@ ranked_dropped old new object at = ranked_fewer old new (dropped_was old new obj
 if_same : {A : Type 0} (a o : ℕ) (x y : A) → a ≡ o → (if a == o then x else y) ≡ x
 if_same a o x y e = let test : (a == o) ≡ true = grind (arith, nat_tests) in subst (λ (b : Bool). (if b then x else y) ≡ x) (sym test) refl
 
-if_other : {A : Type 0} (a o : ℕ) (x y : A) → a ≢ o → (if a == o then x else y) ≡ y
+pub if_other : {A : Type 0} (a o : ℕ) (x y : A) → a ≢ o → (if a == o then x else y) ≡ y
 if_other a o x y e = let test : (a == o) ≡ false = grind (arith, nat_tests) in subst (λ (b : Bool). (if b then x else y) ≡ y) (sym test) refl
 
 one_row : (x : Option ShadowRow) (a b : ShadowRow) → x ≡ Some a → x ≡ Some b → a ≡ b
@@ -83,6 +83,64 @@ height_fewer old new was (suc n) o = by (height_fewer old new was n) (new o) ref
         let before : old o ≡ Some row = was o row is in
         let less = further row.under.0 in
         rw (is, before) (omega (arith, less))
+
+-- what is followed further is no shorter
+height_more : (at : ℕ → Option ShadowRow) (n o : ℕ) → height_within at n o ≤ height_within at (suc n) o
+height_more at zero o = omega arith
+height_more at (suc n) o = by (height_more at n) (at o) refl
+  where
+    by : ((low : ℕ) → height_within at n low ≤ height_within at (suc n) low) → (x : Option ShadowRow) → at o ≡ x
+        → height_within at (suc n) o ≤ height_within at (suc (suc n)) o
+    by further None is = rw is (omega arith)
+    by further (Some row) is = let less = further row.under.0 in rw is (omega (arith, less))
+
+-- two steps for each
+abbrev pub twice : ℕ → ℕ
+twice zero = 0
+twice (suc n) = suc (suc (twice n))
+
+-- a shadow over a shadow stands on what that one stands on, and all others stand as they stood: a rank falls still
+pub ranked_merged : (old new : ChainTable) (upper : ℕ) (up low row : ShadowRow) → shadow_at old upper ≡ Some up → shadow_at old up.under.0 ≡ Some low
+    → row.under.0 ≡ low.under.0 → shadow_at new upper ≡ Some row
+    → ((o : ℕ) (s : ShadowRow) → upper ≢ o → shadow_at new o ≡ Some s → shadow_at old o ≡ Some s) → IsRanked old → IsRanked new
+ranked_merged old new upper up low row over below number put others r = record {
+  rank = r.rank;
+  under = λ o s is. elim (ℕ_discrete upper o) [
+    | yes same ↦
+        let its : row ≡ s = one_row (shadow_at new upper) row s put (ap (shadow_at new) same ∙ is) in
+        let low_rank : r.rank s.under.0 ≡ r.rank low.under.0 = ap r.rank (sym (ap (λ (z : ShadowRow). z.under.0) its) ∙ number) in
+        let high : r.rank upper ≡ r.rank o = ap r.rank same in
+        omega (arith, low_rank, high, r.under upper up over, r.under up.under.0 low below)
+    | no apart ↦ r.under o s (others o s apart is)
+  ];
+}
+
+-- and no chain is longer
+pub height_merged : (old new : ℕ → Option ShadowRow) (upper : ℕ) (up low row : ShadowRow) → old upper ≡ Some up → old up.under.0 ≡ Some low
+    → row.under.0 ≡ low.under.0 → new upper ≡ Some row → ((o : ℕ) (s : ShadowRow) → upper ≢ o → new o ≡ Some s → old o ≡ Some s)
+    → (n o : ℕ) → height_within new n o ≤ height_within old (twice n) o
+height_merged old new upper up low row over below number put others zero o = omega arith
+height_merged old new upper up low row over below number put others (suc n) o =
+    by (height_merged old new upper up low row over below number put others n) (new o) refl
+  where
+    by : ((q : ℕ) → height_within new n q ≤ height_within old (twice n) q) → (x : Option ShadowRow) → new o ≡ x
+        → height_within new (suc n) o ≤ height_within old (suc (suc (twice n))) o
+    by further None is = let none : height_within new (suc n) o ≡ 0 = rw is refl in omega (arith, none)
+    by further (Some s) is = elim (ℕ_discrete upper o) [
+      | yes same ↦
+          let its : row ≡ s = one_row (new upper) row s put (ap new same ∙ is) in
+          let one : height_within new (suc n) o ≡ suc (height_within new n s.under.0) = rw is refl in
+          let there : old o ≡ Some up = ap old (sym same) ∙ over in
+          let two : height_within old (suc (suc (twice n))) o ≡ suc (suc (height_within old (twice n) low.under.0)) = rw there (rw below refl) in
+          let under : height_within old (twice n) s.under.0 ≡ height_within old (twice n) low.under.0
+          = ap (height_within old (twice n)) (sym (ap (λ (z : ShadowRow). z.under.0) its) ∙ number) in
+          omega (arith, one, two, under, further s.under.0)
+      | no apart ↦
+          let was = others o s apart is in
+          let less = further s.under.0 in
+          let more = height_more old (twice n) s.under.0 in
+          rw (is, was) (omega (arith, less, more))
+    ]
 
 -- nor does any go further than it is followed
 pub height_most : (at : ℕ → Option ShadowRow) (n o : ℕ) → height_within at n o ≤ n

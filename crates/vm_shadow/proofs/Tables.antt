@@ -1,10 +1,11 @@
 -- What regions and shadows are after a write.
-use Rattle.std.proofs.Common.{◌≡◌, ◌∙◌, sym, ap, subst, ℕ, ◌+◌, ◌<◌, ◌≤◌, ◌==◌, true, false, Option, Some, None, if◌then◌else◌, IfSome, IsSome, IsSomeAnd}
+use Rattle.std.proofs.Common.{◌≡◌, ◌≢◌, ◌∙◌, sym, ap, subst, ℕ, ◌+◌, ◌<◌, ◌≤◌, ◌==◌, true, false, Option, Some, None, if◌then◌else◌, IfSome, IsSome, IsSomeAnd}
 use Rattle.std.proofs.Common.{arith, refl}
 use Rattle.std.proofs.lemmas.Bool.Decides.{nat_tests}
 use Rattle.std.specs.Map.{lookup}
-use Rattle.vm_shadow.proofs.Ranks.{dropped_was, height_fewer, ranked_dropped, ranked_same}
-use Rattle.vm_shadow.specs.Chains.{ChainTable, CopiesRegion, IsDeep, Over, PutsRegion, RegionsBelow, copy_of, region_at, shadow_at}
+use Rattle.vm_base.specs.declared.ids.ObjectId.{ObjectId}
+use Rattle.vm_shadow.proofs.Ranks.{dropped_was, height_fewer, height_merged, if_other, ranked_dropped, ranked_merged, ranked_same, twice}
+use Rattle.vm_shadow.specs.Chains.{ChainTable, CopiesRegion, IsDeep, IsRanked, MergesShadow, Over, PutsRegion, RegionsBelow, copy_of, region_at, shadow_at}
 use Rattle.vm_shadow.specs.Kept.{AreKept, count_marked}
 use Rattle.vm_shadow.specs.declared.region_row.RegionRow.{RegionRow}
 use Rattle.vm_shadow.specs.declared.shadow_row.ShadowRow.{ShadowRow}
@@ -75,6 +76,68 @@ kept_dropped old new object at regions marked kept =
       few = λ n o.
           let less = height_fewer (shadow_at old) (shadow_at new) (dropped_was old new object at) n o in
           let was = kept.few n o in
+          omega (arith, less, was);
+      count = marked ∙ (kept.count ∙ ap count_marked (sym regions));
+    }
+
+-- what holds of each row holds of the one that is there
+pub row_each : {A : Type 0} (o : Option A) (P : A → Type 0) → ((x : A) → P x) → IfSome o P
+row_each None P each = tt
+row_each (Some x) P each = each x
+
+-- the row that is found where another was taken out was there before
+pub row_behind : {A : Type 0} (mid old : ℕ → Option A) (lower o : ℕ) (row : A) → ((q : ℕ) → mid q ≡ (if lower == q then None else old q)) → mid o ≡ Some row
+    → old o ≡ Some row
+row_behind mid old lower o row taken is = grind (arith, nat_tests, taken o, is)
+
+-- a shadow stays where the object under it is taken out
+pub shadow_stays : (old : ChainTable) (mid : ℕ → Option ShadowRow) (upper : ℕ) (lower : ObjectId) → IsRanked old
+    → IsSomeAnd (shadow_at old upper) (λ row. row.under ≡ lower) → ((o : ℕ) → mid o ≡ (if lower.0 == o then None else shadow_at old o)) → IsSome (mid upper)
+shadow_stays old mid upper lower r over taken = by (shadow_at old upper) refl over
+  where
+    by : (x : Option ShadowRow) → shadow_at old upper ≡ x → IsSomeAnd x (λ row. row.under ≡ lower) → IsSome (mid upper)
+    by None is none = absurd none
+    by (Some row) is under =
+        let less = r.under upper row is in
+        let apart : lower.0 ≢ upper = λ same. let rank = ap r.rank (ap (λ (z : ObjectId). z.0) under ∙ same) in omega (arith, less, rank) in
+        let left : mid upper ≡ Some row = taken upper ∙ (if_other lower.0 upper None (shadow_at old upper) apart ∙ is) in
+        rw left refl
+
+-- an object at the bottom is merged into its shadow, under which nothing stands then
+pub merged_bottom : (old new : ChainTable) (mid : ℕ → Option ShadowRow) (upper lower : ℕ) → shadow_at old lower ≡ None
+    → ((o : ℕ) → mid o ≡ (if lower == o then None else shadow_at old o)) → ((o : ℕ) → shadow_at new o ≡ (if upper == o then None else mid o))
+    → region_at new ≡ region_at old → (up : ShadowRow) → MergesShadow upper lower up old new
+merged_bottom old new mid upper lower none taken put regions up = record {
+  at = λ o. rw none (put o ∙ ap (λ z. if upper == o then None else z) (taken o));
+  regions = regions;
+}
+
+-- one over another
+pub merged_over : (old new : ChainTable) (mid : ℕ → Option ShadowRow) (upper lower : ℕ) (up low : ShadowRow) → shadow_at old lower ≡ Some low
+    → ((o : ℕ) → mid o ≡ (if lower == o then None else shadow_at old o))
+    → ((o : ℕ) → shadow_at new o ≡ (if upper == o then Some (record { under = low.under; shift = up.shift + low.shift }) else mid o))
+    → region_at new ≡ region_at old → MergesShadow upper lower up old new
+merged_over old new mid upper lower up low there taken put regions = record {
+  at = λ o. rw there (put o ∙ ap (λ z. if upper == o then Some (record { under = low.under; shift = up.shift + low.shift }) else z) (taken o));
+  regions = regions;
+}
+
+-- where an object is merged into its shadow a rank falls still, and no chain is longer
+pub kept_merged : (old new : ChainTable) (upper lower : ℕ) (up low row : ShadowRow) → shadow_at old upper ≡ Some up → up.under.0 ≡ lower
+    → shadow_at old lower ≡ Some low → row.under ≡ low.under
+    → ((o : ℕ) → shadow_at new o ≡ (if upper == o then Some row else (if lower == o then None else shadow_at old o)))
+    → new.regions ≡ old.regions → new.marked ≡ old.marked → AreKept old → AreKept new
+kept_merged old new upper lower up low row over is there under at regions marked kept =
+    let others : (o : ℕ) (s : ShadowRow) → upper ≢ o → shadow_at new o ≡ Some s → shadow_at old o ≡ Some s =
+    λ o s apart found. let test : (upper == o) ≡ false = grind (arith, nat_tests) in grind (arith, nat_tests, at o, found, test) in
+    let put : shadow_at new upper ≡ Some row = grind (arith, nat_tests, at upper) in
+    let below : shadow_at old up.under.0 ≡ Some low = rw is there in
+    let number : row.under.0 ≡ low.under.0 = ap (λ (z : ObjectId). z.0) under in
+    record {
+      ranked = ranked_merged old new upper up low row over below number put others kept.ranked;
+      few = λ n o.
+          let less = height_merged (shadow_at old) (shadow_at new) upper up low row over below number put others n o in
+          let was = kept.few (twice n) o in
           omega (arith, less, was);
       count = marked ∙ (kept.count ∙ ap count_marked (sym regions));
     }

@@ -1,5 +1,6 @@
 -- The regions of a host and the shadows under them, as contracts see them.
-use Rattle.std.specs.Map.{lookup}
+use Rattle.std.specs.List.{count_by}
+use Rattle.std.specs.Map.{lookup, values_of}
 use Rattle.std.specs.Option.{option_map_or}
 use Rattle.std.specs.Prelude.{ℕ, zero, suc, ◌≡◌, ◌+◌, ◌<◌, ◌≤◌, ◌==◌, true, false, List, length, Option, Some, None, if◌then◌else◌}
 use Rattle.vm_base.specs.declared.ids.ObjectId.{ObjectId}
@@ -58,6 +59,21 @@ pub record ShadowsRegion (region : ℕ) (object : ObjectId) (row : RegionRow) (o
 -- nothing stands under the object any more; each region is as it was
 pub record DropsShadow (object : ℕ) (old new : ChainTable) : Type 0 where
   pub at : (o : ℕ) → shadow_at new o ≡ (if object == o then None else shadow_at old o)
+  pub regions : region_at new ≡ region_at old
+
+-- how many regions have an object as their top, and how many objects it backs, in all
+abbrev pub references_in : ChainTable → ℕ → ℕ
+references_in table o =
+    count_by (λ (row : RegionRow). row.top.0 == o) (values_of table.regions) + count_by (λ (row : ShadowRow). row.under.0 == o) (values_of table.shadows)
+
+-- what stands under a shadow once the object under it is merged into it: what stood under that one, by the sum of both shifts
+abbrev pub joined : ShadowRow → Option ShadowRow → Option ShadowRow
+joined up None = None
+joined up (Some low) = Some (record { under = low.under; shift = up.shift + low.shift })
+
+-- an object is merged into its shadow, which has this row; each region is as it was
+pub record MergesShadow (upper lower : ℕ) (up : ShadowRow) (old new : ChainTable) : Type 0 where
+  pub at : (o : ℕ) → shadow_at new o ≡ (if upper == o then joined up (shadow_at old lower) else (if lower == o then None else shadow_at old o))
   pub regions : region_at new ≡ region_at old
 
 -- the regions have numbers below this

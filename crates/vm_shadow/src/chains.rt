@@ -1,9 +1,10 @@
 // The regions of a host, and the shadows under them.
+ghost use Rattle.std.specs.List.{count_by};
 ghost use Rattle.std.specs.Option.{option_map};
-ghost use Rattle.std.specs.Prelude.{ℕ, ◌≡◌, ◌+◌, ◌-◌, ◌<◌, ◌≤◌, ◌^◌, Some, None, true, if◌then◌else◌, IfOk, IfSome, IsOk, IsSome, IsSomeAnd, OnErr, OnOk};
+ghost use Rattle.std.specs.Prelude.{ℕ, ◌≡◌, ◌+◌, ◌-◌, ◌==◌, ◌<◌, ◌≤◌, ◌^◌, min, Some, None, false, true, if◌then◌else◌, IfOk, IfSome, IsOk, IsSome, IsSomeAnd};
+ghost use Rattle.std.specs.Prelude.{OnErr, OnOk};
 ghost use Rattle.vm_shadow.specs.Chains.{CopiesRegion, DropsShadow, IsDeep, IsRanked, ObjectsBelow, PutsRegion, RegionsBelow, SameChains, ShadowsRegion};
-ghost use Rattle.vm_shadow.specs.Chains.{place_under};
-ghost use Rattle.vm_shadow.specs.Chains.{height, region_at, shadow_at};
+ghost use Rattle.vm_shadow.specs.Chains.{MergesShadow, height, place_under, references_in, region_at, shadow_at};
 
 use crate::{Ids, RegionRow, ShadowRow};
 use indexmap::IndexMap;
@@ -243,6 +244,52 @@ impl Chains {
         Ok(object)
     }
 
+    /// Takes the mark off a region whose top object nothing else refers to: whoever writes to it writes
+    /// into the object itself. It takes no memory.
+    pub fn unmark(&mut self, region: RegionId, ids: &mut Ids)
+        requires marked { IsSomeAnd (region_at self.old region.0) (λ row. (row.marked ≡ true) × (references_in self.old row.top.0 ≡ 1)) }
+        requires marks { 0 < ids.old.marks }
+        ensures unmarks { IfSome (region_at self.old region.0) (λ row.
+            PutsRegion region.0 (Some (record row { marked = false })) self.old self.new) }
+        ensures marked { self.new.marked + 1 ≡ self.old.marked }
+        ensures ids { ids.new ≡ record ids.old { marks = ids.old.marks - 1 } }
+        ensures spare { self.old.spare ≤ self.new.spare }
+    {
+        let unmarked = self.regions.get_mut(&region).unwrap();
+        unmarked.marked = false;
+        ids.marks -= 1;
+        self.marked -= 1;
+    }
+
+    /// Merges an object into the shadow that is its one reference: what stood under it stands under the
+    /// shadow now, by the sum of both shifts, and nothing stands under it any more. It takes no memory.
+    pub fn merge(&mut self, upper: ObjectId, lower: ObjectId)
+        requires over { IsSomeAnd (shadow_at self.old upper.0) (λ row. row.under ≡ lower) }
+        requires alone { references_in self.old lower.0 ≡ 1 }
+        requires shift { IfSome (shadow_at self.old upper.0) (λ up. IfSome (shadow_at self.old lower.0) (λ low. up.shift + low.shift < 2 ^ 32)) }
+        ensures merges { IfSome (shadow_at self.old upper.0) (λ up. MergesShadow upper.0 lower.0 up self.old self.new) }
+        ensures marked { self.new.marked ≡ self.old.marked }
+        ensures spare { self.old.spare ≤ self.new.spare }
+    {
+        let Some(low) = self.shadows.swap_remove(&lower) else {
+            let _ = self.shadows.swap_remove(&upper);
+            return;
+        };
+        let up = self.shadows.get_mut(&upper).unwrap();
+        up.under = low.under;
+        up.shift += low.shift;
+    }
+
+    /// How many regions have an object as their top, and how many objects it backs, in all; the greatest
+    /// number of 32 bits where they are more. It looks at all regions and shadows of the host.
+    pub fn references(&self, object: ObjectId) -> u32
+        ensures { result ≡ min (references_in self.now object.0) (2 ^ 32 - 1) }
+    {
+        let tops = tops_at(self.regions.values().as_slice(), object);
+        let backed = unders_at(self.shadows.values().as_slice(), object);
+        u32::try_from(tops + backed).unwrap_or(u32::MAX)
+    }
+
     /// Drops a region to which no entry leads, and gives its top object.
     pub fn drop_region(&mut self, region: RegionId) -> ObjectId
         requires { IsSomeAnd (region_at self.old region.0) (λ row. row.entries ≡ 0) }
@@ -282,4 +329,18 @@ impl Chains {
         }
         depth
     }
+}
+
+// How many regions have the object as their top.
+fn tops_at(rows: &[RegionRow], object: ObjectId) -> usize
+    ensures { result ≡ count_by (λ row. row.top.0 == object.0) rows.now }
+{
+    rows.iter().filter(|row| row.top == object).count()
+}
+
+// How many shadows stand on the object.
+fn unders_at(rows: &[ShadowRow], object: ObjectId) -> usize
+    ensures { result ≡ count_by (λ row. row.under.0 == object.0) rows.now }
+{
+    rows.iter().filter(|row| row.under == object).count()
 }
