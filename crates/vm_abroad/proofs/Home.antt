@@ -22,7 +22,7 @@ use Rattle.vm_legal.specs.Living.{lives_on, tasks}
 use Rattle.vm_legal.specs.Outside.{Outside, is_file}
 use Rattle.vm_legal.specs.Stretches.{EachIn}
 use Rattle.vm_legal.specs.Used.{in_use, is_held, is_kept, made_here}
-use Rattle.vm_abroad.specs.Home.{HaveHomes, copying_host, first_of, home_at, home_of, object_home, region_for}
+use Rattle.vm_abroad.specs.Home.{HaveHomes, copying_host, first_of, home_in, home_of, object_home, region_for}
 use Rattle.vm_abroad.specs.Sound.{IsAbroad}
 use Rattle.vm_abroad.proofs.Sounds.{objects_rise, regions_rise, unlike}
 
@@ -117,9 +117,9 @@ region_stays o r other past is = is
 pub object_stays : (o h : ℕ) (e : Event) (past : List Event) → object_home o past ≡ Some h → object_home o (e ∷ past) ≡ Some h
 object_stays o h e past is = by (region_for o past) refl is
   where
-    by : (x : Option ℕ) → region_for o past ≡ x → home_at x past ≡ Some h → object_home o (e ∷ past) ≡ Some h
+    by : (x : Option ℕ) → region_for o past ≡ x → home_in (λ r. home_of r past) x ≡ Some h → object_home o (e ∷ past) ≡ Some h
     by None none is = absurd (let bad : None ≡ Some h = is in cc)
-    by (Some r) made is = ap (λ z. home_at z (e ∷ past)) (region_stays o r e past made) ∙ home_stays r h e past is
+    by (Some r) made is = ap (home_in (λ r. home_of r (e ∷ past))) (region_stays o r e past made) ∙ home_stays r h e past is
 
 pub objects_stay : (o h : ℕ) (events past : List Event) → object_home o past ≡ Some h → object_home o (events ++ past) ≡ Some h
 objects_stay o h [] past is = is
@@ -143,7 +143,7 @@ region_shadowed region new old past none =
 -- a shadow is on the host of its region
 pub home_shadowed : (h : ℕ) (region : RegionId) (new old : ObjectId) (past : List Event) → region_for new.0 past ≡ None → home_of region.0 past ≡ Some h
     → object_home new.0 (event.Shadowed region new old ∷ past) ≡ Some h
-home_shadowed h region new old past none home = ap (λ z. home_at z (event.Shadowed region new old ∷ past)) (region_shadowed region new old past none) ∙ home
+home_shadowed h region new old past none home = ap (home_in (λ r. home_of r past)) (region_shadowed region new old past none) ∙ home
 
 -- what has no home yet
 

@@ -10,7 +10,6 @@ pub mod EntriesGone
 pub mod EntriesLeave
 pub mod EntriesRewritten
 pub mod ForkShares
-pub mod NothingChanged
 pub mod ObjectEnds
 pub mod ObjectsEnd
 pub mod RangeAllocated

@@ -1,14 +1,14 @@
 -- The kinds of objects, where objects, regions and shadows come, go and change.
-use Rattle.std.proofs.Common.{Bool, None, Some, ap, arith, false, inl, inr, refl, subst, sym, true, ℕ, ◌<◌, ◌≤◌, ◌∙◌, ◌≡◌}
+use Rattle.std.proofs.Common.{Bool, None, Option, Some, ap, arith, false, inl, inr, refl, subst, sym, true, ℕ, ◌<◌, ◌≤◌, ◌∙◌, ◌≡◌}
 use Rattle.std.proofs.lemmas.Bool.Decides.{nat_tests}
 use Rattle.std.specs.Prelude.{nat_lt, ◌==◌, ◌&&◌, ◌⊎◌, if◌then◌else◌}
-use Rattle.vm_abroad.specs.Home.{HaveHomes}
+use Rattle.vm_abroad.specs.Home.{AreHomes}
 use Rattle.vm_base.specs.declared.ids.ObjectId.{ObjectId}
 use Rattle.vm_base.specs.declared.ids.ObjectKind.TheVariants.{Temp}
-use Rattle.vm_model.specs.declared.event.Event.{Event}
 use Rattle.vm_model.specs.declared.script.Header.{Header}
 use Rattle.vm_model.specs.Named.{declared_pages, named}
-use Rattle.vm_model.specs.Regions.{Backing, Region, backing_of, region_of}
+use Rattle.vm_model.specs.Regions.{Backing, Region}
+use Rattle.vm_model.specs.Waiting.{Target}
 use Rattle.vm_objects.specs.Objects.{ObjectTable, PutsAbsent, PutsObject, SameMarks, SameObjects, absent_at}
 use Rattle.vm_objects.specs.declared.row.ObjectRow.{ObjectRow}
 use Rattle.vm_objects.specs.declared.row.PagerState.TheVariants.{Without}
@@ -19,7 +19,6 @@ use Rattle.vm_shadow.specs.declared.region_row.RegionRow.{RegionRow}
 use Rattle.vm_shadow.specs.declared.shadow_row.ShadowRow.{ShadowRow}
 use Rattle.vm_state.proofs.Knowing.{known_cases}
 use Rattle.vm_state.specs.Stands.{HasKinds, HasRegions, IsOfKind}
-use Rattle.std.specs.Prelude.{List}
 
 -- an object is temporary or declared
 pub kind_cases : (header : Header) (o : ℕ) → (o < named header) ⊎ (named header ≤ o)
@@ -164,9 +163,11 @@ pub record IsWhole (header : Header) (r : ℕ) (row : RegionRow) : Type 0 where
   pub marked : row.marked ≡ false
   pub pages : row.pages ≡ declared_pages header r
 
-pub whole_row : {header : Header} {chains : ChainTable} {objects : ObjectTable} {ids : Ids} {past : List Event} {backing_from : ℕ → Backing}
+pub whole_row : {header : Header} {chains : ChainTable} {objects : ObjectTable} {ids : Ids} {region_from : ℕ → Region}
+    {backing_from : ℕ → Backing} {n m : ℕ} {home_from made_for : ℕ → Option ℕ} {used_at : ℕ → ℕ → Bool} {target_from : ℕ → Option Target}
     {regions_made objects_made marked : ℕ}
-    → HasRegions chains objects ids (λ r. region_of header r past) backing_from regions_made objects_made marked → HaveHomes header past
+    → HasRegions chains objects ids region_from backing_from regions_made objects_made marked
+    → AreHomes header n m home_from made_for used_at region_from backing_from target_from
     → (r : ℕ) (row : RegionRow) → r < named header → region_at chains r ≡ Some row → IsWhole header r row
 whole_row {header = header} has homes r row declared found =
     let is : record { mark = row.marked; top = row.top.0; shift = row.shift; pages = row.pages } ≡ record {
@@ -183,9 +184,11 @@ whole_row {header = header} has homes r row declared found =
     }
 
 -- a marked region is a temporary one
-pub marked_temporary : {header : Header} {chains : ChainTable} {objects : ObjectTable} {ids : Ids} {past : List Event} {backing_from : ℕ → Backing}
+pub marked_temporary : {header : Header} {chains : ChainTable} {objects : ObjectTable} {ids : Ids} {region_from : ℕ → Region}
+    {backing_from : ℕ → Backing} {n m : ℕ} {home_from made_for : ℕ → Option ℕ} {used_at : ℕ → ℕ → Bool} {target_from : ℕ → Option Target}
     {regions_made objects_made marked : ℕ}
-    → HasRegions chains objects ids (λ r. region_of header r past) backing_from regions_made objects_made marked → HaveHomes header past
+    → HasRegions chains objects ids region_from backing_from regions_made objects_made marked
+    → AreHomes header n m home_from made_for used_at region_from backing_from target_from
     → (r : ℕ) (row : RegionRow) → region_at chains r ≡ Some row → row.marked ≡ true → named header ≤ r
 marked_temporary {header = header} has homes r row found mark = elim (kind_cases header r) [
   | inl declared ↦ absurd (let whole = whole_row has homes r row declared found in let bad : false ≡ true = sym whole.marked ∙ mark in cc)
@@ -193,9 +196,11 @@ marked_temporary {header = header} has homes r row found mark = elim (kind_cases
 ]
 
 -- a shadow is a temporary object
-pub shadow_temporary : {header : Header} {chains : ChainTable} {objects : ObjectTable} {ids : Ids} {past : List Event} {region_from : ℕ → Region}
+pub shadow_temporary : {header : Header} {chains : ChainTable} {objects : ObjectTable} {ids : Ids} {region_from : ℕ → Region}
+    {backing_from : ℕ → Backing} {n m : ℕ} {home_from made_for : ℕ → Option ℕ} {used_at : ℕ → ℕ → Bool} {target_from : ℕ → Option Target}
     {regions_made objects_made marked : ℕ}
-    → HasRegions chains objects ids region_from (λ o. backing_of header o past) regions_made objects_made marked → HaveHomes header past
+    → HasRegions chains objects ids region_from backing_from regions_made objects_made marked
+    → AreHomes header n m home_from made_for used_at region_from backing_from target_from
     → (o : ℕ) (row : ShadowRow) → shadow_at chains o ≡ Some row → named header ≤ o
 shadow_temporary {header = header} has homes o row found = elim (kind_cases header o) [
   | inl declared ↦ absurd (let bad : true ≡ false = sym (ap (λ (z : Backing). z.backed) (has.shadows o row found)) ∙ homes.bare o declared in cc)
@@ -203,10 +208,12 @@ shadow_temporary {header = header} has homes o row found = elim (kind_cases head
 ]
 
 -- a region over a declared object is that object's own
-pub over_declared : {header : Header} {chains : ChainTable} {objects : ObjectTable} {ids : Ids} {past : List Event} {backing_from : ℕ → Backing}
+pub over_declared : {header : Header} {chains : ChainTable} {objects : ObjectTable} {ids : Ids} {region_from : ℕ → Region}
+    {backing_from : ℕ → Backing} {n m : ℕ} {home_from made_for : ℕ → Option ℕ} {used_at : ℕ → ℕ → Bool} {target_from : ℕ → Option Target}
     {regions_made objects_made marked : ℕ}
-    → HasRegions chains objects ids (λ r. region_of header r past) backing_from regions_made objects_made marked → HasKinds header objects chains
-    → HaveHomes header past → (r : ℕ) (row : RegionRow) → region_at chains r ≡ Some row → row.top.0 < named header
+    → HasRegions chains objects ids region_from backing_from regions_made objects_made marked → HasKinds header objects chains
+    → AreHomes header n m home_from made_for used_at region_from backing_from target_from → (r : ℕ) (row : RegionRow) → region_at chains r ≡ Some row
+    → row.top.0 < named header
     → r ≡ row.top.0
 over_declared {header = header} has kinds homes r row found declared = elim (kind_cases header r) [
   | inl less ↦ sym (whole_row has homes r row less found).top

@@ -3,7 +3,7 @@ use Rattle.vm_system.proofs.Common.{AllQueued, AllRest, ArmedLater, Arming, Brea
 use Rattle.vm_system.proofs.Common.{IsReady}
 use Rattle.vm_system.proofs.Common.{IsSent, List, Listed, Makes, MayTakeFrom, Message, None, Numbered, ObjectId, OnErr, OnlyRoom, Option, Outside, Result}
 use Rattle.vm_system.proofs.Common.{SameHosts, ServerStands, ServerTable, Some, Spares, StandsStill, State, Step, SystemStands, [], ap, arith}
-use Rattle.vm_system.proofs.Common.{last_control, lined, live_control, named, object_home, refl, slice_get}
+use Rattle.vm_system.proofs.Common.{lined, refl, slice_get}
 use Rattle.vm_system.proofs.Common.{subst, sym, ℕ, ◌++◌, ◌+◌, ◌∙◌, ◌∷◌, ◌≡◌, ◌≤◌}
 use Rattle.sms_server.specs.Answers.{most_told}
 use Rattle.sms_server.specs.Table.{IsSameTable}
@@ -16,10 +16,7 @@ use Rattle.vm_model.specs.declared.event.Event.TheVariants as event
 use Rattle.sms_server.proofs.Serving.{same_stands}
 use Rattle.std.specs.Prelude.{Err, Ok, ◌*◌}
 use Rattle.vm_outside.specs.Arming.{KeepsArming}
-use Rattle.vm_abroad.specs.Home.{home_at, region_for}
-use Rattle.vm_legal.specs.Accesses.{is_ready}
 use Rattle.vm_ports.specs.Ports.{spare_channels}
-use Rattle.vm_state.specs.Stands.{HasControls}
 use Rattle.vm_system.proofs.Following.{same_all}
 
 -- a system that has more room stands for what it stood for
@@ -152,13 +149,6 @@ stands_kept header outside s hosts log stands rests queues none =
 
 -- what hosts stand for behind a line they stand for in front of it, where others did
 
-homes_unlined : (line : ℕ) (past : List Event) (o : ℕ) → object_home o (event.Line line ∷ past) ≡ object_home o past
-homes_unlined line past o = by (region_for o past)
-  where
-    by : (region : Option ℕ) → home_at region (event.Line line ∷ past) ≡ home_at region past
-    by None = refl
-    by (Some region) = refl
-
 module _ (header : Header) (hosts new : HostTable) (line : ℕ) (past : List Event) (all : AllRest header hosts past)
     (later : AllRest header new (event.Line line ∷ past)) where
   matches_unlined : (h : ℕ) (k : Parts) → Matches header h k new.ids [] (event.Line line ∷ past) → Matches header h k new.ids [] past
@@ -180,9 +170,7 @@ module _ (header : Header) (hosts new : HostTable) (line : ℕ) (past : List Eve
         shared = m.shared;
         pages = m.pages;
         uses = m.uses;
-        controls =
-            subst (λ (home : ℕ → Option ℕ). HasControls (named header) h k.memory.objects (λ o. last_control h o past) (λ o. live_control h o past)
-            (λ o. is_ready h o past) home) (λ i o. homes_unlined line past o i) m.controls;
+        controls = m.controls;
         homeless = common.homeless;
         settled = common.settled;
         replied = common.replied;

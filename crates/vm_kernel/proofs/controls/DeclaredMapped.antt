@@ -46,7 +46,6 @@ use Rattle.vm_state.specs.Places.{known_local}
 use Rattle.vm_state.specs.References.{is_over}
 use Rattle.vm_supply.specs.declared.woken.Woken.TheVariants as woken
 use Rattle.vm_kernel.specs.Mapping.{Again, Begins as BeginsControl, First, Holds, IsOpen, Opens, declared_region, referred, shared_entry}
-use Rattle.vm_kernel.proofs.space.NothingChanged.{controls_stay}
 use Rattle.vm_kernel.proofs.space.RegionCopied.{file_of, no_row}
 use Rattle.vm_kernel.proofs.space.EntriesCounted.{most_is}
 use Rattle.vm_kernel.proofs.controls.DeclaredRegion.{BecomesKnown, controls_opened, declared_references, entries_declared, fit_declared, kinds_declared}
@@ -58,7 +57,7 @@ use Rattle.vm_kernel.proofs.abroad.OwnEvents.{mine_of, own_named, own_task}
 use Rattle.vm_kernel.proofs.abroad.OwnHost.{lives_here, lives_in, named_host, own_host, rows_here}
 use Rattle.vm_kernel.proofs.memory.PagesShown.{itself, pages_marked}
 use Rattle.vm_kernel.proofs.lists.ListsAsTold.{lists_same, plays_both, plays_told}
-use Rattle.vm_kernel.proofs.memory.PageReturned.{pages_created, unasked}
+use Rattle.vm_kernel.proofs.memory.PageReturned.{controls_stay, pages_created, unasked}
 use Rattle.vm_kernel.proofs.space.RegionCases.{region_cases}
 use Rattle.vm_kernel.proofs.space.ForkShares.{MayShare, few_entries, rests_shared, unfilled_declared}
 use Rattle.vm_kernel.proofs.space.SharedEntries.{shared_entered}
@@ -361,7 +360,7 @@ rests_opened header h outside doing task address bytes object offset pages new p
                 (m.tasks.hosts task.0 ∙ ap is_some lives)
                 (λ t r away why. holds_rows size task.0 t r k.maps (rows_in task.0 k.maps) (entered row (entries_of size t past)) past lives away
                 ∙ m.uses.apart t r away why);
-            controls = controls_stay (λ x at_home. object_stays x h begins (enters ∷ past) (object_stays x h enters past at_home)) controls;
+            controls = controls_stay (λ x at_home. object_stays x h enters past at_home) controls;
             homeless =
                 homes_next header outside begins (enters ∷ past) (doing, map_opens header h task address bytes object offset new past k ids rests may o.known)
                 (homes_next header outside enters past (doing, map_enters header h task address bytes object offset past k ids rests may) m.homeless);

@@ -7,7 +7,6 @@ use Rattle.vm_kernel.proofs.Common.{◌∷◌, ◌≡◌, ◌⊎◌}
 use Rattle.vm_state.proofs.Filling.{KeepsAway, away_back, fills_waked, used_away, used_waked, uses_refilled}
 use Rattle.vm_waits.specs.Waits.{Waked}
 use Rattle.std.specs.Prelude.{nat_le, nat_lt, option_map, ◌+◌}
-use Rattle.vm_kernel.proofs.space.NothingChanged.{Leaves, controls_after, homeless_after}
 use Rattle.vm_kernel.proofs.controls.AnswerEffects.{on_page}
 use Rattle.vm_kernel.proofs.memory.WhatIsKnown.{other_if, pages_known}
 use Rattle.vm_kernel.proofs.controls.PageLocked.{Mid, asks}
@@ -336,16 +335,6 @@ mid_taken header h k ids past object control page count returns lock flush reply
     let m = rests.matches in
     let now = asks h object control page count returns flush lock reply ∷ past in
     let a = ahead_of object page count flush lock page.0 in
-    let leaves : Leaves header past now = record {
-      regions_made = refl;
-      objects_made = refl;
-      region = λ r. refl;
-      backing = λ o. refl;
-      home = λ r. refl;
-      made_for = λ o. refl;
-      used = λ g r. refl;
-      target = λ task. refl;
-    } in
     record {
       ranged = m.ranged;
       known = m.known;
@@ -367,8 +356,8 @@ mid_taken header h k ids past object control page count returns lock flush reply
       pages = pages_taken header h k object control page count returns lock flush reply past m.pages lives few;
       uses =
           uses_refilled k.waits.rows waits2.rows (fills_waked (is_unlocked k.memory.resident object.0 page.0 count) k.waits.rows waits2.rows waked_rows) m.uses;
-      controls = controls_after leaves m.controls;
-      homeless = homeless_after leaves m.homeless;
+      controls = m.controls;
+      homeless = m.homeless;
       settled = record { none_owed = refl; shut = λ region. refl };
       laundry = record {
         count = m.laundry.count;

@@ -5,7 +5,6 @@ use Rattle.vm_kernel.proofs.Common.{frames_wired, host_id, inl, is_control, is_r
 use Rattle.vm_kernel.proofs.Common.{refl, returns_out, reverse, slice_get, some_is, subst, sym, true, waiting, with_on, ℕ, ◌&&◌, ◌+◌, ◌==◌, ◌∙◌, ◌∷◌, ◌≡◌}
 use Rattle.vm_kernel.proofs.space.RegionsFilled.{place_unfilled}
 use Rattle.vm_state.proofs.Filling.{fills_turned, used_page, used_turned}
-use Rattle.vm_abroad.proofs.Home.{object_stays}
 use Rattle.vm_fault.specs.Faults.{KeepsPlan}
 use Rattle.vm_model.specs.declared.event.Event.TheVariants as event
 use Rattle.vm_model.specs.declared.message.Message.TheVariants as message
@@ -23,7 +22,6 @@ use Rattle.vm_kernel.proofs.memory.PartsStillFit.{fits_changed}
 use Rattle.vm_kernel.proofs.steps.RowsInOrder.{PutsInOrder}
 use Rattle.vm_kernel.proofs.abroad.OwnHost.{own_host}
 use Rattle.vm_kernel.proofs.memory.PagesShown.{asking, asking_it, asking_other, frames_changed, itself, laundry_changed, pages_changed}
-use Rattle.vm_kernel.proofs.space.NothingChanged.{controls_stay}
 use Rattle.vm_kernel.proofs.abroad.OtherLists.{matches_with}
 use Rattle.vm_kernel.proofs.controls.LockReplied.{replied_behind}
 use Rattle.vm_legal.specs.Walks.{page_on}
@@ -74,17 +72,8 @@ matches_asked header h k ids past key control access frame memory m live c plan 
       entries = m.entries;
       pages = rw (plan.objects, own_host h) pages2;
       uses = m.uses;
-      controls = rw plan.objects (controls_stay (λ o home. object_stays o h (requesting h key control access) past home) m.controls);
-      homeless =
-          record {
-            regions = m.homeless.regions;
-            objects = m.homeless.objects;
-            stay = m.homeless.stay;
-            files = m.homeless.files;
-            whole = m.homeless.whole;
-            bare = m.homeless.bare;
-            fills = m.homeless.fills;
-          };
+      controls = rw plan.objects m.controls;
+      homeless = m.homeless;
       settled = record { none_owed = refl; shut = λ region. refl };
       replied = replied_behind tt m.replied;
       laundry = laundry_changed key frame _ _ _ _ _ k.memory memory k.laundry (returns_out h past) m.laundry c;

@@ -9,9 +9,9 @@ use Rattle.vm_kernel.proofs.Common.{if◌then◌else◌, in_use, inl, inr, is_on
 use Rattle.vm_kernel.proofs.Common.{local_after, local_of_row, marks_of, named, nat_tests, next_object, next_page, next_region, not, object_at}
 use Rattle.vm_kernel.proofs.Common.{object_home, page_in, pages_of_row, paging, place_of, queues_except, ready_in, refl, region_of, returns_out, reverse}
 use Rattle.vm_kernel.proofs.Common.{row_at, slice_get, some_is, subst, sym, true, waiting, ℕ, ◌&&◌, ◌++◌, ◌+◌, ◌-◌, ◌<◌, ◌==◌, ◌||◌, ◌∙◌, ◌∷◌, ◌≡◌}
+use Rattle.vm_model.specs.Waiting.{copy_target}
 use Rattle.vm_state.proofs.Filling.{KeepsAway, away_put, used_away, used_told}
 use Rattle.vm_state.specs.Stands.{KnowsFiles}
-use Rattle.vm_kernel.proofs.space.NothingChanged.{Leaves, controls_after, homeless_after}
 use Rattle.vm_kernel.proofs.controls.AnswerEffects.{hears}
 use Rattle.vm_kernel.proofs.memory.PartsStillFit.{plain_changed, plain_here, IsPlainAway}
 use Rattle.vm_kernel.proofs.steps.EventsGrow.{Follows, suffices}
@@ -113,7 +113,9 @@ works_mid m replied =
 
 -- what is not of pages stays behind an event
 pub record Quiet (header : Header) (h : ℕ) (k : Parts) (past now : List Event) : Type 0 where
-  pub leaves : Leaves header past now
+  pub home : (r : ℕ) → home_of r now ≡ home_of r past
+  pub homeless : HaveHomes header now
+  pub target : (task : ℕ) → copy_target task now ≡ copy_target task past
   pub next : (task : ℕ) → next_page task now ≡ next_page task past
   pub tasks : HasTasks h header.size k.maps (λ task. host_of task now) (λ task. entries_of header.size task now)
   pub uses : HasUse header k.maps k.waits.rows (λ r. in_use header h r now) (made_tasks now) (λ task r. holds header.size task r now) (next_region header now)
@@ -132,17 +134,9 @@ quiet_none : {header : Header} {h : ℕ} {k : Parts} {ids : Ids} {past : List Ev
 quiet_none rests =
     let m = rests in
     record {
-      leaves =
-          record {
-            regions_made = refl;
-            objects_made = refl;
-            region = λ r. refl;
-            backing = λ o. refl;
-            home = λ r. refl;
-            made_for = λ o. refl;
-            used = λ g r. refl;
-            target = λ task. refl;
-          };
+      home = λ r. refl;
+      homeless = m.homeless;
+      target = λ task. refl;
       next = λ task. refl;
       tasks = m.tasks;
       uses = m.uses;
@@ -162,24 +156,16 @@ quiet_dropped : {header : Header} {h : ℕ} {k : Parts} {ids : Ids} {past : List
     → Quiet header h k past (drops h key ∷ past)
 quiet_dropped {header = header} {h = h} {past = past} key rests =
     let m = rests in
-    let leaves : Leaves header past (drops h key ∷ past) = record {
-      regions_made = refl;
-      objects_made = refl;
-      region = λ r. refl;
-      backing = λ o. refl;
-      home = λ r. refl;
-      made_for = λ o. refl;
-      used = λ g r. refl;
-      target = λ task. refl;
-    } in
     record {
-      leaves = leaves;
+      home = λ r. refl;
+      homeless = m.homeless;
+      target = λ task. refl;
       next = λ task. refl;
       tasks = m.tasks;
       uses = m.uses;
       homes = m.homes;
       regions = λ has. has;
-      controls = λ has. controls_after leaves has;
+      controls = λ has. has;
       waits = λ t. refl;
       order = rests.order;
       settled = record { none_owed = refl; shut = λ region. refl };
@@ -193,24 +179,16 @@ quiet_given : {header : Header} {h : ℕ} {k : Parts} {ids : Ids} {past : List E
     → Mid header h k ids past → Quiet header h k past (gives h key control dirty keep bytes ∷ past)
 quiet_given {header = header} {h = h} {past = past} key control dirty keep bytes rests =
     let m = rests in
-    let leaves : Leaves header past (gives h key control dirty keep bytes ∷ past) = record {
-      regions_made = refl;
-      objects_made = refl;
-      region = λ r. refl;
-      backing = λ o. refl;
-      home = λ r. refl;
-      made_for = λ o. refl;
-      used = λ g r. refl;
-      target = λ task. refl;
-    } in
     record {
-      leaves = leaves;
+      home = λ r. refl;
+      homeless = m.homeless;
+      target = λ task. refl;
       next = λ task. refl;
       tasks = m.tasks;
       uses = m.uses;
       homes = m.homes;
       regions = λ has. has;
-      controls = λ has. controls_after leaves has;
+      controls = λ has. has;
       waits = λ t. refl;
       order = rests.order;
       settled = record { none_owed = refl; shut = λ region. refl };
@@ -224,24 +202,16 @@ pub quiet_completed : {header : Header} {h : ℕ} {k : Parts} {ids : Ids} {past 
     → Mid header h k ids past → Quiet header h k past (completed h object control page count ∷ past)
 quiet_completed {header = header} {h = h} {past = past} object control page count rests =
     let m = rests in
-    let leaves : Leaves header past (completed h object control page count ∷ past) = record {
-      regions_made = refl;
-      objects_made = refl;
-      region = λ r. refl;
-      backing = λ o. refl;
-      home = λ r. refl;
-      made_for = λ o. refl;
-      used = λ g r. refl;
-      target = λ task. refl;
-    } in
     record {
-      leaves = leaves;
+      home = λ r. refl;
+      homeless = m.homeless;
+      target = λ task. refl;
       next = λ task. refl;
       tasks = m.tasks;
       uses = m.uses;
       homes = m.homes;
       regions = λ has. has;
-      controls = λ has. controls_after leaves has;
+      controls = λ has. has;
       waits = λ t. refl;
       order = rests.order;
       settled = record { none_owed = refl; shut = λ region. refl };
@@ -277,16 +247,16 @@ rests_moved header h k ids memory laundry past now rests quiet moved =
       tasks = quiet.tasks;
       regions = quiet.regions (regions_of k.chains k.memory.objects memory.objects ids _ _ _ _ _ m.regions moved.objects);
       homes = quiet.homes;
-      files = λ o is. ap (λ z. is_on h z) (quiet.leaves.home o) ∙ (m.files o is ∙ ap is_some (sym (moved.objects.at o)));
+      files = λ o is. ap (λ z. is_on h z) (quiet.home o) ∙ (m.files o is ∙ ap is_some (sym (moved.objects.at o)));
       entries = m.entries;
       pages = moved.pages;
       uses = quiet.uses;
       controls = quiet.controls (controls_same k.memory.objects memory.objects _ _ _ m.controls moved.objects.at);
-      homeless = homeless_after quiet.leaves m.homeless;
+      homeless = quiet.homeless;
       settled = quiet.settled;
       laundry = moved.washed;
       frames = moved.frames;
-      used = used_away k.memory.resident memory.resident (used_told rests.used (λ t w found. (quiet.next t, quiet.leaves.target t))) moved.away;
+      used = used_away k.memory.resident memory.resident (used_told rests.used (λ t w found. (quiet.next t, quiet.target t))) moved.away;
       referred = moved.referred;
       waits = waits_retold quiet.waits moved.waits;
       order = quiet.order;

@@ -5,11 +5,9 @@ use Rattle.vm_kernel.proofs.Common.{absent_at, access_in, ap, arith, begun_at, e
 use Rattle.vm_kernel.proofs.Common.{live_control, live_in, local, local_after, named, nat_tests, object_at, place_of, refl, returns_out, reverse, slice_get}
 use Rattle.vm_kernel.proofs.Common.{subst, sym, true, waiting, with_on, ℕ, ◌&&◌, ◌==◌, ◌∙◌, ◌∷◌, ◌≡◌}
 use Rattle.vm_state.proofs.Filling.{away_put, fills_turned, used_away, used_turned}
-use Rattle.vm_abroad.proofs.Home.{object_stays}
 use Rattle.vm_fault.specs.Faults.{KeepsPlan}
 use Rattle.vm_fault.specs.Walks.{Finds, is_storing, keeps_out, wanted_number}
 use Rattle.vm_kernel.proofs.memory.ComesForAccess.{asks_none_now, page_referred, same_lock}
-use Rattle.vm_kernel.proofs.space.NothingChanged.{controls_stay}
 use Rattle.vm_kernel.proofs.memory.PartsStillFit.{fits_changed, plain_here}
 use Rattle.vm_kernel.proofs.steps.AccessCauses.{asks_for, comes_at}
 use Rattle.vm_kernel.proofs.steps.EventsGrow.{Follows}
@@ -84,17 +82,8 @@ matches_unlocked header h k ids past key row control access memory m here c plan
       entries = m.entries;
       pages = rw (plan.objects, own_host h) pages2;
       uses = m.uses;
-      controls = rw plan.objects (controls_stay (λ o home. object_stays o h e past home) m.controls);
-      homeless =
-          record {
-            regions = m.homeless.regions;
-            objects = m.homeless.objects;
-            stay = m.homeless.stay;
-            files = m.homeless.files;
-            whole = m.homeless.whole;
-            bare = m.homeless.bare;
-            fills = m.homeless.fills;
-          };
+      controls = rw plan.objects m.controls;
+      homeless = m.homeless;
       settled = record { none_owed = refl; shut = λ region. refl };
       replied = replied_behind tt m.replied;
       laundry = laundry_changed key row.frame _ _ _ _ _ k.memory memory k.laundry (returns_out h past) m.laundry c;

@@ -12,7 +12,6 @@ use Rattle.vm_kernel.proofs.space.RegionsInUse.{FillsHere, fills_here, holds_wai
 use Rattle.vm_state.proofs.Filling.{Filled, filled_there, used_over}
 use Rattle.vm_legal.specs.Licences.{zeroes}
 use Rattle.std.proofs.Common.{is_some}
-use Rattle.vm_abroad.proofs.Home.{object_stays}
 use Rattle.vm_model.specs.Waiting.{Target}
 use Rattle.vm_model.specs.declared.event.Event.TheVariants as event
 use Rattle.vm_model.specs.declared.message.Channel.TheVariants.{Up}
@@ -22,7 +21,6 @@ use Rattle.vm_waits.specs.declared.waiting.Destination.{Destination}
 use Rattle.vm_legal.specs.Living.{tasks as made_tasks}
 use Rattle.vm_supply.specs.declared.woken.Woken.TheVariants as who
 use Rattle.vm_waits.specs.declared.waiting.On.TheVariants as on
-use Rattle.vm_kernel.proofs.space.NothingChanged.{controls_stay}
 use Rattle.vm_kernel.proofs.steps.EventsGrow.{goes_both, goes_more, suffices}
 use Rattle.vm_kernel.proofs.steps.RowsInOrder.{PutsInOrder, oldest_first}
 use Rattle.vm_kernel.proofs.memory.WalksShown.{page_left, place_at, want_address}
@@ -242,7 +240,7 @@ failed_one header h outside doing past old events key k ids w waits f found pass
           uses = uses_failed header h k ids moment key w.task waits.rows f.works (fills_here {past = e ∷ moment} has2 copies)
               (λ r filled. record { task = filled.task; fills = (fills_apart w.task.0 filled.task r rows waits.rows puts filled.fills).1 })
               (has.allowed w.task.0 w found).lives;
-          controls = controls_stay (λ o held. object_stays o h e moment held) was.controls;
+          controls = was.controls;
           homeless = homes_next header outside e moment (doing, cause.0) was.homeless;
           homes = was.homes;
           files = was.files;

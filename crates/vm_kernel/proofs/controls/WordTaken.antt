@@ -15,12 +15,13 @@ use Rattle.vm_model.specs.declared.message.Message.TheVariants as message
 use Rattle.vm_objects.specs.declared.row.PagerState.TheVariants as state
 use Rattle.vm_supply.specs.declared.woken.Woken.TheVariants as woken
 use Rattle.vm_waits.specs.declared.waiting.On.TheVariants as on
-use Rattle.vm_kernel.proofs.space.NothingChanged.{Leaves, controls_after, controls_stay, homeless_after}
 use Rattle.vm_kernel.proofs.controls.AnswerEffects.{IsLeft, IsNothing, asked_shows, hears, left_failed, left_lacked, lives, on_page, same_effect}
+use Rattle.vm_abroad.specs.Home.{HaveHomes}
 use Rattle.vm_kernel.proofs.memory.PartsStillFit.{plain_changed}
 use Rattle.vm_kernel.proofs.memory.PagesShown.{bytes_now, effect_on, frames_changed, laundry_changed, pages_changed, pages_marked, pages_moved}
 use Rattle.vm_kernel.proofs.abroad.OwnHost.{own_host}
 use Rattle.vm_parts.specs.Fits.{object_pages, pages_of_row}
+use Rattle.vm_model.specs.Waiting.{copy_target}
 use Rattle.vm_state.proofs.Changing.{regions_controlled}
 use Rattle.vm_state.proofs.Referred.{referred_controlled, referred_gone, referred_row}
 use Rattle.std.proofs.lemmas.Bool.{and_from}
@@ -40,7 +41,6 @@ use Rattle.vm_state.specs.Places.{known_local}
 use Rattle.vm_state.specs.Stands.{KnowsFiles}
 use Rattle.vm_supply.specs.Answers as supply
 use Rattle.vm_legal.specs.Living.{tasks as made_tasks}
-use Rattle.vm_abroad.proofs.Home.{object_stays}
 use Rattle.vm_state.proofs.Filling.{KeepsAway, away_put, used_away, used_told}
 use Rattle.vm_state.specs.References.{MayLock, is_live_in}
 use Rattle.vm_state.specs.Passed.{IsUnmet, StaysAway}
@@ -127,7 +127,9 @@ zeros h object page = event.Zeroed (host_id h) object page
 
 -- what stays, of the parts that no message changes
 pub record Stays (header : Header) (h : ℕ) (k : Parts) (past now : List Event) : Type 0 where
-  pub leaves : Leaves header past now
+  pub home : (r : ℕ) → home_of r now ≡ home_of r past
+  pub homeless : HaveHomes header now
+  pub target : (task : ℕ) → copy_target task now ≡ copy_target task past
   pub next : (task : ℕ) → next_page task now ≡ next_page task past
   pub tasks : HasTasks h header.size k.maps (λ task. host_of task now) (λ task. entries_of header.size task now)
   pub uses : HasUse header k.maps k.waits.rows (λ r. in_use header h r now) (made_tasks now) (λ task r. holds header.size task r now) (next_region header now)
@@ -149,24 +151,16 @@ pub stays_heard : (header : Header) (h : ℕ) (k : Parts) (ids : Ids) (past : Li
     → Rests header h k ids past → lock_taken (hears h object control m ∷ past) ≡ None → Stays header h k past (hears h object control m ∷ past)
 stays_heard header h k ids past object control m rests none =
     let was = rests.matches in
-    let leaves : Leaves header past (hears h object control m ∷ past) = record {
-      regions_made = refl;
-      objects_made = refl;
-      region = λ r. refl;
-      backing = λ o. refl;
-      home = λ r. refl;
-      made_for = λ o. refl;
-      used = λ g r. refl;
-      target = λ task. refl;
-    } in
     record {
-      leaves = leaves;
+      home = λ r. refl;
+      homeless = was.homeless;
+      target = λ task. refl;
       next = λ task. refl;
       tasks = was.tasks;
       uses = was.uses;
       waits = λ t. refl;
       regions = λ has. has;
-      controls = λ has. controls_after leaves has;
+      controls = λ has. has;
       homes = was.homes;
       order = rests.order;
       settled = record { none_owed = refl; shut = λ region. refl };
@@ -179,25 +173,16 @@ stays_heard header h k ids past object control m rests none =
 pub stays_zeroed : (header : Header) (h : ℕ) (k : Parts) (past now : List Event) (object : ObjectId) (page : PageNo) → Stays header h k past now
     → Stays header h k past (zeros h object page ∷ now)
 stays_zeroed header h k past now object page stays =
-    let was = stays.leaves in
     record {
-      leaves =
-          record {
-            regions_made = was.regions_made;
-            objects_made = was.objects_made;
-            region = was.region;
-            backing = was.backing;
-            home = was.home;
-            made_for = was.made_for;
-            used = was.used;
-            target = was.target;
-          };
+      home = stays.home;
+      homeless = stays.homeless;
+      target = stays.target;
       next = stays.next;
       tasks = stays.tasks;
       uses = stays.uses;
       waits = stays.waits;
       regions = stays.regions;
-      controls = λ has. controls_stay (λ o is. object_stays o h (zeros h object page) now is) (stays.controls has);
+      controls = stays.controls;
       homes = stays.homes;
       order = stays.order;
       settled = record { none_owed = refl; shut = λ region. refl };
@@ -228,9 +213,9 @@ works_of header h k ids who new past now rests stays fit same c =
             pages = c.pages;
             uses = stays.uses;
             controls = stays.controls c.controls;
-            homeless = homeless_after stays.leaves was.homeless;
+            homeless = stays.homeless;
             homes = stays.homes;
-            files = λ o file. ap (is_on h) (stays.leaves.home o) ∙ c.files o file;
+            files = λ o file. ap (is_on h) (stays.home o) ∙ c.files o file;
             settled = stays.settled;
             replied = stays.replied;
             laundry = subst (λ (z : ℕ). HasLaundry new.frames new.resident k.laundry z) (sym stays.returned) c.laundry;
@@ -238,7 +223,7 @@ works_of header h k ids who new past now rests stays fit same c =
                 subst (λ (z : ℕ). HasFrames (slice_get (reverse header.frames.items) h) new.frames (frames_held header.size h now) z) (sym stays.wired)
                 c.frames;
           };
-      used = used_away k.memory.resident new.resident (used_told rests.used (λ t w found. (stays.next t, stays.leaves.target t))) c.away;
+      used = used_away k.memory.resident new.resident (used_told rests.used (λ t w found. (stays.next t, stays.target t))) c.away;
       referred = c.referred;
       order = stays.order;
       waits = waits_retold stays.waits c.waits;

@@ -6,7 +6,6 @@ use Rattle.vm_kernel.proofs.Common.{frames_wired, host_id, host_of, inl, inr, is
 use Rattle.vm_kernel.proofs.Common.{next_page, page_in, place_of, refl, replicate, returns_out, reverse, row_at, rows_in, slice_get, some_is, subst, suc, sym}
 use Rattle.vm_kernel.proofs.Common.{true, unlocked, waiting, with_bytes, ℕ, ◌&&◌, ◌+◌, ◌==◌, ◌||◌, ◌∙◌, ◌∷◌, ◌≡◌}
 use Rattle.vm_state.proofs.Filling.{IsUnfilled, away_put, fills_over, number_fills, used_away, used_over, used_page, uses_refilled}
-use Rattle.vm_abroad.proofs.Home.{object_stays}
 use Rattle.vm_fault.specs.Faults.{KeepsPlan, References, WritesPage}
 use Rattle.vm_fault.specs.Walks.{keeps_out}
 use Rattle.vm_model.specs.declared.event.Event.TheVariants as event
@@ -25,7 +24,6 @@ use Rattle.vm_kernel.proofs.steps.RowsInOrder.{PutsInOrder}
 use Rattle.vm_kernel.proofs.abroad.OwnHost.{lives_here, own_host}
 use Rattle.vm_kernel.proofs.memory.PagesShown.{bytes_now, frames_changed, laundry_changed, pages_moved, shown_as, shown_here}
 use Rattle.vm_kernel.proofs.space.RegionsInUse.{holds_waits, uses_still}
-use Rattle.vm_kernel.proofs.space.NothingChanged.{controls_stay}
 use Rattle.vm_kernel.proofs.abroad.OtherLists.{matches_with}
 use Rattle.vm_kernel.proofs.controls.LockReplied.{replied_behind}
 use Rattle.vm_state.specs.References.{MayLock}
@@ -98,17 +96,8 @@ matches_zeroed header h k ids past key frame memory m c plan =
       entries = m.entries;
       pages = rw (plan.objects, own_host h) pages2;
       uses = m.uses;
-      controls = rw plan.objects (controls_stay (λ o home. object_stays o h (event.Zeroed (host_id h) key.object key.page) past home) m.controls);
-      homeless =
-          record {
-            regions = m.homeless.regions;
-            objects = m.homeless.objects;
-            stay = m.homeless.stay;
-            files = m.homeless.files;
-            whole = m.homeless.whole;
-            bare = m.homeless.bare;
-            fills = m.homeless.fills;
-          };
+      controls = rw plan.objects m.controls;
+      homeless = m.homeless;
       settled = record { none_owed = refl; shut = λ region. refl };
       replied = replied_behind tt m.replied;
       laundry = laundry_changed key frame _ _ _ _ _ k.memory memory k.laundry (returns_out h past) m.laundry c;
@@ -170,17 +159,8 @@ matches_raised header h k ids past low top row frame memory m found here c plan 
       pages = rw (plan.objects, own_host h) pages2;
       uses = m.uses;
       controls =
-          rw plan.objects (controls_stay (λ o home. object_stays o h (event.Raised (host_id h) low.object low.page top.object top.page) past home) m.controls);
-      homeless =
-          record {
-            regions = m.homeless.regions;
-            objects = m.homeless.objects;
-            stay = m.homeless.stay;
-            files = m.homeless.files;
-            whole = m.homeless.whole;
-            bare = m.homeless.bare;
-            fills = m.homeless.fills;
-          };
+          rw plan.objects m.controls;
+      homeless = m.homeless;
       settled = record { none_owed = refl; shut = λ region. refl };
       replied = replied_behind tt m.replied;
       laundry = laundry_changed top frame _ _ _ _ _ k.memory memory k.laundry (returns_out h past) m.laundry c;
@@ -269,17 +249,8 @@ works_loaded header h past k ids w key value waits2 number works is now put =
             uses_refilled k.waits.rows waits2.rows (fills_over w.task.0 w k.waits.rows waits2.rows is none_filled put.entry)
             (uses_still header k.maps _ _ _ _ _ m.uses (λ t r none. holds_waits header.size w.task.0 t r k.maps (rows_in w.task.0 k.maps) past None there
             none));
-        controls = controls_stay (λ o home. object_stays o h e past home) m.controls;
-        homeless =
-            record {
-              regions = m.homeless.regions;
-              objects = m.homeless.objects;
-              stay = m.homeless.stay;
-              files = m.homeless.files;
-              whole = m.homeless.whole;
-              bare = m.homeless.bare;
-              fills = m.homeless.fills;
-            };
+        controls = m.controls;
+        homeless = m.homeless;
         settled = record { none_owed = refl; shut = λ region. refl };
         replied = replied_behind tt m.replied;
         laundry = m.laundry;
@@ -354,17 +325,8 @@ works_stored header h past k ids w key frame at size value row memory waits2 num
             uses_refilled k.waits.rows waits2.rows (fills_over w.task.0 w k.waits.rows waits2.rows is none_filled put.entry)
             (uses_still header k.maps _ _ _ _ _ m.uses (λ t r none. holds_waits header.size w.task.0 t r k.maps (rows_in w.task.0 k.maps) past None there
             none));
-        controls = rw plan.objects (controls_stay (λ o home. object_stays o h e past home) m.controls);
-        homeless =
-            record {
-              regions = m.homeless.regions;
-              objects = m.homeless.objects;
-              stay = m.homeless.stay;
-              files = m.homeless.files;
-              whole = m.homeless.whole;
-              bare = m.homeless.bare;
-              fills = m.homeless.fills;
-            };
+        controls = rw plan.objects m.controls;
+        homeless = m.homeless;
         settled = record { none_owed = refl; shut = λ region. refl };
         replied = replied_behind tt m.replied;
         laundry = laundry_changed key was.frame _ _ _ _ _ k.memory memory k.laundry (returns_out h past) m.laundry c;

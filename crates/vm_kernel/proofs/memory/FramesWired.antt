@@ -9,7 +9,6 @@ use Rattle.vm_base.specs.declared.code.Code.TheVariants as code
 use Rattle.vm_model.specs.declared.event.Event.TheVariants as event
 use Rattle.vm_model.specs.declared.command.Command.TheVariants as command
 use Rattle.vm_state.specs.Places.{known_local}
-use Rattle.vm_kernel.proofs.space.NothingChanged.{Leaves, controls_after, homeless_after}
 use Rattle.vm_kernel.proofs.steps.EventsGrow.{free_is, suffices}
 use Rattle.vm_kernel.proofs.steps.HeadAlone.{heads_one, passed, ran_head}
 use Rattle.vm_kernel.proofs.abroad.OwnHost.{named_host, own_host}
@@ -60,16 +59,6 @@ ran_wired : (header : Header) (h : ℕ) (outside : Outside) (doing : Command) (p
     (event.Wired (host_id h) wired ∷ [])
 ran_wired header h outside doing past k ids wired rests few first done =
     let m = rests.matches in
-    let leaves : Leaves header past (event.Wired (host_id h) wired ∷ past) = record {
-      regions_made = refl;
-      objects_made = refl;
-      region = λ r. refl;
-      backing = λ o. refl;
-      home = λ r. refl;
-      made_for = λ o. refl;
-      used = λ g r. refl;
-      target = λ task. refl;
-    } in
     let frames : HasFrames (slice_get (reverse header.frames.items) h) (with_wired k.memory.frames wired)
     (frames_held header.size h (event.Wired (host_id h) wired ∷ past)) (frames_wired h (event.Wired (host_id h) wired ∷ past)) =
     record { total = m.frames.total; held = m.frames.held; wired = rw (own_host h) refl; fits = few } in
@@ -104,8 +93,8 @@ ran_wired header h outside doing past k ids wired rests few first done =
                 pages_wired k.memory.frames k.memory.resident k.memory.objects (λ o p. known_local header o p (local header.size h (place_of o p) past)) wired
                 m.pages;
             uses = m.uses;
-            controls = controls_after leaves m.controls;
-            homeless = homeless_after leaves m.homeless;
+            controls = m.controls;
+            homeless = m.homeless;
             homes = m.homes;
             files = m.files;
             settled = record { none_owed = refl; shut = λ region. refl };

@@ -24,7 +24,6 @@ use Rattle.vm_kernel.proofs.steps.EventsGrow.{Follows, free_is, goes_none, goes_
 use Rattle.vm_kernel.proofs.memory.MayLeave.{IsSeen, seen_here}
 use Rattle.vm_kernel.proofs.memory.PartsStillFit.{plain_changed}
 use Rattle.vm_kernel.proofs.memory.PagesShown.{frames_changed, itself, laundry_changed, pages_moved}
-use Rattle.vm_abroad.proofs.Home.{object_stays}
 use Rattle.vm_kernel.proofs.memory.WhatIsKnown.{known_on, other_if, other_nested, pages_known}
 use Rattle.vm_legal.proofs.Owing.{behind_none}
 use Rattle.vm_kernel.proofs.memory.PageReturned.{controls_begun, controls_same, controls_told, counts_controlled, first_of_object, kind_controlled}
@@ -43,7 +42,6 @@ use Rattle.vm_state.proofs.Told.{waiters_lost}
 use Rattle.vm_kernel.proofs.memory.FramesWashed.{laundry_room, laundry_returned}
 use Rattle.vm_kernel.proofs.abroad.OwnHost.{named_host, own_host}
 use Rattle.vm_kernel.proofs.abroad.OwnEvents.{mine_of, own_named}
-use Rattle.vm_kernel.proofs.space.NothingChanged.{controls_stay}
 use Rattle.vm_kernel.proofs.controls.LockReplied.{replied_behind}
 use Rattle.vm_kernel.proofs.lists.PagesSpared.{waits_unlocked}
 use Rattle.vm_kernel.specs.Matches.{IsReplied}
@@ -229,17 +227,8 @@ took_freed header h outside doing past ids skip k k2 before after rests beside l
                       (λ o p. known_local header o p (local header.size h (place_of o p) moment)) fit m.pages page
                       (ap (λ z. record away { asked = not z; absent = absent_at k.memory.objects o p }) here) (λ o p apart. refl)));
                   uses = rw (beside.maps, beside.waits) m.uses;
-                  controls = rw freed.objects (controls_stay (λ o is. object_stays o h e moment is) m.controls);
-                  homeless =
-                      record {
-                        regions = m.homeless.regions;
-                        objects = m.homeless.objects;
-                        stay = m.homeless.stay;
-                        files = m.homeless.files;
-                        whole = m.homeless.whole;
-                        bare = m.homeless.bare;
-                        fills = m.homeless.fills;
-                      };
+                  controls = rw freed.objects m.controls;
+                  homeless = m.homeless;
                   homes = rw beside.chains m.homes;
                   files = rw freed.objects m.files;
                   settled = record { none_owed = refl; shut = λ region. refl };
@@ -380,17 +369,8 @@ returned_rests header h ids skip k k2 before after moment past control rests bes
             entries = rw (beside.chains, beside.maps) m.entries;
             pages = rw (own_host h) pages;
             uses = rw (beside.maps, beside.waits) b.uses;
-            controls = controls_stay (λ o is. object_stays o h e moment is) controls;
-            homeless =
-                record {
-                  regions = b.homeless.regions;
-                  objects = b.homeless.objects;
-                  stay = b.homeless.stay;
-                  files = b.homeless.files;
-                  whole = b.homeless.whole;
-                  bare = b.homeless.bare;
-                  fills = b.homeless.fills;
-                };
+            controls = controls;
+            homeless = b.homeless;
             homes = rw beside.chains b.homes;
             files =
                 files_put header h o is.object (controlled is.object) k.memory.objects k2.memory.objects (λ r. home_of r moment) is.known is.objects b.files;
@@ -563,7 +543,7 @@ took_first header h outside doing past ids skip k k2 before after rests beside l
     (λ o. object_home o h0) = rw (own_host h) (controls_begun k.memory.objects k2.memory.objects _ _ _ o is.object m.controls beside.live is.known none
     put) in
     let controls : HasControls (named header) h k2.memory.objects (λ o. last_control h o moment) (λ o. live_control h o moment) (λ o. is_ready h o moment)
-    (λ o. object_home o moment) = controls_stay (λ o is. object_stays o h e1 h0 is) begun in
+    (λ o. object_home o moment) = begun in
     let lives : live_control h o moment ≡ Some control = if_true o (Some control) (live_control h o h0) (live_control h o moment) (rw (own_host h) refl) in
     let why : ReturnCause header doing h o p false moment = Created control header.size h0 refl refl
     (may_take header h doing o p h0 (seen0.unlocking ∙ unlocked) may) in
@@ -583,16 +563,7 @@ took_first header h outside doing past ids skip k k2 before after rests beside l
       regions = m.regions;
       pages = pages;
       uses = m.uses;
-      homeless =
-          record {
-            regions = m.homeless.regions;
-            objects = m.homeless.objects;
-            stay = m.homeless.stay;
-            files = m.homeless.files;
-            whole = m.homeless.whole;
-            bare = m.homeless.bare;
-            fills = m.homeless.fills;
-          };
+      homeless = m.homeless;
       homes = m.homes;
       files = m.files;
       laundry = m.laundry;

@@ -224,6 +224,21 @@ controls_told os os2 o row found told put k = elim (one_case o k (Some (row_with
   | inr other ↦ other.1
 ]
 
+-- objects are on the host still
+pub controls_stay : {d h : ℕ} {os : ObjectTable} {last_at : ℕ → ℕ} {live_at : ℕ → Option ℕ} {ready_at : ℕ → Bool} {home_from home_from2 : ℕ → Option ℕ}
+    → ((o : ℕ) → home_from o ≡ Some h → home_from2 o ≡ Some h) → HasControls d h os last_at live_at ready_at home_from
+    → HasControls d h os last_at live_at ready_at home_from2
+controls_stay stay has =
+    record {
+      last = has.last;
+      live = has.live;
+      ready = has.ready;
+      all_live = has.all_live;
+      numbers = has.numbers;
+      ended = has.ended;
+      home = λ o row least found. stay o (has.home o row least found);
+    }
+
 -- a control begins, of an object that had none
 pub controls_begun : {d h : ℕ} {home_at : ℕ → Option ℕ} (os os2 : ObjectTable) (last_at : ℕ → ℕ) (live_at : ℕ → Option ℕ) (ready_at : ℕ → Bool) (o : ℕ)
     (row : ObjectRow) → HasControls d h os last_at live_at ready_at home_at

@@ -7,7 +7,6 @@ use Rattle.vm_kernel.proofs.Common.{slice_get, subst, suc, sym, true, zero, ℕ,
 use Rattle.vm_model.specs.declared.event.Event.TheVariants as event
 use Rattle.vm_model.specs.declared.message.Message.TheVariants as message
 use Rattle.vm_state.specs.Places.{known_local}
-use Rattle.vm_kernel.proofs.space.NothingChanged.{Leaves, controls_after, homeless_after}
 use Rattle.vm_kernel.proofs.abroad.OwnHost.{own_host}
 use Rattle.vm_kernel.proofs.controls.LockReplied.{replied_none}
 use Rattle.vm_state.specs.Places.{known_local}
@@ -87,16 +86,6 @@ rests_taken : (header : Header) (h : ℕ) (k : Parts) (ids : Ids) (past : List E
     (event.Taken (Up (host_id h) object) (message.Return control page dirty false bytes) ∷ past)
 rests_taken header h k ids past object control page dirty bytes f fs laundry rests held room releases =
     let was = rests.matches in
-    let leaves : Leaves header past (event.Taken (Up (host_id h) object) (message.Return control page dirty false bytes) ∷ past) = record {
-      regions_made = refl;
-      objects_made = refl;
-      region = λ r. refl;
-      backing = λ o. refl;
-      home = λ r. refl;
-      made_for = λ o. refl;
-      used = λ g r. refl;
-      target = λ task. refl;
-    } in
     let washed = washed_first k.memory.frames k.memory.resident k.laundry (returns_out h past) f laundry.held was.laundry held in
     record {
       matches =
@@ -121,8 +110,8 @@ rests_taken header h k ids past object control page dirty bytes f fs laundry res
                 pages_same k.memory.frames fs k.memory.resident k.memory.objects (λ o p. known_local header o p (local header.size h (place_of o p) past)) f.0
                 was.pages releases;
             uses = was.uses;
-            controls = controls_after leaves was.controls;
-            homeless = homeless_after leaves was.homeless;
+            controls = was.controls;
+            homeless = was.homeless;
             homes = was.homes;
             files = was.files;
             settled = record { none_owed = refl; shut = λ region. refl };

@@ -19,7 +19,6 @@ use Rattle.vm_legal.specs.Refusal.{are_too_many}
 use Rattle.vm_model.specs.declared.event.Event.TheVariants as event
 use Rattle.vm_model.specs.declared.command.Command.TheVariants as command
 use Rattle.vm_supply.specs.declared.woken.Woken.TheVariants as woken
-use Rattle.vm_kernel.proofs.space.NothingChanged.{Leaves, controls_after, homeless_after}
 use Rattle.vm_kernel.proofs.space.EntriesCounted.{by_changed, by_few, most_is}
 use Rattle.vm_kernel.proofs.space.EntriesCut.{Cuts, MayCut, inherit_cuts, may_cut, protect_cuts}
 use Rattle.vm_kernel.proofs.steps.EventsGrow.{suffices}
@@ -250,16 +249,6 @@ ran_protect header h outside task address bytes prot past events k ids maps chai
       others = changes.others;
     } in
     let c = changed_by header h past k ids maps chains task.0 (Some made) [] more s.rests idle same lives cuts up in
-    let leaves : Leaves header past (event.Protected task address bytes prot ∷ past) = record {
-      regions_made = refl;
-      objects_made = refl;
-      region = λ r. refl;
-      backing = λ o. refl;
-      home = λ r. refl;
-      made_for = λ o. refl;
-      used = λ g r. refl;
-      target = λ task. refl;
-    } in
     let rests : Rests header h (record k { maps = maps; chains = chains }) ids (event.Protected task address bytes prot ∷ past) =
     record {
       matches =
@@ -283,8 +272,8 @@ ran_protect header h outside task address bytes prot past events k ids maps chai
             uses =
                 uses_kept header h past k ids maps task.0 made more s.rests same lives cuts
                 (λ t. protected header.size address bytes prot (entries_of header.size t past));
-            controls = controls_after leaves m.controls;
-            homeless = homeless_after leaves m.homeless;
+            controls = m.controls;
+            homeless = m.homeless;
             homes = c.homes;
             files = m.files;
             settled = record { none_owed = refl; shut = λ region. refl };
@@ -362,16 +351,6 @@ ran_inherit header h outside task address bytes inherit past events k ids maps c
       others = changes.others;
     } in
     let c = changed_by header h past k ids maps chains task.0 (Some made) [] more s.rests idle same lives cuts up in
-    let leaves : Leaves header past (event.Inherited task address bytes inherit ∷ past) = record {
-      regions_made = refl;
-      objects_made = refl;
-      region = λ r. refl;
-      backing = λ o. refl;
-      home = λ r. refl;
-      made_for = λ o. refl;
-      used = λ g r. refl;
-      target = λ task. refl;
-    } in
     let rests : Rests header h (record k { maps = maps; chains = chains }) ids (event.Inherited task address bytes inherit ∷ past) =
     record {
       matches =
@@ -395,8 +374,8 @@ ran_inherit header h outside task address bytes inherit past events k ids maps c
             uses =
                 uses_kept header h past k ids maps task.0 made more s.rests same lives cuts
                 (λ t. inherited header.size address bytes inherit (entries_of header.size t past));
-            controls = controls_after leaves m.controls;
-            homeless = homeless_after leaves m.homeless;
+            controls = m.controls;
+            homeless = m.homeless;
             homes = c.homes;
             files = m.files;
             settled = record { none_owed = refl; shut = λ region. refl };

@@ -48,10 +48,10 @@ use Rattle.vm_kernel.proofs.space.RegionRows.{region_row}
 use Rattle.vm_kernel.proofs.steps.RoomOfFork.{HasRoom, room_copied, room_more, room_of, room_other}
 use Rattle.vm_kernel.proofs.space.TaskTables.{Keeps, entries_changed, inside_kept, tasks_entered}
 use Rattle.vm_kernel.proofs.space.SharedEntries.{kinds_recounted, shared_entered}
-use Rattle.vm_kernel.proofs.space.NothingChanged.{controls_stay}
 use Rattle.vm_kernel.proofs.space.EntriesRewritten.{lives_below}
 use Rattle.vm_kernel.proofs.controls.LockReplied.{replied_behind}
 use Rattle.vm_state.specs.Passed.{IsUnmet, StaysAway}
+use Rattle.vm_kernel.proofs.memory.PageReturned.{controls_stay}
 
 -- One entry is shared.
 

@@ -23,7 +23,6 @@ use Rattle.vm_parts.proofs.Fitting.{fit_changed}
 use Rattle.vm_parts.specs.Changes.{Discards, Removes}
 use Rattle.vm_shadow.specs.Chains.{DropsShadow, shadow_at}
 use Rattle.vm_shadow.specs.declared.shadow_row.ShadowRow.{ShadowRow}
-use Rattle.vm_kernel.proofs.space.NothingChanged.{Leaves, controls_after, homeless_after}
 use Rattle.vm_kernel.proofs.memory.PartsStillFit.{plain_changed}
 use Rattle.vm_kernel.proofs.space.EntriesCounted.{by_some}
 use Rattle.vm_kernel.proofs.steps.EventsGrow.{goes_one, suffices}
@@ -161,8 +160,8 @@ ends_lost header h outside doing past who k ids rest key row memory events e fir
         entries = m.entries;
         pages = rw objects pages2;
         uses = m.uses;
-        controls = rw objects (controls_after leaves m.controls);
-        homeless = homeless_after leaves m.homeless;
+        controls = rw objects m.controls;
+        homeless = m.homeless;
         settled = record { none_owed = refl; shut = λ region. refl };
         replied = replied_behind tt m.replied;
         laundry = laundry_changed key row.frame _ _ _ _ _ k.memory memory k.laundry (returns_out h moment) m.laundry c;
@@ -203,19 +202,6 @@ ends_lost header h outside doing past who k ids rest key row memory events e fir
 
     gone : Event
     gone = event.Dropped (host_id h) key.object key.page
-
-    leaves : Leaves header (events ++ past) (event.Dropped (host_id h) key.object key.page ∷ (events ++ past))
-    leaves =
-        record {
-          regions_made = refl;
-          objects_made = refl;
-          region = λ r. refl;
-          backing = λ o. refl;
-          home = λ r. refl;
-          made_for = λ o. refl;
-          used = λ g r. refl;
-          target = λ task. refl;
-        }
 
     is : known_local header o p (local header.size h (place_of o p) (events ++ past)) ≡ local_of_row k.memory.frames (Some row) (absent_at k.memory.objects o p)
     is = m.pages.shown o p ∙ ap (λ z. local_of_row k.memory.frames z (absent_at k.memory.objects o p)) c.found
@@ -391,9 +377,9 @@ ends_returned header h outside doing past who k ids rest key known row memory la
             (λ o2 p2. other_nested (o == o2) (p == p2)) pages2);
         uses = m.uses;
         controls =
-            controls_after leaves (controls_same k.memory.objects memory.objects (λ o2. last_control h o2 moment) (λ o2. live_control h o2 moment)
-            (λ o2. is_ready h o2 moment) m.controls goes.objects.at);
-        homeless = homeless_after leaves m.homeless;
+            controls_same k.memory.objects memory.objects (λ o2. last_control h o2 moment) (λ o2. live_control h o2 moment)
+            (λ o2. is_ready h o2 moment) m.controls goes.objects.at;
+        homeless = m.homeless;
         settled = record { none_owed = refl; shut = λ region. refl };
         replied = replied_behind tt m.replied;
         laundry = rw (own_host h) (laundry_returned key row _ _ k.memory memory k.laundry laundry (returns_out h moment) m.laundry c goes.held goes.room);
@@ -446,19 +432,6 @@ ends_returned header h outside doing past who k ids rest key known row memory la
 
     sent : Event
     sent = going_back h key known row (page_in k.memory.frames row.frame.0)
-
-    leaves : Leaves header (events ++ past) (going_back h key known row (page_in k.memory.frames row.frame.0) ∷ (events ++ past))
-    leaves =
-        record {
-          regions_made = refl;
-          objects_made = refl;
-          region = λ r. refl;
-          backing = λ o. refl;
-          home = λ r. refl;
-          made_for = λ o. refl;
-          used = λ g r. refl;
-          target = λ task. refl;
-        }
 
     marks : SameMarks k.memory.objects memory.objects
     marks = marks_kept header o p k.memory.objects memory.objects k.chains m.kinds goes.declared goes.absent
@@ -690,9 +663,9 @@ ends_told header h outside doing past who k ids rest object events row objects s
             (λ o2 p. known_local header o2 p (local header.size h (place_of o2 p) moment)) (λ o2. live_control h o2 moment) m.pages alive none marks));
         uses = m.uses;
         controls =
-            controls_after leaves (rw (own_host h) (controls_quiet row.control o row k.memory.objects objects (λ o2. last_control h o2 moment)
-            (λ o2. live_control h o2 moment) (λ o2. is_ready h o2 moment) m.controls found alive put));
-        homeless = homeless_after leaves m.homeless;
+            rw (own_host h) (controls_quiet row.control o row k.memory.objects objects (λ o2. last_control h o2 moment)
+            (λ o2. live_control h o2 moment) (λ o2. is_ready h o2 moment) m.controls found alive put);
+        homeless = m.homeless;
         settled = record { none_owed = refl; shut = λ region. refl };
         replied = replied_behind tt m.replied;
         laundry = m.laundry;
@@ -741,19 +714,6 @@ ends_told header h outside doing past who k ids rest object events row objects s
 
     ending : Event
     ending = event.Sent (Up (host_id h) object) (message.Terminate row.control)
-
-    leaves : Leaves header (events ++ past) (event.Sent (Up (host_id h) object) (message.Terminate row.control) ∷ (events ++ past))
-    leaves =
-        record {
-          regions_made = refl;
-          objects_made = refl;
-          region = λ r. refl;
-          backing = λ o. refl;
-          home = λ r. refl;
-          made_for = λ o. refl;
-          used = λ g r. refl;
-          target = λ task. refl;
-        }
 
     unreferred : row.references ≡ 0
     unreferred = ap (λ z. z.references) (some_is row s.row (sym found ∙ s.known)) ∙ s.none

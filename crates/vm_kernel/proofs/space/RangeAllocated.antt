@@ -32,7 +32,7 @@ use Rattle.vm_state.proofs.Declared.{kind_new, kinds_put, kinds_region}
 use Rattle.vm_state.specs.Stands.{HasKinds}
 use Rattle.vm_kernel.proofs.space.TaskTables.{Keeps, entries_changed, inside_kept, tasks_entered}
 use Rattle.vm_abroad.proofs.Home.{home_plain, named_objects, named_regions, objects_stay, region_made}
-use Rattle.vm_abroad.specs.Home.{copying_host, home_at}
+use Rattle.vm_abroad.specs.Home.{copying_host, home_in}
 use Rattle.vm_base.specs.Limits.{most_objects}
 use Rattle.vm_state.proofs.Bare.{next_bare}
 use Rattle.vm_state.proofs.Files.{files_entered, files_temporary, no_file}
@@ -414,7 +414,7 @@ range_object_home header h task address bytes past k ids lined rests may =
     let region : RegionId = record { 0 = ids.next_region } in
     let object : ObjectId = record { 0 = ids.next_object } in
     let none = m.homeless.objects ids.next_object (omega (arith, m.regions.object)) in
-    ap (λ z. home_at z (ranged task ids address bytes (bytes / header.size) ++ past)) (region_made region object (bytes / header.size) past none)
+    ap (home_in (λ r. home_of r (ranged task ids address bytes (bytes / header.size) ++ past))) (region_made region object (bytes / header.size) past none)
     ∙ range_home header h task address bytes past k ids lined rests may
 
 -- the regions and objects behind the two

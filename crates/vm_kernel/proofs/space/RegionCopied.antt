@@ -58,13 +58,13 @@ use Rattle.vm_kernel.proofs.space.CountsChanged.{recounts_put}
 use Rattle.vm_kernel.proofs.space.RegionRows.{apart_there, none_leads, region_row}
 use Rattle.vm_kernel.proofs.space.TaskTables.{Keeps, entries_changed, inside_kept, tasks_entered}
 use Rattle.vm_kernel.proofs.space.SharedEntries.{shared_entered, temporary_shared}
-use Rattle.vm_kernel.proofs.space.NothingChanged.{controls_stay}
 use Rattle.vm_kernel.proofs.space.EntriesRewritten.{lives_below}
 use Rattle.vm_kernel.proofs.space.RegionEnds.{controls_referred}
 use Rattle.vm_kernel.proofs.controls.LockReplied.{replied_behind}
 use Rattle.std.proofs.lemmas.Bool.{and_parts, not-false, or_parts}
 use Rattle.vm_state.specs.Passed.{IsUnmet, StaysAway}
 use Rattle.vm_model.specs.Regions.{marked_regions}
+use Rattle.vm_kernel.proofs.memory.PageReturned.{controls_stay}
 
 -- regions that count other entries
 
@@ -591,7 +591,7 @@ rests_copied header h outside doing task source offset row past k k2 ids ids2 be
                 (m.tasks.hosts task.0 ∙ ap is_some lives)
                 (λ t r away why. holds_rows header.size task.0 t r k.maps (rows_in task.0 k.maps) _ (now ∷ past) lives away
                 ∙ m.uses.apart t r away (use_before header h s.copy source offset pages past r number why)));
-            controls = controls_stay (λ o home. object_stays o h e (now ∷ past) (object_stays o h now past home))
+            controls = controls_stay (λ o home. object_stays o h e (now ∷ past) home)
                 (controls_referred top (s.known.references + 1) s.known k.memory.objects k2.memory.objects (λ o. last_control h o past)
                 (λ o. live_control h o past) (λ o. is_ready h o past) s.object s.refers m.controls);
             homeless =

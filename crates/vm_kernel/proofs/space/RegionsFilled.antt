@@ -1,10 +1,12 @@
 -- The regions that accesses fill, over each change of the chains.
-use Rattle.vm_kernel.proofs.Common.{AllUsed, Bool, ChainTable, ChangesOnly, Entry, Event, HasEntries, HasKinds, HaveHomes, Header, IsAt, IsFilledIn, IsInUse}
+use Rattle.vm_kernel.proofs.Common.{AllUsed, Bool, ChainTable, ChangesOnly, Entry, HasEntries, HasKinds, Header, IsAt, IsFilledIn, IsInUse}
 use Rattle.vm_kernel.proofs.Common.{IsPlaceOf, IsSome, List, Mapped, None, ObjectTable, Option, PageKey, PutsRegion, RegionRow, ResidentTable, Some, Waiting}
-use Rattle.vm_kernel.proofs.Common.{Want, [], ap, arith, copy_target, entries_in_row, entry, false, fills_in, has_entry, has_region, inl, inr, is_some, named}
+use Rattle.vm_kernel.proofs.Common.{Want, [], ap, arith, entries_in_row, entry, false, fills_in, has_entry, has_region, inl, inr, is_some, named}
 use Rattle.vm_kernel.proofs.Common.{object_at, one_case, refl, region_at, region_entries, rows_in, shadow_at, some_is, subst, sym, true, with_entries, ℕ, ◌<◌}
 use Rattle.vm_kernel.proofs.Common.{◌∙◌, ◌≡◌, ◌≢◌, ◌≤◌, ◌⊎◌}
 use Rattle.vm_base.specs.declared.ids.ObjectId.{ObjectId}
+use Rattle.vm_abroad.specs.Home.{AreHomes}
+use Rattle.vm_model.specs.Regions.{Backing, Region}
 use Rattle.vm_model.specs.Waiting.{Target}
 use Rattle.vm_objects.specs.declared.row.ObjectRow.{ObjectRow}
 use Rattle.vm_shadow.specs.Chains.{DropsShadow, ShadowsRegion}
@@ -111,14 +113,18 @@ unknown_unfilled cs os o tops none r object pages region alone same =
     known (Some row) is some = let bad : Some row ≡ None = is in cc
 
 -- an access fills temporary regions alone
-pub filled_temporary : {header : Header} {maps : Mapped} {cs : ChainTable} {rs : ResidentTable} {list : List Waiting} {next_at : ℕ → ℕ} {past : List Event}
-    (r : ℕ) → HasCopies header maps cs rs list next_at (λ t. copy_target t past) → HaveHomes header past → IsFilledIn list r → named header ≤ r
+pub filled_temporary : {header : Header} {maps : Mapped} {cs : ChainTable} {rs : ResidentTable} {list : List Waiting} {next_at : ℕ → ℕ} {n m : ℕ}
+    {home_from made_for : ℕ → Option ℕ} {used_at : ℕ → ℕ → Bool} {region_from : ℕ → Region} {backing_from : ℕ → Backing} {target_from : ℕ → Option Target}
+    (r : ℕ) → HasCopies header maps cs rs list next_at target_from → AreHomes header n m home_from made_for used_at region_from backing_from target_from
+    → IsFilledIn list r → named header ≤ r
 filled_temporary r copies homes filled =
     let is = filled_there copies filled.task r filled.fills in homes.fills filled.task (record { region = r; object = is.object.0 }) is.made
 
 -- a declared object is none of theirs
 pub declared_unfilled : {header : Header} {maps : Mapped} {cs : ChainTable} {rs : ResidentTable} {list : List Waiting} {next_at : ℕ → ℕ} {os : ObjectTable}
-    {past : List Event} (o : ℕ) → AllUsed header maps cs rs list next_at (λ t. copy_target t past) → HaveHomes header past → HasKinds header os cs
+    {n m : ℕ} {home_from made_for : ℕ → Option ℕ} {used_at : ℕ → ℕ → Bool} {region_from : ℕ → Region} {backing_from : ℕ → Backing}
+    {target_from : ℕ → Option Target} (o : ℕ) → AllUsed header maps cs rs list next_at target_from
+    → AreHomes header n m home_from made_for used_at region_from backing_from target_from → HasKinds header os cs
     → o < named header
     → IsUnfilled cs o
 declared_unfilled o used homes kinds declared r object pages region alone same = elim (used.regions r (filled_row object pages) region) [

@@ -14,7 +14,6 @@ use Rattle.vm_maps.specs.Maps.{entries_in}
 use Rattle.vm_state.specs.Stands.{AreShared, IsShared}
 use Rattle.vm_model.specs.declared.event.Event.TheVariants as event
 use Rattle.vm_model.specs.declared.command.Command.TheVariants as command
-use Rattle.vm_kernel.proofs.space.NothingChanged.{Leaves, controls_after, homeless_after}
 use Rattle.vm_kernel.proofs.space.EntriesCounted.{most_is}
 use Rattle.vm_kernel.proofs.steps.EventsGrow.{suffices}
 use Rattle.vm_kernel.proofs.steps.HeadAlone.{heads_one, ran_head}
@@ -73,16 +72,6 @@ pub rests_made : (header : Header) (h : ℕ) (task : TaskId) (past : List Event)
     → Rests header h (record k { maps = maps }) ids (event.TaskMade task (host_id h) ∷ past)
 rests_made header h task past k ids maps rests changes free below =
     let m = rests.matches in
-    let leaves : Leaves header past (event.TaskMade task (host_id h) ∷ past) = record {
-      regions_made = refl;
-      objects_made = refl;
-      region = λ r. refl;
-      backing = λ o. refl;
-      home = λ r. refl;
-      made_for = λ o. refl;
-      used = λ g r. refl;
-      target = λ task. refl;
-    } in
     record {
       matches =
           record {
@@ -101,8 +90,8 @@ rests_made header h task past k ids maps rests changes free below =
             uses =
                 uses_made header k.maps maps _ (tasks past) _ _ (next_region header past) task.0 m.uses changes free (rw most_is below)
                 (holds_made header.size task (host_id h) past);
-            controls = controls_after leaves m.controls;
-            homeless = homeless_after leaves m.homeless;
+            controls = m.controls;
+            homeless = m.homeless;
             homes = m.homes;
             files = m.files;
             settled = record { none_owed = refl; shut = λ region. refl };

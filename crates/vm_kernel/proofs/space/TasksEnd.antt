@@ -5,8 +5,7 @@ use Rattle.vm_kernel.proofs.Common.{Rests, Some, Starts, Sweeps, TaskId, Waiting
 use Rattle.vm_kernel.proofs.Common.{if◌then◌else◌, in_use, inl, inr, is_on, is_woken, named, next_region, parts_for, parts_in, refl, removal, removed, rows_in}
 use Rattle.vm_kernel.proofs.Common.{rows_rewritten, subst, sym, true, unwrap_or, waiting, ℕ, ◌++◌, ◌==◌, ◌∙◌, ◌∷◌, ◌≡◌}
 use Rattle.std.proofs.Common.{is_some}
-use Rattle.vm_abroad.proofs.Home.{homes_next, object_stays}
-use Rattle.vm_kernel.proofs.space.NothingChanged.{controls_stay}
+use Rattle.vm_abroad.proofs.Home.{homes_next}
 use Rattle.vm_model.specs.declared.event.Event.TheVariants as event
 use Rattle.vm_model.specs.declared.command.Command.TheVariants as command
 use Rattle.vm_supply.specs.declared.woken.Woken.TheVariants as woken
@@ -109,7 +108,7 @@ sweeps_exit header h outside task past events k ids maps gone s value changes =
               m.uses changes live.1 (λ r some. uses_fewer header.size task.0 r k.maps maps k.chains None m.entries changes live.1 cuts.own some)
               (record { rows = shown_tasks.rows; filled = fills_here {past = event.TaskEnded task ∷ past} shown_waits c.used.copies }) c.entries.most
               (apart_ended header header.size k.maps maps (λ r. in_use header h r past) _ (next_region header past) task past m.uses changes);
-          controls = controls_stay (λ o is. object_stays o h (event.TaskEnded task) past is) m.controls;
+          controls = m.controls;
           homeless = homes_next header outside (event.TaskEnded task) past (command.Exit task, idle) m.homeless;
           homes = c.homes;
           files = m.files;
@@ -203,7 +202,7 @@ sweeps_removed header h outside task address bytes past events k ids maps chains
               let other = elsewhere maps task.0 t made same.changed none in
               let was = sym (changes.others t (λ e. other (sym e))) ∙ none in
               holds_rows header.size task.0 t r k.maps rows _ past lives was ∙ m.uses.apart t r was why);
-          controls = controls_stay (λ o is. object_stays o h (event.Removed task address bytes) past is) m.controls;
+          controls = m.controls;
           homeless = homes_next header outside (event.Removed task address bytes) past (command.Deallocate task address bytes, idle) m.homeless;
           homes = c.homes;
           files = m.files;

@@ -17,7 +17,6 @@ use Rattle.vm_model.specs.declared.command.Command.TheVariants as command
 use Rattle.vm_supply.specs.declared.woken.Woken.TheVariants as woken
 use Rattle.vm_waits.specs.declared.waiting.On.TheVariants as on
 use Rattle.vm_waits.specs.declared.waiting.Want.TheVariants as want
-use Rattle.vm_kernel.proofs.space.NothingChanged.{Leaves, controls_after, homeless_after}
 use Rattle.vm_kernel.proofs.space.EntriesChanged.{acts}
 use Rattle.vm_kernel.proofs.steps.EventsGrow.{grows_goes, suffices}
 use Rattle.vm_kernel.proofs.steps.RowsInOrder.{begun_below, begun_order}
@@ -137,16 +136,6 @@ begun_matches : (header : Header) (h : ℕ) (k : Parts) (ids : Ids) (past : List
     → SameFills k.waits.rows waits.rows → Matches header h k ids [] past → entries_in task.0 k.maps ≡ Some rows
     → Matches header h (record k { waits = waits }) ids [] (begun task what ∷ past)
 begun_matches header h k ids past waits task (Loads address size) rows same m lives =
-    let leaves : Leaves header past (begun task (Loads address size) ∷ past) = record {
-      regions_made = refl;
-      objects_made = refl;
-      region = λ r. refl;
-      backing = λ o. refl;
-      home = λ r. refl;
-      made_for = λ o. refl;
-      used = λ g r. refl;
-      target = λ task. refl;
-    } in
     record {
       ranged = m.ranged;
       declared = m.declared;
@@ -163,8 +152,8 @@ begun_matches header h k ids past waits task (Loads address size) rows same m li
       uses =
           uses_refilled k.waits.rows waits.rows same (uses_still header k.maps _ _ _ _ _ m.uses
           (λ t r none. holds_waits header.size task.0 t r k.maps rows past _ lives none));
-      controls = controls_after leaves m.controls;
-      homeless = homeless_after leaves m.homeless;
+      controls = m.controls;
+      homeless = m.homeless;
       homes = m.homes;
       files = m.files;
       settled = record { none_owed = refl; shut = λ region. refl };
@@ -173,16 +162,6 @@ begun_matches header h k ids past waits task (Loads address size) rows same m li
       frames = m.frames;
     }
 begun_matches header h k ids past waits task (Stores address size value) rows same m lives =
-    let leaves : Leaves header past (begun task (Stores address size value) ∷ past) = record {
-      regions_made = refl;
-      objects_made = refl;
-      region = λ r. refl;
-      backing = λ o. refl;
-      home = λ r. refl;
-      made_for = λ o. refl;
-      used = λ g r. refl;
-      target = λ task. refl;
-    } in
     record {
       ranged = m.ranged;
       declared = m.declared;
@@ -199,8 +178,8 @@ begun_matches header h k ids past waits task (Stores address size value) rows sa
       uses =
           uses_refilled k.waits.rows waits.rows same (uses_still header k.maps _ _ _ _ _ m.uses
           (λ t r none. holds_waits header.size task.0 t r k.maps rows past _ lives none));
-      controls = controls_after leaves m.controls;
-      homeless = homeless_after leaves m.homeless;
+      controls = m.controls;
+      homeless = m.homeless;
       homes = m.homes;
       files = m.files;
       settled = record { none_owed = refl; shut = λ region. refl };

@@ -10,7 +10,6 @@ use Rattle.vm_abroad.proofs.Home.{homes_start}
 use Rattle.vm_model.specs.declared.command.Command.TheVariants as command
 use Rattle.vm_model.specs.declared.event.Event.TheVariants as event
 use Rattle.vm_shadow.proofs.Ranks.{ranked_none}
-use Rattle.vm_kernel.proofs.space.NothingChanged.{Leaves, controls_after, homeless_after}
 use Rattle.vm_kernel.proofs.space.EntriesCounted.{by_none}
 use Rattle.vm_kernel.proofs.abroad.OwnHost.{own_host}
 use Rattle.vm_kernel.proofs.space.CountsChanged.{more_taken}
@@ -191,16 +190,6 @@ pub rests_line : (header : Header) (h : ℕ) (k : Parts) (ids : Ids) (line : ℕ
     → Rests header h k ids (event.Line line ∷ past)
 rests_line header h k ids line past rests =
     let m = rests.matches in
-    let leaves : Leaves header past (event.Line line ∷ past) = record {
-      regions_made = refl;
-      objects_made = refl;
-      region = λ r. refl;
-      backing = λ o. refl;
-      home = λ r. refl;
-      made_for = λ o. refl;
-      used = λ g r. refl;
-      target = λ task. refl;
-    } in
     record {
       matches =
           record {
@@ -217,8 +206,8 @@ rests_line header h k ids line past rests =
             entries = m.entries;
             pages = m.pages;
             uses = m.uses;
-            controls = controls_after leaves m.controls;
-            homeless = homeless_after leaves m.homeless;
+            controls = m.controls;
+            homeless = m.homeless;
             homes = m.homes;
             files = m.files;
             settled = record { none_owed = refl; shut = λ region. refl };

@@ -13,7 +13,7 @@ use Rattle.std.proofs.Math.Nat.{div-add-mod', mul-lt-mul_of_pos_right}
 use Rattle.std.proofs.lemmas.Bool.{or_parts}
 use Rattle.std.specs.Prelude.{IsSome}
 use Rattle.vm_abroad.proofs.Home.{home_made, objects_stay, region_made}
-use Rattle.vm_abroad.specs.Home.{first_of, home_at}
+use Rattle.vm_abroad.specs.Home.{first_of, home_in}
 use Rattle.vm_base.specs.Limits.{most_objects, most_regions}
 use Rattle.vm_base.specs.Pages.{page_positive}
 use Rattle.vm_base.specs.declared.ids.Inherit.TheVariants.{Copy}
@@ -529,7 +529,7 @@ module _ (header : Header) (h : ℕ) (outside : Outside) (task : TaskId) (addres
   object_now : object_home ids.next_object now ≡ Some h
   object_now =
       let none = rests.matches.homeless.objects ids.next_object (let number = numbers.1 in omega (arith, number)) in
-      ap (λ z. home_at z now) (region_made region target pages front none) ∙ home_now
+      ap (home_in (λ r. home_of r now)) (region_made region target pages front none) ∙ home_now
 
   -- the access waits, and is to be run
 

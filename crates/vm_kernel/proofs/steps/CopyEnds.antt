@@ -12,7 +12,6 @@ use Rattle.std.specs.Prelude.{MatchOption}
 use Rattle.vm_abroad.proofs.Home.{object_stays}
 use Rattle.vm_base.specs.Pages.{IsPageSize}
 use Rattle.vm_kernel.proofs.memory.ComesForAccess.{asks_none_now}
-use Rattle.vm_kernel.proofs.space.NothingChanged.{controls_stay}
 use Rattle.vm_kernel.proofs.space.RegionCopied.{keeps_recounted, same_put}
 use Rattle.vm_kernel.proofs.space.RegionsFilled.{same_waiting}
 use Rattle.vm_kernel.proofs.steps.CopyGoesOn.{Copying}
@@ -48,6 +47,7 @@ use Rattle.vm_waits.specs.declared.waiting.Want.{Want}
 use Rattle.vm_waits.specs.declared.waiting.Want.TheVariants as want
 use Rattle.vm_kernel.proofs.controls.WaitersFail.{fills_apart}
 use Rattle.vm_state.specs.Passed.{IsUnmet, StaysAway}
+use Rattle.vm_kernel.proofs.memory.PageReturned.{controls_stay}
 
 -- what the test of a range tells
 record IsRange (size address bytes : ℕ) : Type 0 where
@@ -409,7 +409,7 @@ matches_ended header h outside doing k ids past w address pages target next c la
       shared = shared_entered (named header) t k.maps k2.maps row changes (temporary_shared (named header) row e.temporary) m.shared;
       pages = m.pages;
       uses = use_ended header h k ids past w address pages target next c waits2.rows put k2.maps changes;
-      controls = controls_stay (λ o home. object_stays o h second (first ∷ past) (object_stays o h first past home)) m.controls;
+      controls = controls_stay (λ o home. object_stays o h second (first ∷ past) home) m.controls;
       homeless =
           homes_next header outside second (first ∷ past) (doing, enters_cause header h k ids past w address pages target next waits2.rows c now put)
           (homes_next header outside first past (doing, ends_cause header h k ids past w address pages target next c last) m.homeless);

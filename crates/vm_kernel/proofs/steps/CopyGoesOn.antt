@@ -7,13 +7,11 @@ use Rattle.vm_kernel.proofs.Common.{false, fills_in, frames_held, frames_wired, 
 use Rattle.vm_kernel.proofs.Common.{page_in, page_on, place_of, puts_cases, refl, region_at, region_of, returns_out, reverse, row_at, row_cases, rows_in}
 use Rattle.vm_kernel.proofs.Common.{shadow_at, slice_get, some_is, subst, suc, sym, true, unlocked, waiting, waiting_in, zero, ℕ, ◌*◌, ◌+◌, ◌<◌, ◌==◌, ◌∙◌, ◌∷◌}
 use Rattle.vm_kernel.proofs.Common.{◌≡◌, ◌≤◌, ◌⊎◌, if◌then◌else◌}
-use Rattle.vm_abroad.proofs.Home.{object_stays}
 use Rattle.vm_base.specs.declared.entry.Entry.{Entry}
 use Rattle.vm_base.specs.declared.ids.Access.TheVariants as need
 use Rattle.vm_fault.specs.Faults.{CopiesPage, KeepsPlan, References, copied_key}
 use Rattle.vm_fault.specs.Walks.{Finds, WalksTo, keeps_out}
 use Rattle.vm_kernel.proofs.memory.ComesForAccess.{asks_none_now, page_referred, page_waits}
-use Rattle.vm_kernel.proofs.space.NothingChanged.{controls_stay}
 use Rattle.vm_kernel.proofs.memory.PartsStillFit.{fits_changed}
 use Rattle.vm_kernel.proofs.steps.AccessCauses.{read_at}
 use Rattle.vm_kernel.proofs.steps.EventsGrow.{Follows, suffices}
@@ -118,17 +116,8 @@ matches_copied header h k ids past task low target next row frame memory m lives
       entries = m.entries;
       pages = rw (plan.objects, lives, own_host h) pages2;
       uses = m.uses;
-      controls = rw plan.objects (controls_stay (λ o home. object_stays o h e past home) m.controls);
-      homeless =
-          record {
-            regions = m.homeless.regions;
-            objects = m.homeless.objects;
-            stay = m.homeless.stay;
-            files = m.homeless.files;
-            whole = m.homeless.whole;
-            bare = m.homeless.bare;
-            fills = m.homeless.fills;
-          };
+      controls = rw plan.objects m.controls;
+      homeless = m.homeless;
       settled = record { none_owed = refl; shut = λ region. refl };
       replied = replied_behind tt m.replied;
       laundry = laundry_changed top frame _ _ _ _ _ k.memory memory k.laundry (returns_out h past) m.laundry c;
