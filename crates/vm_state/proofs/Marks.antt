@@ -40,7 +40,8 @@ marks_counted header (suc n) past =
     one_more (is_marked header past n) (marked_in n (λ r. region_of header r past)) ∙ ap (λ z. one (is_marked header past n) + z) (marks_counted header n past)
 
 -- with one number more
-marks_next : (header : Header) (n : ℕ) (past : List Event) → marked_in (n + 1) (λ r. region_of header r past) ≡ one (is_marked header past n) + tally (is_marked header past) n
+marks_next : (header : Header) (n : ℕ) (past : List Event)
+    → marked_in (n + 1) (λ r. region_of header r past) ≡ one (is_marked header past n) + tally (is_marked header past) n
 marks_next header n past =
     subst (λ (k : ℕ). marked_in k (λ r. region_of header r past) ≡ one (is_marked header past n) + tally (is_marked header past) n)
     (let same : suc n ≡ n + 1 = omega arith in same) (marks_counted header (suc n) past)

@@ -1,6 +1,7 @@
 -- What a fork still needs of regions, and of objects with those that marked regions may get.
 use Rattle.vm_kernel.proofs.Common.{Bool, Entry, Event, Header, List, [], ap, arith, copies, copies_from, eqb_tells, false, has_copy_mark, if◌then◌else◌, inl}
-use Rattle.vm_kernel.proofs.Common.{inr, is_copied, is_fork_full, marked_in, marked_regions, marks_of, nat_lt, nat_tests, new_marks, next_object, next_region, not}
+use Rattle.vm_kernel.proofs.Common.{inr, is_copied, is_fork_full, marked_in, marked_regions, marks_of, nat_lt, nat_tests, new_marks, next_object, next_region}
+use Rattle.vm_kernel.proofs.Common.{not}
 use Rattle.vm_kernel.proofs.Common.{refl, region_of, subst, sym, true, ℕ, ◌&&◌, ◌+◌, ◌<◌, ◌==◌, ◌||◌, ◌∙◌, ◌∷◌, ◌≡◌, ◌≤◌}
 use Rattle.vm_base.specs.declared.ids.RegionId.{RegionId}
 use Rattle.vm_base.specs.Limits.{most_objects, most_regions}
