@@ -15,7 +15,7 @@ use Rattle.vm_legal.specs.Frames.{frames_free}
 use Rattle.vm_legal.specs.Stretches.{EachOf}
 use Rattle.vm_model.specs.declared.event.Event.{Event}
 use Rattle.vm_model.specs.declared.event.Event.TheVariants as event
-use Rattle.vm_model.specs.declared.message.Channel.TheVariants.{Up, Down}
+use Rattle.vm_model.specs.declared.message.Channel.TheVariants.{Up}
 use Rattle.vm_model.specs.declared.message.Message.TheVariants as message
 use Rattle.vm_model.specs.declared.script.Header.{Header}
 use Rattle.vm_waits.specs.Kept.{EachListedOnce}
