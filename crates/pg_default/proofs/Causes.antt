@@ -18,6 +18,7 @@ use Rattle.vm_model.specs.declared.message.Message.{Message}
 use Rattle.vm_model.specs.declared.message.Message.TheVariants as message
 use Rattle.vm_model.specs.declared.script.Header.{Header}
 use Rattle.vm_model.specs.Named.{named}
+use Rattle.vm_legal.proofs.PagerAnswers.{create_answered, init_answered, lost_answered}
 use Rattle.vm_legal.proofs.Served.{later_paged, paged_sends}
 use Rattle.vm_legal.specs.Licences.{MaySendDown, PagerSends, pager_has, tells}
 use Rattle.vm_legal.specs.InTurn.{AllInTurn}
@@ -101,18 +102,6 @@ unavailable header outside doing host past object control page access f =
       tt,
     )
 
-lost_error : (header : Header) (outside : Outside) (doing : Command) (host : ℕ) (past : List Event) (object : ObjectId) (control : ℕ) (page : PageNo)
-    (access : ℕ) → named header ≤ object.0 → is_lost object.0 page.0 past ≡ true
-    → AllInTurn header outside doing (sent_to host object control (error page) ∷ []) (taking host object (message.Request control page access) past)
-lost_error header outside doing host past object control page access temporary lost = (
-  (
-    sends header outside doing host object control (error page) (taking host object (message.Request control page access) past) temporary
-        (record { access = access; taken = refl; unanswered = refl }, refl, inl lost),
-    tt,
-  ),
-  tt,
-)
-
 supplies : (header : Header) (outside : Outside) (doing : Command) (host : ℕ) (past : List Event) (object : ObjectId) (control : ℕ) (page : PageNo)
     (access s : ℕ) (bytes : List ℕ) → Finds header host past object page (Some (held.Kept s))
     → (outside.paging ≡ true → content_of header host past object.0 page.0 ≡ Some (Kept bytes))
@@ -171,11 +160,11 @@ requested : (header : Header) (outside : Outside) (doing : Command) (host size :
 requested header outside doing host size past object control page access None events f is =
     subst (CausedInTurn header outside doing host past object _) (sym is) (λ stored. unavailable header outside doing host past object control page access f)
 requested header outside doing host size past object control page access (Some held.Lost) events f is =
-    subst (CausedInTurn header outside doing host past object _) (sym is) (λ stored. lost_error header outside doing host past object control page access
-    f.temporary (lost_is _ _ f.returned))
+    subst (CausedInTurn header outside doing host past object _) (sym is) (λ stored. lost_answered header outside doing (record { 0 = host }) object control page
+    access past (later_paged header object.0 f.temporary) (lost_is _ _ f.returned))
 requested header outside doing host size past object control page access (Some (held.Torn s)) events f is =
-    subst (CausedInTurn header outside doing host past object _) (sym is) (λ stored. lost_error header outside doing host past object control page access
-    f.temporary (torn_is s _ _ f.returned))
+    subst (CausedInTurn header outside doing host past object _) (sym is) (λ stored. lost_answered header outside doing (record { 0 = host }) object control page
+    access past (later_paged header object.0 f.temporary) (torn_is s _ _ f.returned))
 requested header outside doing host size past object control page access (Some (held.Kept s)) events f (inl is) =
     subst (CausedInTurn header outside doing host past object _) (sym is.2) (λ stored. supplies header outside doing host past object control page access s is.0
     f stored)
@@ -219,31 +208,6 @@ returned header outside doing host past object control page dirty keep bytes old
   tt,
 )
 
--- a pager is ready once
-ready_init : (header : Header) (outside : Outside) (doing : Command) (host : ℕ) (past : List Event) (object : ObjectId) (control size : ℕ)
-    → named header ≤ object.0
-    → AllInTurn header outside doing (sent_to host object control (message.Ready false 0) ∷ []) (taking host object (message.Init control size) past)
-ready_init header outside doing host past object control size temporary = (
-  (
-    sends header outside doing host object control (message.Ready false 0) (taking host object (message.Init control size) past) temporary
-        (size, refl, refl, inr (refl, refl)),
-    tt,
-  ),
-  tt,
-)
-
-ready_create : (header : Header) (outside : Outside) (doing : Command) (host : ℕ) (past : List Event) (object : ObjectId) (control size : ℕ)
-    → named header ≤ object.0
-    → AllInTurn header outside doing (sent_to host object control (message.Ready false 3) ∷ []) (taking host object (message.Create control size) past)
-ready_create header outside doing host past object control size temporary = (
-  (
-    sends header outside doing host object control (message.Ready false 3) (taking host object (message.Create control size) past) temporary
-        (size, refl, refl, inl (refl, refl)),
-    tt,
-  ),
-  tt,
-)
-
 pub causes : (header : Header) (outside : Outside) (doing : Command) (host : ℕ) (past : List Event) (object : ObjectId) (m : Message) (old new : SlotTable)
     (events : List Event)
     → PagerServes header host past object m old new events → (outside.paging ≡ true → SuppliesStored object events (content_of header host past))
@@ -253,16 +217,13 @@ causes header outside doing host past object m old new events serves stored = by
     at : (control : ℕ) (reply : Message) → events ≡ sent_to old.host object control reply ∷ [] → events ≡ sent_to host object control reply ∷ []
     at control reply is = subst (λ (h : ℕ). events ≡ sent_to h object control reply ∷ []) serves.stands.host_is is
 
-    nothing : (first : List Event) → events ≡ [] → AllInTurn header outside doing events first
-    nothing first is = subst (λ (es : List Event). AllInTurn header outside doing es first) (sym is) tt
-
     by : (m : Message) → PagerAnswer m object old new events → AllInTurn header outside doing events (taking host object m past)
     by (message.Init control size) a =
         subst (λ (es : List Event). AllInTurn header outside doing es (taking host object (message.Init control size) past)) (sym (at control _ a.1))
-        (ready_init header outside doing host past object control size serves.temporary)
+        (init_answered header outside doing (record { 0 = host }) object control size past (later_paged header object.0 serves.temporary))
     by (message.Create control size) a =
         subst (λ (es : List Event). AllInTurn header outside doing es (taking host object (message.Create control size) past)) (sym (at control _ a.1))
-        (ready_create header outside doing host past object control size serves.temporary)
+        (create_answered header outside doing (record { 0 = host }) object control size past (later_paged header object.0 serves.temporary))
     by (message.Request control page access) a =
         requested header outside doing host old.size past object control page access (held_at old object.0 page.0) events
         (record {
@@ -276,10 +237,10 @@ causes header outside doing host past object m old new events serves stored = by
         subst (λ (es : List Event). AllInTurn header outside doing es (taking host object (message.Return control page dirty keep bytes) past)) (sym a.told)
         (returned header outside doing host past object control page dirty keep bytes old new (became events) serves.temporary serves.stands a.held
         a.no_slot.0)
-    by (message.Terminate control) a = nothing (taking host object (message.Terminate control) past) a.1
-    by (message.Unlock control page access) a = nothing (taking host object (message.Unlock control page access) past) a.1
-    by (message.Completed control page count) a = nothing (taking host object (message.Completed control page count) past) a.1
-    by (message.Changed control cache strategy) a = nothing (taking host object (message.Changed control cache strategy) past) a.1
+    by (message.Terminate control) a = rw a.1 tt
+    by (message.Unlock control page access) a = rw a.1 tt
+    by (message.Completed control page count) a = rw a.1 tt
+    by (message.Changed control cache strategy) a = rw a.1 tt
     by (message.Ready cache strategy) a = elim a [ ]
     by (message.Supply page lock precious bytes) a = elim a [ ]
     by (message.Unavailable page) a = elim a [ ]

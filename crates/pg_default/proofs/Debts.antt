@@ -13,7 +13,7 @@ use Rattle.vm_model.specs.declared.event.Event.{Event}
 use Rattle.vm_model.specs.declared.message.Message.{Message}
 use Rattle.vm_model.specs.declared.message.Message.TheVariants as message
 use Rattle.vm_model.specs.declared.script.Header.{Header}
-use Rattle.vm_legal.proofs.Answering.{asks, itself, opens, own_test, paid_of, returns}
+use Rattle.vm_legal.proofs.Answering.{asks, nothing_owed, opens, own_test, ready_paid, request_paid, return_paid, returns}
 use Rattle.vm_legal.specs.Debts.{IsPaid}
 use Rattle.vm_legal.specs.Pagers.{LacksSlot}
 use Rattle.pg_default.specs.Answers.{PagerAnswer, RequestAnswer, became, error, sent_to, told_of}
@@ -27,33 +27,14 @@ never is = absurd (false≢true is)
 owes_nothing : (header : Header) (host : ℕ) (object : ObjectId) (m : Message) (past events : List Event) → opens m ≡ false → ((p : ℕ) → asks p m ≡ false)
     → ((p : ℕ) → returns p m ≡ false) → events ≡ [] → IsPaid header (events ++ taking host object m past)
 owes_nothing header host object m past events one two three is =
-    subst (λ (es : List Event). IsPaid header (es ++ taking host object m past)) (sym is)
-    (paid_of header host object.0 m (taking host object m past)
-    (record {
-      none_owed = refl;
-      took = refl;
-      no_error = refl;
-      no_absence = refl;
-      ready = λ e. never (sym one ∙ e);
-      answered = λ p e. never (sym (two p) ∙ e);
-      lacking = λ p high e lacks. never (sym (three p) ∙ e);
-    }))
+    subst (λ (es : List Event). IsPaid header (es ++ taking host object m past)) (sym is) (nothing_owed header host object.0 m past one two three)
 
 is_ready : (header : Header) (host at : ℕ) (object : ObjectId) (m : Message) (control strategy : ℕ) (past events : List Event) → ((p : ℕ) → asks p m ≡ false)
     → ((p : ℕ) → returns p m ≡ false) → events ≡ sent_to at object control (message.Ready false strategy) ∷ []
     → IsPaid header (events ++ taking host object m past)
 is_ready header host at object m control strategy past events two three is =
     subst (λ (es : List Event). IsPaid header (es ++ taking host object m past)) (sym is)
-    (paid_of header host object.0 m (sent_to at object control (message.Ready false strategy) ∷ taking host object m past)
-    (record {
-      none_owed = refl;
-      took = refl;
-      no_error = refl;
-      no_absence = refl;
-      ready = λ e. rw (itself object.0) refl;
-      answered = λ p e. never (sym (two p) ∙ e);
-      lacking = λ p high e lacks. never (sym (three p) ∙ e);
-    }))
+    (ready_paid header host object.0 (record { 0 = at }) object control strategy m past refl two three)
 
 requested : (header : Header) (host at size : ℕ) (object : ObjectId) (control : ℕ) (page : PageNo) (access : ℕ) (has : Option Held) (past events : List Event)
     → RequestAnswer size at object control page has events
@@ -67,53 +48,16 @@ requested header host at size object control page access has past events is = by
     on es e paid = subst (λ (x : List Event). IsPaid header (x ++ first)) (sym e) paid
 
     error_sent : IsPaid header (sent_to at object control (error page) ∷ first)
-    error_sent =
-        paid_of header host object.0 (message.Request control page access) _ (record {
-          none_owed = refl;
-          took = refl;
-          no_error = refl;
-          no_absence = refl;
-          ready = λ e. never e;
-          answered = λ p e. own_test object.0 page.0 p _ e;
-          lacking = λ p high e lacks. never e;
-        })
+    error_sent = request_paid header host object.0 control page access _ refl refl refl refl (λ p e. own_test object.0 page.0 p _ e)
 
     by : (has : Option Held) → RequestAnswer size at object control page has events → IsPaid header (events ++ first)
-    by None e =
-        on _ e (paid_of header host object.0 (message.Request control page access) _
-        (record {
-          none_owed = refl;
-          took = refl;
-          no_error = refl;
-          no_absence = refl;
-          ready = λ e. never e;
-          answered = λ p e. own_test object.0 page.0 p _ e;
-          lacking = λ p high e lacks. never e;
-        }))
+    by None e = on _ e (request_paid header host object.0 control page access _ refl refl refl refl (λ p e. own_test object.0 page.0 p _ e))
     by (Some held.Lost) e = on _ e error_sent
     by (Some (held.Torn s)) e = on _ e error_sent
     by (Some (held.Kept s)) (inl e) =
-        on _ e.2 (paid_of header host object.0 (message.Request control page access) _
-        (record {
-          none_owed = refl;
-          took = refl;
-          no_error = refl;
-          no_absence = refl;
-          ready = λ e. never e;
-          answered = λ p e. own_test object.0 page.0 p _ e;
-          lacking = λ p high e lacks. never e;
-        }))
+        on _ e.2 (request_paid header host object.0 control page access _ refl refl refl refl (λ p e. own_test object.0 page.0 p _ e))
     by (Some (held.Kept s)) (inr e) =
-        on _ e (paid_of header host object.0 (message.Request control page access) _
-        (record {
-          none_owed = refl;
-          took = refl;
-          no_error = refl;
-          no_absence = refl;
-          ready = λ e. never e;
-          answered = λ p e. own_test object.0 page.0 p _ e;
-          lacking = λ p high e lacks. never e;
-        }))
+        on _ e (request_paid header host object.0 control page access _ refl refl refl refl (λ p e. own_test object.0 page.0 p _ e))
 
 abbrev is_no_slot : PutAnswer → Bool
 is_no_slot put.NoSlot = true
@@ -138,38 +82,13 @@ returned header host past object control page dirty keep bytes old is s told = b
     by : (is : PutAnswer) → (HasNoSlot old object.0 page.0 → is ≡ put.NoSlot)
         → IsPaid header (told_of is object page ++ taking host object (message.Return control page dirty keep bytes) past)
     by put.Kept told =
-        paid_of header host object.0 (message.Return control page dirty keep bytes) _
-        (record {
-          none_owed = refl;
-          took = refl;
-          no_error = refl;
-          no_absence = refl;
-          ready = λ e. never e;
-          answered = λ p e. never e;
-          lacking = λ p high e lacks. never (ap is_no_slot (told (lacks_it p e lacks)));
-        })
+        return_paid header host object.0 control page dirty keep bytes _ refl refl refl refl
+        (λ p high e lacks. never (ap is_no_slot (told (lacks_it p e lacks))))
     by put.Failed told =
-        paid_of header host object.0 (message.Return control page dirty keep bytes) _
-        (record {
-          none_owed = refl;
-          took = refl;
-          no_error = refl;
-          no_absence = refl;
-          ready = λ e. never e;
-          answered = λ p e. never e;
-          lacking = λ p high e lacks. never (ap is_no_slot (told (lacks_it p e lacks)));
-        })
+        return_paid header host object.0 control page dirty keep bytes _ refl refl refl refl
+        (λ p high e lacks. never (ap is_no_slot (told (lacks_it p e lacks))))
     by put.NoSlot told =
-        paid_of header host object.0 (message.Return control page dirty keep bytes) _
-        (record {
-          none_owed = refl;
-          took = refl;
-          no_error = refl;
-          no_absence = refl;
-          ready = λ e. never e;
-          answered = λ p e. never e;
-          lacking = λ p high e lacks. own_test object.0 page.0 p _ e;
-        })
+        return_paid header host object.0 control page dirty keep bytes _ refl refl refl refl (λ p high e lacks. own_test object.0 page.0 p _ e)
 
 pub paid : (header : Header) (host : ℕ) (past : List Event) (object : ObjectId) (m : Message) (old new : SlotTable) (events : List Event)
     → PagerServes header host past object m old new events → IsPaid header (events ++ taking host object m past)

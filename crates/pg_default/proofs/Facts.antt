@@ -7,6 +7,7 @@ use Rattle.vm_model.specs.declared.message.Message.{Message}
 use Rattle.vm_model.specs.declared.message.Message.TheVariants as message
 use Rattle.vm_model.specs.declared.script.Header.{Header}
 use Rattle.vm_model.specs.Named.{named}
+use Rattle.vm_legal.proofs.Answering.{lost_now}
 use Rattle.vm_legal.specs.Licences.{up}
 use Rattle.vm_legal.specs.Pagers.{is_lost, last_return, newer, slot_of, slots, slots_after, slotted}
 use Rattle.pg_default.specs.Stands.{is_ended, is_heard_elsewhere}
@@ -81,10 +82,6 @@ last_put host o p q r bytes was = rw (itself host) (by (o == q) (p == r))
     by true false = refl
     by false b = refl
 
-lost_put : (t was : Bool) → (t || (if t then false else was)) ≡ (if t then true else was)
-lost_put true was = refl
-lost_put false was = refl
-
 -- the event tells that the page is lost
 pub record TellsLost (o p : ℕ) (e : Event) : Type 0 where
   pub rows : (header : Header) (host : ℕ) (past : List Event) → slots header host (e ∷ past) ≡ slots header host past
@@ -115,5 +112,5 @@ put_lost header host o p control dirty keep bytes e past temporary tells =
       ended = λ q. tells.ended host q first ∙ put.ended q;
       away = λ q. tells.away host q first ∙ put.away q;
       last = λ q r. tells.last host q r first ∙ put.last q r;
-      gone = λ q r. tells.lost q r first ∙ ap (λ (t : Bool). (o == q && p == r) || t) (put.gone q r) ∙ lost_put (o == q && p == r) (is_lost q r past);
+      gone = λ q r. tells.lost q r first ∙ ap (λ (t : Bool). (o == q && p == r) || t) (put.gone q r) ∙ lost_now (o == q && p == r) (is_lost q r past);
     }

@@ -1,12 +1,11 @@
 -- Each event of an answer has its cause.
-use Rattle.std.proofs.Common.{ℕ, ◌≡◌, ◌≤◌, ◌*◌, ◌||◌, not, nat_lt, Bool, true, false, List, [], ◌∷◌, length, replicate, drop, Option, Some, None, refl, sym}
+use Rattle.std.proofs.Common.{ℕ, ◌≡◌, ◌≤◌, ◌*◌, Bool, true, false, List, [], ◌∷◌, length, replicate, drop, Option, Some, None, refl, sym}
 use Rattle.std.proofs.Common.{◌∙◌, ap, subst, arith, if◌then◌else◌, inl, inr}
 use Rattle.std.proofs.lemmas.Bool.{false≢true}
 use Rattle.std.proofs.lemmas.List.{take-replicate}
 use Rattle.std.proofs.Math.ListN.{drop_of_length-le}
 use Rattle.std.specs.Prelude.{unwrap_or}
 use Rattle.vm_base.specs.declared.ids.PageNo.{PageNo}
-use Rattle.vm_model.specs.Named.{named}
 use Rattle.vm_model.specs.declared.command.Command.{Command}
 use Rattle.vm_model.specs.declared.event.Event.{Event}
 use Rattle.vm_model.specs.declared.event.Event.TheVariants as event
@@ -15,6 +14,9 @@ use Rattle.vm_model.specs.declared.message.Message.{Message}
 use Rattle.vm_model.specs.declared.message.Message.TheVariants as message
 use Rattle.vm_model.specs.declared.script.Header.{Header}
 use Rattle.vm_legal.proofs.Answering.{itself, own_test}
+use Rattle.std.proofs.lemmas.Bool.Decides.{nat_tests}
+use Rattle.vm_legal.proofs.PagerAnswers.{create_answered, init_answered, lost_answered}
+use Rattle.vm_legal.specs.Licences.{is_paged}
 use Rattle.vm_legal.proofs.Served.{paged_sends}
 use Rattle.vm_legal.specs.Licences.{IsBehind, IsClean, MaySendDown, PagerSends, pager_has, tells}
 use Rattle.vm_legal.specs.InTurn.{AllInTurn}
@@ -26,21 +28,16 @@ use Rattle.pg_file.specs.declared.pager.KnownControl.{KnownControl}
 use Rattle.pg_file.specs.Answers.{CleanEvents, FileAnswer, RequestAnswer, clean_request, device_failed, error, is_stored, sent_to, supply, told_of}
 use Rattle.pg_file.specs.Files.{FileTable, LacksPage, has_lost}
 use Rattle.pg_file.specs.Stands.{AnswersKept, IsKnownAs, PagerServes, PagerStands, taking}
-use Rattle.pg_file.proofs.Facts.{holds_taken}
-
-or_second : (a b : Bool) → b ≡ true → (a || b) ≡ true
-or_second true b is = refl
-or_second false b is = is
+use Rattle.pg_file.proofs.Facts.{holds_taken, sent_about}
 
 -- the file pager answers for declared files
+filed : (header : Header) (object : ℕ) → is_file header object ≡ true → is_paged header object ≡ true
+filed header object file = grind (arith, nat_tests)
+
 sends : (header : Header) (outside : Outside) (doing : Command) (host object control : ℕ) (m : Message) (past : List Event) → is_file header object ≡ true
     → MaySendDown header outside doing host object control m past → PagerSends (kind_of header object) header outside doing host object control m past
 sends header outside doing host object control m past file may =
-    paged_sends header outside doing host object control m past (or_second (not (nat_lt object (named header))) (is_file header object) file) may
-
-chosen : {X : Type 0} (b : Bool) (x y : X) → b ≡ true → (if b then x else y) ≡ x
-chosen true x y is = refl
-chosen false x y is = absurd (false≢true is)
+    paged_sends header outside doing host object control m past (filed header object file) may
 
 -- past the end of a file there are zeros
 beyond : (bytes : List ℕ) (at n : ℕ) → length bytes ≤ at → read_at bytes at n ≡ replicate n 0
@@ -62,7 +59,7 @@ has_page header outside host object page past events file stored kept =
 
     begun : (if is_file header object then Some (start_page header outside object page) else None) ≡ Some
         (read_at (unwrap_or kept.start []) (page * header.size) header.size)
-    begun = chosen (is_file header object) (Some (start_page header outside object page)) None file ∙ ap Some start_is
+    begun = rw file (ap Some start_is)
 
 -- what is licensed where the answer tells what the file has
 abbrev CausedInTurn : Header → Outside → Command → ℕ → ℕ → List Event → List Event → List Event → Type 0
@@ -128,18 +125,6 @@ lacks header outside doing host object control page access past file stored kept
         has_asked header outside host object control page access past ∙ has_page header outside host object page.0 past _ file stored k
         ∙ ap Some (absent_zeros header.size page.0 k.now k.tells)
 
-lost_error : (header : Header) (outside : Outside) (doing : Command) (host object control : ℕ) (page : PageNo) (access : ℕ) (past : List Event)
-    → is_file header object ≡ true → is_lost object page.0 past ≡ true
-    → AllInTurn header outside doing (sent_to host object control (error page) ∷ []) (asked host object control page access past)
-lost_error header outside doing host object control page access past file lost = (
-  (
-    sends header outside doing host object control (error page) (asked host object control page access past) file
-        (record { access = access; taken = refl; unanswered = refl }, refl, inl lost),
-    tt,
-  ),
-  tt,
-)
-
 unread : (header : Header) (outside : Outside) (doing : Command) (host object control : ℕ) (page : PageNo) (access : ℕ) (past : List Event)
     → is_file header object ≡ true
     → AllInTurn header outside doing (sent_to host object control (error page) ∷ device_failed Read object page ∷ [])
@@ -158,8 +143,8 @@ requested : (header : Header) (outside : Outside) (doing : Command) (size host o
     → RequestAnswer size host object control page lost events
     → CausedInTurn header outside doing host object past (asked host object control page access past) events
 requested header outside doing size host object control page access past true events file lost is =
-    subst (CausedInTurn header outside doing host object past _) (sym is) (λ kept. lost_error header outside doing host object control page access past file
-    lost)
+    subst (CausedInTurn header outside doing host object past _) (sym is) (λ kept. lost_answered header outside doing (record { 0 = host })
+    (record { 0 = object }) control page access past (filed header object file) lost)
 requested header outside doing size host object control page access past false events file stored (inl is) =
     subst (CausedInTurn header outside doing host object past _) (sym is.2) (supplies header outside doing host object control page access is.0 past file
     stored)
@@ -175,48 +160,19 @@ returned header outside doing host object control page dirty keep bytes past tru
 returned header outside doing host object control page dirty keep bytes past false file =
     (((file, (host, record { control = control; dirty = dirty; keep = keep; bytes = bytes; is = refl }, tt)), tt), tt)
 
--- a pager is ready once
-ready_init : (header : Header) (outside : Outside) (doing : Command) (host object control size : ℕ) (past : List Event) → is_file header object ≡ true
-    → AllInTurn header outside doing (sent_to host object control (message.Ready false 0) ∷ []) (taking host object (message.Init control size) past)
-ready_init header outside doing host object control size past file = (
-  (
-    sends header outside doing host object control (message.Ready false 0) (taking host object (message.Init control size) past) file
-        (size, refl, refl, inr (refl, refl)),
-    tt,
-  ),
-  tt,
-)
-
-ready_create : (header : Header) (outside : Outside) (doing : Command) (host object control size : ℕ) (past : List Event) → is_file header object ≡ true
-    → AllInTurn header outside doing (sent_to host object control (message.Ready false 3) ∷ []) (taking host object (message.Create control size) past)
-ready_create header outside doing host object control size past file = (
-  (
-    sends header outside doing host object control (message.Ready false 3) (taking host object (message.Create control size) past) file
-        (size, refl, refl, inl (refl, refl)),
-    tt,
-  ),
-  tt,
-)
-
 pub causes : (header : Header) (outside : Outside) (doing : Command) (host : ℕ) (past : List Event) (object : ℕ) (m : Message) (old new : FileTable)
     (events : List Event)
     → PagerServes header host past object m old new events → (tells header outside object ≡ true → AnswersKept header outside host object past events)
     → AllInTurn header outside doing events (taking host object m past)
 causes header outside doing host past object m old new events serves kept = by m serves.answered
   where
-    at : (control : ℕ) (reply : Message) → events ≡ sent_to host old.object control reply ∷ [] → events ≡ sent_to host object control reply ∷ []
-    at control reply is = subst (λ (o : ℕ). events ≡ sent_to host o control reply ∷ []) serves.stands.object_is is
-
-    nothing : (first : List Event) → events ≡ [] → AllInTurn header outside doing events first
-    nothing first is = subst (λ (es : List Event). AllInTurn header outside doing es first) (sym is) tt
-
     by : (m : Message) → FileAnswer m host old new events → AllInTurn header outside doing events (taking host object m past)
     by (message.Init control size) a =
-        subst (λ (es : List Event). AllInTurn header outside doing es (taking host object (message.Init control size) past)) (sym (at control _ a.1))
-        (ready_init header outside doing host object control size past serves.stands.file)
+        subst (λ (es : List Event). AllInTurn header outside doing es (taking host object (message.Init control size) past)) (sym (sent_about host old.object object control _ events serves.stands.object_is a.1))
+        (init_answered header outside doing (record { 0 = host }) (record { 0 = object }) control size past (filed header object serves.stands.file))
     by (message.Create control size) a =
-        subst (λ (es : List Event). AllInTurn header outside doing es (taking host object (message.Create control size) past)) (sym (at control _ a.1))
-        (ready_create header outside doing host object control size past serves.stands.file)
+        subst (λ (es : List Event). AllInTurn header outside doing es (taking host object (message.Create control size) past)) (sym (sent_about host old.object object control _ events serves.stands.object_is a.1))
+        (create_answered header outside doing (record { 0 = host }) (record { 0 = object }) control size past (filed header object serves.stands.file))
     by (message.Request control page access) a =
         requested header outside doing old.size host object control page access past (has_lost old page.0) events serves.stands.file
         (sym (serves.stands.lost_is page.0))
@@ -226,10 +182,10 @@ causes header outside doing host past object m old new events serves kept = by m
         a.told in
         subst (λ (es : List Event). AllInTurn header outside doing es (taking host object (message.Return control page dirty keep bytes) past)) (sym told)
         (returned header outside doing host object control page dirty keep bytes past (is_stored events) serves.stands.file)
-    by (message.Terminate control) a = nothing (taking host object (message.Terminate control) past) a.1
-    by (message.Unlock control page access) a = nothing (taking host object (message.Unlock control page access) past) a.1
-    by (message.Completed control page count) a = nothing (taking host object (message.Completed control page count) past) a.1
-    by (message.Changed control cache strategy) a = nothing (taking host object (message.Changed control cache strategy) past) a.1
+    by (message.Terminate control) a = rw a.1 tt
+    by (message.Unlock control page access) a = rw a.1 tt
+    by (message.Completed control page count) a = rw a.1 tt
+    by (message.Changed control cache strategy) a = rw a.1 tt
     by (message.Ready cache strategy) a = elim a [ ]
     by (message.Supply page lock precious bytes) a = elim a [ ]
     by (message.Unavailable page) a = elim a [ ]

@@ -1,6 +1,7 @@
 -- What a message and the events of its answer change of what the history says of a file.
-use Rattle.std.proofs.Common.{ℕ, ◌≡◌, ◌≢◌, ◌==◌, ◌&&◌, ◌||◌, not, Bool, true, false, List, ◌∷◌, ◌++◌, Option, Some, None, refl, sym, subst, arith}
+use Rattle.std.proofs.Common.{ℕ, ◌≡◌, ◌≢◌, ◌==◌, ◌&&◌, not, Bool, true, false, List, [], ◌∷◌, ◌++◌, Option, Some, None, refl, sym, subst, arith}
 use Rattle.std.proofs.Common.{if◌then◌else◌, inl, inr}
+use Rattle.std.proofs.lemmas.Bool.{ne_eqb}
 use Rattle.std.proofs.lemmas.Bool.Decides.{nat_tests}
 use Rattle.vm_base.specs.declared.ids.PageNo.{PageNo}
 use Rattle.vm_model.specs.declared.event.Event.{Event}
@@ -9,7 +10,7 @@ use Rattle.vm_model.specs.declared.event.Way.TheVariants.{Read}
 use Rattle.vm_model.specs.declared.message.Channel.TheVariants.{Up}
 use Rattle.vm_model.specs.declared.message.Message.{Message}
 use Rattle.vm_model.specs.declared.message.Message.TheVariants as message
-use Rattle.vm_legal.proofs.Answering.{itself}
+use Rattle.vm_legal.proofs.Answering.{itself, lost_now}
 use Rattle.vm_legal.specs.Pagers.{is_lost, known_after, known_control, last_return, newer}
 use Rattle.vm_legal.specs.Steps.{is_read}
 use Rattle.pg_file.specs.Answers.{RequestAnswer, device_failed, sent_to, told_of}
@@ -89,9 +90,10 @@ newer_if : (b : Bool) (bytes : List ℕ) (was : Option (List ℕ)) → newer (if
 newer_if true bytes was = refl
 newer_if false bytes was = refl
 
-lost_if : (b was : Bool) → (b || (if b then false else was)) ≡ (if b then true else was)
-lost_if true was = refl
-lost_if false was = refl
+-- an answer about the pager's object is about this one
+pub sent_about : (host own object control : ℕ) (reply : Message) (events : List Event) → own ≡ object → events ≡ sent_to host own control reply ∷ []
+    → events ≡ sent_to host object control reply ∷ []
+sent_about host own object control reply events same is = subst (λ (o : ℕ). events ≡ sent_to host o control reply ∷ []) same is
 
 pub returned : (host object control : ℕ) (page : PageNo) (dirty keep : Bool) (bytes : List ℕ) (stored : Bool) (past : List Event)
     → Returned object page.0 host bytes stored past (told_of stored object page ++ taking host object (message.Return control page dirty keep bytes) past)
@@ -103,15 +105,12 @@ returned host object control page dirty keep bytes true past = record {
 returned host object control page dirty keep bytes false past = record {
   known = λ h. known_taken host object (message.Return control page dirty keep bytes) past tt h;
   last = λ p. rw (itself host, itself object) (newer_if (page.0 == p) bytes (last_return host object p past));
-  lost = λ p. rw (itself object) (lost_if (page.0 == p) (is_lost object p past));
+  lost = λ p. rw (itself object) (lost_now (page.0 == p) (is_lost object p past));
 }
 
 -- an event in which the pager has no part
 taken_apart : (object host about h : ℕ) → about ≢ object → (host == h && about == object) ≡ false
 taken_apart object host about h apart = grind (arith, nat_tests)
-
-apart_test : (object about : ℕ) → about ≢ object → (about == object) ≡ false
-apart_test object about apart = grind (arith, nat_tests)
 
 and_no : (a b : Bool) → (a && (false && b)) ≡ false
 and_no true b = refl
@@ -119,7 +118,7 @@ and_no false b = refl
 
 lost_elsewhere : (object host about p : ℕ) (m : Message) (past : List Event) → about ≢ object
     → is_lost object p (taking host about m past) ≡ is_lost object p past
-lost_elsewhere object host about p (message.Return control page dirty keep bytes) past apart = rw (apart_test object about apart) refl
+lost_elsewhere object host about p (message.Return control page dirty keep bytes) past apart = rw (ne_eqb about object apart) refl
 lost_elsewhere object host about p m past apart = refl
 
 pub others_leave : (object : ℕ) (e : Event) (past : List Event) → IsOther object e → Leaves object past (e ∷ past)
@@ -129,10 +128,10 @@ others_leave object (event.Taken (Up host about) m) past apart = record {
 }
 others_leave object (event.DeviceFailed who way about page) past apart = record {
   known = λ h. refl;
-  holds = record { last = λ h p. refl; lost = λ p. rw (apart_test object about.0 apart, and_no (not (is_read way)) (page.0 == p)) refl };
+  holds = record { last = λ h p. refl; lost = λ p. rw (ne_eqb about.0 object apart, and_no (not (is_read way)) (page.0 == p)) refl };
 }
 others_leave object (event.NoSlot about page) past apart = record {
   known = λ h. refl;
-  holds = record { last = λ h p. refl; lost = λ p. rw (apart_test object about.0 apart) refl };
+  holds = record { last = λ h p. refl; lost = λ p. rw (ne_eqb about.0 object apart) refl };
 }
 others_leave object e past apart = record { known = λ h. refl; holds = record { last = λ h p. refl; lost = λ p. refl } }

@@ -1,9 +1,14 @@
 -- What a step owes that took a message from a kernel is paid, once its pager did what the message asks.
-use Rattle.std.proofs.Common.{ℕ, ◌≡◌, ◌≤◌, ◌==◌, ◌&&◌, ◌||◌, Bool, true, false, List, Option, Some, None, refl, sym, ◌∙◌, ap, subst, arith}
+use Rattle.std.proofs.Common.{ℕ, ◌≡◌, ◌≤◌, ◌==◌, ◌&&◌, ◌||◌, Bool, true, false, List, ◌∷◌, Option, Some, None, refl, sym, ◌∙◌, ap, subst, arith}
+use Rattle.std.specs.Prelude.{if◌then◌else◌}
 use Rattle.std.proofs.lemmas.Bool.Decides.{nat_tests}
 use Rattle.std.proofs.lemmas.Option.{none-some}
 use Rattle.vm_model.specs.Named.{named}
+use Rattle.vm_base.specs.declared.ids.HostId.{HostId}
+use Rattle.vm_base.specs.declared.ids.ObjectId.{ObjectId}
+use Rattle.vm_base.specs.declared.ids.PageNo.{PageNo}
 use Rattle.vm_model.specs.declared.event.Event.{Event}
+use Rattle.vm_model.specs.declared.event.Event.TheVariants as event
 use Rattle.vm_model.specs.declared.message.Channel.{Channel}
 use Rattle.vm_model.specs.declared.message.Channel.TheVariants.{Up, Down}
 use Rattle.vm_model.specs.declared.message.Message.{Message}
@@ -20,6 +25,11 @@ itself n = grind (arith, nat_tests)
 
 pub own_test : (o p q : ℕ) (rest : Bool) → (p == q) ≡ true → ((o == o && p == q) || rest) ≡ true
 own_test o p q rest is = rw (itself o, is) refl
+
+-- a page that a failed write lost is lost, and all others are as they were
+pub lost_now : (b was : Bool) → (b || (if b then false else was)) ≡ (if b then true else was)
+lost_now true was = refl
+lost_now false was = refl
 
 abbrev pub opens : Message → Bool
 opens (message.Init control size) = true
@@ -86,3 +96,68 @@ paid_of header host o m now did = record {
       (subst (λ (k : ℕ). LacksSlot header host k page (before_step now)) (sym (ap object_of same))
       (subst (λ (h : ℕ). LacksSlot header h object page (before_step now)) (sym (ap host_of same)) lacks)));
 }
+
+never : {X : Type 0} → false ≡ true → X
+never is = absurd (let bad : false ≡ true = is in cc)
+
+-- nothing is owed for a message that asks for nothing
+pub nothing_owed : (header : Header) (host o : ℕ) (m : Message) (past : List Event) → opens m ≡ false → ((p : ℕ) → asks p m ≡ false)
+    → ((p : ℕ) → returns p m ≡ false) → IsPaid header (event.Taken (up host o) m ∷ past)
+nothing_owed header host o m past unopened unasked unreturned =
+    paid_of header host o m (event.Taken (up host o) m ∷ past) (record {
+      none_owed = refl;
+      took = refl;
+      no_error = refl;
+      no_absence = refl;
+      ready = λ is. never (sym unopened ∙ is);
+      answered = λ p is. never (sym (unasked p) ∙ is);
+      lacking = λ p high is lacks. never (sym (unreturned p) ∙ is);
+    })
+
+-- a control that was opened has been told that it is ready
+pub ready_paid : (header : Header) (host o : ℕ) (at : HostId) (object : ObjectId) (control strategy : ℕ) (m : Message) (past : List Event) → object.0 ≡ o
+    → ((p : ℕ) → asks p m ≡ false) → ((p : ℕ) → returns p m ≡ false)
+    → IsPaid header (event.Sent (Down at object control) (message.Ready false strategy) ∷ event.Taken (up host o) m ∷ past)
+ready_paid header host o at object control strategy m past own unasked unreturned =
+    paid_of header host o m (event.Sent (Down at object control) (message.Ready false strategy) ∷ event.Taken (up host o) m ∷ past) (record {
+      none_owed = refl;
+      took = refl;
+      no_error = refl;
+      no_absence = refl;
+      ready = λ is. rw (own, itself o) refl;
+      answered = λ p is. never (sym (unasked p) ∙ is);
+      lacking = λ p high is lacks. never (sym (unreturned p) ∙ is);
+    })
+
+-- a request was answered
+pub request_paid : (header : Header) (host o control : ℕ) (page : PageNo) (access : ℕ) (now : List Event) → owed now ≡ None
+    → taken_letter now ≡ Some (record { channel = up host o; message = message.Request control page access })
+    → error_taken header.size now ≡ None → absence_taken header.size now ≡ None
+    → ((p : ℕ) → (page.0 == p) ≡ true → since (answers o p) now ≡ true) → IsPaid header now
+request_paid header host o control page access now none took no_error no_absence answered =
+    paid_of header host o (message.Request control page access) now (record {
+      none_owed = none;
+      took = took;
+      no_error = no_error;
+      no_absence = no_absence;
+      ready = λ is. never is;
+      answered = answered;
+      lacking = λ p high is lacks. never is;
+    })
+
+-- a page was returned, and a slot that it lacks was told
+pub return_paid : (header : Header) (host o control : ℕ) (page : PageNo) (dirty keep : Bool) (bytes : List ℕ) (now : List Event) → owed now ≡ None
+    → taken_letter now ≡ Some (record { channel = up host o; message = message.Return control page dirty keep bytes })
+    → error_taken header.size now ≡ None → absence_taken header.size now ≡ None
+    → ((p : ℕ) → named header ≤ o → (page.0 == p) ≡ true → LacksSlot header host o p (before_step now) → since (lacks_slot o p) now ≡ true)
+    → IsPaid header now
+return_paid header host o control page dirty keep bytes now none took no_error no_absence lacking =
+    paid_of header host o (message.Return control page dirty keep bytes) now (record {
+      none_owed = none;
+      took = took;
+      no_error = no_error;
+      no_absence = no_absence;
+      ready = λ is. never is;
+      answered = λ p is. never is;
+      lacking = lacking;
+    })

@@ -9,6 +9,7 @@ pub mod LockNames
 pub mod Locks
 pub mod Owing
 pub mod Pageouts
+pub mod PagerAnswers
 pub mod Paying
 pub mod Served
 pub mod Serving
