@@ -2,6 +2,7 @@
 use Rattle.std.proofs.Common.{ℕ, ◌≡◌, ◌≤◌, ◌*◌, Bool, true, false, List, [], ◌∷◌, length, replicate, drop, Option, Some, None, refl, sym}
 use Rattle.std.proofs.Common.{◌∙◌, ap, subst, arith, if◌then◌else◌, inl, inr}
 use Rattle.std.proofs.lemmas.Bool.{false≢true}
+use Rattle.std.proofs.lemmas.Bool.Decides.{nat_tests}
 use Rattle.std.proofs.lemmas.List.{take-replicate}
 use Rattle.std.proofs.Math.ListN.{drop_of_length-le}
 use Rattle.std.specs.Prelude.{unwrap_or}
@@ -14,11 +15,9 @@ use Rattle.vm_model.specs.declared.message.Message.{Message}
 use Rattle.vm_model.specs.declared.message.Message.TheVariants as message
 use Rattle.vm_model.specs.declared.script.Header.{Header}
 use Rattle.vm_legal.proofs.Answering.{itself, own_test}
-use Rattle.std.proofs.lemmas.Bool.Decides.{nat_tests}
 use Rattle.vm_legal.proofs.PagerAnswers.{create_answered, init_answered, lost_answered}
-use Rattle.vm_legal.specs.Licences.{is_paged}
 use Rattle.vm_legal.proofs.Served.{paged_sends}
-use Rattle.vm_legal.specs.Licences.{IsBehind, IsClean, MaySendDown, PagerSends, pager_has, tells}
+use Rattle.vm_legal.specs.Licences.{IsBehind, IsClean, MaySendDown, PagerSends, is_paged, pager_has, tells}
 use Rattle.vm_legal.specs.InTurn.{AllInTurn}
 use Rattle.vm_legal.specs.Outside.{Outside, FilesAtStart, is_file, kind_of, start_in, start_page}
 use Rattle.vm_legal.specs.Pagers.{is_lost, last_return, newer}
@@ -30,10 +29,11 @@ use Rattle.pg_file.specs.Files.{FileTable, LacksPage, has_lost}
 use Rattle.pg_file.specs.Stands.{AnswersKept, IsKnownAs, PagerServes, PagerStands, taking}
 use Rattle.pg_file.proofs.Facts.{holds_taken, sent_about}
 
--- the file pager answers for declared files
+-- a file is one that its pager serves
 filed : (header : Header) (object : ℕ) → is_file header object ≡ true → is_paged header object ≡ true
 filed header object file = grind (arith, nat_tests)
 
+-- the file pager answers for declared files
 sends : (header : Header) (outside : Outside) (doing : Command) (host object control : ℕ) (m : Message) (past : List Event) → is_file header object ≡ true
     → MaySendDown header outside doing host object control m past → PagerSends (kind_of header object) header outside doing host object control m past
 sends header outside doing host object control m past file may =
