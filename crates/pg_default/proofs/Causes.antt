@@ -160,10 +160,12 @@ requested : (header : Header) (outside : Outside) (doing : Command) (host size :
 requested header outside doing host size past object control page access None events f is =
     subst (CausedInTurn header outside doing host past object _) (sym is) (λ stored. unavailable header outside doing host past object control page access f)
 requested header outside doing host size past object control page access (Some held.Lost) events f is =
-    subst (CausedInTurn header outside doing host past object _) (sym is) (λ stored. lost_answered header outside doing (record { 0 = host }) object control page
+    subst (CausedInTurn header outside doing host past object _) (sym is) (λ stored. lost_answered header outside doing (record { 0 = host }) object control
+    page
     access past (later_paged header object.0 f.temporary) (lost_is _ _ f.returned))
 requested header outside doing host size past object control page access (Some (held.Torn s)) events f is =
-    subst (CausedInTurn header outside doing host past object _) (sym is) (λ stored. lost_answered header outside doing (record { 0 = host }) object control page
+    subst (CausedInTurn header outside doing host past object _) (sym is) (λ stored. lost_answered header outside doing (record { 0 = host }) object control
+    page
     access past (later_paged header object.0 f.temporary) (torn_is s _ _ f.returned))
 requested header outside doing host size past object control page access (Some (held.Kept s)) events f (inl is) =
     subst (CausedInTurn header outside doing host past object _) (sym is.2) (λ stored. supplies header outside doing host past object control page access s is.0

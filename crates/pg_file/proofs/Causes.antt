@@ -168,10 +168,12 @@ causes header outside doing host past object m old new events serves kept = by m
   where
     by : (m : Message) → FileAnswer m host old new events → AllInTurn header outside doing events (taking host object m past)
     by (message.Init control size) a =
-        subst (λ (es : List Event). AllInTurn header outside doing es (taking host object (message.Init control size) past)) (sym (sent_about host old.object object control _ events serves.stands.object_is a.1))
+        subst (λ (es : List Event). AllInTurn header outside doing es (taking host object (message.Init control size) past))
+        (sym (sent_about host old.object object control _ events serves.stands.object_is a.1))
         (init_answered header outside doing (record { 0 = host }) (record { 0 = object }) control size past (filed header object serves.stands.file))
     by (message.Create control size) a =
-        subst (λ (es : List Event). AllInTurn header outside doing es (taking host object (message.Create control size) past)) (sym (sent_about host old.object object control _ events serves.stands.object_is a.1))
+        subst (λ (es : List Event). AllInTurn header outside doing es (taking host object (message.Create control size) past))
+        (sym (sent_about host old.object object control _ events serves.stands.object_is a.1))
         (create_answered header outside doing (record { 0 = host }) (record { 0 = object }) control size past (filed header object serves.stands.file))
     by (message.Request control page access) a =
         requested header outside doing old.size host object control page access past (has_lost old page.0) events serves.stands.file

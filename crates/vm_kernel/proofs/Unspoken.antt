@@ -8,7 +8,8 @@ use Rattle.vm_model.specs.declared.message.Channel.TheVariants.{Up}
 use Rattle.vm_model.specs.declared.message.Message.{Message}
 use Rattle.vm_model.specs.Kinds.{Accesses, Backings, Lines, Pages, Sendings, Takings, Tasks, about}
 use Rattle.vm_model.specs.Summary.{is_dropped, is_line, is_loaded, is_stored}
-use Rattle.vm_model.proofs.Unspoken.{is_copied_page, is_request, is_task_made, is_unlock, of_accesses, of_backings, of_lines, of_messages, of_pages, of_takings, of_tasks}
+use Rattle.vm_model.proofs.Unspoken.{is_copied_page, is_request, is_task_made, is_unlock, of_accesses, of_backings, of_lines, of_messages, of_pages, of_takings}
+use Rattle.vm_model.proofs.Unspoken.{of_tasks}
 use Rattle.vm_kernel.specs.Begun.{KernelSays}
 use Rattle.vm_kernel.specs.Turns.{RunsNone}
 
@@ -39,7 +40,8 @@ runs_none_of_accesses =
     (λ task object page unloaded unstored uncopied. refl)
 
 -- of what is sent up, requests and unlocks
-pub runs_none_of_messages : (host : HostId) (object : ObjectId) → (m : Message) → is_request m ≡ false → is_unlock m ≡ false → RunsNone (event.Sent (Up host object) m) ≡ Unit {0}
+pub runs_none_of_messages : (host : HostId) (object : ObjectId) → (m : Message) → is_request m ≡ false → is_unlock m ≡ false
+    → RunsNone (event.Sent (Up host object) m) ≡ Unit {0}
 runs_none_of_messages host object =
     of_messages (λ m. is_request m ≡ false → is_unlock m ≡ false → RunsNone (event.Sent (Up host object) m) ≡ Unit {0})
     (λ control size apart other. refl)

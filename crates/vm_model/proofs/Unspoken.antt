@@ -210,7 +210,8 @@ down_first_elsewhere (event.Taken channel m) unsent untaken past = absurd (untak
 down_first_elsewhere other unsent untaken past = refl
 
 -- of what is sent up, controls that begin
-pub down_first_of_messages : (host : HostId) (object : ObjectId) (past : List Event) → (m : Message) → is_opening m ≡ false → DownFirst (event.Sent (Up host object) m) past ≡ Unit {0}
+pub down_first_of_messages : (host : HostId) (object : ObjectId) (past : List Event) → (m : Message) → is_opening m ≡ false
+    → DownFirst (event.Sent (Up host object) m) past ≡ Unit {0}
 down_first_of_messages host object past =
     of_messages (λ m. is_opening m ≡ false → DownFirst (event.Sent (Up host object) m) past ≡ Unit {0})
     (λ control size apart. absurd (cc))
@@ -256,7 +257,8 @@ is_founded_of_pages size =
     (λ host lower lower_page upper upper_page unraised past. absurd (cc))
 
 -- of what is sent up, requests and ends
-pub is_founded_of_messages : (size : ℕ) (host : HostId) (object : ObjectId) (past : List Event) → (m : Message) → is_request m ≡ false → is_terminate m ≡ false → IsFounded size (event.Sent (Up host object) m) past ≡ Unit {0}
+pub is_founded_of_messages : (size : ℕ) (host : HostId) (object : ObjectId) (past : List Event) → (m : Message) → is_request m ≡ false → is_terminate m ≡ false
+    → IsFounded size (event.Sent (Up host object) m) past ≡ Unit {0}
 is_founded_of_messages size host object past =
     of_messages (λ m. is_request m ≡ false → is_terminate m ≡ false → IsFounded size (event.Sent (Up host object) m) past ≡ Unit {0})
     (λ control size apart other. refl)

@@ -90,7 +90,8 @@ up_asks header host at object (message.Init control size) past c all o p ours = 
         → Asking host o p (event.Sent (Up at object) (message.Init control size) ∷ past)
     by true own is = never is
     by false own is =
-        asking_sent host o p at object (message.Init control size) past (else_same (at.0 == host && object.0 == o) (Some control) (live_control host o past) own)
+        asking_sent host o p at object (message.Init control size) past (else_same (at.0 == host && object.0 == o) (Some control) (live_control host o past)
+        own)
         (all o p ours is)
 up_asks header host at object (message.Create control size) past c all o p ours = by (at.0 == host && object.0 == o) refl
   where
@@ -99,7 +100,8 @@ up_asks header host at object (message.Create control size) past c all o p ours 
         → Asking host o p (event.Sent (Up at object) (message.Create control size) ∷ past)
     by true own is = never is
     by false own is =
-        asking_sent host o p at object (message.Create control size) past (else_same (at.0 == host && object.0 == o) (Some control) (live_control host o past) own)
+        asking_sent host o p at object (message.Create control size) past (else_same (at.0 == host && object.0 == o) (Some control) (live_control host o past)
+        own)
         (all o p ours is)
 up_asks header host at object (message.Terminate control) past c all o p ours =
     by (at.0 == host && object.0 == o) (is_control control (live_control host o past)) refl refl

@@ -27,7 +27,8 @@ pub one_writer : (header : Header) (outside : Outside) (history : List Event) �
     → EachEvent (OwnBytes header) history → (g h o p : ℕ) → is_shared header o ≡ true → g ≢ h → CanWrite (page_on header h o p history)
     → CanRead (page_on header g o p history) → ⊥
 one_writer header outside history caused own g h o p shared apart write read =
-    page.one_writer header.size history g h o p (each_founded header outside history caused) (licensed header outside history caused own o p shared) apart write read
+    page.one_writer header.size history g h o p (each_founded header outside history caused) (licensed header outside history caused own o p shared) apart write
+    read
 
 -- it has one writer at every moment
 pub writers : (header : Header) (outside : Outside) (history : List Event) → EachEvent (HasCause header outside) history → EachEvent (OwnBytes header) history

@@ -195,7 +195,8 @@ pub stands_unshared : (by : Device) (given : Step) (host : HostId) (object : Obj
     → Replied by given host object m s events → is_shared given.header object.0 ≡ false
     → AllServe given.header now.pagers.items (events ++ event.Taken (Up host object) m ∷ given.past)
     → AllFilesServe given.header now.files.items (events ++ event.Taken (Up host object) m ∷ given.past) → now.server ≡ s.server
-    → IsOrderly given.header (events ++ event.Taken (Up host object) m ∷ given.past) → IsPaid given.header (events ++ event.Taken (Up host object) m ∷ given.past)
+    → IsOrderly given.header (events ++ event.Taken (Up host object) m ∷ given.past)
+    → IsPaid given.header (events ++ event.Taken (Up host object) m ∷ given.past)
     → AnswerStands given.header now (events ++ event.Taken (Up host object) m ∷ given.past)
 stands_unshared by given host object m s now events reply plain pagers files server orderly paid =
     let header = given.header in

@@ -181,7 +181,8 @@ follow-requires g c =
     items in
     let going : List Event → Going = λ z. record { header = given.header; outside = given.outside; command = given.command; past = given.past; front = z } in
     let done : PagerHasAnswered (going (take n now.history.items)) c.args.host c.gives_frame-washed.result now =
-    rw (front, c.gives_frame-washed.ensures) (answered_up given c.args.host c.args.object m t now old slots events reply pagers (same_files _ _ both) both.server
+    rw (front, c.gives_frame-washed.ensures) (answered_up given c.args.host c.args.object m t now old slots events reply pagers (same_files _ _ both)
+    both.server
     (answer_keeps given c.args.line c.args.number channel t _ now _ any refl refl refl refl both items c.commit.ensures.posts)) in
     let ready = c.in_ok-prepare.ensures.ready in
     let room = behind_answers ready.0 2 (length events) c.take_first.new.self now c.in_ok-answers.ensures.few
