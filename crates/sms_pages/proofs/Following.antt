@@ -162,7 +162,8 @@ after_supply size lock heard bytes holds awaits w ws past s stays none free requ
     record {
       licensed = ((s.hears w.host, refl, (λ g. s.stands.same_awaits g ∙ all_none awaits free g), sym s.stands.same_bytes, row), s.licensed);
       stands = record {
-        same_holds = same_holds;
+        same_holds =
+            holds_set w.host (SentDown (heard w.host) (Supplying lock false bytes)) (granted w) holds past inside (gives w lock request is) s.stands.same_holds;
         same_awaits = awaits_kept w.host (SentDown (heard w.host) (Supplying lock false bytes)) awaits past refl s.stands.same_awaits;
         same_line =
             ap (λ (l : List Wanting). trimmed_line w.host (side w.host (act ∷ past)).holds (without_request w.host l)) front
@@ -207,10 +208,6 @@ after_supply size lock heard bytes holds awaits w ws past s stays none free requ
       gives : (w : Wanting) (lock : ℕ) → w.upgrade ≡ false → lock ≡ (if w.access == 3 then 0 else 2) → right_of lock ≡ granted w
       gives w lock request is = grind (arith, nat_tests)
 
-      same_holds : (g : ℕ) → (side g (act ∷ past)).holds ≡ slice_index (slice_set holds w.host (granted w)) g
-      same_holds =
-          holds_set w.host (SentDown (heard w.host) (Supplying lock false bytes)) (granted w) holds past inside (gives w lock request is) s.stands.same_holds
-
 -- the unlock of the front's upgrade
 after_unlock : (size : ℕ) (heard : ℕ → ℕ) (bytes holds awaits : List ℕ) (w : Wanting) (ws : List Wanting) (past : List Act)
     → State size heard bytes holds awaits (w ∷ ws) past → leaves w holds ≡ false → any_recalled w holds awaits 8 ≡ false
@@ -222,7 +219,7 @@ after_unlock size heard bytes holds awaits w ws past s stays none free up =
     record {
       licensed = ((s.hears w.host, refl, refl, refl, refl, (λ g. s.stands.same_awaits g ∙ all_none awaits free g), alone, row), s.licensed);
       stands = record {
-        same_holds = same_holds;
+        same_holds = holds_set w.host (SentDown (heard w.host) (Locking 1 0 false 0 false)) (granted w) holds past inside (gives w up) s.stands.same_holds;
         same_awaits = awaits_kept w.host (SentDown (heard w.host) (Locking 1 0 false 0 false)) awaits past refl s.stands.same_awaits;
         same_line =
             ap (λ (l : List Wanting). trimmed_line w.host (side w.host (act ∷ past)).holds l) front
@@ -268,9 +265,6 @@ after_unlock size heard bytes holds awaits w ws past s stays none free up =
 
       writes : (side w.host (act ∷ past)).holds ≡ 2
       writes = ap (λ (t : Side). t.holds) (own_side w.host (SentDown (heard w.host) (Locking 1 0 false 0 false)) past)
-
-      same_holds : (g : ℕ) → (side g (act ∷ past)).holds ≡ slice_index (slice_set holds w.host (granted w)) g
-      same_holds = holds_set w.host (SentDown (heard w.host) (Locking 1 0 false 0 false)) (granted w) holds past inside (gives w up) s.stands.same_holds
 
 -- the recalls
 

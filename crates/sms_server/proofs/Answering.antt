@@ -223,6 +223,18 @@ pub record Answers (h : ℕ) (object : ObjectId) (page : ℕ) (m : Message) (row
   pub after : RowAfter h m x y
   pub within : h < length x.heard
 
+-- a page that is the same in two tables, one after another
+page_joined : (o p : ℕ) (old table now : ServerTable) → IsSamePage o p old table → IsSamePage o p table now → IsSamePage o p old now
+page_joined o p old table now one two = record {
+  directory = record {
+    holds = two.directory.holds ∙ one.directory.holds;
+    awaits = two.directory.awaits ∙ one.directory.awaits;
+    line = two.directory.line ∙ one.directory.line;
+    bytes = two.directory.bytes ∙ one.directory.bytes;
+  };
+  heard = λ g. two.heard g ∙ one.heard g;
+}
+
 page_itself : (o p : ℕ) (table now : ServerTable) → now.size ≡ table.size → row_among o p now.rows ≡ row_among o p table.rows → IsSamePage o p table now
 page_itself o p table now size row =
     record { directory = rw (size, row) (record { holds = refl; awaits = refl; line = refl; bytes = refl }); heard = λ g. rw row refl }
@@ -250,7 +262,7 @@ pub one_answer : (h : ℕ) (object : ObjectId) (page : ℕ) (m : Message) (rows 
 one_answer h object page m rows i x y old table now events a same seen sized set_is told = record {
   size = sized ∙ same.size;
   pages = λ p. page_after_same h object.0 m p old table now (same.pages object.0 p) (own p);
-  others = λ o p other. then_same o p (page_itself o p table now sized (left o p ∙ rw (elsewhere o p other) refl));
+  others = λ o p other. page_joined o p old table now (same.pages o p) (page_itself o p table now sized (left o p ∙ rw (elsewhere o p other) refl));
   told =
       answer_of old h object m page events a.about a.one (told
       ∙ (row_events_are table h object m x among_x a.own a.within
@@ -280,20 +292,6 @@ one_answer h object page m rows i x y old table now events a same seen sized set
 
   elsewhere : (o p : ℕ) → o ≢ object.0 → is_page y.key o p ≡ false
   elsewhere o p other = test o p ∙ grind (arith, nat_tests, of)
-
-  then_same : (o p : ℕ) → IsSamePage o p table now → IsSamePage o p old now
-  then_same o p second =
-      let first = same.pages o p in
-      record {
-        directory =
-            record {
-              holds = second.directory.holds ∙ first.directory.holds;
-              awaits = second.directory.awaits ∙ first.directory.awaits;
-              line = second.directory.line ∙ first.directory.line;
-              bytes = second.directory.bytes ∙ first.directory.bytes;
-            };
-        heard = λ g. second.heard g ∙ first.heard g;
-      }
 
   own : (p : ℕ) → PageAfter h object.0 m p table now
   own p =
@@ -501,7 +499,7 @@ end_answer h object control rows left old table now events same seen sized left_
   size = sized ∙ same.size;
   pages = λ p. page_after_same h object.0 m p old table now (same.pages object.0 p) (own p);
   others =
-      λ o p other. then_same o p (page_itself o p table now sized (ap (row_among o p) left_is
+      λ o p other. page_joined o p old table now (same.pages o p) (page_itself o p table now sized (ap (row_among o p) left_is
       ∙ (row_elsewhere h m object.0 o p rows left after other ∙ ap (row_among o p) (sym seen))));
   told = record {
     pages = pages_among object.0 rows;
@@ -526,20 +524,6 @@ end_answer h object control rows left old table now events same seen sized left_
         ap (row_among object.0 x.key.page.0) seen ∙ subst (λ (o : ℕ). row_among o x.key.page.0 rows ≡ Some x) e (among_at 0 0 k x rows by_key is),
         omega (arith, eight),
       )
-
-  then_same : (o p : ℕ) → IsSamePage o p table now → IsSamePage o p old now
-  then_same o p second =
-      let first = same.pages o p in
-      record {
-        directory =
-            record {
-              holds = second.directory.holds ∙ first.directory.holds;
-              awaits = second.directory.awaits ∙ first.directory.awaits;
-              line = second.directory.line ∙ first.directory.line;
-              bytes = second.directory.bytes ∙ first.directory.bytes;
-            };
-        heard = λ g. second.heard g ∙ first.heard g;
-      }
 
   by : (p : ℕ) (was is : Option PageRow) → row_among object.0 p rows ≡ was → row_among object.0 p left ≡ is
       → IsRowAfter h (message.Terminate control) object.0 was is → PageAfter h object.0 (message.Terminate control) p table now

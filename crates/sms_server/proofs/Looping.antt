@@ -2,7 +2,7 @@
 use Rattle.std.proofs.Common.{ℕ, zero, suc, ◌≡◌, ◌≢◌, ◌<◌, ◌≤◌, ◌+◌, ◌==◌, Bool, true, false, if◌then◌else◌, List, [], ◌∷◌, ◌++◌, length, length-set, set, take}
 use Rattle.std.proofs.Common.{drop, Option, Some, None, refl, sym, ◌∙◌, ap, subst, ⊎_elim, add-one, append_assoc, arith}
 use native.Mathlib.Decide.{ℕ_discrete}
-use Rattle.std.proofs.lemmas.Bool.{cases_lt}
+use Rattle.std.proofs.lemmas.Bool.{cases_lt, ne_eqb}
 use Rattle.std.proofs.lemmas.Bool.Decides.{nat_tests}
 use Rattle.std.proofs.lemmas.List.{append-nil}
 use Rattle.std.proofs.lemmas.Option.{none-some, same_Some}
@@ -49,9 +49,6 @@ pub high_elsewhere : (o : ℕ) (r : Option PageRow) → IsObjectFrom (o + 1) r �
 high_elsewhere o None high = tt
 high_elsewhere o (Some x) high = λ same. omega arith
 
-not_of : (o n : ℕ) → n ≢ o → (n == o) ≡ false
-not_of o n other = grind (arith, nat_tests)
-
 is_of : (o n : ℕ) → n ≡ o → (n == o) ≡ true
 is_of o n same = grind (arith, nat_tests)
 
@@ -60,14 +57,14 @@ skip_replies o zero rows none = refl
 skip_replies o (suc i) [] none = refl
 skip_replies o (suc i) (x ∷ xs) none =
     let rest = skip_replies o i xs (λ k low. none (suc k) (omega arith)) in
-    rw (not_of o x.key.object.0 (none 0 (omega arith))) (omega (arith, rest))
+    rw (ne_eqb x.key.object.0 o (none 0 (omega arith))) (omega (arith, rest))
 
 pub no_replies : (o i : ℕ) (rows : List PageRow) → ((k : ℕ) → i ≤ k → IsElsewhere o (slice_get rows k)) → replies_among o (drop i rows) ≡ 0
 no_replies o zero [] none = refl
 no_replies o (suc i) [] none = refl
 no_replies o zero (x ∷ xs) none =
     let rest = no_replies o zero xs (λ k high. none (suc k) (omega arith)) in
-    rw (not_of o x.key.object.0 (none 0 (omega arith))) (omega (arith, rest))
+    rw (ne_eqb x.key.object.0 o (none 0 (omega arith))) (omega (arith, rest))
 no_replies o (suc i) (x ∷ xs) none = no_replies o i xs (λ k high. none (suc k) (omega arith))
 
 -- one page more
@@ -88,13 +85,13 @@ pub skip_events : (h : ℕ) (m : Message) (o i : ℕ) (rows : List PageRow) → 
     → events_among h m o (take i rows) ≡ []
 skip_events h m o zero rows none = refl
 skip_events h m o (suc i) [] none = refl
-skip_events h m o (suc i) (x ∷ xs) none = rw (not_of o x.key.object.0 (none 0 (omega arith))) (skip_events h m o i xs (λ k low. none (suc k) (omega arith)))
+skip_events h m o (suc i) (x ∷ xs) none = rw (ne_eqb x.key.object.0 o (none 0 (omega arith))) (skip_events h m o i xs (λ k low. none (suc k) (omega arith)))
 
 pub end_events : (h : ℕ) (m : Message) (o i : ℕ) (rows : List PageRow) → ((k : ℕ) → i ≤ k → IsElsewhere o (slice_get rows k))
     → events_among h m o (take i rows) ≡ events_among h m o rows
 end_events h m o zero [] none = refl
 end_events h m o (suc i) [] none = refl
-end_events h m o zero (x ∷ xs) none = rw (not_of o x.key.object.0 (none 0 (omega arith))) (end_events h m o zero xs (λ k high. none (suc k) (omega arith)))
+end_events h m o zero (x ∷ xs) none = rw (ne_eqb x.key.object.0 o (none 0 (omega arith))) (end_events h m o zero xs (λ k high. none (suc k) (omega arith)))
 end_events h m o (suc i) (x ∷ xs) none =
     ap (λ (es : List Event). if x.key.object.0 == o then es ++ row_events h m x else es) (end_events h m o i xs (λ k high. none (suc k) (omega arith)))
 
