@@ -22,6 +22,7 @@ use Rattle.vm_legal.specs.InTurn.{AllInTurn}
 use Rattle.vm_legal.specs.Outside.{Outside, FilesAtStart, is_file, kind_of, start_in, start_page}
 use Rattle.vm_legal.specs.Pagers.{is_lost, last_return, newer}
 use Rattle.vm_legal.specs.Steps.{just_begun}
+use Rattle.vm_legal.proofs.Files.{file_paged}
 use Rattle.vm_outside.specs.Areas.{read_at}
 use Rattle.pg_file.specs.declared.pager.KnownControl.{KnownControl}
 use Rattle.pg_file.specs.Answers.{CleanEvents, FileAnswer, RequestAnswer, clean_request, device_failed, error, is_stored, sent_to, supply, told_of}
@@ -29,15 +30,11 @@ use Rattle.pg_file.specs.Files.{FileTable, LacksPage, has_lost}
 use Rattle.pg_file.specs.Stands.{AnswersKept, IsKnownAs, PagerServes, PagerStands, taking}
 use Rattle.pg_file.proofs.Facts.{holds_taken, sent_about}
 
--- a file is one that its pager serves
-filed : (header : Header) (object : ℕ) → is_file header object ≡ true → is_paged header object ≡ true
-filed header object file = grind (arith, nat_tests)
-
 -- the file pager answers for declared files
 sends : (header : Header) (outside : Outside) (doing : Command) (host object control : ℕ) (m : Message) (past : List Event) → is_file header object ≡ true
     → MaySendDown header outside doing host object control m past → PagerSends (kind_of header object) header outside doing host object control m past
 sends header outside doing host object control m past file may =
-    paged_sends header outside doing host object control m past (filed header object file) may
+    paged_sends header outside doing host object control m past (file_paged header object file) may
 
 -- past the end of a file there are zeros
 beyond : (bytes : List ℕ) (at n : ℕ) → length bytes ≤ at → read_at bytes at n ≡ replicate n 0
@@ -144,7 +141,7 @@ requested : (header : Header) (outside : Outside) (doing : Command) (size host o
     → CausedInTurn header outside doing host object past (asked host object control page access past) events
 requested header outside doing size host object control page access past true events file lost is =
     subst (CausedInTurn header outside doing host object past _) (sym is) (λ kept. lost_answered header outside doing (record { 0 = host })
-    (record { 0 = object }) control page access past (filed header object file) lost)
+    (record { 0 = object }) control page access past (file_paged header object file) lost)
 requested header outside doing size host object control page access past false events file stored (inl is) =
     subst (CausedInTurn header outside doing host object past _) (sym is.2) (supplies header outside doing host object control page access is.0 past file
     stored)
@@ -170,11 +167,11 @@ causes header outside doing host past object m old new events serves kept = by m
     by (message.Init control size) a =
         subst (λ (es : List Event). AllInTurn header outside doing es (taking host object (message.Init control size) past))
         (sym (sent_about host old.object object control _ events serves.stands.object_is a.1))
-        (init_answered header outside doing (record { 0 = host }) (record { 0 = object }) control size past (filed header object serves.stands.file))
+        (init_answered header outside doing (record { 0 = host }) (record { 0 = object }) control size past (file_paged header object serves.stands.file))
     by (message.Create control size) a =
         subst (λ (es : List Event). AllInTurn header outside doing es (taking host object (message.Create control size) past))
         (sym (sent_about host old.object object control _ events serves.stands.object_is a.1))
-        (create_answered header outside doing (record { 0 = host }) (record { 0 = object }) control size past (filed header object serves.stands.file))
+        (create_answered header outside doing (record { 0 = host }) (record { 0 = object }) control size past (file_paged header object serves.stands.file))
     by (message.Request control page access) a =
         requested header outside doing old.size host object control page access past (has_lost old page.0) events serves.stands.file
         (sym (serves.stands.lost_is page.0))

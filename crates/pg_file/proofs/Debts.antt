@@ -41,14 +41,11 @@ requested header host size object control page access lost past events is = by l
     first : List Event
     first = taking host object (message.Request control page access) past
 
-    on : (es : List Event) → events ≡ es → IsPaid header (es ++ first) → IsPaid header (events ++ first)
-    on es e paid = subst (λ (x : List Event). IsPaid header (x ++ first)) (sym e) paid
-
     by : (lost : Bool) → RequestAnswer size host object control page lost events → IsPaid header (events ++ first)
-    by true e = on _ e (request_paid header host object control page access _ refl refl refl refl (λ p e. own_test object page.0 p _ e))
-    by false (inl e) = on _ e.2 (request_paid header host object control page access _ refl refl refl refl (λ p e. own_test object page.0 p _ e))
-    by false (inr (inl e)) = on _ e (request_paid header host object control page access _ refl refl refl refl (λ p e. own_test object page.0 p _ e))
-    by false (inr (inr e)) = on _ e (request_paid header host object control page access _ refl refl refl refl (λ p e. own_test object page.0 p _ e))
+    by true e = rw e (request_paid header host object control page access _ refl refl refl refl (λ p e. own_test object page.0 p _ e))
+    by false (inl e) = rw e.2 (request_paid header host object control page access _ refl refl refl refl (λ p e. own_test object page.0 p _ e))
+    by false (inr (inl e)) = rw e (request_paid header host object control page access _ refl refl refl refl (λ p e. own_test object page.0 p _ e))
+    by false (inr (inr e)) = rw e (request_paid header host object control page access _ refl refl refl refl (λ p e. own_test object page.0 p _ e))
 
 returned : (header : Header) (host object control : ℕ) (page : PageNo) (dirty keep : Bool) (bytes : List ℕ) (stored : Bool) (past : List Event)
     → is_file header object ≡ true

@@ -1,5 +1,6 @@
 -- What a host's kernel stands for reads the same behind events that are nothing to it.
 use Rattle.std.proofs.Common.{◌≡◌, ℕ, ◌<◌, ◌≤◌, ◌&&◌, not, Bool, true, false, List, [], ◌∷◌, ◌++◌, append_assoc, refl, ap, sym, ◌∙◌, subst, arith, inl, inr}
+use Rattle.std.proofs.lemmas.Bool.{cases_lt}
 use Rattle.vm_model.specs.declared.event.Event.{Event}
 use Rattle.vm_model.specs.declared.script.Header.{Header}
 use Rattle.vm_model.specs.Named.{named}
@@ -17,7 +18,7 @@ use Rattle.vm_abroad.specs.Same.{SameFacts, SameForHost, SamePages, SameTask}
 use Rattle.vm_abroad.specs.Sound.{IsAbroad, IsAmong, IsHeldOn, IsMade, IsRegionOf, Knows, Sound}
 use Rattle.vm_abroad.proofs.Chains.{below_was}
 use Rattle.vm_abroad.proofs.Pages.{pages_abroad}
-use Rattle.vm_abroad.proofs.Regions.{backing_abroad, kind_of, region_abroad, used_abroad}
+use Rattle.vm_abroad.proofs.Regions.{backing_abroad, region_abroad, used_abroad}
 use Rattle.vm_abroad.proofs.Sounds.{objects_rise, regions_rise, sound_next, use_of}
 use Rattle.vm_abroad.proofs.Tasks.{lives_abroad, more_tasks, task_abroad}
 
@@ -102,7 +103,7 @@ among_more n [] ns is = is
 among_more n (m ∷ more) ns is = inr (among_more n more ns is)
 
 pub small_region : (header : Header) (h r : ℕ) (past : List Event) → Sound header past → IsRegionOf header h r past → r < next_region header past
-small_region header h r past sound own = elim (kind_of header r) [
+small_region header h r past sound own = elim (cases_lt r (named header)) [
   | inl declared ↦ let more = sound.named_regions in omega (arith, declared, more)
   | inr temporary ↦ sound.made h r temporary (use_of header h r past (own temporary))
 ]

@@ -24,7 +24,9 @@ use Rattle.vm_legal.specs.Stretches.{EachIn}
 use Rattle.vm_legal.specs.Used.{in_use, is_held, is_kept, made_here}
 use Rattle.vm_abroad.specs.Home.{HaveHomes, copying_host, first_of, home_in, home_of, object_home, region_for}
 use Rattle.vm_abroad.specs.Sound.{IsAbroad}
-use Rattle.vm_abroad.proofs.Sounds.{objects_rise, regions_rise, unlike}
+use Rattle.vm_abroad.proofs.Sounds.{objects_rise, unlike}
+pub use Rattle.vm_legal.proofs.Files.{file_named}
+pub use Rattle.vm_legal.proofs.Numbering.{named_regions}
 
 -- the first host stays
 first_stays : (b : Bool) (h : ℕ) (was later : Option ℕ) → was ≡ Some h → (if b then first_of was later else was) ≡ Some h
@@ -266,18 +268,11 @@ home_used header h task address bytes region offset prot inherit past homes used
 
 -- what is declared stays as it was
 
-pub named_regions : (header : Header) (past : List Event) → named header ≤ next_region header past
-named_regions header [] = omega arith
-named_regions header (e ∷ past) = let rise = regions_rise header e past in let was = named_regions header past in omega (arith, rise, was)
-
 pub named_objects : (header : Header) (past : List Event) → named header ≤ next_object header past
 named_objects header [] = omega arith
 named_objects header (e ∷ past) = let rise = objects_rise header e past in let was = named_objects header past in omega (arith, rise, was)
 
 -- a file's region is in use everywhere until it has a home, and then there
-
-pub file_named : (header : Header) (r : ℕ) → is_file header r ≡ true → r < named header
-file_named header r file = grind (arith, nat_tests)
 
 -- it is another than one that is made
 file_other : (header : Header) (r n : ℕ) (past : List Event) → is_file header r ≡ true → n ≡ next_region header past → (r == n) ≡ false

@@ -2,6 +2,7 @@
 use Rattle.std.proofs.Common.{◌≡◌, ℕ, ◌<◌, ◌≤◌, ◌==◌, ◌&&◌, ◌||◌, Bool, true, false, not, List, [], ◌∷◌, refl, ap, sym, ◌∙◌, subst, arith, inl, inr}
 use Rattle.std.proofs.lemmas.Bool.Decides.{nat_tests}
 use Rattle.std.specs.Prelude.{◌⊎◌, if◌then◌else◌, nat_lt}
+use Rattle.std.proofs.lemmas.Bool.{cases_lt}
 use Rattle.vm_model.specs.declared.event.Event.{Event}
 use Rattle.vm_model.specs.declared.event.Event.TheVariants as event
 use Rattle.vm_model.specs.declared.script.Header.{Header}
@@ -159,13 +160,6 @@ not_elsewhere header h r other past own temporary away =
     unlike r other (λ same. let bad : true ≡ false = sym (use_of header h r past (own temporary))
     ∙ (ap (λ z. in_use header h z past) same ∙ away) in absurd (cc))
 
-declared_or : (b : Bool) (n r : ℕ) → nat_lt r n ≡ b → (r < n) ⊎ (n ≤ r)
-declared_or true n r is = inl (grind (arith, nat_tests))
-declared_or false n r is = inr (grind (arith, nat_tests))
-
-pub kind_of : (header : Header) (r : ℕ) → (r < named header) ⊎ (named header ≤ r)
-kind_of header r = declared_or (nat_lt r (named header)) (named header) r refl
-
 pub region_abroad : (header : Header) (outside : Outside) (h : ℕ) (e : Event) (past : List Event) → Sound header past → IsAbroad header outside h e past
     → (r : ℕ) → r < next_region header past → IsRegionOf header h r past
     → region_of header r (e ∷ past) ≡ region_of header r past
@@ -176,13 +170,13 @@ region_abroad header outside h (event.RegionMade new object pages) past sound ab
 region_abroad header outside h (event.RegionCopied new source offset pages) past sound abroad r small own =
     let number = abroad.cause.1.next in
     let other : (r == new.0) ≡ false = unlike r new.0 (λ same. omega (arith, same, number, small)) in
-    let away : (r == source.0) ≡ false = elim (kind_of header r) [
+    let away : (r == source.0) ≡ false = elim (cases_lt r (named header)) [
       | inl declared ↦ let temporary = abroad.cause.1.temporary in unlike r source.0 (λ same. omega (arith, same, temporary, declared))
       | inr temporary ↦ not_elsewhere header h r source.0 past own temporary abroad.foreign
     ] in
     rw (other, away) refl
 region_abroad header outside h (event.Shadowed changed new old) past sound abroad r small own =
-    let away : (r == changed.0) ≡ false = elim (kind_of header r) [
+    let away : (r == changed.0) ≡ false = elim (cases_lt r (named header)) [
       | inl declared ↦ no_shadow header r changed.0 past sound declared abroad.cause.1.marked
       | inr temporary ↦ not_elsewhere header h r changed.0 past own temporary abroad.foreign
     ] in

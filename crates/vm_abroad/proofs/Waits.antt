@@ -2,6 +2,7 @@
 use Rattle.std.proofs.Common.{◌≡◌, ℕ, zero, suc, ◌<◌, ◌≤◌, ◌==◌, ◌&&◌, Bool, true, false, not, List, Option, Some, ap, sym, ◌∙◌, subst, arith, inl, inr}
 use Rattle.std.proofs.lemmas.Bool.Decides.{nat_tests}
 use Rattle.std.specs.Prelude.{is_some}
+use Rattle.std.proofs.lemmas.Bool.{cases_lt}
 use Rattle.vm_base.specs.declared.entry.Entry.{Entry}
 use Rattle.vm_base.specs.Entries.{entry_at, page_at}
 use Rattle.vm_model.specs.declared.event.Event.{Event}
@@ -25,7 +26,6 @@ use Rattle.vm_abroad.specs.Same.{SameFacts}
 use Rattle.vm_abroad.specs.Sound.{IsMade, IsRegionOf, Knows, Sound}
 use Rattle.vm_abroad.proofs.Chains.{below_is, leads_is, sinks_is, walks_is}
 use Rattle.vm_abroad.proofs.Facts.{small_region}
-use Rattle.vm_abroad.proofs.Regions.{kind_of}
 use Rattle.vm_abroad.proofs.Sounds.{use_of, used_of}
 
 lives_at : (h task : ℕ) (past : List Event) (x : Option ℕ) (host : ℕ) → x ≡ Some host → host ≡ h → is_on h x ≡ true
@@ -242,7 +242,7 @@ module _ (header : Header) (h : ℕ) (old new : List Event) (sound : Sound heade
   reach_declared r (suc n) object declared temporary is = let bad : true ≡ false = sym is.0 ∙ sound.bare r declared in absurd (cc)
 
   reach_now : ((r : ℕ) → is_open r old ≡ false) → (object : ℕ) → named header ≤ object → Reach header h object old → Reach header h object new
-  reach_now shut object temporary reach = elim (kind_of header reach.0) [
+  reach_now shut object temporary reach = elim (cases_lt reach.0 (named header)) [
     | inl declared ↦ absurd (reach_declared reach.0 reach.1 object declared temporary
         (subst (λ (z : ℕ). Below (λ o. backing_of header o old) reach.1 z object) (sound.tops reach.0 declared) reach.3))
     | inr ours ↦

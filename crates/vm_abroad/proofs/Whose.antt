@@ -2,11 +2,13 @@
 use Rattle.std.proofs.Common.{◌≡◌, ℕ, ◌==◌, ◌||◌, Bool, true, false, List, [], ◌∷◌, ◌++◌, refl, ap, sym, ◌∙◌, arith, inl, inr}
 use Rattle.std.proofs.lemmas.Bool.Decides.{nat_tests}
 use Rattle.std.specs.Prelude.{◌≢◌}
+use Rattle.std.proofs.lemmas.Bool.{cases_lt}
 use Rattle.vm_model.specs.declared.event.Event.{Event}
 use Rattle.vm_model.specs.declared.event.Event.TheVariants as event
 use Rattle.vm_model.specs.declared.message.Channel.TheVariants.{Up, Down}
 use Rattle.vm_model.specs.declared.script.Header.{Header}
 use Rattle.vm_model.specs.Local.{is_on}
+use Rattle.vm_model.specs.Named.{named}
 use Rattle.vm_legal.specs.Homes.{EntersNext, IsOnlyOfHost, begins_here, gives_frame, is_home}
 use Rattle.vm_legal.specs.Licences.{HasCause}
 use Rattle.vm_legal.specs.Living.{lives_on}
@@ -14,7 +16,6 @@ use Rattle.vm_legal.specs.Outside.{Outside}
 use Rattle.vm_legal.specs.Stretches.{EachIn}
 use Rattle.vm_abroad.specs.Sound.{IsAbroad, Sound}
 use Rattle.vm_abroad.specs.Whose.{IsNewTask, IsOfHost}
-use Rattle.vm_abroad.proofs.Regions.{kind_of}
 use Rattle.vm_abroad.proofs.Sounds.{both_left, one_home, shut_before, used_of}
 
 one_number : (a g h : ℕ) → (a == g) ≡ true → (a == h) ≡ true → h ≡ g
@@ -65,7 +66,7 @@ own_of_home header outside g (event.Dropped host object page) past sound cause n
 own_of_home header outside g (event.Zeroed host object page) past sound cause next new home h there = one_number host.0 g h home there
 own_of_home header outside g (event.Raised host lower lower_page upper upper_page) past sound cause next new home h there = one_number host.0 g h home there
 own_of_home header outside g (event.Wired host count) past sound cause next new home h there = one_number host.0 g h home there
-own_of_home header outside g (event.Shadowed region new_object old) past sound cause next new home h there = elim (kind_of header region.0) [
+own_of_home header outside g (event.Shadowed region new_object old) past sound cause next new home h there = elim (cases_lt region.0 (named header)) [
   | inl declared ↦ let bad : false ≡ true = sym (sound.unmarked region.0 declared) ∙ cause.1.marked in absurd (cc)
   | inr temporary ↦
       let shut = shut_before region.0 (event.Shadowed region new_object old) past next refl in

@@ -34,8 +34,9 @@ use Rattle.vm_flat.proofs.Queues.{latest}
 use Rattle.vm_flat.proofs.Regions.{if_no}
 use Rattle.vm_flat.proofs.Ties.{spot_is}
 use Rattle.vm_flat.proofs.Translation.{sustained}
-use Rattle.vm_flat.proofs.Using.{by_cause, counted, named_regions}
+use Rattle.vm_flat.proofs.Using.{by_cause, counted}
 use Rattle.vm_flat.proofs.World.{World, placed, reach_top, view}
+use Rattle.vm_legal.proofs.Numbering.{named_regions}
 
 -- a declared object has the pages that were declared
 pub pages_declared : (header : Header) (outside : Outside) (r : ℕ) (past : List Event) → EachEvent (HasCause header outside) past → r < named header

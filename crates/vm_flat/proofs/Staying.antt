@@ -34,6 +34,7 @@ use Rattle.vm_model.specs.declared.command.Numbered.{Numbered}
 use Rattle.vm_flat.proofs.Translation.{sustained}
 use Rattle.vm_flat.proofs.Using.{by_cause}
 use Rattle.vm_flat.proofs.Voids.{absent}
+use Rattle.vm_legal.proofs.Files.{file_named}
 
 -- where the page is here behind an effect, the control lives
 abbrev Stays : ℕ → LocalEffect → Local → Option ℕ → Type 0
@@ -81,9 +82,6 @@ same_page header past at object host o p is away =
     let at_is : at ≡ host = grind (arith, nat_tests) in
     let object_is : object ≡ o = grind (arith, nat_tests) in
     subst (λ (h : ℕ). (page_on header h o p past).here ≡ false) at_is (subst (λ (k : ℕ). (page_on header at k p past).here ≡ false) object_is away)
-
-file_below : (header : Header) (o : ℕ) → is_file header o ≡ true → o < named header
-file_below header o file = grind (arith, nat_tests)
 
 sent_up : (header : Header) (host o p : ℕ) (at : HostId) (object : ObjectId) (m : Message) (past : List Event)
     → ((doing : Command) × MaySendUp header doing at.0 object.0 m past) → Was (page_on header host o p past) (live_control host o past)
@@ -158,7 +156,7 @@ stays header outside (event.Taken (Down at object control) m ∷ past) caused cu
 stays header outside (event.Zeroed at object page ∷ past) caused current keeps prompt host o p inside file =
     stays_if header.size (at.0 == host && (object.0 == o && page.0 == p)) Zeroes (page_on header host o p past) (live_control host o past)
     (λ is here. by_cause header outside (event.Zeroed at object page) past caused.0
-    (λ doing c. zeroed header outside host o p at.0 object.0 page.0 past caused.1 keeps.1 prompt inside (file_below header o file) is c))
+    (λ doing c. zeroed header outside host o p at.0 object.0 page.0 past caused.1 keeps.1 prompt inside (file_named header o file) is c))
     (stays header outside past caused.1 current.1 keeps.1 prompt host o p inside file)
 stays header outside (event.Raised at lower lower_page upper upper_page ∷ past) caused current keeps prompt host o p inside file =
     stays_if header.size (at.0 == host && (upper.0 == o && upper_page.0 == p)) (Raises (page_on header host lower.0 lower_page.0 past).bytes)
@@ -166,7 +164,7 @@ stays header outside (event.Raised at lower lower_page upper upper_page ∷ past
     (λ is here. by_cause header outside (event.Raised at lower lower_page upper upper_page) past caused.0 (λ doing c.
     let same : upper.0 ≡ o = grind (arith, nat_tests) in
     raised header at.0 lower.0 lower_page.0 upper.0 upper_page.0 o past (holds header outside past (sustained header outside past caused.1) current.1).numbered
-    (file_below header o file) same c))
+    (file_named header o file) same c))
     (stays header outside past caused.1 current.1 keeps.1 prompt host o p inside file)
 stays header outside (event.CopiedPage task page object object_page target ∷ past) caused current keeps prompt host o p inside file =
     stays_if header.size (is_on host (host_of task.0 past) && (target.0 == o && page.0 == p)) (Raises (page_on header host object.0 object_page.0 past).bytes)
@@ -174,7 +172,7 @@ stays header outside (event.CopiedPage task page object object_page target ∷ p
     (λ is here. by_cause header outside (event.CopiedPage task page object object_page target) past caused.0 (λ doing c.
     let same : target.0 ≡ o = grind (arith, nat_tests) in
     let h : Holds header outside past = holds header outside past (sustained header outside past caused.1) current.1 in
-    copied header outside task.0 page.0 object.0 object_page.0 target.0 o past h.numbered h.filling (file_below header o file) same c))
+    copied header outside task.0 page.0 object.0 object_page.0 target.0 o past h.numbered h.filling (file_named header o file) same c))
     (stays header outside past caused.1 current.1 keeps.1 prompt host o p inside file)
 stays header outside (event.Stored task object page at size value ∷ past) caused current keeps prompt host o p inside file =
     stays_if header.size (is_on host (host_of task.0 past) && (object.0 == o && page.0 == p)) (Stores at (little_endian_bytes size value))

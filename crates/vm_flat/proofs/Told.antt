@@ -19,7 +19,7 @@ use Rattle.vm_legal.specs.Outside.{Outside, are_untold, is_file, kind_of, start_
 use Rattle.vm_legal.specs.Pagers.{last_return, newer}
 use Rattle.vm_flat.specs.Told.{AnswersTold, IsToldAnswer, told, untold}
 use Rattle.vm_flat.proofs.Loads.{answers}
-use Rattle.vm_flat.proofs.Voids.{file_paged}
+use Rattle.vm_legal.proofs.Files.{file_paged}
 
 -- f: the object is a file; u: the files are not told
 

@@ -18,6 +18,7 @@ use Rattle.vm_legal.specs.Walks as W
 use Rattle.vm_flat.proofs.Numbers.{later_alike, later_told}
 use Rattle.vm_flat.proofs.Sustained as S
 use Rattle.vm_flat.proofs.Uses as U
+use Rattle.vm_legal.proofs.Numbering.{named_regions}
 
 -- what follows from a cause, whatever the command
 pub by_cause : {R : Type 0} (header : Header) (outside : Outside) (e : Event) (past : List Event) → HasCause header outside e past
@@ -65,12 +66,6 @@ used header outside host r (e ∷ past) is = used header outside host r past is
 pub reached : (header : Header) (outside : Outside) (host object : ℕ) (past : List Event) → S.Reach header outside host object past
     → W.Reach header host object past
 reached header outside host object past (r, n, is, below) = (r, n, used header outside host r past is, below)
-
-pub named_regions : (header : Header) (past : List Event) → named header ≤ next_region header past
-named_regions header [] = omega arith
-named_regions header (event.RegionMade region object pages ∷ past) = omega (arith, named_regions header past)
-named_regions header (event.RegionCopied region source offset pages ∷ past) = omega (arith, named_regions header past)
-named_regions header (e ∷ past) = named_regions header past
 
 pub counted : (header : Header) (outside : Outside) (host r : ℕ) (past : List Event) → EachEvent (HasCause header outside) past
     → is_private header outside r ≡ true → V.in_use header host r past ≡ true → U.in_use header outside host r past ≡ true

@@ -28,6 +28,7 @@ use Rattle.vm_flat.specs.Words.{Supplying, Unavailing, Erring, SpotEffect, Creat
 use Rattle.vm_flat.proofs.Lives.{itself}
 use Rattle.vm_flat.proofs.Locals.{is_live, spot_is_local}
 use Rattle.vm_flat.proofs.Pagers.{both_no}
+pub use Rattle.vm_legal.proofs.Files.{file_paged}
 
 void_if : (z : List ℕ) (s : Spot) (b : Bool) (e f : SpotEffect) → (b ≡ true → (spot_after z s e).void ≡ s.void) → (spot_after z s f).void ≡ s.void
     → (spot_after z s (if b then e else f)).void ≡ s.void
@@ -63,9 +64,6 @@ came_down size (event.Line line ∷ past) a host object m is up = not_absent a i
 came_down size (event.Taken (Up at of) n ∷ past) a host object m is up = not_absent a is
 came_down size (event.Taken (Down at of control) n ∷ past) a host object m is up = absurd (let bad : false ≡ true = ap (λ l. is_up l) up in cc)
 came_down size (e ∷ past) a host object m is up = came_down size past a host object m is up
-
-pub file_paged : (header : Header) (o : ℕ) → is_file header o ≡ true → is_paged header o ≡ true
-file_paged header o is = grind (arith, nat_tests)
 
 second : (a b : Bool) → (a && b) ≡ true → b ≡ true
 second true b is = is

@@ -7,6 +7,7 @@ pub mod Heads
 pub mod Inside
 pub mod LockNames
 pub mod Locks
+pub mod Numbering
 pub mod Owing
 pub mod Pageouts
 pub mod PagerAnswers

@@ -1,0 +1,13 @@
+-- What is made is numbered behind what is declared.
+use Rattle.std.proofs.Common.{ℕ, ◌≤◌, List, [], ◌∷◌, arith}
+use Rattle.vm_model.specs.declared.event.Event.{Event}
+use Rattle.vm_model.specs.declared.event.Event.TheVariants as event
+use Rattle.vm_model.specs.declared.script.Header.{Header}
+use Rattle.vm_model.specs.Named.{named}
+use Rattle.vm_model.specs.Regions.{next_region}
+
+pub named_regions : (header : Header) (past : List Event) → named header ≤ next_region header past
+named_regions header [] = omega arith
+named_regions header (event.RegionMade region object pages ∷ past) = omega (arith, named_regions header past)
+named_regions header (event.RegionCopied region source offset pages ∷ past) = omega (arith, named_regions header past)
+named_regions header (e ∷ past) = named_regions header past
