@@ -2,7 +2,6 @@
 use Rattle.std.proofs.Common.{ℕ, ◌≡◌, ◌≤◌, ◌*◌, Bool, true, false, List, [], ◌∷◌, length, replicate, drop, Option, Some, None, refl, sym}
 use Rattle.std.proofs.Common.{◌∙◌, ap, subst, arith, if◌then◌else◌, inl, inr}
 use Rattle.std.proofs.lemmas.Bool.{false≢true}
-use Rattle.std.proofs.lemmas.Bool.Decides.{nat_tests}
 use Rattle.std.proofs.lemmas.List.{take-replicate}
 use Rattle.std.proofs.Math.ListN.{drop_of_length-le}
 use Rattle.std.specs.Prelude.{unwrap_or}
@@ -17,7 +16,7 @@ use Rattle.vm_model.specs.declared.script.Header.{Header}
 use Rattle.vm_legal.proofs.Answering.{itself, own_test}
 use Rattle.vm_legal.proofs.PagerAnswers.{create_answered, init_answered, lost_answered}
 use Rattle.vm_legal.proofs.Served.{paged_sends}
-use Rattle.vm_legal.specs.Licences.{IsBehind, IsClean, MaySendDown, PagerSends, is_paged, pager_has, tells}
+use Rattle.vm_legal.specs.Licences.{IsBehind, IsClean, MaySendDown, PagerSends, pager_has, tells}
 use Rattle.vm_legal.specs.InTurn.{AllInTurn}
 use Rattle.vm_legal.specs.Outside.{Outside, FilesAtStart, is_file, kind_of, start_in, start_page}
 use Rattle.vm_legal.specs.Pagers.{is_lost, last_return, newer}
