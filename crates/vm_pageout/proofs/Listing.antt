@@ -1,10 +1,11 @@
 -- How many pages are listed once a victim was looked for, and once it has gone.
 use Rattle.std.proofs.Common.{◌≡◌, ◌∙◌, ℕ, ◌+◌, ◌||◌, ◌==◌, Bool, true, false, List, [], ◌∷◌, ◌++◌, length, map, take, if◌then◌else◌, inl, inr, refl, sym, ap}
 use Rattle.std.proofs.Common.{arith}
-use Rattle.std.proofs.lemmas.Bool.Decides.{eqb_tells, nat_tests}
+use Rattle.std.proofs.lemmas.Bool.Decides.{eqb_tells}
 use Rattle.std.proofs.lemmas.List.{length-append, length-drop, length-map, length-take-le}
 use Rattle.vm_pageout.specs.Reclaims.{queues_after_search}
 use Rattle.vm_parts.specs.Listed.{listed_pages}
+use Rattle.vm_queues.proofs.Balance.{count_front}
 use Rattle.vm_queues.specs.Queues.{EachOnce, Page, Queues, balanced, cleared, from_unreferenced, has_page, is_queued, pages_except, queues_except}
 use Rattle.vm_queues.specs.Queues.{referenced_front, shortage, spared}
 
@@ -16,10 +17,6 @@ listed_balanced q =
     let went = length-map (take k q.active) cleared in
     let count = length-take-le k q.active (omega arith) in
     omega (arith, left, more, went, count)
-
-count_front : (xs : List Page) → length (referenced_front xs) + length (from_unreferenced xs) ≡ length xs
-count_front [] = refl
-count_front (x ∷ xs) = let rest = count_front xs in grind (arith, nat_tests)
 
 listed_spared : (q : Queues) → listed_pages (spared q) ≡ listed_pages q
 listed_spared q =

@@ -76,7 +76,7 @@ rest_grows [] [] = refl
 rest_grows [] (y ∷ ys) = refl
 rest_grows (x ∷ xs) ys = rest_cons x.referenced x xs ys refl (rest_grows xs ys)
 
-count_front : (xs : List Page) → length (referenced_front xs) + length (from_unreferenced xs) ≡ length xs
+pub count_front : (xs : List Page) → length (referenced_front xs) + length (from_unreferenced xs) ≡ length xs
 count_front [] = refl
 count_front (x ∷ xs) = let rest = count_front xs in grind (arith, nat_tests)
 

@@ -36,10 +36,6 @@ pub is_there : {A : Type 0} (o : Option A) (P : A → Type 0) → IsSomeAnd o P 
 is_there None P some = absurd some
 is_there (Some x) P some = refl
 
-pub holds_there : {A : Type 0} (o : Option A) (x : A) (P : A → Type 0) → o ≡ Some x → IsSomeAnd o P → P x
-holds_there None x P is some = absurd some
-holds_there (Some y) x P is some = let same = same_Some y x is in rw (← same) some
-
 -- an access begins
 pub lined_begun : (rows : List Waiting) (queue : List TaskId) (w : Waiting) → AreQueued rows queue → entry rows w.task.0 ≡ None → is_frame w.on ≡ false
     → AreQueued (rows ++ w ∷ []) queue

@@ -1,12 +1,12 @@
-use Rattle.std.proofs.Common.{◌≡◌, ◌++◌, ◌∷◌, [], ◌∙◌, Some, false, ap, refl, sym, map, arith}
+use Rattle.std.proofs.Common.{◌≡◌, ◌++◌, ◌∷◌, [], ◌∙◌, Some, false, ap, refl, subst, sym, map, arith}
 use Rattle.std.proofs.lemmas.List.{length-map}
 use Rattle.std.specs.Map.{values_of}
 use Rattle.std.specs.Option.{option_copied_mut}
-use Rattle.std.specs.Prelude.{IsSome}
+use Rattle.std.specs.Prelude.{IsSome, IsSomeAnd}
 use Rattle.vm_waits.proofs.ByTask.{lendable, looked_up, written}
 use Rattle.vm_waits.proofs.Copies.{copies_turned}
 use Rattle.vm_waits.proofs.Rows.{counted_turned, counted_within}
-use Rattle.vm_waits.proofs.Tables.{holds_there, is_there, lined_on, puts_turned}
+use Rattle.vm_waits.proofs.Tables.{is_there, lined_on, puts_turned}
 use Rattle.vm_waits.specs.Waits.{entry, is_again, is_frame, one, turned, with_on}
 use Rattle.vm_waits.specs.declared.waiting.On.TheVariants as on
 use Rattle.vm_waits.proofs.waits.Waits.join_queue.Goals as goal
@@ -24,7 +24,7 @@ invariant_of-self c =
     let was = c.unwrap.result.now in
     let found : entry rows c.args.task.0 ≡ Some was = sym (looked_up c.args.task.0 old.rows.entries c.self.invariant.0) ∙ sym c.get_mut.ensures.value
     ∙ ap option_copied_mut c.unwrap.ensures in
-    let other : is_frame was.on ≡ false = holds_there (entry rows c.args.task.0) was (λ w. is_frame w.on ≡ false) found (rw (← c.self.view_is) at c.requires) in
+    let other : is_frame was.on ≡ false = subst (λ x. IsSomeAnd x (λ w. is_frame w.on ≡ false)) found (rw (← c.self.view_is) at c.requires) in
     let wrote = c.get_mut.follows.holds (with_on was on.Frame) in
     let now = written c.args.task.0 (λ w. with_on w on.Frame) old.rows.entries (c.get_mut.follows.lender (with_on was on.Frame)).entries was (λ w. refl)
     c.self.invariant.0 found wrote.0 in
@@ -55,7 +55,7 @@ returns c =
     let was = c.unwrap.result.now in
     let found : entry rows c.args.task.0 ≡ Some was = sym (looked_up c.args.task.0 old.rows.entries c.self.invariant.0) ∙ sym c.get_mut.ensures.value
     ∙ ap option_copied_mut c.unwrap.ensures in
-    let other : is_frame was.on ≡ false = holds_there (entry rows c.args.task.0) was (λ w. is_frame w.on ≡ false) found (rw (← c.self.view_is) at c.requires) in
+    let other : is_frame was.on ≡ false = subst (λ x. IsSomeAnd x (λ w. is_frame w.on ≡ false)) found (rw (← c.self.view_is) at c.requires) in
     let wrote = c.get_mut.follows.holds (with_on was on.Frame) in
     let now = written c.args.task.0 (λ w. with_on w on.Frame) old.rows.entries (c.get_mut.follows.lender (with_on was on.Frame)).entries was (λ w. refl)
     c.self.invariant.0 found wrote.0 in
