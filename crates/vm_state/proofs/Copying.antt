@@ -20,7 +20,8 @@ use Rattle.vm_shadow.specs.Chains.{ChainTable, CopiesRegion, copy_of, region_at,
 use Rattle.vm_shadow.specs.declared.ids.Ids.{Ids}
 use Rattle.vm_shadow.specs.declared.region_row.RegionRow.{RegionRow}
 use Rattle.vm_state.proofs.Fresh.{other_test, same_test, seen}
-use Rattle.vm_state.proofs.Going.{below_all, one_other, one_own}
+use Rattle.vm_state.proofs.Going.{one_other, one_own}
+use Rattle.vm_state.proofs.Referring.{below_all}
 use Rattle.vm_state.proofs.Knowing.{counts_still, fits_still, known_apart, known_still, referred_before, unknown_still}
 use Rattle.vm_state.proofs.Counting.{elsewhere, references_copied, references_some}
 use Rattle.vm_state.specs.References.{references_to}

@@ -1,7 +1,6 @@
 -- How the regions and objects of a host go on, where a region goes, or what stood under an object: what it was over has one reference less.
-use Rattle.std.proofs.Common.{◌≡◌, ℕ, ◌+◌, ◌<◌, ◌≤◌, ◌==◌, Bool, true, false, refl, ap, sym, ◌∙◌, arith, Some, None, Option, inl, inr}
-use Rattle.std.proofs.lemmas.Bool.Decides.{eqb_tells, nat_tests}
-use Rattle.std.specs.Prelude.{nat_lt}
+use Rattle.std.proofs.Common.{◌≡◌, ℕ, ◌+◌, ◌<◌, ◌==◌, refl, ap, sym, ◌∙◌, arith, Some, None, inl, inr}
+use Rattle.std.proofs.lemmas.Bool.Decides.{eqb_tells}
 use Rattle.vm_model.specs.Regions.{Backing, Region}
 use Rattle.vm_objects.specs.Objects.{ObjectTable, PutsObject, object_at}
 use Rattle.vm_objects.specs.declared.row.ObjectRow.{ObjectRow}
@@ -14,20 +13,11 @@ use Rattle.vm_shadow.specs.declared.ids.Ids.{Ids}
 use Rattle.vm_shadow.specs.declared.region_row.RegionRow.{RegionRow}
 use Rattle.vm_shadow.specs.declared.shadow_row.ShadowRow.{ShadowRow}
 use Rattle.vm_state.proofs.Knowing.{counts_still, fits_still, known_apart, known_still, referred_before, unknown_still}
+use Rattle.vm_state.proofs.Referring.{below_all}
 use Rattle.vm_state.proofs.Counting.{references_dropped, references_gone}
 use Rattle.vm_state.specs.References.{references_to}
 use Rattle.vm_state.specs.Stands.{HasRegions}
 use Rattle.vm_terminate.specs.Finishes.{IsReferred}
-
--- what is there has a number below those of which none is there
-pub below_all : {A : Type 0} (f : ℕ → Option A) (n at : ℕ) (row : A) → ((m : ℕ) → n ≤ m → f m ≡ None) → f at ≡ Some row → at < n
-below_all f n at row none found = by_test (nat_lt at n) refl
-  where
-    by_test : (b : Bool) → nat_lt at n ≡ b → at < n
-    by_test true less = grind (arith, nat_tests)
-    by_test false less =
-        let le : n ≤ at = grind (arith, nat_tests) in
-        absurd (let bad : None ≡ Some row = sym (none at le) ∙ found in cc)
 
 pub one_own : (n : ℕ) → one (n == n) ≡ 1
 one_own n = elim (eqb_tells n n) [ inl same ↦ ap one same.0 | inr apart ↦ absurd (apart.1 refl) ]

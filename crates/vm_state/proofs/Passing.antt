@@ -300,9 +300,9 @@ passed_now stays stays2 unmet unmet2 maps cs task what (on.Page key) now met pas
     }
 passed_now stays stays2 unmet unmet2 maps cs task what on.Frame now met passed = tt
 
--- two places under one are the same
-under_same : (chains : ChainTable) (from a b : PageKey) → IsUnder chains from a → IsUnder chains from b → a ≡ b
-under_same chains from a b one two =
+-- one place stands under another
+pub one_under : (chains : ChainTable) (from a b : PageKey) → IsUnder chains from a → IsUnder chains from b → a ≡ b
+one_under chains from a b one two =
     one.is ∙ (ap (λ (z : ShadowRow). record { object = z.under; page = record { 0 = from.page.0 + z.shift } })
     (some_is one.row two.row (sym one.found ∙ two.found)) ∙ sym two.is)
 
@@ -318,7 +318,7 @@ sinks_over parts chains top sinks n key leads = go sinks.steps top n sinks.walks
         absurd (let bad : None ≡ Some under.row = sym sinks.bottom ∙ (ap (λ (z : PageKey). shadow_at chains z.object.0) (sym walks) ∙ under.found) in cc)
     go (suc steps) from zero walks leads = subst (PassesOver parts) leads walks.0
     go (suc steps) from (suc n) walks leads =
-        let same : walks.1.0 ≡ leads.0 = under_same chains from walks.1.0 leads.0 walks.1.1 leads.1 in
+        let same : walks.1.0 ≡ leads.0 = one_under chains from walks.1.0 leads.0 walks.1.1 leads.1 in
         go steps leads.0 n (subst (λ (z : PageKey). WalksTo parts chains steps z sinks.last) same walks.1.2) leads.2
 
 -- a walk to a place passes over another further down the chain, or both are one, or the first is above
@@ -333,5 +333,5 @@ walks_beside parts stays chains zero zero from low key walks leads = IsSame (sym
 walks_beside parts stays chains zero (suc m) from low key walks leads = IsAbove (subst stays walks leads.0)
 walks_beside parts stays chains (suc n) zero from low key walks leads = IsPassed (subst (PassesOver parts) leads walks.0)
 walks_beside parts stays chains (suc n) (suc m) from low key walks leads =
-    let same : walks.1.0 ≡ leads.1.0 = under_same chains from walks.1.0 leads.1.0 walks.1.1 leads.1.1 in
+    let same : walks.1.0 ≡ leads.1.0 = one_under chains from walks.1.0 leads.1.0 walks.1.1 leads.1.1 in
     walks_beside parts stays chains n m leads.1.0 low key (subst (λ (z : PageKey). WalksTo parts chains n z low) same walks.1.2) leads.1.2

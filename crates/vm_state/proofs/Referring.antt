@@ -19,9 +19,9 @@ pub row_of : {A : Type 0} (x : Option A) → IsSome x → (y : A) × (x ≡ Some
 row_of None is = absurd (let bad : false ≡ true = is in cc)
 row_of (Some y) is = (y, refl)
 
--- what is nothing from a number on is there below that number only
-small_of : {A : Type 0} (at : ℕ → Option A) (made n : ℕ) (y : A) → ((m : ℕ) → made ≤ m → at m ≡ None) → at n ≡ Some y → n < made
-small_of at made n y none found = by (nat_lt n made) refl
+-- what is there has a number below those of which none is there
+pub below_all : {A : Type 0} (at : ℕ → Option A) (made n : ℕ) (y : A) → ((m : ℕ) → made ≤ m → at m ≡ None) → at n ≡ Some y → n < made
+below_all at made n y none found = by (nat_lt n made) refl
   where
     by : (b : Bool) → nat_lt n made ≡ b → n < made
     by true is = grind (arith, nat_tests)
@@ -32,12 +32,12 @@ small_of at made n y none found = by (nat_lt n made) refl
 pub small_region : {chains : ChainTable} {objects : ObjectTable} {ids : Ids} {region_from : ℕ → Region} {backing_from : ℕ → Backing}
     {regions_made objects_made marked : ℕ} → HasRegions chains objects ids region_from backing_from regions_made objects_made marked → (r : ℕ) (row : RegionRow)
     → region_at chains r ≡ Some row → r < regions_made
-small_region {chains = chains} {regions_made = regions_made} has r row found = small_of (region_at chains) regions_made r row has.unmade found
+small_region {chains = chains} {regions_made = regions_made} has r row found = below_all (region_at chains) regions_made r row has.unmade found
 
 pub small_object : {chains : ChainTable} {objects : ObjectTable} {ids : Ids} {region_from : ℕ → Region} {backing_from : ℕ → Backing}
     {regions_made objects_made marked : ℕ} → HasRegions chains objects ids region_from backing_from regions_made objects_made marked
     → (o : ℕ) (known : ObjectRow) → object_at objects o ≡ Some known → o < objects_made
-small_object {objects = objects} {objects_made = objects_made} has o known found = small_of (object_at objects) objects_made o known has.unknown found
+small_object {objects = objects} {objects_made = objects_made} has o known found = below_all (object_at objects) objects_made o known has.unknown found
 
 pub small_shadow : {chains : ChainTable} {objects : ObjectTable} {ids : Ids} {region_from : ℕ → Region} {backing_from : ℕ → Backing}
     {regions_made objects_made marked : ℕ} → HasRegions chains objects ids region_from backing_from regions_made objects_made marked → (o : ℕ) (row : ShadowRow)

@@ -19,9 +19,9 @@ use Rattle.vm_shadow.proofs.Ranks.{ranked_over}
 use Rattle.vm_shadow.specs.Chains.{ChainTable, ShadowsRegion, region_at, shadow_at}
 use Rattle.vm_shadow.specs.declared.ids.Ids.{Ids}
 use Rattle.vm_shadow.specs.declared.region_row.RegionRow.{RegionRow}
-use Rattle.vm_state.proofs.Referring.{objects_below, small_under}
+use Rattle.vm_state.proofs.Referring.{below_all, objects_below, small_under}
 use Rattle.vm_state.proofs.Fresh.{other_test, same_test, seen, unreferenced}
-use Rattle.vm_state.proofs.Going.{below_all, one_other, one_own}
+use Rattle.vm_state.proofs.Going.{one_other, one_own}
 use Rattle.vm_state.proofs.Knowing.{counts_still, known_put, known_still, referred_other, unknown_still}
 use Rattle.vm_state.proofs.Counting.{references_shadowed}
 use Rattle.vm_state.specs.References.{references_to}

@@ -26,6 +26,10 @@ open_if : (b : Bool) (f g : LocalEffect) → IsOpen f → IsOpen g → IsOpen (i
 open_if true f g one other = one
 open_if false f g one other = other
 
+open_either : (b : Bool) (now was : Local) → now.lock ≡ 0 → was.lock ≡ 0 → (if b then now else was).lock ≡ 0
+open_either true now was one other = one
+open_either false now was one other = other
+
 open_after : (size : ℕ) (f : LocalEffect) (was : Local) → IsOpen f → was.lock ≡ 0 → (local_after size f was).lock ≡ 0
 open_after size Zeroes was opens is = refl
 open_after size (Raises bytes) was opens is = refl
@@ -35,18 +39,9 @@ open_after size (Returns true) was opens is = is
 open_after size (Returns false) was opens is = refl
 open_after size Asks was opens is = is
 open_after size Unlocks was opens is = is
-open_after size (TakesPage lock precious bytes) was opens is = by was.asked
-  where
-    by : (b : Bool)
-        → (if b then record was { here = true; bytes = bytes; lock = lock; dirty = false; precious = precious; unlocking = false; asked = false } else
-        was).lock ≡ 0
-    by true = opens
-    by false = is
-open_after size TakesNothing was opens is = by was.asked
-  where
-    by : (b : Bool) → (if b then record was { asked = false; absent = true } else was).lock ≡ 0
-    by true = is
-    by false = is
+open_after size (TakesPage lock precious bytes) was opens is = open_either was.asked
+    (record was { here = true; bytes = bytes; lock = lock; dirty = false; precious = precious; unlocking = false; asked = false }) was opens is
+open_after size TakesNothing was opens is = open_either was.asked (record was { asked = false; absent = true }) was is is
 open_after size TakesError was opens is = is
 open_after size (TakesLock lock flush) was opens is = absurd opens
 open_after size Begins was opens is = is

@@ -3,6 +3,7 @@ use Rattle.std.proofs.Common.{List, None, Some, ap, arith, false, inl, inr, refl
 use Rattle.std.specs.Prelude.{◌≢◌, ◌⊎◌}
 use Rattle.vm_parts.proofs.Rows.{some_is}
 use Rattle.vm_base.specs.declared.ids.PageKey.{PageKey}
+use Rattle.vm_state.proofs.Passing.{one_under}
 use Rattle.vm_fault.specs.Walks.{IsUnder, MayCome, PassesOver, Sinks, WalksTo, top_place}
 use Rattle.vm_legal.specs.Accesses.{Comes, HasPlace}
 use Rattle.vm_legal.specs.Walks as legal
@@ -18,7 +19,6 @@ use Rattle.vm_resident.specs.Resident.{row_at}
 use Rattle.vm_resident.specs.declared.page_row.PageRow.{PageRow}
 use Rattle.vm_shadow.specs.Chains.{ChainTable, region_at, shadow_at}
 use Rattle.vm_shadow.specs.declared.region_row.RegionRow.{RegionRow}
-use Rattle.vm_shadow.specs.declared.shadow_row.ShadowRow.{ShadowRow}
 use Rattle.vm_state.proofs.Shown.{IsShown, passes_of}
 use Rattle.vm_state.specs.Waiters.{LeadsTo}
 use Rattle.vm_terminate.specs.Finishes.{IsReferred}
@@ -164,12 +164,6 @@ place_of_page s r row region index n key leads =
       is_top = top_of s r row region index;
       leads = leads_of s n (top_place row index) key leads;
     }
-
--- one place stands under another
-pub one_under : (chains : ChainTable) (key a b : PageKey) → IsUnder chains key a → IsUnder chains key b → a ≡ b
-one_under chains key a b under other =
-    let same : under.row ≡ other.row = some_is under.row other.row (sym under.found ∙ other.found) in
-    under.is ∙ (ap (λ (z : ShadowRow). record { object = z.under; page = record { 0 = key.page.0 + z.shift } }) same ∙ sym other.is)
 
 -- two walks from a place that stop, each at a place that isn't passed over, stop at the same
 pub walk_stops : (parts : HostParts) (chains : ChainTable) (n m : ℕ) (top a b : PageKey) → WalksTo parts chains n top a → WalksTo parts chains m top b
