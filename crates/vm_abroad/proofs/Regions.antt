@@ -160,6 +160,10 @@ not_elsewhere header h r other past own temporary away =
     unlike r other (λ same. let bad : true ≡ false = sym (use_of header h r past (own temporary))
     ∙ (ap (λ z. in_use header h z past) same ∙ away) in absurd (cc))
 
+-- an object, or a region, is declared or temporary
+pub kind_cases : (header : Header) (r : ℕ) → (r < named header) ⊎ (named header ≤ r)
+kind_cases header r = cases_lt r (named header)
+
 pub region_abroad : (header : Header) (outside : Outside) (h : ℕ) (e : Event) (past : List Event) → Sound header past → IsAbroad header outside h e past
     → (r : ℕ) → r < next_region header past → IsRegionOf header h r past
     → region_of header r (e ∷ past) ≡ region_of header r past
@@ -170,13 +174,13 @@ region_abroad header outside h (event.RegionMade new object pages) past sound ab
 region_abroad header outside h (event.RegionCopied new source offset pages) past sound abroad r small own =
     let number = abroad.cause.1.next in
     let other : (r == new.0) ≡ false = unlike r new.0 (λ same. omega (arith, same, number, small)) in
-    let away : (r == source.0) ≡ false = elim (cases_lt r (named header)) [
+    let away : (r == source.0) ≡ false = elim (kind_cases header r) [
       | inl declared ↦ let temporary = abroad.cause.1.temporary in unlike r source.0 (λ same. omega (arith, same, temporary, declared))
       | inr temporary ↦ not_elsewhere header h r source.0 past own temporary abroad.foreign
     ] in
     rw (other, away) refl
 region_abroad header outside h (event.Shadowed changed new old) past sound abroad r small own =
-    let away : (r == changed.0) ≡ false = elim (cases_lt r (named header)) [
+    let away : (r == changed.0) ≡ false = elim (kind_cases header r) [
       | inl declared ↦ no_shadow header r changed.0 past sound declared abroad.cause.1.marked
       | inr temporary ↦ not_elsewhere header h r changed.0 past own temporary abroad.foreign
     ] in

@@ -6,10 +6,10 @@ pub mod Entering
 mod Found
 mod Kept
 mod Mappings
-mod Multiples
+pub mod Multiples
 mod Order
 mod Outside
-mod Pages
+pub mod Pages
 mod Range
 mod Rewriting
 mod Tasks

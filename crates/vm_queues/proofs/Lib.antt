@@ -1,4 +1,4 @@
-mod Apart
+pub mod Apart
 pub mod Balance
 mod Chains
 mod Linking

@@ -1,7 +1,8 @@
 -- The kinds of objects, where objects, regions and shadows come, go and change.
 use Rattle.std.proofs.Common.{Bool, None, Option, Some, ap, arith, false, inl, inr, refl, subst, sym, true, ℕ, ◌<◌, ◌≤◌, ◌∙◌, ◌≡◌}
 use Rattle.std.proofs.lemmas.Bool.Decides.{nat_tests}
-use Rattle.std.specs.Prelude.{nat_lt, ◌==◌, ◌&&◌, ◌⊎◌, if◌then◌else◌}
+use Rattle.std.specs.Prelude.{◌==◌, ◌&&◌, if◌then◌else◌}
+use Rattle.vm_abroad.proofs.Regions.{kind_cases}
 use Rattle.vm_abroad.specs.Home.{AreHomes}
 use Rattle.vm_base.specs.declared.ids.ObjectId.{ObjectId}
 use Rattle.vm_base.specs.declared.ids.ObjectKind.TheVariants.{Temp}
@@ -19,14 +20,6 @@ use Rattle.vm_shadow.specs.declared.region_row.RegionRow.{RegionRow}
 use Rattle.vm_shadow.specs.declared.shadow_row.ShadowRow.{ShadowRow}
 use Rattle.vm_state.proofs.Knowing.{known_cases}
 use Rattle.vm_state.specs.Stands.{HasKinds, HasRegions, IsOfKind}
-
--- an object is temporary or declared
-pub kind_cases : (header : Header) (o : ℕ) → (o < named header) ⊎ (named header ≤ o)
-kind_cases header o = by_test (nat_lt o (named header)) refl
-  where
-    by_test : (b : Bool) → nat_lt o (named header) ≡ b → (o < named header) ⊎ (named header ≤ o)
-    by_test true is = inl (grind (arith, nat_tests))
-    by_test false is = inr (grind (arith, nat_tests))
 
 -- one object is known otherwise
 pub kinds_put : (header : Header) (o : ℕ) (new : ObjectRow) (os os2 : ObjectTable) (cs : ChainTable) → PutsObject o (Some new) os os2 → SameMarks os os2

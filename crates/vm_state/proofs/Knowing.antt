@@ -1,6 +1,6 @@
 -- One object is known otherwise: what that leaves of what regions and shadows stand on.
-use Rattle.std.proofs.Common.{◌≡◌, ℕ, ◌+◌, ◌<◌, ◌≤◌, ap, sym, ◌∙◌, subst, arith, Some, None, inl, inr}
-use Rattle.std.specs.Prelude.{◌⊎◌, is_some, IsSome}
+use Rattle.std.proofs.Common.{◌≡◌, ℕ, ◌+◌, ◌<◌, ◌≤◌, ◌==◌, Option, false, true, ap, sym, ◌∙◌, subst, arith, Some, None, inl, inr}
+use Rattle.std.specs.Prelude.{◌⊎◌, if◌then◌else◌, is_some, IsSome}
 use Rattle.vm_fault.specs.Walks.{ChainsFit}
 use Rattle.vm_objects.specs.Objects.{ObjectTable, PutsObject, object_at}
 use Rattle.vm_objects.specs.declared.row.ObjectRow.{ObjectRow}
@@ -16,6 +16,14 @@ known_cases o new os os2 put x = one_case o x (Some new) (object_at os x) (objec
 
 pub known_put : (o : ℕ) (new : ObjectRow) (os os2 : ObjectTable) → PutsObject o (Some new) os os2 → object_at os2 o ≡ Some new
 known_put o new os os2 put = if_true o (Some new) (object_at os o) (object_at os2 o) (put.at o)
+
+-- one row is another, and the others are as they were
+pub put_here : {o : ℕ} {row : Option ObjectRow} {os os2 : ObjectTable} → PutsObject o row os os2 → (k : ℕ) → (o == k) ≡ true → object_at os2 k ≡ row
+put_here {row = row} {os = os} put k same = put.at k ∙ ap (λ b. if b then row else object_at os k) same
+
+pub put_else : {o : ℕ} {row : Option ObjectRow} {os os2 : ObjectTable} → PutsObject o row os os2 → (k : ℕ) → (o == k) ≡ false
+    → object_at os2 k ≡ object_at os k
+put_else {row = row} {os = os} put k apart = put.at k ∙ ap (λ b. if b then row else object_at os k) apart
 
 -- what was known is so still
 pub known_still : (o : ℕ) (new : ObjectRow) (os os2 : ObjectTable) → PutsObject o (Some new) os os2 → (x : ℕ) → IsSome (object_at os x)

@@ -2,5 +2,5 @@ mod Found
 mod Leaving
 pub mod Living
 mod Rooms
-mod Under
+pub mod Under
 mod Walking

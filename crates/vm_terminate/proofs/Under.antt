@@ -24,11 +24,11 @@ pub record Unrefers (object : ObjectId) (row : ShadowRow) (left : ℕ) (parts : 
   pub put : IfSome (object_at parts.objects row.under.0) (λ known. PutsObject row.under.0 (Some (record known { references = left })) parts.objects objects)
   pub marks : SameMarks parts.objects objects
 
-pub is_there : (objects : ObjectTable) (o : ℕ) → IsReferred objects o → IsSome (object_at objects o)
-is_there objects o referred = found_some (object_at objects o) referred.row referred.known
+pub referred_there : (objects : ObjectTable) (o : ℕ) → IsReferred objects o → IsSome (object_at objects o)
+referred_there objects o referred = found_some (object_at objects o) referred.row referred.known
 
-pub has_some : (objects : ObjectTable) (o : ℕ) → IsReferred objects o → IfSome (object_at objects o) (λ row. 0 < row.references)
-has_some objects o referred = subst (λ z. IfSome z (λ row. 0 < row.references)) (sym referred.known) referred.some
+pub referred_some : (objects : ObjectTable) (o : ℕ) → IsReferred objects o → IfSome (object_at objects o) (λ row. 0 < row.references)
+referred_some objects o referred = subst (λ z. IfSome z (λ row. 0 < row.references)) (sym referred.known) referred.some
 
 loses : (object : ObjectId) (row : ShadowRow) (left : ℕ) (parts : HostParts) (objects : ObjectTable) (old new : ChainTable)
     (unrefers : Unrefers object row left parts objects old new)

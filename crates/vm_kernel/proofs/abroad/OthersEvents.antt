@@ -24,7 +24,7 @@ use Rattle.vm_model.specs.Regions.{}
 use Rattle.vm_parts.specs.Changes.{one}
 use Rattle.vm_shadow.specs.Chains.{ChainTable, shadow_at}
 use Rattle.vm_shadow.specs.declared.shadow_row.ShadowRow.{ShadowRow}
-use Rattle.vm_state.proofs.Declared.{kind_cases}
+use Rattle.vm_abroad.proofs.Regions.{kind_cases}
 use Rattle.vm_state.proofs.Reaching.{chain_known}
 use Rattle.vm_state.proofs.Referring.{small_object, small_region, small_shadow}
 use Rattle.vm_state.specs.References.{is_backing, is_over, references_to, tally}

@@ -19,7 +19,7 @@ use Rattle.vm_shadow.specs.declared.shadow_row.ShadowRow.{ShadowRow}
 use Rattle.vm_state.proofs.Declared.{kinds_put, kinds_region, over_declared}
 use Rattle.vm_state.proofs.Fresh.{other_test, pages_put, seen}
 use Rattle.vm_state.proofs.Going.{one_other, one_own}
-use Rattle.vm_state.proofs.Knowing.{counts_still, known_cases, known_put, known_still, referred_other, unknown_still}
+use Rattle.vm_state.proofs.Knowing.{counts_still, known_cases, known_put, known_still, put_else, put_here, referred_other, unknown_still}
 use Rattle.vm_state.proofs.Tallies.{tally_none, tally_put, tally_same}
 use Rattle.vm_state.proofs.Told.{told_all, waits_told}
 use Rattle.vm_state.specs.References.{is_backing, is_over, references_to, tally}
@@ -278,18 +278,18 @@ pub controls_opened : {h : ℕ} {home_at : ℕ → Option ℕ} (header : Header)
 controls_opened header os os2 last_at live_at ready_at o new has declared known put =
     record {
       last = λ k. elim (eqb_tells o k) [
-        | inl same ↦ ap (λ b. if b then new.control else last_at k) same.0 ∙ sym (ap last_in (now k same.0))
-        | inr apart ↦ ap (λ b. if b then new.control else last_at k) apart.0 ∙ (has.last k ∙ sym (ap last_in (was k apart.0)))
+        | inl same ↦ ap (λ b. if b then new.control else last_at k) same.0 ∙ sym (ap last_in (put_here put k same.0))
+        | inr apart ↦ ap (λ b. if b then new.control else last_at k) apart.0 ∙ (has.last k ∙ sym (ap last_in (put_else put k apart.0)))
       ];
       live = λ k. elim (eqb_tells o k) [
         | inl same ↦ ap (λ b. if b then Some new.control else live_at k) same.0
-            ∙ (sym (ap (λ b. if b then Some new.control else None) known.live) ∙ sym (ap live_in (now k same.0)))
-        | inr apart ↦ ap (λ b. if b then Some new.control else live_at k) apart.0 ∙ (has.live k ∙ sym (ap live_in (was k apart.0)))
+            ∙ (sym (ap (λ b. if b then Some new.control else None) known.live) ∙ sym (ap live_in (put_here put k same.0)))
+        | inr apart ↦ ap (λ b. if b then Some new.control else live_at k) apart.0 ∙ (has.live k ∙ sym (ap live_in (put_else put k apart.0)))
       ];
       ready = λ k control is. elim (eqb_tells o k) [
-        | inl same ↦ ap (λ b. if b then false else ready_at k) same.0 ∙ (sym (ap is_ready_state known.state) ∙ sym (ap ready_in (now k same.0)))
+        | inl same ↦ ap (λ b. if b then false else ready_at k) same.0 ∙ (sym (ap is_ready_state known.state) ∙ sym (ap ready_in (put_here put k same.0)))
         | inr apart ↦ ap (λ b. if b then false else ready_at k) apart.0
-            ∙ (has.ready k control (sym (ap (λ b. if b then Some new.control else live_at k) apart.0) ∙ is) ∙ sym (ap ready_in (was k apart.0)))
+            ∙ (has.ready k control (sym (ap (λ b. if b then Some new.control else live_at k) apart.0) ∙ is) ∙ sym (ap ready_in (put_else put k apart.0)))
       ];
       all_live = record {
         at = λ k row found told. elim (known_cases o new os os2 put k) [
@@ -312,12 +312,6 @@ controls_opened header os os2 last_at live_at ready_at o new has declared known 
         | inr other ↦ has.home k row least (sym other.1 ∙ found)
       ];
     }
-  where
-    now : (k : ℕ) → (o == k) ≡ true → object_at os2 k ≡ Some new
-    now k same = put.at k ∙ ap (λ b. if b then Some new else object_at os k) same
-
-    was : (k : ℕ) → (o == k) ≡ false → object_at os2 k ≡ object_at os k
-    was k apart = put.at k ∙ ap (λ b. if b then Some new else object_at os k) apart
 
 -- nobody waited for its pager
 pub waits_declared : {stays unmet : PageKey → Type 0} (header : Header) (maps : Mapped) (cs : ChainTable) (rs : ResidentTable) (os os2 : ObjectTable)

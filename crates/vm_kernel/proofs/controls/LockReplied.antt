@@ -1,26 +1,21 @@
 -- A lock request that the step took is done still, whatever comes behind that.
-use Rattle.vm_kernel.proofs.Common.{Bool, Event, List, None, Some, or_true, refl, sym, true, ◌∙◌, ◌∷◌, ◌≡◌}
+use Rattle.vm_kernel.proofs.Common.{Event, List, None, Some, [], refl, sym, ◌∙◌, ◌∷◌, ◌≡◌}
 use Rattle.vm_kernel.specs.Abroad.{IsNobodys}
 use Rattle.vm_kernel.specs.Matches.{IsReplied}
+use Rattle.vm_legal.proofs.Inside.{since_more}
+use Rattle.vm_legal.proofs.Paying.{lock_more}
 use Rattle.vm_legal.specs.Licences.{lock_taken}
-use Rattle.vm_legal.specs.Steps.{completes, since}
+use Rattle.vm_legal.specs.Steps.{completes}
 use Rattle.vm_legal.specs.Stretches.{IsInner}
 use Rattle.vm_model.specs.declared.event.Event.TheVariants as event
 use Rattle.vm_model.specs.declared.message.Channel.TheVariants.{Up, Down}
 
-lock_same : (e : Event) (past : List Event) → IsInner e → lock_taken (e ∷ past) ≡ lock_taken past
-lock_same (event.Line line) past inner = absurd inner
-lock_same (event.Taken channel m) past inner = absurd inner
-lock_same other past inner = refl
-
-since_later : (test : Event → Bool) (e : Event) (past : List Event) → IsInner e → since test past ≡ true → since test (e ∷ past) ≡ true
-since_later test (event.Line line) past inner is = absurd inner
-since_later test (event.Taken channel m) past inner is = absurd inner
-since_later test other past inner is = or_true (test other) (since test past) is
-
 pub replied_behind : {e : Event} {past : List Event} → IsInner e → IsReplied past → IsReplied (e ∷ past)
 replied_behind {e = e} {past = past} inner was =
-    record { at = λ request is own. since_later (completes request.host request.object) e past inner (was.at request (sym (lock_same e past inner) ∙ is) own) }
+    record {
+      at = λ request is own. since_more (completes request.host request.object) (e ∷ []) past (inner, tt)
+          (was.at request (sym (lock_more (e ∷ []) past (inner, tt)) ∙ is) own);
+    }
 
 -- where it took none there is nothing to tell
 pub replied_none : {past : List Event} → lock_taken past ≡ None → IsReplied past

@@ -12,7 +12,8 @@ use Rattle.vm_kernel.proofs.memory.WhatIsKnown.{other_if, pages_known}
 use Rattle.vm_kernel.proofs.controls.PageLocked.{Mid, asks}
 use Rattle.vm_kernel.proofs.steps.RowsInOrder.{woken_keeps}
 use Rattle.vm_kernel.proofs.abroad.OwnHost.{own_host}
-use Rattle.vm_kernel.proofs.controls.LockPending.{Ahead, aimed, fit_pended, is_ahead, owner_repaged, pend, pended, pended_frame, pended_here, retabled}
+use Rattle.vm_kernel.proofs.controls.LockPending.{Ahead, aimed, fit_pended, is_ahead, owner_repaged, pend, pended, pended_behind, pended_frame, pended_here}
+use Rattle.vm_kernel.proofs.controls.LockPending.{retabled}
 use Rattle.vm_kernel.proofs.controls.LockPending.{row_back, row_repaged, shown_pended}
 use Rattle.vm_kernel.specs.Fits.{IsPlainRow}
 use Rattle.vm_kernel.specs.Taking.{is_away, is_unlocked}
@@ -200,11 +201,7 @@ waits_waked {stays = stays} {unmet = unmet} maps k object page count lock flush 
     ahead_is o p = ap (λ b. object.0 == o && b) (all_ahead page.0 count p) ∙ ap (λ b. b && in_range p page.0 count) (same_test object.0 o)
 
     unchanged : (o p : ℕ) (row : PageRow) → (o == object.0 && in_range p page.0 count) ≡ false → pended a o p row ≡ row
-    unchanged o p row off = ap (λ b. if row.here && b then aimed a row else row) (ahead_is o p ∙ off) ∙ by row.here
-      where
-        by : (b : Bool) → (if b && false then aimed a row else row) ≡ row
-        by true = refl
-        by false = refl
+    unchanged o p row off = pended_behind a o p row (ahead_is o p ∙ off)
 
     awaited_was : (o p : ℕ) (row was : PageRow) → row ≡ pended a o p was → is_awaited row ≡ true → is_awaited was ≡ true
     awaited_was o p row was is awaits = by (was.here && is_ahead a o p) (sym (ap is_awaited is) ∙ awaits)

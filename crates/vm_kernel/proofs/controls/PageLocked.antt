@@ -16,7 +16,7 @@ use Rattle.vm_kernel.proofs.controls.AnswerEffects.{hears}
 use Rattle.vm_kernel.proofs.memory.PartsStillFit.{plain_changed, plain_here, IsPlainAway}
 use Rattle.vm_kernel.proofs.steps.EventsGrow.{Follows, suffices}
 use Rattle.vm_kernel.proofs.controls.WordTaken.{may_lock, regions_of}
-use Rattle.vm_kernel.proofs.memory.WhatIsKnown.{IsOther, known_on, other_nested, pages_known}
+use Rattle.vm_kernel.proofs.memory.WhatIsKnown.{IsOther, known_on, nested, other_nested, pages_known}
 use Rattle.vm_kernel.proofs.memory.MayLeave.{IsSeen, seen_here}
 use Rattle.vm_kernel.proofs.abroad.OwnEvents.{own_named}
 use Rattle.vm_kernel.proofs.abroad.OwnHost.{own_host}
@@ -477,10 +477,6 @@ asks h object control page count returns flush lock reply = hears h object contr
 
 -- what the history has of the other pages where one is returned
 
-nested : (keep a b : Bool) → (if a then (if b then Returns keep else Elsewhere) else Elsewhere) ≡ (if a && b then Returns keep else Elsewhere)
-nested keep true b = refl
-nested keep false b = refl
-
 other_returns : (keep : Bool) → IsOther (Returns keep)
 other_returns true = tt
 other_returns false = tt
@@ -512,7 +508,7 @@ pages_given header h k ids key row x held keep lists memory control dirty bytes 
         let moved = pages_moved header.size (Returns keep) key row.frame _ _ _ _ _ k.memory memory memory.objects local_at m.fits.parts m.pages c shows
         (λ o2 p2 apart. absent.at o2 p2 ∙ ap (λ b. if b then false else absent_at k.memory.objects o2 p2) apart) in
         record {
-          shown = λ o2 p2. ap (λ e. local_after header.size e (local_at o2 p2)) (nested keep (key.object.0 == o2) (key.page.0 == p2))
+          shown = λ o2 p2. ap (λ e. local_after header.size e (local_at o2 p2)) (nested (key.object.0 == o2) (key.page.0 == p2) (Returns keep))
               ∙ moved.shown o2 p2;
         }
 

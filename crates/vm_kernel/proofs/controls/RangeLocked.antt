@@ -3,7 +3,7 @@ use Rattle.vm_kernel.proofs.Common.{AllInner, Bool, CausedInTurn, Command, EachO
 use Rattle.vm_kernel.proofs.Common.{None, ObjectId, ObjectRow, Option, Outside, PageKey, PageNo, PageRow, Parts, Plays, PutsRow, ResidentTable, RunsNone, Some}
 use Rattle.vm_kernel.proofs.Common.{Still, Then, [], absent_at, ap, append-nil, arith, before_more, false, host_id, if◌then◌else◌, inl, inr, live_in, local}
 use Rattle.vm_kernel.proofs.Common.{local_of_row, nat_lt, nat_tests, not, object_at, page_in, page_on, paging, place_of, refl, row_at, row_cases, row_put}
-use Rattle.vm_kernel.proofs.Common.{or_true, since, some_is, subst, suc, sym, true, zero, ℕ, ◌++◌, ◌+◌, ◌<◌, ◌==◌, ◌&&◌, ◌||◌, ◌∙◌, ◌∷◌, ◌≡◌, ◌≤◌, ◌⊎◌, nat_le}
+use Rattle.vm_kernel.proofs.Common.{since, some_is, subst, suc, sym, true, zero, ℕ, ◌++◌, ◌+◌, ◌<◌, ◌==◌, ◌&&◌, ◌||◌, ◌∙◌, ◌∷◌, ◌≡◌, ◌≤◌, ◌⊎◌, nat_le}
 use Rattle.vm_kernel.proofs.Common.{eqb_tells, Works}
 use Rattle.std.specs.Prelude.{option_map}
 use Rattle.vm_kernel.proofs.space.ObjectsEnd.{changes_beside}
@@ -15,6 +15,7 @@ use Rattle.vm_kernel.proofs.controls.AnswerEffects.{same_effect}
 use Rattle.vm_kernel.proofs.abroad.OwnEvents.{own_named}
 use Rattle.vm_kernel.proofs.abroad.OwnHost.{own_host}
 use Rattle.vm_kernel.proofs.memory.PagesShown.{itself}
+use Rattle.vm_legal.proofs.Inside.{since_more}
 use Rattle.vm_legal.proofs.Paying.{lock_more}
 use Rattle.vm_legal.specs.Debts.{HasLocked, HasObeyed, was_on}
 use Rattle.vm_legal.specs.Licences.{IsLocked, LockRequest, gives_back, lock_taken}
@@ -252,22 +253,16 @@ since_one test (event.Line line) past inner = absurd inner
 since_one test (event.Taken channel m) past inner = absurd inner
 since_one test other past inner = refl
 
-lock_one : (e : Event) (past : List Event) → IsInner e → lock_taken (e ∷ past) ≡ lock_taken past
-lock_one e past inner = lock_more (e ∷ []) past (inner, tt)
-
 since_none : (test : Event → Bool) (e : Event) (past : List Event) → IsInner e → test e ≡ false → since test past ≡ false → since test (e ∷ past) ≡ false
 since_none test e past inner other none = since_one test e past inner ∙ (ap (λ b. b || since test past) other ∙ none)
-
-since_still : (test : Event → Bool) (e : Event) (past : List Event) → IsInner e → since test past ≡ true → since test (e ∷ past) ≡ true
-since_still test e past inner is = since_one test e past inner ∙ or_true (test e) (since test past) is
 
 since_now : (test : Event → Bool) (e : Event) (past : List Event) → IsInner e → test e ≡ true → since test (e ∷ past) ≡ true
 since_now test e past inner is = since_one test e past inner ∙ ap (λ b. b || since test past) is
 
 given_still : (r : Request) (p : ℕ) (row : PageRow) (e : Event) (past : List Event) → IsInner e → IsGiven r p row past → IsGiven r p row (e ∷ past)
 given_still r p row e past inner is = record {
-  back = λ due. since_still (returns_page r.host r.object.0 p (not r.flush)) e past inner (is.back due);
-  dropped = λ kept flushes. since_still (drops_page r.host r.object.0 p) e past inner (is.dropped kept flushes);
+  back = λ due. since_more (returns_page r.host r.object.0 p (not r.flush)) (e ∷ []) past (inner, tt) (is.back due);
+  dropped = λ kept flushes. since_more (drops_page r.host r.object.0 p) (e ∷ []) past (inner, tt) (is.dropped kept flushes);
 }
 
 -- what a page's step leaves of the others, and of itself
@@ -276,6 +271,30 @@ pub record Steps (r : Request) (p : ℕ) (row : PageRow) (old new : LockState) (
   pub found : object_at new.parts.objects r.object.0 ≡ object_at old.parts.objects r.object.0
   pub given : IsGiven r p row past
   pub left : (now : PageRow) → row_at new.parts.resident r.object.0 p ≡ Some now → now.here ≡ true → IsLeft r now
+
+-- and so of those that the step has come past
+given_next : {r : Request} {p : ℕ} {row : PageRow} {old new : LockState} {past : List Event} → Obeyed r p old
+    → row_at old.parts.resident r.object.0 p ≡ Some row → Steps r p row old new past
+    → ((q : ℕ) (was : PageRow) → IsGiven r q was (old.events ++ r.past) → IsGiven r q was past)
+    → (q : ℕ) (was : PageRow) → IsOf r (suc p) q → row_at r.kernel.memory.resident r.object.0 q ≡ Some was → was.here ≡ true → IsGiven r q was past
+given_next {r = r} {p = p} {row = row} {past = past} o found steps still q was of there here = elim (below_or q p) [
+  | inl low ↦ still q was (o.given q was (record { least = of.least; below = low; inside = of.inside }) there here)
+  | inr high ↦
+      let is : p ≡ q = let below = of.below in omega (arith, high, below) in
+      subst (λ (z : ℕ). IsGiven r z was past) is
+      (subst (λ (z : PageRow). IsGiven r p z past) (some_is row was
+      (sym found ∙ (o.same p (omega arith) ∙ subst (λ (z : ℕ). row_at r.kernel.memory.resident r.object.0 z ≡ Some was) (sym is) there))) steps.given)
+]
+
+left_next : {r : Request} {p : ℕ} {row : PageRow} {old new : LockState} {past : List Event} → Obeyed r p old → Steps r p row old new past
+    → (q : ℕ) (now : PageRow) → IsOf r (suc p) q → row_at new.parts.resident r.object.0 q ≡ Some now → now.here ≡ true → IsLeft r now
+left_next {r = r} {p = p} {new = new} o steps q now of there here = elim (below_or q p) [
+  | inl low ↦
+      o.left q now (record { least = of.least; below = low; inside = of.inside }) (sym (steps.rows q (λ same. omega (arith, low, same))) ∙ there) here
+  | inr high ↦
+      let is : p ≡ q = let below = of.below in omega (arith, high, below) in
+      steps.left now (subst (λ (z : ℕ). row_at new.parts.resident r.object.0 z ≡ Some now) (sym is) there) here
+]
 
 -- a page has obeyed without an event
 obeyed_still : (r : Request) (p : ℕ) (row : PageRow) (old new : LockState) → Obeyed r p old → row_at old.parts.resident r.object.0 p ≡ Some row
@@ -294,25 +313,9 @@ obeyed_still r p row old new o found events still steps =
       undone = o.undone;
       ahead = λ q high. o.ahead q (omega (arith, high));
       same = λ q high. steps.rows q (λ same. omega (arith, high, same)) ∙ o.same q (omega (arith, high));
-      given = λ q was of there here. elim (below_or q p) [
-        | inl low ↦ o.given q was (record { least = of.least; below = low; inside = of.inside }) there here
-        | inr high ↦ let is : p ≡ q = let below = of.below in omega (arith, high, below) in given_at q was is there
-      ];
-      left = λ q now of there here. elim (below_or q p) [
-        | inl low ↦ o.left q now (record { least = of.least; below = low; inside = of.inside }) (sym (steps.rows q (λ same. omega (arith, low, same))) ∙ there)
-            here
-        | inr high ↦ let is : p ≡ q = let below = of.below in omega (arith, high, below) in left_at q now is there here
-      ];
+      given = given_next o found steps (λ q was is. is);
+      left = left_next o steps;
     })
-  where
-    given_at : (q : ℕ) (was : PageRow) → p ≡ q → row_at r.kernel.memory.resident r.object.0 q ≡ Some was → IsGiven r q was (old.events ++ r.past)
-    given_at q was is there =
-        subst (λ (z : ℕ). IsGiven r z was (old.events ++ r.past)) is
-        (subst (λ (z : PageRow). IsGiven r p z (old.events ++ r.past)) (some_is row was
-        (sym found ∙ (o.same p (omega arith) ∙ subst (λ (z : ℕ). row_at r.kernel.memory.resident r.object.0 z ≡ Some was) (sym is) there))) steps.given)
-
-    left_at : (q : ℕ) (now : PageRow) → p ≡ q → row_at new.parts.resident r.object.0 q ≡ Some now → now.here ≡ true → IsLeft r now
-    left_at q now is there here = steps.left now (subst (λ (z : ℕ). row_at new.parts.resident r.object.0 z ≡ Some now) (sym is) there) here
 
 -- a page has obeyed with an event
 pub record Tells (r : Request) (p : ℕ) (e : Event) : Type 0 where
@@ -333,33 +336,16 @@ obeyed_told r p row e old new o found events tells comes steps =
       plays = Then e old.events (paging (aimed_at r p old)) (paging (aimed_at r (suc p) new)) o.plays comes.does;
       quiet = (tells.quiet, o.quiet);
       least = let least = o.least in omega (arith, least);
-      taken = lock_one e (old.events ++ r.past) tells.inner ∙ o.taken;
+      taken = lock_more (e ∷ []) (old.events ++ r.past) (tells.inner, tt) ∙ o.taken;
       found = steps.found ∙ o.found;
       undone = since_none (completes r.host r.object.0) e (old.events ++ r.past) tells.inner tells.going o.undone;
       ahead =
           λ q high. since_none (gives_page r.host r.object.0 q) e (old.events ++ r.past) tells.inner (tells.mine q (omega (arith, high)))
           (o.ahead q (omega (arith, high)));
       same = λ q high. steps.rows q (λ same. omega (arith, high, same)) ∙ o.same q (omega (arith, high));
-      given = λ q was of there here. elim (below_or q p) [
-        | inl low ↦ given_still r q was e (old.events ++ r.past) tells.inner (o.given q was (record { least = of.least; below = low; inside = of.inside }) there
-            here)
-        | inr high ↦ let is : p ≡ q = let below = of.below in omega (arith, high, below) in given_at q was is there
-      ];
-      left = λ q now of there here. elim (below_or q p) [
-        | inl low ↦ o.left q now (record { least = of.least; below = low; inside = of.inside }) (sym (steps.rows q (λ same. omega (arith, low, same))) ∙ there)
-            here
-        | inr high ↦ let is : p ≡ q = let below = of.below in omega (arith, high, below) in left_at q now is there here
-      ];
+      given = given_next o found steps (λ q was is. given_still r q was e (old.events ++ r.past) tells.inner is);
+      left = left_next o steps;
     })
-  where
-    given_at : (q : ℕ) (was : PageRow) → p ≡ q → row_at r.kernel.memory.resident r.object.0 q ≡ Some was → IsGiven r q was (e ∷ (old.events ++ r.past))
-    given_at q was is there =
-        subst (λ (z : ℕ). IsGiven r z was (e ∷ (old.events ++ r.past))) is
-        (subst (λ (z : PageRow). IsGiven r p z (e ∷ (old.events ++ r.past))) (some_is row was
-        (sym found ∙ (o.same p (omega arith) ∙ subst (λ (z : ℕ). row_at r.kernel.memory.resident r.object.0 z ≡ Some was) (sym is) there))) steps.given)
-
-    left_at : (q : ℕ) (now : PageRow) → p ≡ q → row_at new.parts.resident r.object.0 q ≡ Some now → now.here ≡ true → IsLeft r now
-    left_at q now is there here = steps.left now (subst (λ (z : ℕ). row_at new.parts.resident r.object.0 z ≡ Some now) (sym is) there) here
 
 -- by the cases of the table
 
@@ -800,7 +786,7 @@ done_told r s t all wanted =
       works = works_mid rests
           (record {
             at = λ request is own.
-                let its : request_at r ≡ request = some_is (request_at r) request (sym (lock_one e moment tt ∙ o.taken) ∙ is) in
+                let its : request_at r ≡ request = some_is (request_at r) request (sym (lock_more (e ∷ []) moment (tt, tt) ∙ o.taken) ∙ is) in
                 subst (λ (z : LockRequest). since (completes z.host z.object) (e ∷ moment) ≡ true) its sent;
           });
       goes = goes;

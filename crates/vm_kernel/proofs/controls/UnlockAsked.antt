@@ -11,7 +11,7 @@ use Rattle.vm_kernel.proofs.memory.ComesForAccess.{asks_none_now, page_referred,
 use Rattle.vm_kernel.proofs.memory.PartsStillFit.{fits_changed, plain_here}
 use Rattle.vm_kernel.proofs.steps.AccessCauses.{asks_for, comes_at}
 use Rattle.vm_kernel.proofs.steps.EventsGrow.{Follows}
-use Rattle.vm_kernel.proofs.memory.WhatIsKnown.{other_nested, pages_known}
+use Rattle.vm_kernel.proofs.memory.WhatIsKnown.{nested, other_nested, pages_known}
 use Rattle.vm_kernel.proofs.steps.WhereAccessLeads.{Leads, it_waits}
 use Rattle.vm_state.proofs.Locks.{kept_locked, names_at}
 use Rattle.vm_kernel.proofs.abroad.OwnEvents.{own_named}
@@ -45,10 +45,6 @@ use Rattle.vm_state.specs.Passed.{IsPlaceBehind, IsUnmet, StaysAway}
 abbrev pub unlocking : ℕ → PageKey → ℕ → ℕ → Event
 unlocking h key control access = event.Sent (Up (host_id h) key.object) (message.Unlock control key.page access)
 
-nested : (a b : Bool) → (if a then (if b then model.Unlocks else Elsewhere) else Elsewhere) ≡ (if a && b then model.Unlocks else Elsewhere)
-nested true b = refl
-nested false b = refl
-
 pub matches_unlocked : (header : Header) (h : ℕ) (k : Parts) (ids : Ids) (past : List Event) (key : PageKey) (row : PageRow) (control access : ℕ)
     (memory : HostParts) → Matches header h k ids [] past → row.here ≡ true → NotesUnlock key row k.memory memory → KeepsPlan k.memory memory
     → Matches header h (record k { memory = memory }) ids [] (unlocking h key control access ∷ past)
@@ -65,7 +61,10 @@ matches_unlocked header h k ids past key row control access memory m here c plan
     let moved = pages_moved header.size model.Unlocks key row.frame _ _ _ _ _ k.memory memory k.memory.objects moment m.fits.parts m.pages c shows
     (λ o p apart. refl) in
     let pages2 = pages_known header header.size effect_at there (λ o p. other_nested (key.object.0 == o) (key.page.0 == p) model.Unlocks tt)
-    (record { shown = λ o p. ap (λ z. local_after header.size z (moment o p)) (nested (key.object.0 == o) (key.page.0 == p)) ∙ moved.shown o p }) in
+    (record {
+      shown = λ o p. ap (λ z. local_after header.size z (moment o p)) (nested (key.object.0 == o) (key.page.0 == p) model.Unlocks)
+          ∙ moved.shown o p;
+    }) in
     record {
       ranged = m.ranged;
       declared = m.declared;

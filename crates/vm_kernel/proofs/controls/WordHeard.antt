@@ -15,7 +15,7 @@ use Rattle.vm_base.specs.declared.ids.ObjectKind.TheVariants as kinds
 use Rattle.vm_kernel.proofs.steps.EventsGrow.{goes_none, goes_one}
 use Rattle.vm_kernel.proofs.controls.DeclaredKinds.{declared_kind}
 use Rattle.vm_model.specs.declared.event.Event.TheVariants as event
-use Rattle.vm_state.proofs.Declared.{kind_cases}
+use Rattle.vm_abroad.proofs.Regions.{kind_cases}
 use Rattle.vm_supply.specs.Answers as supply
 use Rattle.vm_kernel.proofs.controls.WordTaken.{Changed, changed_failed, changed_lacked, changed_none, changed_ready, changed_supplied, changed_zeroed, heard}
 use Rattle.vm_kernel.proofs.controls.WordTaken.{lacking, filled_follows, stays_heard, stays_zeroed, works_of, zeros}

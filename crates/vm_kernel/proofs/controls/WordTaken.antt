@@ -79,7 +79,7 @@ waits_heard maps cs rs rs2 os os2 rows who waiting_at has asked told were ready 
     by_reason t what on.Frame still why = tt
 
 -- a pager that is ready was told before
-told_unready : (os : ObjectTable) (o : ℕ) → IsPagerTold os o → ready_in (object_at os o) ≡ true → ⊥
+pub told_unready : (os : ObjectTable) (o : ℕ) → IsPagerTold os o → ready_in (object_at os o) ≡ true → ⊥
 told_unready os o told ready = let bad : false ≡ true = sym (ap ready_in told.found ∙ ap is_ready_state told.sent) ∙ ready in cc
 
 -- zeros come to a page of a declared object, whose pager is ready

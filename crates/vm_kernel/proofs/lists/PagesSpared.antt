@@ -13,6 +13,7 @@ use Rattle.vm_kernel.specs.Plays.{AreSpared, EachSpared, IsKeptSource, IsSpared,
 use Rattle.vm_kernel.specs.Serving.{FreesBut, IsHere, IsTheSource, IsToCopy, SkipLocked, frame_spared, frames_locked, frames_spared, option_list}
 use Rattle.vm_kernel.specs.Taking.{page_waited}
 use Rattle.vm_legal.specs.Accesses.{WaitsUnlocked}
+use Rattle.vm_queues.proofs.Apart.{skipped_append}
 use Rattle.vm_queues.specs.Queues.{is_skipped}
 use Rattle.vm_resident.specs.Resident.{ResidentTable}
 use Rattle.vm_state.proofs.Locks.{named_at}
@@ -105,14 +106,6 @@ pub record IsSkippedFor (rs : ResidentTable) (spared : Option PageKey) (rows : L
   pub frame : row.frame.0 ≡ f
   pub why : (spared ≡ Some key) ⊎ ((t : ℕ) × (w : Waiting) × (entry rows t ≡ Some w) × (w.on ≡ on.Page key))
 
-skipped_both : (xs ys : List FrameNo) (f : ℕ) → is_skipped (xs ++ ys) f ≡ (is_skipped xs f || is_skipped ys f)
-skipped_both [] ys f = refl
-skipped_both (x ∷ xs) ys f = ap (λ b. x.0 == f || b) (skipped_both xs ys f) ∙ sym (assoc (x.0 == f) (is_skipped xs f) (is_skipped ys f))
-  where
-    assoc : (a b c : Bool) → ((a || b) || c) ≡ (a || (b || c))
-    assoc true b c = refl
-    assoc false b c = refl
-
 one_or_other : (a b : Bool) → (a || b) ≡ true → (a ≡ true) ⊎ (b ≡ true)
 one_or_other true b is = inl refl
 one_or_other false b is = inr is
@@ -152,7 +145,7 @@ skipped_locked : (rs : ResidentTable) (spared : Option PageKey) (ws rows : List 
     → ((t : ℕ) (v : Waiting) → entry ws t ≡ Some v → entry rows t ≡ Some v) → is_skipped (frames_locked rs ws) f ≡ true → IsSkippedFor rs spared rows f
 skipped_locked rs spared [] rows f once stand is = absurd (let bad : false ≡ true = is in cc)
 skipped_locked rs spared (w ∷ ws) rows f once stand is =
-    elim (one_or_other _ _ (sym (skipped_both (option_list (frame_spared rs (page_waited w.on))) (frames_locked rs ws) f) ∙ is)) [
+    elim (one_or_other _ _ (sym (skipped_append (option_list (frame_spared rs (page_waited w.on))) (frames_locked rs ws) f) ∙ is)) [
       | inl first ↦
           let one = listed_one (frame_spared rs (page_waited w.on)) f first in
           let page = waited_frame rs w.on one.0 one.1 in
@@ -171,7 +164,7 @@ skipped_locked rs spared (w ∷ ws) rows f once stand is =
 pub skipped_for : (rs : ResidentTable) (spared : Option PageKey) (rows : List Waiting) (f : ℕ) → EachOnce rows
     → is_skipped (frames_spared rs spared rows) f ≡ true → IsSkippedFor rs spared rows f
 skipped_for rs spared rows f once is =
-    elim (one_or_other _ _ (sym (skipped_both (option_list (frame_spared rs spared)) (frames_locked rs rows) f) ∙ is)) [
+    elim (one_or_other _ _ (sym (skipped_append (option_list (frame_spared rs spared)) (frames_locked rs rows) f) ∙ is)) [
       | inl first ↦ one_page spared first refl
       | inr later ↦ skipped_locked rs spared rows rows f once (λ t v there. there) later
     ]
@@ -192,7 +185,7 @@ locked_skipped : (rs : ResidentTable) (o p t : ℕ) (row : PageRow) (v : Waiting
     → entry ws t ≡ Some v → v.on ≡ on.Page (page_key o p) → is_skipped (frames_locked rs ws) row.frame.0 ≡ true
 locked_skipped rs o p t row v [] found here is on_page = absurd (let bad : None ≡ Some v = is in cc)
 locked_skipped rs o p t row v (w ∷ ws) found here is on_page =
-    skipped_both (option_list (frame_spared rs (page_waited w.on))) (frames_locked rs ws) row.frame.0
+    skipped_append (option_list (frame_spared rs (page_waited w.on))) (frames_locked rs ws) row.frame.0
     ∙ elim (eqb_tells w.task.0 t) [
       | inl same ↦
           let it : w ≡ v = some_is w v (sym (ap (λ b. if b then Some w else entry ws t) same.0) ∙ is) in
@@ -217,7 +210,7 @@ pub skips_locked : (header : Header) (h : ℕ) (k : Parts) (ids : Ids) (past : L
     → HasWaits header h k woken.Nobody past → SkipLocked k.memory.resident (frames_spared k.memory.resident spared k.waits.rows)
 skips_locked header h k ids past spared m waits o p row found sent =
     let asker : Asker k.waits.rows o p = waits.askers o p row found (sent_awaited row sent) in
-    skipped_both (option_list (frame_spared k.memory.resident spared)) (frames_locked k.memory.resident k.waits.rows) row.frame.0
+    skipped_append (option_list (frame_spared k.memory.resident spared)) (frames_locked k.memory.resident k.waits.rows) row.frame.0
     ∙ or_right (is_skipped (option_list (frame_spared k.memory.resident spared)) row.frame.0)
     (is_skipped (frames_locked k.memory.resident k.waits.rows) row.frame.0)
     (locked_skipped k.memory.resident o p asker.task row asker.row k.waits.rows found (sent_here header h k ids past o p row m found sent) asker.is asker.waits)
@@ -226,7 +219,7 @@ skips_locked header h k ids past spared m waits o p row found sent =
 pub skips_one : (k : Parts) (key : PageKey) (here : IsHere k key) → is_skipped (frames_spared k.memory.resident (Some key) k.waits.rows) here.0.frame.0 ≡ true
 skips_one k key here =
     let rs = k.memory.resident in
-    skipped_both (option_list (frame_spared rs (Some key))) (frames_locked rs k.waits.rows) here.0.frame.0
+    skipped_append (option_list (frame_spared rs (Some key))) (frames_locked rs k.waits.rows) here.0.frame.0
     ∙ ap (λ b. b || is_skipped (frames_locked rs k.waits.rows) here.0.frame.0) (one_listed (frame_spared rs (Some key)) here.0.frame
     (ap frame_here here.1 ∙ here_frame here.0 here.2))
 

@@ -24,7 +24,7 @@ use Rattle.vm_kernel.proofs.steps.EventsGrow.{Follows, free_is, goes_none, goes_
 use Rattle.vm_kernel.proofs.memory.MayLeave.{IsSeen, seen_here}
 use Rattle.vm_kernel.proofs.memory.PartsStillFit.{plain_changed}
 use Rattle.vm_kernel.proofs.memory.PagesShown.{frames_changed, itself, laundry_changed, pages_moved}
-use Rattle.vm_kernel.proofs.memory.WhatIsKnown.{known_on, other_if, other_nested, pages_known}
+use Rattle.vm_kernel.proofs.memory.WhatIsKnown.{known_on, nested, other_if, other_nested, pages_known}
 use Rattle.vm_legal.proofs.Owing.{behind_none}
 use Rattle.vm_kernel.proofs.memory.PageReturned.{controls_begun, controls_same, controls_told, counts_controlled, first_of_object, kind_controlled}
 use Rattle.vm_kernel.proofs.memory.PageReturned.{kinds_controlled, pages_created, ready_controlled, told_controlled, unasked, untold_temporary}
@@ -348,7 +348,7 @@ returned_rests header h ids skip k k2 before after moment past control rests bes
     (λ o2 p2 apart. is.present.at o2 p2 ∙ ap (λ b. if b then false else absent_at k.memory.objects o2 p2) apart) in
     let effect_at : ℕ → ℕ → LocalEffect = λ o2 p2. if o == o2 then (if p == p2 then Returns false else Elsewhere) else Elsewhere in
     let shown : HasPages k2.memory.frames k2.memory.resident k2.memory.objects (λ o2 p2. local_after header.size (effect_at o2 p2) (local_at o2 p2)) =
-    record { shown = λ o2 p2. ap (λ e. local_after header.size e (local_at o2 p2)) (nested (o == o2) (p == p2)) ∙ moved.shown o2 p2 } in
+    record { shown = λ o2 p2. ap (λ e. local_after header.size e (local_at o2 p2)) (nested (o == o2) (p == p2) (Returns false)) ∙ moved.shown o2 p2 } in
     let pages = pages_known header header.size effect_at (λ o2 p2. local header.size h (place_of o2 p2) moment)
     (λ o2 p2. other_nested (o == o2) (p == p2) (Returns false) tt) shown in
     record {
@@ -401,10 +401,6 @@ returned_rests header h ids skip k k2 before after moment past control rests bes
       order = rw beside.waits b.order;
       idle = rw beside.waits rests.idle;
     }
-  where
-    nested : (a b : Bool) → (if a then (if b then Returns false else Elsewhere) else Elsewhere) ≡ (if a && b then Returns false else Elsewhere)
-    nested true b = refl
-    nested false b = refl
 
 either : {changed cherished : Bool} (dirty precious : Bool) → changed ≡ dirty → cherished ≡ precious → (dirty || precious) ≡ true
     → (changed || cherished) ≡ true

@@ -11,7 +11,8 @@ use Rattle.vm_model.specs.declared.event.Event.TheVariants as event
 use Rattle.vm_model.specs.declared.message.Message.TheVariants as message
 use Rattle.vm_objects.specs.declared.row.PagerState.TheVariants as state
 use Rattle.vm_terminate.specs.Finishes.{IsReferred}
-use Rattle.vm_state.proofs.Declared.{kind_cases}
+use Rattle.vm_abroad.proofs.Regions.{kind_cases}
+use Rattle.vm_state.proofs.Knowing.{put_else, put_here}
 
 -- nothing is asked of an object without a live control
 
@@ -248,46 +249,40 @@ pub controls_begun : {d h : ℕ} {home_at : ℕ → Option ℕ} (os os2 : Object
 controls_begun {h = h} {home_at = home_at} os os2 last_at live_at ready_at o row has live found none put =
     record {
       last = λ k. elim (eqb_tells o k) [
-        | inl same ↦ ap (λ b. if b then row.control + 1 else last_at k) same.0 ∙ sym (ap last_in (now k same.0))
-        | inr apart ↦ ap (λ b. if b then row.control + 1 else last_at k) apart.0 ∙ (has.last k ∙ sym (ap last_in (was k apart.0)))
+        | inl same ↦ ap (λ b. if b then row.control + 1 else last_at k) same.0 ∙ sym (ap last_in (put_here put k same.0))
+        | inr apart ↦ ap (λ b. if b then row.control + 1 else last_at k) apart.0 ∙ (has.last k ∙ sym (ap last_in (put_else put k apart.0)))
       ];
       live = λ k. elim (eqb_tells o k) [
-        | inl same ↦ ap (λ b. if b then Some (row.control + 1) else live_at k) same.0 ∙ sym (ap live_in (now k same.0))
-        | inr apart ↦ ap (λ b. if b then Some (row.control + 1) else live_at k) apart.0 ∙ (has.live k ∙ sym (ap live_in (was k apart.0)))
+        | inl same ↦ ap (λ b. if b then Some (row.control + 1) else live_at k) same.0 ∙ sym (ap live_in (put_here put k same.0))
+        | inr apart ↦ ap (λ b. if b then Some (row.control + 1) else live_at k) apart.0 ∙ (has.live k ∙ sym (ap live_in (put_else put k apart.0)))
       ];
       ready = λ k control is. elim (eqb_tells o k) [
-        | inl same ↦ ap (λ b. if b then false else ready_at k) same.0 ∙ sym (ap ready_in (now k same.0))
+        | inl same ↦ ap (λ b. if b then false else ready_at k) same.0 ∙ sym (ap ready_in (put_here put k same.0))
         | inr apart ↦ ap (λ b. if b then false else ready_at k) apart.0
-            ∙ (has.ready k control (sym (ap (λ b. if b then Some (row.control + 1) else live_at k) apart.0) ∙ is) ∙ sym (ap ready_in (was k apart.0)))
+            ∙ (has.ready k control (sym (ap (λ b. if b then Some (row.control + 1) else live_at k) apart.0) ∙ is) ∙ sym (ap ready_in (put_else put k apart.0)))
       ];
       all_live = live;
       numbers = record {
         at = λ k r is. elim (eqb_tells o k) [
           | inl same ↦
-              let one : row_with_control state.Without row ≡ r = some_is (row_with_control state.Without row) r (sym (now k same.0) ∙ is) in
+              let one : row_with_control state.Without row ≡ r = some_is (row_with_control state.Without row) r (sym (put_here put k same.0) ∙ is) in
               let number : row.control + 1 ≡ r.control = ap (λ z. z.control) one in
               omega (arith, number, none)
-          | inr apart ↦ has.numbers.at k r (sym (was k apart.0) ∙ is)
+          | inr apart ↦ has.numbers.at k r (sym (put_else put k apart.0) ∙ is)
         ];
       };
       ended = λ k r is alive. elim (eqb_tells o k) [
         | inl same ↦ λ without.
-            let one : row_with_control state.Without row ≡ r = some_is (row_with_control state.Without row) r (sym (now k same.0) ∙ is) in
+            let one : row_with_control state.Without row ≡ r = some_is (row_with_control state.Without row) r (sym (put_here put k same.0) ∙ is) in
             let bad : state.Sent ≡ state.Without = ap (λ z. z.state) one ∙ without in
             cc
-        | inr apart ↦ has.ended k r (sym (was k apart.0) ∙ is) alive
+        | inr apart ↦ has.ended k r (sym (put_else put k apart.0) ∙ is) alive
       ];
       home = λ k r least is. elim (eqb_tells o k) [
         | inl same ↦ subst (λ (z : ℕ). home_at z ≡ Some h) same.1 (has.home o row (let own = same.1 in omega (arith, own, least)) found)
-        | inr apart ↦ has.home k r least (sym (was k apart.0) ∙ is)
+        | inr apart ↦ has.home k r least (sym (put_else put k apart.0) ∙ is)
       ];
     }
-  where
-    now : (k : ℕ) → (o == k) ≡ true → object_at os2 k ≡ Some (row_with_control state.Without row)
-    now k same = put.at k ∙ ap (λ b. if b then Some (row_with_control state.Without row) else object_at os k) same
-
-    was : (k : ℕ) → (o == k) ≡ false → object_at os2 k ≡ object_at os k
-    was k apart = put.at k ∙ ap (λ b. if b then Some (row_with_control state.Without row) else object_at os k) apart
 
 -- a temporary object to which something refers has its first control exactly where its pager was told of it
 pub record IsFirst (row : ObjectRow) : Type 0 where

@@ -17,7 +17,7 @@ use Rattle.vm_parts.specs.Fits.{Fit}
 use Rattle.vm_shadow.specs.Chains.{ObjectsBelow, ShadowsRegion}
 use Rattle.vm_model.specs.Named.{named}
 use Rattle.vm_model.specs.Regions.{backing_of, over, region_of, shadowed}
-use Rattle.vm_kernel.proofs.space.RegionsInUse.{paged_temporary}
+use Rattle.vm_legal.proofs.Served.{later_paged as paged_temporary}
 use Rattle.vm_state.proofs.Declared.{kind_new, kinds_put, kinds_shadowed, marked_temporary}
 use Rattle.vm_state.proofs.Files.{files_temporary}
 use Rattle.vm_state.proofs.Fresh.{other_test}

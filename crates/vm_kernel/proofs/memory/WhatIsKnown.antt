@@ -14,6 +14,11 @@ pub other_if : (b : Bool) (effect : LocalEffect) → IsOther effect → IsOther 
 other_if true effect is = is
 other_if false effect is = tt
 
+-- two tests for one effect are one
+pub nested : (a b : Bool) (effect : LocalEffect) → (if a then (if b then effect else Elsewhere) else Elsewhere) ≡ (if a && b then effect else Elsewhere)
+nested true b effect = refl
+nested false b effect = refl
+
 pub other_nested : (a b : Bool) (effect : LocalEffect) → IsOther effect → IsOther (if a then (if b then effect else Elsewhere) else Elsewhere)
 other_nested true b effect is = other_if b effect is
 other_nested false b effect is = tt

@@ -1,6 +1,7 @@
 -- What the parts of a step spend in front of the accesses that are run, and what they leave for those.
 use Rattle.vm_kernel.proofs.Common.{Bool, Command, Err, Event, Header, Ids, List, Matches, ObjectTable, Ok, OnOk, On, PageKey, Parts, Result, WaitTable}
-use Rattle.vm_kernel.proofs.Common.{Waiting, [], ap, arith, false, frame_count, length, one_again, one_frame, refl, returns_out, subst, sym, true, ℕ, ◌++◌, ◌+◌}
+use Rattle.vm_kernel.proofs.Common.{Waiting, [], ap, arith, false, frame_count, length, length-append, one_again, one_frame, refl, returns_out, subst, sym}
+use Rattle.vm_kernel.proofs.Common.{true, ℕ, ◌++◌, ◌+◌}
 use Rattle.vm_kernel.proofs.Common.{◌*◌, ◌<◌, ◌∙◌, ◌∷◌, ◌≡◌, ◌≤◌}
 use Rattle.std.specs.Prelude.{IsOk, OnErr, vec_capacity}
 use Rattle.vm_base.specs.Listing.{Listed}
@@ -166,7 +167,7 @@ module _ {A B : Type 0} (r : Result A B) (old new : Parts) (before after : Liste
       by (Err e) is leaves keeps = tt
 
 -- a load or a store is no slow copy
-pub begun_copies : (old mid new : List Waiting) (w : Waiting) → new ≡ mid ++ w ∷ [] → mid ≡ old → is_copying w.want ≡ false
+begun_copies : (old mid new : List Waiting) (w : Waiting) → new ≡ mid ++ w ∷ [] → mid ≡ old → is_copying w.want ≡ false
     → count_copies new ≡ count_copies old
 begun_copies old mid new w is same none =
     let more = copies_begun mid w in
@@ -175,11 +176,16 @@ begun_copies old mid new w is same none =
     let zero : one (is_copying w.want) ≡ 0 = ap one none in
     omega (arith, more, whole, were, zero)
 
+pub begun_more : {old mid new : List Waiting} (w : Waiting) → new ≡ mid ++ w ∷ [] → mid ≡ old → length new ≡ length old + 1
+begun_more {mid = mid} w is same = ap length is ∙ (length-append mid (w ∷ []) ∙ ap (λ z. length z + 1) same)
+
 -- an access that begins tells one event, and runs once
-pub begun_spends : (k : Parts) (waits : WaitTable) (before after : Listed Event) (e : Event) → length waits.rows ≡ length k.waits.rows + 1
-    → count_copies waits.rows ≡ count_copies k.waits.rows → after.items ≡ e ∷ before.items → before.room ≤ after.room + 1
+pub begun_spends : {mid : List Waiting} {e : Event} (w : Waiting) (k : Parts) (waits : WaitTable) (before after : Listed Event)
+    → waits.rows ≡ mid ++ w ∷ [] → mid ≡ k.waits.rows → is_copying w.want ≡ false → after.items ≡ e ∷ before.items → before.room ≤ after.room + 1
     → Spends 4 4 0 k before (record k { waits = waits }) after
-begun_spends k waits before after e more copies told room =
+begun_spends {mid = mid} w k waits before after is same none told room =
+    let more = begun_more w is same in
+    let copies = begun_copies k.waits.rows mid waits.rows w is same none in
     let one : length after.items ≡ length before.items + 1 = rw told (omega arith) in
     let framed = ap (λ n. if_copies n (frame_count k.memory.frames)) copies in
     record {

@@ -1,5 +1,5 @@
 -- The entries of a task that is forked, one after another, and what a child gets of them.
-use Rattle.vm_kernel.proofs.Common.{AllRows, AllWholePages, Bool, Entry, Event, HasWholePages, InOrder, List, Some, TaskId, [], ap, append_assoc, arith}
+use Rattle.vm_kernel.proofs.Common.{AllRows, Bool, Entry, Event, InOrder, List, Some, TaskId, [], ap, append_assoc, arith}
 use Rattle.vm_kernel.proofs.Common.{entry_at, false, if◌then◌else◌, meets_range, nat_le, nat_lt, nat_tests, Option, refl, reverse, reverse-append, slice_get}
 use Rattle.vm_kernel.proofs.Common.{slice_get_within, subst, suc, sym, true, zero, ℕ, ◌&&◌, ◌++◌, ◌+◌, ◌||◌, ◌∙◌, ◌∷◌, ◌≡◌, ◌≤◌}
 use Rattle.vm_legal.specs.Follows.{inherits, inherits_all, next_behind}
@@ -41,11 +41,6 @@ found_first from to (first ∷ rows) (suc i) row order found =
     passes : (b : Bool) (rest : Option Entry) → rest ≡ Some row → (if b && false then Some first else rest) ≡ Some row
     passes true rest is = is
     passes false rest is = is
-
-pub whole_at : (size i : ℕ) (rows : List Entry) (row : Entry) → AllWholePages size rows → slice_get rows i ≡ Some row → HasWholePages size row
-whole_at size i [] row all found = absurd (let bad = slice_get_within [] i row found in omega (arith, bad))
-whole_at size zero (first ∷ rows) row all found = subst (HasWholePages size) (some_is first row found) all.0
-whole_at size (suc i) (first ∷ rows) row all found = whole_at size i rows row all.1 found
 
 -- what is left to tell, where what is told of one entry was added
 pub told_next : (size : ℕ) (child : TaskId) (next next2 : ℕ) (row : Entry) (rest : List Entry) (first mine events after : List Event)

@@ -10,7 +10,8 @@ use Rattle.vm_kernel.proofs.Common.{region_at, region_entries, region_of, region
 use Rattle.vm_kernel.proofs.Common.{slice_get, slice_get_within, some_is, subst, sym, tasks, true, unwrap_or, waiting, ℕ, ◌%◌, ◌*◌, ◌++◌, ◌+◌, ◌/◌, ◌<◌, ◌==◌}
 use Rattle.vm_kernel.proofs.Common.{◌^◌, ◌∙◌, ◌∷◌, ◌≡◌, ◌≢◌, ◌≤◌, ◌⊎◌}
 use Rattle.vm_kernel.proofs.space.RegionsFilled.{counted_unfilled, entry_some, recount_filled, same_waiting}
-use Rattle.vm_kernel.proofs.space.RegionsInUse.{fills_here, holds_rows, paged_file, paged_temporary, unfilled, uses_entered}
+use Rattle.vm_legal.proofs.Served.{later_paged as paged_temporary}
+use Rattle.vm_kernel.proofs.space.RegionsInUse.{fills_here, holds_rows, paged_file, unfilled, uses_entered}
 use Rattle.vm_state.proofs.Filling.{copies_kept, rows_unmade}
 use Rattle.std.proofs.Common.{nat_lt}
 use Rattle.vm_abroad.proofs.Elsewhere.{filled_other}
@@ -24,7 +25,7 @@ use Rattle.vm_model.specs.declared.event.Event.TheVariants as event
 use Rattle.vm_model.specs.declared.command.Command.TheVariants as command
 use Rattle.vm_state.proofs.Changing.{SameButEntries, regions_recounted}
 use Rattle.vm_model.specs.Waiting.{is_target}
-use Rattle.vm_state.proofs.Declared.{kind_cases}
+use Rattle.vm_abroad.proofs.Regions.{kind_cases}
 use Rattle.vm_state.proofs.Files.{files_entered}
 use Rattle.vm_state.proofs.Marks.{marked_copied}
 use Rattle.vm_state.proofs.Referred.{referred_recounted}
@@ -37,7 +38,8 @@ use Rattle.vm_kernel.proofs.space.CopiesCounted.{drop_past}
 use Rattle.vm_kernel.proofs.space.RegionCopied.{MayCopy, copied, free_of, heads_copied, heads_more, keeps_recounted, no_row, rests_copied, same_put}
 use Rattle.vm_kernel.proofs.space.RegionCopied.{told_copied, used_there}
 use Rattle.vm_kernel.proofs.space.EntriesCounted.{by_few, most_is, none_on, on_entered, one_on}
-use Rattle.vm_kernel.proofs.space.ChildEntries.{free_behind, found_first, told_next, whole_at}
+use Rattle.vm_kernel.proofs.space.ChildEntries.{free_behind, found_first, told_next}
+use Rattle.vm_maps.proofs.Pages.{whole_at}
 use Rattle.vm_kernel.proofs.steps.EventsGrow.{suffices}
 use Rattle.vm_kernel.proofs.steps.HeadAlone.{Heads, passed, ran_head}
 use Rattle.vm_kernel.proofs.space.TaskMade.{rests_made}

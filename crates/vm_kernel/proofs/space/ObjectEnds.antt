@@ -26,7 +26,7 @@ use Rattle.vm_shadow.specs.declared.shadow_row.ShadowRow.{ShadowRow}
 use Rattle.vm_kernel.proofs.memory.PartsStillFit.{plain_changed}
 use Rattle.vm_kernel.proofs.space.EntriesCounted.{by_some}
 use Rattle.vm_kernel.proofs.steps.EventsGrow.{goes_one, suffices}
-use Rattle.vm_kernel.proofs.memory.WhatIsKnown.{IsOther, known_on, other_if, pages_known}
+use Rattle.vm_kernel.proofs.memory.WhatIsKnown.{known_on, nested, other_if, other_nested, pages_known}
 use Rattle.vm_kernel.proofs.memory.MayLeave.{IsSeen, seen_here}
 use Rattle.vm_kernel.proofs.abroad.OwnEvents.{own_named}
 use Rattle.vm_kernel.proofs.abroad.OwnHost.{own_host}
@@ -38,7 +38,8 @@ use Rattle.vm_kernel.proofs.space.RegionEnds.{controls_referred}
 use Rattle.vm_kernel.proofs.memory.FramesWashed.{laundry_returned}
 use Rattle.vm_kernel.proofs.controls.LockReplied.{replied_behind}
 use Rattle.vm_state.proofs.Changing.{regions_controlled}
-use Rattle.vm_state.proofs.Declared.{kind_cases, kind_referred, kinds_dropped, kinds_put, kinds_same, whole_row}
+use Rattle.vm_abroad.proofs.Regions.{kind_cases}
+use Rattle.vm_state.proofs.Declared.{kind_referred, kinds_dropped, kinds_put, kinds_same, whole_row}
 use Rattle.vm_state.proofs.Files.{files_put, files_same}
 use Rattle.vm_state.proofs.Going.{regions_dropped}
 use Rattle.vm_state.proofs.Knowing.{known_put}
@@ -126,6 +127,12 @@ unsent header h past who k ids rest key row events e found =
     e.runs.waits
     (unreferred_region m.regions key.object.0 e.row e.known e.none) (unreferred_shadow m.regions key.object.0 e.row e.known e.none) found
 
+-- none of its pages in front is here
+none_in_front : {header : Header} {h : ℕ} {k : Parts} {ids : Ids} {rest : List Entry} {past : List Event} → Matches header h k ids rest past → (o p : ℕ)
+    → ((q : ℕ) → q < p → row_at k.memory.resident o q ≡ None) → (q : ℕ) → q < p → (local header.size h (place_of o q) past).here ≡ false
+none_in_front {k = k} m o p first q low =
+    ap (λ z. z.here) (m.pages.shown o q ∙ ap (λ z. local_of_row k.memory.frames z (absent_at k.memory.objects o q)) (first q low))
+
 -- a page of it goes
 pub ends_lost : (header : Header) (h : ℕ) (outside : Outside) (doing : Command) (past : List Event) (who : Woken) (k : Parts) (ids : Ids) (rest : List Entry)
     (key : PageKey) (row : PageRow) (memory : HostParts) (events : List Event)
@@ -210,9 +217,6 @@ ends_lost header h outside doing past who k ids rest key row memory events e fir
     seen =
         seen_here k.memory.frames row (absent_at k.memory.objects o p) (known_local header o p (local header.size h (place_of o p) (events ++ past))) is is_here
 
-    least : (q : ℕ) → q < p → (local header.size h (place_of o q) (events ++ past)).here ≡ false
-    least q low = ap (λ z. z.here) (m.pages.shown o q ∙ ap (λ z. local_of_row k.memory.frames z (absent_at k.memory.objects o q)) (first q low))
-
     why : DropCause header doing h o p (local header.size h (place_of o p) (events ++ past)) (events ++ past)
     why = elim (kind_cases header o) [
       | inl declared ↦ Ended (seen.dirty ∙ (or_parts row.dirty row.precious (clean declared)).0)
@@ -223,8 +227,8 @@ ends_lost header h outside doing past who k ids rest key row memory events e fir
 
     turn : (cause : DropCause header doing h o p (local header.size h (place_of o p) (events ++ past)) (events ++ past))
         → DropsInTurn header doing h o p (local header.size h (place_of o p) (events ++ past)) (events ++ past) cause
-    turn (Unreached temporary unreached) = least
-    turn (Ended clean plain declared unheld) = least
+    turn (Unreached temporary unreached) = none_in_front m o p first
+    turn (Ended clean plain declared unheld) = none_in_front m o p first
     turn other = tt
 
     cause : CausedInTurn header outside doing (event.Dropped (host_id h) key.object key.page) (events ++ past)
@@ -374,7 +378,7 @@ ends_returned header h outside doing past who k ids rest key known row memory la
         entries = m.entries;
         pages =
             rw (own_host h) (pages_known header header.size effect_at (λ o2 p2. local header.size h (place_of o2 p2) moment)
-            (λ o2 p2. other_nested (o == o2) (p == p2)) pages2);
+            (λ o2 p2. other_nested (o == o2) (p == p2) (Returns false) tt) pages2);
         uses = m.uses;
         controls =
             controls_same k.memory.objects memory.objects (λ o2. last_control h o2 moment) (λ o2. live_control h o2 moment)
@@ -449,9 +453,6 @@ ends_returned header h outside doing past who k ids rest key known row memory la
     why : ReturnCause header doing h o p false (events ++ past)
     why = Ended refl goes.declared (unheld header h k ids rest (events ++ past) o e.row m e.known e.none goes.declared)
 
-    least : (q : ℕ) → q < p → (local header.size h (place_of o q) (events ++ past)).here ≡ false
-    least q low = ap (λ z. z.here) (m.pages.shown o q ∙ ap (λ z. local_of_row k.memory.frames z (absent_at k.memory.objects o q)) (goes.first q low))
-
     cause : CausedInTurn header outside doing (going_back h key known row (page_in k.memory.frames row.frame.0)) (events ++ past)
     cause = (
       record {
@@ -462,7 +463,7 @@ ends_returned header h outside doing past who k ids rest key known row memory la
         flag = sym seen.dirty;
         why = why;
       },
-      least,
+      none_in_front m o p goes.first,
     )
 
     long : length (page_in k.memory.frames row.frame.0) ≡ header.size
@@ -502,14 +503,6 @@ ends_returned header h outside doing past who k ids rest key known row memory la
     effect_at : ℕ → ℕ → LocalEffect
     effect_at o2 p2 = if o == o2 then (if p == p2 then Returns false else Elsewhere) else Elsewhere
 
-    other_nested : (a b : Bool) → IsOther (if a then (if b then Returns false else Elsewhere) else Elsewhere)
-    other_nested true b = other_if b (Returns false) tt
-    other_nested false b = tt
-
-    nested : (a b : Bool) → (if a then (if b then Returns false else Elsewhere) else Elsewhere) ≡ (if a && b then Returns false else Elsewhere)
-    nested true b = refl
-    nested false b = refl
-
     pages2 : HasPages memory.frames memory.resident memory.objects (λ o2 p2. local_after header.size (effect_at o2 p2)
         (known_local header o2 p2 (local header.size h (place_of o2 p2) (events ++ past))))
     pages2 =
@@ -517,7 +510,7 @@ ends_returned header h outside doing past who k ids rest key known row memory la
         let moved = pages_moved header.size (Returns false) key row.frame _ _ _ _ _ k.memory memory memory.objects local_at m.fits.parts m.pages c
         (ap (λ z. record away { asked = not z }) goes.here ∙ ap (λ z. record away { absent = z }) (sym (marks.at o p ∙ m.kinds.present o p goes.declared)))
         (λ o2 p2 apart. marks.at o2 p2) in
-        record { shown = λ o2 p2. ap (λ e. local_after header.size e (local_at o2 p2)) (nested (o == o2) (p == p2)) ∙ moved.shown o2 p2 }
+        record { shown = λ o2 p2. ap (λ e. local_after header.size e (local_at o2 p2)) (nested (o == o2) (p == p2) (Returns false)) ∙ moved.shown o2 p2 }
 
     frames2 : HasFrames (slice_get (reverse header.frames.items) h) memory.frames
         (frames_held header.size h (going_back h key known row (page_in k.memory.frames row.frame.0) ∷ (events ++ past)))

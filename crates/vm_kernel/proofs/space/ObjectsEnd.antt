@@ -14,7 +14,7 @@ use Rattle.vm_kernel.specs.Sweeping.{IsKnownToPager}
 use Rattle.vm_kernel.proofs.space.RegionEnds.{LosesRegion}
 use Rattle.vm_kernel.proofs.space.ObjectEnds.{GoesToPager, LeavesOne, departs_unheld, ends_dropped, ends_lost, ends_returned, ends_told, going_back, lost_plays}
 use Rattle.vm_kernel.proofs.space.ObjectEnds.{quiet_row, whole_dropped}
-use Rattle.vm_state.proofs.Declared.{kind_cases}
+use Rattle.vm_abroad.proofs.Regions.{kind_cases}
 use Rattle.vm_state.proofs.Knowing.{known_put}
 use Rattle.vm_model.specs.Regions.{Backing, Region}
 use Rattle.vm_model.specs.declared.event.Event.TheVariants as event

@@ -11,7 +11,8 @@ use Rattle.vm_kernel.proofs.Common.{object_at, one_case, page_at, page_below, pa
 use Rattle.vm_kernel.proofs.Common.{region_pages, row_at, rows_entered, rows_in, rows_map, same_pages, some_is, subst, suc, sym, tasks, true, waiting}
 use Rattle.vm_kernel.proofs.Common.{waiting_in, whole_entry, zero, ℕ, ◌%◌, ◌&&◌, ◌++◌, ◌+◌, ◌-◌, ◌/◌, ◌<◌, ◌==◌, ◌^◌, ◌||◌, ◌∙◌, ◌∷◌, ◌≡◌, ◌≤◌, ◌⊎◌}
 use Rattle.vm_kernel.proofs.space.RegionsFilled.{entry_some, filled_temporary, free_unfilled, row_use, same_waiting}
-use Rattle.vm_kernel.proofs.space.RegionsInUse.{fills_here, holds_rows, paged_temporary, unfilled, uses_entered}
+use Rattle.vm_legal.proofs.Served.{later_paged as paged_temporary}
+use Rattle.vm_kernel.proofs.space.RegionsInUse.{fills_here, holds_rows, unfilled, uses_entered}
 use Rattle.vm_state.proofs.Places.{keeps_copied, on_its_region}
 use Rattle.vm_state.proofs.Filling.{KeepsFilled, copies_kept, rows_unmade, top_unfilled}
 use Rattle.vm_state.specs.Filling.{filled_row}
@@ -45,7 +46,8 @@ use Rattle.vm_legal.specs.Licences as cause
 use Rattle.vm_legal.specs.Outside.{is_file}
 use Rattle.vm_legal.specs.Refusal as refusing
 use Rattle.vm_legal.specs.Refusal.{is_uncopied}
-use Rattle.vm_state.proofs.Declared.{kind_cases, kind_referred, kinds_put}
+use Rattle.vm_abroad.proofs.Regions.{kind_cases}
+use Rattle.vm_state.proofs.Declared.{kind_referred, kinds_put}
 use Rattle.vm_state.proofs.Referring.{refers_region, row_of, small_region}
 use Rattle.vm_state.proofs.Told.{waits_referred}
 use Rattle.vm_supply.specs.declared.woken.Woken.TheVariants as woken

@@ -1,6 +1,6 @@
 -- No entry leads to a region any more: it goes, and its top has one reference less.
 use Rattle.vm_kernel.proofs.Common.{AllEntriesInside, AllRows, Bool, ChainTable, EndsObject, EndsRegion, Entry, Event, HasControls, HasEntries, Header, Ids}
-use Rattle.vm_kernel.proofs.Common.{IfSome, Inside, IsAmid, IsReferred, IsSome, IsWhole, List, Mapped, Matches, None, ObjectId, ObjectRow, ObjectTable, Option}
+use Rattle.vm_kernel.proofs.Common.{IfSome, Inside, IsAmid, IsReferred, IsWhole, List, Mapped, Matches, None, ObjectId, ObjectRow, ObjectTable, Option}
 use Rattle.vm_kernel.proofs.Common.{Parts, PutsObject, PutsRegion, RegionRow, SameMarks, Some, UsesAll, Woken, [], all_tasks, ap, arith, backing_of, count_by}
 use Rattle.vm_kernel.proofs.Common.{count_on, entries_in_row, eqb_tells, false, fit_objects, has_entry, has_region, home_of, inl, inr, is_some, is_woken}
 use Rattle.vm_kernel.proofs.Common.{last_in, live_in, local_of_row, marks_of, nat_lt, nat_tests, next_object, next_region, object_at, one_case, pages_in}
@@ -171,12 +171,6 @@ top_referred header h past who k ids rest r events object e top =
     let row = region_row k.chains r e.there in
     let is : object ≡ row.0.top = if_some (region_at k.chains r) (λ row. object ≡ row.top) row.0 row.1 top in
     subst (λ (z : ObjectId). IsReferred k.memory.objects z.0) (sym is) (refers_region e.runs.matches.regions r row.0 row.1)
-
-pub referred_there : (os : ObjectTable) (o : ℕ) → IsReferred os o → IsSome (object_at os o)
-referred_there os o is = ap is_some is.known
-
-pub referred_some : (os : ObjectTable) (o : ℕ) → IsReferred os o → IfSome (object_at os o) (λ row. 0 < row.references)
-referred_some os o is = subst (λ (z : Option ObjectRow). IfSome z (λ row. 0 < row.references)) (sym is.known) is.some
 
 pub loses_region : (header : Header) (h : ℕ) (past : List Event) (who : Woken) (k : Parts) (ids : Ids) (rest : List Entry) (r left : ℕ) (events : List Event)
     (object : ObjectId) (chains : ChainTable) (objects : ObjectTable)

@@ -1,4 +1,5 @@
 -- Which regions are in use.
+use Rattle.vm_legal.proofs.Served.{later_paged as paged_temporary}
 use Rattle.vm_kernel.proofs.Common.{Access, Bool, ChainTable, ChangesOnly, Entry, Event, HasCopies, HasUse, HasWaiters, Header, IsFilledIn, IsInUse, IsUsed}
 use Rattle.vm_kernel.proofs.Common.{List, Mapped, None, ObjectTable, On, Option, ResidentTable, Some, Waiting, [], all_tasks, ap, arith, copy_target, count_by}
 use Rattle.vm_kernel.proofs.Common.{count_on, entered, entries_in, entries_of, entry, eqb_tells, false, fills, fills_in, has_entry, holds, if◌then◌else◌, inl}
@@ -153,10 +154,7 @@ kept_is header region maps list past temporary shows apart most among =
       is = λ needed. rw new (use_held header.size region (tasks past) maps list past shows among needed);
     }
 
--- temporary regions, and those of files, are of one host
-pub paged_temporary : (header : Header) (r : ℕ) → named header ≤ r → is_paged header r ≡ true
-paged_temporary header r temporary = let test : nat_lt r (named header) ≡ false = grind (arith, nat_tests) in ap (λ b. not b || is_file header r) test
-
+-- the regions of files are of one host
 pub paged_file : (header : Header) (r : ℕ) → is_file header r ≡ true → is_paged header r ≡ true
 paged_file header r file = ap (λ b. not (nat_lt r (named header)) || b) file ∙ or_always (not (nat_lt r (named header)))
   where

@@ -15,7 +15,7 @@ use Rattle.vm_model.specs.Waiting.{Loading, Storing}
 use Rattle.vm_model.specs.declared.event.Event.TheVariants as event
 use Rattle.vm_model.specs.declared.message.Message.TheVariants as message
 use Rattle.vm_objects.specs.declared.row.PagerState.TheVariants as state
-use Rattle.vm_kernel.proofs.space.RegionsInUse.{paged_temporary}
+use Rattle.vm_legal.proofs.Served.{later_paged as paged_temporary}
 use Rattle.vm_state.proofs.Declared.{marked_temporary}
 use Rattle.vm_state.proofs.Shown.{IsShown, may_ask, shows_row}
 use Rattle.vm_state.proofs.Walks.{sinks_of, walks_of}

@@ -42,7 +42,7 @@ use Rattle.vm_state.proofs.Locks.{kept_anywhere, plain_open, storing_is}
 use Rattle.vm_kernel.proofs.controls.UnlockAsked.{unlock_follows, unlocking, works_unlocked}
 use Rattle.std.proofs.lemmas.Bool.{and_parts}
 use Rattle.vm_kernel.proofs.memory.PageReturned.{untold_temporary}
-use Rattle.vm_state.proofs.Declared.{kind_cases}
+use Rattle.vm_abroad.proofs.Regions.{kind_cases}
 use Rattle.std.specs.Prelude.{◌==◌}
 use Rattle.vm_kernel.proofs.memory.SourceOfCopy.{copies_source, only_copies, wants_copy}
 use Rattle.std.proofs.lemmas.Bool.{or_right}

@@ -9,7 +9,7 @@ use Rattle.vm_kernel.proofs.Common.{is_range, is_ready, is_some, is_woken, last_
 use Rattle.vm_kernel.proofs.Common.{named, nat_le, nat_lt, nat_tests, next_object, next_page, next_region, object_at, object_home, page_at, place_at, place_of}
 use Rattle.vm_kernel.proofs.Common.{puts_cases, refl, region_at, region_of, row_at, rows_in, rows_map, some_is, subst, suc, sym, tasks, true, waiting}
 use Rattle.vm_kernel.proofs.Common.{with_entries, zero, ℕ, ◌%◌, ◌&&◌, ◌*◌, ◌++◌, ◌+◌, ◌/◌, ◌<◌, ◌==◌, ◌^◌, ◌||◌, ◌∙◌, ◌∷◌, ◌≡◌, ◌≤◌, ◌⊎◌}
-use Rattle.std.proofs.Math.Nat.{div-add-mod', mul-lt-mul_of_pos_right}
+use Rattle.std.proofs.Math.Nat.{mul-lt-mul_of_pos_right}
 use Rattle.std.proofs.lemmas.Bool.{or_parts}
 use Rattle.std.specs.Prelude.{IsSome}
 use Rattle.vm_abroad.proofs.Home.{home_made, objects_stay, region_made}
@@ -18,6 +18,7 @@ use Rattle.vm_base.specs.Limits.{most_objects, most_regions}
 use Rattle.vm_base.specs.Pages.{page_positive}
 use Rattle.vm_base.specs.declared.ids.Inherit.TheVariants.{Copy}
 use Rattle.vm_base.specs.declared.ids.Access.TheVariants as need
+use Rattle.vm_maps.proofs.Multiples.{pages_of}
 use Rattle.vm_kernel.proofs.steps.AccessBegins.{lined_below, waits_added}
 use Rattle.vm_kernel.proofs.space.RegionCopied.{heads_more, is_full_copy, may_place, no_row, same_put}
 use Rattle.vm_kernel.proofs.space.EntriesCounted.{by_none}
@@ -115,10 +116,6 @@ pub record MayBegin (header : Header) (task address bytes to : ℕ) (past : List
   pub regions : ids.next_region < most_regions
   pub marks : ids.next_object + ids.marks < most_objects
 
--- a range of whole pages
-whole_range : (size bytes : ℕ) → bytes % size ≡ 0 → bytes / size * size ≡ bytes
-whole_range size bytes even = let sum = div-add-mod' bytes size in omega (arith, sum, even)
-
 some_pages : (pages size bytes : ℕ) → pages * size ≡ bytes → 0 < bytes → 0 < pages
 some_pages zero size bytes is some = absurd (omega (arith, is, some))
 some_pages (suc n) size bytes is some = omega arith
@@ -155,7 +152,7 @@ may_begin header h task address bytes to past k ids before s is_declared order =
     let from : is_range size address bytes ≡ true = p.from in
     let even_bytes : bytes % size ≡ 0 = grind (arith, nat_tests) in
     let some_bytes : 0 < bytes = grind (arith, nat_tests) in
-    let whole = whole_range size bytes even_bytes in
+    let whole = pages_of size bytes even_bytes in
     let few = p.few in
     let full = sym (is_full_copy header p.entry.region.0 past true (region_of header p.entry.region.0 past).mark test refl) ∙ p.full in
     let counts = or_parts (nat_le most_regions (next_region header past)) (nat_lt most_objects (next_object header past + marked_regions header past + 1))

@@ -10,7 +10,8 @@ use Rattle.vm_legal.specs.Outside.{is_wild, is_wild_kind, kind_in}
 use Rattle.vm_legal.specs.Refusal as refusing
 use Rattle.vm_model.specs.Named.{declared}
 use Rattle.vm_model.specs.declared.command.Command.TheVariants as command
-use Rattle.vm_state.proofs.Declared.{kind_cases, whole_row}
+use Rattle.vm_abroad.proofs.Regions.{kind_cases}
+use Rattle.vm_state.proofs.Declared.{whole_row}
 use Rattle.vm_state.proofs.Referring.{row_of}
 use Rattle.vm_kernel.specs.Refusing.{is_copy_full, is_uncopied, is_wild_row, source_code}
 use Rattle.vm_kernel.proofs.space.RegionCopied.{is_full_copy}

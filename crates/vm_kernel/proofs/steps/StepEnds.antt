@@ -13,7 +13,8 @@ use Rattle.vm_legal.specs.Walks.{Reaches}
 use Rattle.vm_kernel.proofs.abroad.OthersEvents.{with_entry}
 use Rattle.vm_kernel.proofs.space.EntriesCounted.{by_some}
 use Rattle.vm_kernel.proofs.space.ObjectEnds.{declared_chain}
-use Rattle.vm_state.proofs.Declared.{kind_cases, over_declared}
+use Rattle.vm_abroad.proofs.Regions.{kind_cases}
+use Rattle.vm_state.proofs.Declared.{over_declared}
 use Rattle.vm_state.proofs.Reaching.{reach_up}
 use Rattle.vm_state.proofs.Referring.{OfRegion, OfShadow, referrer_of}
 use Rattle.vm_state.proofs.Locks.{awaits_word}

@@ -1,23 +1,20 @@
 -- Who waits for a page has a row that says so, but in the frame queue.
 use Rattle.vm_kernel.proofs.Common.{Access, AllInner, Asked, Awaits, Bool, Command, Down, EndsAll, EndsEach, Event, HasPlace, HasQueue, Header, Ids}
-use Rattle.vm_kernel.proofs.Common.{IsPagerTold, LegalEvents, List, Local, Message, None, ObjectId, ObjectTable, On, Option, Outside, PageRow, Parts, Reason}
+use Rattle.vm_kernel.proofs.Common.{IsPagerTold, LegalEvents, List, Local, Message, None, ObjectId, On, Option, Outside, PageRow, Parts, Reason}
 use Rattle.vm_kernel.proofs.Common.{Rests, Some, Waiting, Waits, WaitsAt, [], absent_at, access_in, ap, append-nil, before_more, before_step, copies_to, entry}
 use Rattle.vm_kernel.proofs.Common.{error_more, error_taken, false, frames_free, host_id, if◌then◌else◌, inl, inr, is_again, is_control, is_frame}
-use Rattle.vm_kernel.proofs.Common.{is_ready_state, is_some, is_store, live_control, local, local_of_row, none_again, none_queued, object_at, page_key, page_of}
+use Rattle.vm_kernel.proofs.Common.{is_some, is_store, live_control, local, local_of_row, none_again, none_queued, object_at, page_key, page_of}
 use Rattle.vm_kernel.proofs.Common.{place_of, ready_in, refl, row_at, some_is, subst, sym, true, ℕ, ◌&&◌, ◌++◌, ◌∙◌, ◌∷◌, ◌≡◌}
 use Rattle.vm_model.specs.declared.event.Event.TheVariants as event
 use Rattle.vm_model.specs.declared.message.Message.TheVariants as message
 use Rattle.vm_waits.specs.declared.waiting.On.TheVariants as on
+use Rattle.vm_kernel.proofs.controls.WordTaken.{told_unready}
 use Rattle.vm_kernel.proofs.steps.StepEnds.{has_row, at_home}
 use Rattle.vm_kernel.proofs.memory.WalksShown.{shown_at, waiting_place}
 use Rattle.vm_state.proofs.Locks.{awaits_word}
 use Rattle.vm_state.proofs.Shown.{awaits_ready}
 use Rattle.std.proofs.lemmas.Bool.{not-true}
 use Rattle.vm_state.proofs.Filling.{copies_next}
-
--- a pager that was told of its object isn't ready
-told_unready : (os : ObjectTable) (o : ℕ) → IsPagerTold os o → ready_in (object_at os o) ≡ true → ⊥
-told_unready os o told ready = let bad : false ≡ true = sym (ap ready_in told.found ∙ ap is_ready_state told.sent) ∙ ready in cc
 
 -- nothing but this place of its page is awaited
 abbrev AwaitsOnly : (header : Header) (h task : ℕ) (access : Access) (past : List Event) → Waits header task access past → ℕ → ℕ → Type 0

@@ -1,13 +1,13 @@
 use Rattle.std.proofs.Common.{sym, arith}
-use Rattle.vm_terminate.proofs.Under.{Unrefers, ends, fit_unreferred, has_some, is_there, stays}
+use Rattle.vm_terminate.proofs.Under.{Unrefers, ends, fit_unreferred, referred_some, referred_there, stays}
 use Rattle.vm_terminate.proofs.finishing.leave_under.Goals as goal
 use Rattle.vm_terminate.proofs.finishing.leave_under.Goals.{After-unrefer-left}
 
 pub unrefer-left-requires-clause-there : goal.unrefer-left-requires-clause-there
-unrefer-left-requires-clause-there c = is_there _ _ (c.requires.referred c.in_ok-row.ensures.ranked c.in_ok-row.row (sym c.in_ok-row.ensures.value))
+unrefer-left-requires-clause-there c = referred_there _ _ (c.requires.referred c.in_ok-row.ensures.ranked c.in_ok-row.row (sym c.in_ok-row.ensures.value))
 
 pub unrefer-left-requires-clause-some : goal.unrefer-left-requires-clause-some
-unrefer-left-requires-clause-some c = has_some _ _ (c.requires.referred c.in_ok-row.ensures.ranked c.in_ok-row.row (sym c.in_ok-row.ensures.value))
+unrefer-left-requires-clause-some c = referred_some _ _ (c.requires.referred c.in_ok-row.ensures.ranked c.in_ok-row.row (sym c.in_ok-row.ensures.value))
 
 unrefers : (c : After-unrefer-left) → Unrefers c.args.object c.in_ok-row.row c.unrefer-left.result c.args.parts.now c.unrefer-left.new.self c.args.chains.now
     c.drop_object.new.self

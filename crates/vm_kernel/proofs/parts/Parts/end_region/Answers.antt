@@ -1,7 +1,8 @@
 use Rattle.vm_kernel.proofs.Common.{Still, arith}
 use Rattle.vm_kernel.proofs.space.ObjectsEnd.{only_none, pager_knows}
 use Rattle.vm_kernel.proofs.steps.EventsGrow.{goes_none, on_ok}
-use Rattle.vm_kernel.proofs.space.RegionEnds.{ends_top, loses_region, referred_some, referred_there, top_referred, whole_region}
+use Rattle.vm_kernel.proofs.space.RegionEnds.{ends_top, loses_region, top_referred, whole_region}
+use Rattle.vm_terminate.proofs.Under.{referred_some, referred_there}
 use Rattle.vm_kernel.proofs.space.WhatStoodUnder.{below_none}
 use Rattle.vm_kernel.proofs.room.EndsSpend.{region_spends, roomy_on}
 use Rattle.vm_kernel.proofs.room.CallsSpend.{spends_both}

@@ -1,13 +1,11 @@
-use Rattle.vm_kernel.proofs.Common.{ap, arith, count_again, false, length, length-append, refl, true, ◌+◌, ◌∙◌, ◌≡◌}
+use Rattle.vm_kernel.proofs.Common.{ap, arith, count_again, false, refl, true, ◌∙◌, ◌≡◌}
 use Rattle.vm_kernel.proofs.steps.EventsGrow.{on_ok}
 use Rattle.vm_kernel.proofs.lists.ListsAsTold.{plays_both, plays_told}
 use Rattle.vm_kernel.proofs.steps.AccessBegins.{Loads, begun_next, begun_ran, begun_works}
 use Rattle.vm_kernel.proofs.steps.QueueServed.{three_ok}
 use Rattle.vm_model.specs.declared.event.Event.TheVariants as event
 use Rattle.vm_kernel.proofs.steps.FramesInTurn.{quiet_more, restarts_behind}
-use Rattle.vm_kernel.proofs.room.PartsOfStep.{any_ok, begun_copies, begun_spends, few_behind, room_behind, spare_behind, told_behind}
-use Rattle.vm_kernel.specs.Rooms.{Spends}
-use Rattle.vm_kernel.proofs.parts.Parts.load.Given as given
+use Rattle.vm_kernel.proofs.room.PartsOfStep.{any_ok, begun_more, begun_spends, few_behind, room_behind, spare_behind, told_behind}
 use Rattle.vm_kernel.proofs.parts.Parts.load.Goals as goal
 
 pub restart-requires : goal.restart-requires
@@ -38,24 +36,19 @@ returns-clause-restarts g c =
     c.begin.new.self.queue c.restart.new.self.waits.queue c.args.log.now.items c.push.new.self.items c.restart.new.log.items c.requires.1.nothing quiet)
     c.restart.ensures.restarts
 
--- the beginning takes one event
-begun : (g : given.Over) (c : goal.After-restart g) → Spends 4 4 0 c.args.self.now c.args.log.now (record c.args.self.now { waits = c.begin.new.self })
-    c.push.new.self
-begun g c =
-    begun_spends c.args.self.now c.begin.new.self c.args.log.now c.push.new.self _
-    (ap length c.begin.ensures.rows ∙ (length-append c.reserve.new.self.rows _ ∙ ap (λ z. length z + 1) c.reserve.ensures.rows))
-    (begun_copies _ _ _ _ c.begin.ensures.rows c.reserve.ensures.rows refl) c.in_ok-push.ensures.ok c.in_ok-push.ensures.room
-
 pub returns-clause-few : goal.returns-clause-few
 returns-clause-few g c =
-    let few = told_behind c.args.self.now (record c.args.self.now { waits = c.begin.new.self }) c.args.log.now c.push.new.self 4 4 4 (omega arith)
-    (begun g c) in
+    let spends = begun_spends _ c.args.self.now c.begin.new.self c.args.log.now c.push.new.self c.begin.ensures.rows c.reserve.ensures.rows refl
+    c.in_ok-push.ensures.ok c.in_ok-push.ensures.room in
+    let few = told_behind c.args.self.now (record c.args.self.now { waits = c.begin.new.self }) c.args.log.now c.push.new.self 4 4 4 (omega arith) spends in
     on_ok c.restart.result _ _ (λ more. few_behind more few) c.restart.ensures.few
 
 pub returns-clause-room : goal.returns-clause-room
 returns-clause-room g c = λ more had access.
+    let spends = begun_spends _ c.args.self.now c.begin.new.self c.args.log.now c.push.new.self c.begin.ensures.rows c.reserve.ensures.rows refl
+    c.in_ok-push.ensures.ok c.in_ok-push.ensures.room in
     let runs = c.restart.ensures.room more (room_behind c.args.self.now (record c.args.self.now { waits = c.begin.new.self }) c.args.log.now c.push.new.self 4 4
-    more (begun g c) had) in
+    more spends had) in
     (any_ok c.restart.result _ runs.1, runs.0)
 
 pub returns-in_err-reserve-clause-room : goal.returns-in_err-reserve-clause-room
@@ -66,5 +59,6 @@ returns-in_err-push-clause-room g c = λ more had access. absurd (let bad : fals
 
 pub returns-clause-spare : goal.returns-clause-spare
 returns-clause-spare g c =
-    let one = ap length c.begin.ensures.rows ∙ (length-append c.reserve.new.self.rows _ ∙ ap (λ z. length z + 1) c.reserve.ensures.rows) in
-    on_ok c.restart.result _ _ (λ keeps. spare_behind c.args.self.now c.begin.new.self c.restart.new.self one keeps) c.restart.ensures.spare
+    on_ok c.restart.result _ _
+    (λ keeps. spare_behind c.args.self.now c.begin.new.self c.restart.new.self (begun_more _ c.begin.ensures.rows c.reserve.ensures.rows) keeps)
+    c.restart.ensures.spare
