@@ -1,11 +1,11 @@
 -- Which files belong to other hosts: those that another kernel knows.
 use Rattle.vm_hosts.proofs.Common.{AllRest, Bool, Event, Header, HostTable, List, None, ObjectRow, Option, Parts, Some, ap, arith, false, home_of}
-use Rattle.vm_hosts.proofs.Common.{if◌then◌else◌, in_use, inl, inr, is_elsewhere, is_file, is_file_kept, is_file_kind, is_on, is_some, kind_in, kind_of}
+use Rattle.vm_hosts.proofs.Common.{if◌then◌else◌, in_use, inl, inr, is_elsewhere, is_file, is_file_kind, is_on, is_some, kind_in, kind_of}
 use Rattle.vm_hosts.proofs.Common.{knows_file, length, named, nat_lt, not, object_at, refl, same_Some, slice_get, subst, sym, true, ℕ, ℕ_discrete, ◌&&◌, ◌+◌}
 use Rattle.vm_hosts.proofs.Common.{◌<◌, ◌∙◌, ◌≡◌, ◌≢◌}
 use Rattle.vm_abroad.specs.Home.{HaveHomes}
+use Rattle.vm_legal.proofs.Files.{file_kind}
 use Rattle.vm_model.specs.Named.{declared}
-use Rattle.vm_model.specs.declared.script.Declared.{Declared}
 use Rattle.vm_state.specs.Stands.{IsOfKind}
 use Rattle.vm_base.specs.declared.ids.ObjectKind.TheVariants.{Temp}
 use Rattle.std.proofs.lemmas.Bool.Decides.{nat_tests}
@@ -19,15 +19,6 @@ known_kind header o known kind = by_number (nat_lt o (named header)) refl
     by_number : (b : Bool) → nat_lt o (named header) ≡ b → known.kind ≡ kind_of header o
     by_number true less = (kind.declared (grind (arith, nat_tests))).kind
     by_number false more = (kind.temporary (grind (arith, nat_tests))).kind ∙ sym (ap (λ b. if b then kind_in (declared header o) else Temp) more)
-
--- which says whether it is a file
-file_kind : (header : Header) (o : ℕ) → is_file_kind (kind_of header o) ≡ is_file header o
-file_kind header o = by_number (nat_lt o (named header)) (declared header o)
-  where
-    by_number : (b : Bool) (x : Option Declared) → is_file_kind (if b then kind_in x else Temp) ≡ (b && is_file_kept x)
-    by_number true None = refl
-    by_number true (Some object) = refl
-    by_number false x = refl
 
 -- a file that a host knows is known as one
 knows_same : (header : Header) (o : ℕ) (x : Option ObjectRow) → ((known : ObjectRow) → x ≡ Some known → IsOfKind header o known)
