@@ -358,6 +358,11 @@ whole_next header outside (event.Shadowed changed new old) past cause homes r de
     let other : (r == changed.0) ≡ false = unlike r changed.0 (λ same. absurd (let plain : (region_of header changed.0 past).mark ≡ false = ap
     (λ z. (region_of header z past).mark) (sym same) ∙ ap (λ z. z.mark) (homes.whole r declared) in let bad : false ≡ true = sym plain ∙ marked in cc)) in
     rw other (homes.whole r declared)
+whole_next header outside (event.Unmarked changed) past cause homes r declared =
+    let marked = cause.1.marked in
+    let other : (r == changed.0) ≡ false = unlike r changed.0 (λ same. absurd (let plain : (region_of header changed.0 past).mark ≡ false = ap
+    (λ z. (region_of header z past).mark) (sym same) ∙ ap (λ z. z.mark) (homes.whole r declared) in let bad : false ≡ true = sym plain ∙ marked in cc)) in
+    rw other (homes.whole r declared)
 whole_next header outside other past cause homes r declared = homes.whole r declared
 
 bare_next : (header : Header) (outside : Outside) (e : Event) (past : List Event) → HasCause header outside e past → HaveHomes header past → (o : ℕ)

@@ -185,6 +185,12 @@ region_abroad header outside h (event.Shadowed changed new old) past sound abroa
       | inr temporary ↦ not_elsewhere header h r changed.0 past own temporary abroad.foreign
     ] in
     rw away refl
+region_abroad header outside h (event.Unmarked changed) past sound abroad r small own =
+    let away : (r == changed.0) ≡ false = elim (kind_cases header r) [
+      | inl declared ↦ no_shadow header r changed.0 past sound declared abroad.cause.1.marked
+      | inr temporary ↦ not_elsewhere header h r changed.0 past own temporary abroad.foreign
+    ] in
+    rw away refl
 region_abroad header outside h other past sound abroad r small own = refl
 
 pub backing_abroad : (header : Header) (outside : Outside) (h : ℕ) (e : Event) (past : List Event) → IsAbroad header outside h e past → (o : ℕ)

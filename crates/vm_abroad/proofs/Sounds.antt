@@ -172,6 +172,11 @@ unmarked_next header outside (event.Shadowed changed new old) past sound cause r
     by_test : (b : Bool) → (if b then false else (region_of header r past).mark) ≡ false
     by_test true = refl
     by_test false = sound.unmarked r declared
+unmarked_next header outside (event.Unmarked changed) past sound cause r declared = by_test (r == changed.0)
+  where
+    by_test : (b : Bool) → (if b then false else (region_of header r past).mark) ≡ false
+    by_test true = refl
+    by_test false = sound.unmarked r declared
 unmarked_next header outside other past sound cause r declared = sound.unmarked r declared
 
 -- a region that gets a shadow is marked, so it is none of these

@@ -72,6 +72,12 @@ own_of_home header outside g (event.Shadowed region new_object old) past sound c
       let shut = shut_before region.0 (event.Shadowed region new_object old) past next refl in
       sound.apart h g region.0 temporary (used_of header h region.0 past shut there) (used_of header g region.0 past shut home)
 ]
+own_of_home header outside g (event.Unmarked region) past sound cause next new home h there = elim (cases_lt region.0 (named header)) [
+  | inl declared ↦ let bad : false ≡ true = sym (sound.unmarked region.0 declared) ∙ cause.1.marked in absurd (cc)
+  | inr temporary ↦
+      let shut = shut_before region.0 (event.Unmarked region) past next refl in
+      sound.apart h g region.0 temporary (used_of header h region.0 past shut there) (used_of header g region.0 past shut home)
+]
 own_of_home header outside g other past sound cause next new home h there = absurd (let bad : false ≡ true = home in cc)
 
 pub foreign_of_own : (header : Header) (g h : ℕ) (e : Event) (past : List Event) → IsOnlyOfHost header g e past → h ≢ g → is_home header h e past ≡ false

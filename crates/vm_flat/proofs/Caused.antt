@@ -56,7 +56,9 @@ use Rattle.vm_flat.proofs.Ports.{sound_of, spot_control}
 use Rattle.vm_flat.proofs.Sound.{Sound}
 use Rattle.vm_flat.proofs.Letters.{up_words, down_words, first_rest, down_of}
 use Rattle.vm_flat.proofs.Holds.{Holds, led, tops, mark_is, region_private, region_later, plain_spot, walks, sinks, reach}
+use Rattle.vm_flat.proofs.Using.{used as in_legal_use, reached as legally}
 use Rattle.vm_legal.proofs.Files.{not_file}
+use native.Mathlib.Decide.{ℕ_discrete}
 
 second : (a b : Bool) → (a && b) ≡ true → b ≡ true
 second true b is = is
@@ -108,6 +110,51 @@ shadow_cause header outside host region new old past h c =
           (later_alike header outside (region_of header region past).top new (h.numbered.temporary region (marked_later header region past h.numbered c.marked)
           made) (omega (arith, c.next, h.numbered.later_objects))),
     )
+
+unmark_cause : (header : Header) (outside : Outside) (host region : ℕ) (past : List Event) → Holds header outside past → L.Unmarks header region past
+    → Cause (ground header outside) (D.Unmarked region) (deeds header outside host past)
+unmark_cause header outside host region past h c used =
+    record {
+      tops = λ r there apart same. apart (tops_at r (sym (used_at r) ∙ there) (sym (top_at r) ∙ same ∙ top_at region));
+      bare = λ v reached backed same. sole.bare v (legally header outside host v past (reach header outside host v past reached))
+          (sym (ap (λ (x : D.Link). x.backed) (link_is header outside host v past)) ∙ backed)
+          (sym (ap (λ (x : D.Link). x.under) (link_is header outside host v past)) ∙ same ∙ top_at region);
+    }
+  where
+    used_at : (r : ℕ) → (D.row (ground header outside) r (deeds header outside host past)).used ≡ in_use header outside host r past
+    used_at r = ap (λ (w : D.Row). w.used) (row_is header outside host r past)
+
+    top_at : (r : ℕ) → (D.row (ground header outside) r (deeds header outside host past)).top ≡ (region_of header r past).top
+    top_at r = ap (λ (w : D.Row). w.top) (row_is header outside host r past)
+
+    made : region < next_region header past
+    made = omega (arith, (led header outside c.task c.address past h.entries c.waits.at).is.made, c.region_is)
+
+    clash_used : in_use header outside host region past ≡ false → ⊥
+    clash_used none = clash (in_use header outside host region past) none (sym (used_at region) ∙ used)
+
+    on : c.waits.at.host ≡ host
+    on = elim (ℕ_discrete host c.waits.at.host) [
+      | yes e ↦ sym e
+      | no apart ↦
+          let row = led header outside c.task c.address past h.entries c.waits.at in
+          absurd (clash_used (ap (λ r. in_use header outside host r past) c.region_is ∙ row.is.alone host apart))
+    ]
+
+    sole : L.IsTopAlone header host region (region_of header region past).top past
+    sole = subst (λ (g : ℕ). L.IsTopAlone header g region (region_of header region past).top past) on c.sole
+
+    tops_at : (r : ℕ) → in_use header outside host r past ≡ true → (region_of header r past).top ≡ (region_of header region past).top → r ≡ region
+    tops_at r there same = ⊎_elim
+        (λ declared. absurd (omega (
+          arith,
+          h.numbered.declared_top r declared,
+          same,
+          declared,
+          h.numbered.temporary region (marked_later header region past h.numbered c.marked) made,
+        )))
+        (λ later. sole.tops r later (in_legal_use header outside host r past there) same)
+        (cases_lt r (named header))
 
 -- places
 
@@ -679,6 +726,7 @@ cause header outside host (event.RegionMade region object pages) past h c curren
 cause header outside host (event.RegionCopied region source offset pages) past h c current =
     cow_cause header outside host region.0 source.0 offset pages past h c
 cause header outside host (event.Shadowed region new old) past h c current = shadow_cause header outside host region.0 new.0 old.0 past h c
+cause header outside host (event.Unmarked region) past h c current = unmark_cause header outside host region.0 past h c
 cause header outside host (event.Zeroed at object page) past h c current = zeroed_cause header outside host at object.0 page.0 past h c
 cause header outside host (event.Raised at lower lower_page upper upper_page) past h c current =
     raised_cause header outside host at lower.0 lower_page.0 upper.0 upper_page.0 past h c

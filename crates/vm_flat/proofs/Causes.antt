@@ -3,7 +3,7 @@ use Rattle.std.specs.Prelude.{ℕ, zero, suc, ◌+◌, ◌<◌, ◌≤◌, ◌�
 use Rattle.vm_flat.specs.Words.{Requests, Returns, TakesRequest, TakesReturn, Answers, Takes}
 use Rattle.vm_flat.specs.Spot.{Spot}
 use Rattle.vm_flat.proofs.Allowed.{Passed, May, content}
-use Rattle.vm_flat.proofs.Deeds.{Ground, is_file, covered, Deed, Line, Region, Cow, Kept, Shadowed, Zeroed, Raised, Stored, Dropped, Created, Asked, Copied}
+use Rattle.vm_flat.proofs.Deeds.{Ground, is_file, covered, Deed, Line, Region, Cow, Kept, Shadowed, Unmarked, Zeroed, Raised, Stored, Dropped, Created, Asked, Copied}
 use Rattle.vm_flat.proofs.Deeds.{Returned, TookRequest, TookReturn, Answered, Took, Terminated, Elsewhere, Row, row, regions, objects, Link, link, spot}
 use Rattle.vm_flat.proofs.Deeds.{control, flat}
 
@@ -100,6 +100,11 @@ pub record OwnRegion (z : Ground) (object : ℕ) (past : List Deed) : Type 0 whe
   pub alone : (r : ℕ) → (row z r past).used ≡ true → r ≢ object → (row z r past).top ≢ object
   pub bare : (o : ℕ) → (link z o past).backed ≡ true → (link z o past).under ≢ object
 
+-- a region's top is no other's, and nothing stands on it
+pub record TopAlone (z : Ground) (region : ℕ) (past : List Deed) : Type 0 where
+  pub tops : (r : ℕ) → (row z r past).used ≡ true → r ≢ region → (row z r past).top ≢ (row z region past).top
+  pub bare : (v : ℕ) → Reach z v past → (link z v past).backed ≡ true → (link z v past).under ≢ (row z region past).top
+
 abbrev pub Cause : Ground → Deed → List Deed → Type 0
 Cause z Line past = Unit {0}
 Cause z (Region own region object count) past = (region ≡ regions z past) × (object ≡ objects z past) × (own ≡ true → covered z object ≡ true)
@@ -107,6 +112,7 @@ Cause z (Cow region source off count) past = (region ≡ regions z past) × (sou
 Cause z (Kept held) past = Unit {0}
 Cause z (Shadowed region new) past =
     (new ≡ objects z past) × (region < regions z past) × ((row z region past).mark ≡ true) × (covered z (row z region past).top ≡ covered z new)
+Cause z (Unmarked region) past = (row z region past).used ≡ true → TopAlone z region past
 Cause z (Zeroed own object page) past = Ours z own object → ((is_file z object ≡ true) × Void (spot z object page past)) ⊎ Bottoms z object page past
 Cause z (Raised own lower lower_page upper upper_page) past = Ours z own upper → Finds z lower lower_page upper upper_page past
 Cause z (Stored own region index object page at bytes) past =

@@ -16,7 +16,7 @@ use Rattle.vm_model.specs.Controls.{is_control, last_control, live_control}
 use Rattle.vm_legal.specs.Flat.{StoreChange, change_of, made_over}
 use Rattle.vm_flat.specs.Words.{SpotDownWord, Supplying, Unavailing, Erring}
 use Rattle.vm_legal.specs.Outside.{Outside}
-use Rattle.vm_flat.proofs.Deeds.{Ground, Deed, Line, Region, Cow, Kept, Shadowed, Zeroed, Raised, Stored, Dropped, Created, Asked, Copied, Returned}
+use Rattle.vm_flat.proofs.Deeds.{Ground, Deed, Line, Region, Cow, Kept, Shadowed, Unmarked, Zeroed, Raised, Stored, Dropped, Created, Asked, Copied, Returned}
 use Rattle.vm_flat.proofs.Deeds.{TookRequest, TookReturn, Answered, Took, Terminated, Elsewhere}
 
 abbrev pub ground : Header → Outside → Ground
@@ -76,6 +76,7 @@ deed header outside host (event.Removed task address bytes) past = Kept (λ r. i
 deed header outside host (event.TaskEnded task) past = Kept (λ r. is_kept header r (event.TaskEnded task ∷ past))
 deed header outside host (event.Failed task object page) past = Kept (λ r. is_kept header r (event.Failed task object page ∷ past))
 deed header outside host (event.Shadowed region new old) past = Shadowed region.0 new.0
+deed header outside host (event.Unmarked region) past = Unmarked region.0
 deed header outside host (event.Zeroed at object page) past = Zeroed (at.0 == host) object.0 page.0
 deed header outside host (event.Raised at lower lower_page upper upper_page) past = Raised (at.0 == host) lower.0 lower_page.0 upper.0 upper_page.0
 deed header outside host (event.Stored task object page at size value) past =

@@ -4,7 +4,7 @@ use Rattle.std.specs.Prelude.{◌==◌, ◌&&◌}
 use Rattle.vm_flat.specs.Words.{SpotEffect, Creates, Requests, Returns, TakesRequest, TakesReturn, Answers, Takes, Zeroes, Raises, Stores, Drops, Ends}
 use Rattle.vm_flat.specs.Words.{StepEnds, Nothing}
 use Rattle.vm_flat.specs.Spot.{spot_after}
-use Rattle.vm_flat.proofs.Deeds.{Ground, is_file, Deed, Line, Region, Cow, Kept, Shadowed, Zeroed, Raised, Stored, Dropped, Created, Asked, Copied, Returned}
+use Rattle.vm_flat.proofs.Deeds.{Ground, is_file, Deed, Line, Region, Cow, Kept, Shadowed, Unmarked, Zeroed, Raised, Stored, Dropped, Created, Asked, Copied, Returned}
 use Rattle.vm_flat.proofs.Deeds.{TookRequest, TookReturn, Answered, Took, Terminated, Elsewhere, spot, control}
 use Rattle.vm_flat.proofs.Good.{takes_control}
 use Rattle.vm_flat.proofs.World.{each_place}
@@ -32,6 +32,7 @@ control_is z o p (Region own region object count ∷ past) = control_is z o p pa
 control_is z o p (Cow region source off count ∷ past) = control_is z o p past
 control_is z o p (Kept held ∷ past) = control_is z o p past
 control_is z o p (Shadowed region new ∷ past) = control_is z o p past
+control_is z o p (Unmarked region ∷ past) = control_is z o p past
 control_is z o p (Elsewhere ∷ past) = control_is z o p past
 control_is z o p (Zeroed own k q ∷ past) = same z o p own k q Zeroes Nothing past (control_is z k q past) (λ o p. control_is z o p past)
 control_is z o p (Raised own l lp k q ∷ past) =

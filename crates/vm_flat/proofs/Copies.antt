@@ -3,7 +3,7 @@ use Rattle.std.proofs.Common.{◌≡◌, ℕ, zero, suc, ◌+◌, ◌<◌, ◌�
 use Rattle.std.proofs.lemmas.Bool.Decides.{nat_tests}
 use Rattle.std.specs.Prelude.{◌⊎◌, ◌==◌}
 use native.Mathlib.Decide.{ℕ_discrete}
-use Rattle.vm_flat.proofs.Deeds.{pages, Ground, Deed, Cow, Shadowed, Row, cow_row, row, regions, objects, Link, link, spot, flat, covered}
+use Rattle.vm_flat.proofs.Deeds.{pages, Ground, Deed, Cow, Shadowed, Unmarked, Row, cow_row, row, regions, objects, Link, link, spot, flat, covered}
 use Rattle.vm_flat.proofs.Causes.{Path, Below, Reach, Cause}
 use Rattle.vm_flat.proofs.Good.{Good, good_again, fits_blank}
 use Rattle.vm_flat.proofs.World.{ReachAt, ShapeOf, World, GoodAt, view, tops_below, path_small, path_old, reach_small, under_view, Barren}
@@ -425,4 +425,44 @@ after_shadowed z region new past w c =
           (λ reach. if_no o new (view z (row z region past).top ((row z region past).shift + p) past) (view z o p past) apart)
           (λ reach none backed. view_old (link z o past).under ((link z o past).shift + p) (w.shape.born o backed))
           (λ reach. barren_old o p apart reach.0))
+    ]
+
+-- unmarked
+
+pub after_unmarked : (z : Ground) (region : ℕ) (past : List Deed) → World z past → Cause z (Unmarked region) past → World z (Unmarked region ∷ past)
+after_unmarked z region past w c =
+    record {
+      shape =
+          record {
+            rows_below = w.shape.rows_below;
+            tops_made = w.shape.tops_made;
+            born = w.shape.born;
+            rank = w.shape.rank;
+            falls = w.shape.falls;
+            made = w.shape.made;
+            covers_tops = w.shape.covers_tops;
+            covers_under = w.shape.covers_under;
+            tops_inside = w.shape.tops_inside;
+            inside = w.shape.inside;
+            own = own;
+            alone = alone;
+          };
+      regional = w.regional;
+      places = w.places;
+    }
+  where
+    own : (r v : ℕ) → (row z r past).used ≡ true → (row z r (Unmarked region ∷ past)).mark ≡ false → z.named ≤ (row z r past).top → Reach z v past
+        → (link z v past).backed ≡ true → (link z v past).under ≢ (row z r past).top
+    own r v used mark kind reach backed = elim (ℕ_discrete r region) [
+      | yes e ↦ subst (λ (k : ℕ). (link z v past).under ≢ (row z k past).top) (sym e)
+          ((c (subst (λ (k : ℕ). (row z k past).used ≡ true) e used)).bare v reach backed)
+      | no apart ↦ w.shape.own r v used (sym (if_no r region false (row z r past).mark apart) ∙ mark) kind reach backed
+    ]
+
+    alone : (r q : ℕ) → (row z r past).used ≡ true → (row z r (Unmarked region ∷ past)).mark ≡ false → (row z q past).used ≡ true → q ≢ r
+        → (row z q past).top ≢ (row z r past).top
+    alone r q used mark there other = elim (ℕ_discrete r region) [
+      | yes e ↦ subst (λ (k : ℕ). (row z q past).top ≢ (row z k past).top) (sym e)
+          ((c (subst (λ (k : ℕ). (row z k past).used ≡ true) e used)).tops q there (λ same. other (same ∙ sym e)))
+      | no apart ↦ w.shape.alone r q used (sym (if_no r region false (row z r past).mark apart) ∙ mark) there other
     ]

@@ -33,6 +33,7 @@ pub data Deed : Type 0 where
   -- of the regions only those that are held stay in use on the host
   Kept : (held : ℕ → Bool) → Deed
   Shadowed : (region : ℕ) → (new : ℕ) → Deed
+  Unmarked : (region : ℕ) → Deed
   Zeroed : (own : Bool) → (object : ℕ) → (page : ℕ) → Deed
   Raised : (own : Bool) → (lower : ℕ) → (lower_page : ℕ) → (upper : ℕ) → (upper_page : ℕ) → Deed
   -- a page of a region is stored to, in a page of an object
@@ -94,11 +95,15 @@ shadow_row b new old =
       pages = old.pages;
     }
 
+abbrev pub unmarked_row : Bool → Row → Row
+unmarked_row b old = record { used = old.used; mark = if b then false else old.mark; top = old.top; shift = old.shift; pages = old.pages }
+
 abbrev pub row_move : ℕ → Deed → (ℕ → Row) → Row
 row_move r (Region own region object count) rows = made_row (r == region) own object count (rows r)
 row_move r (Cow region source off count) rows = cow_row (r == region) (r == source) off count (rows source) (rows r)
 row_move r (Kept held) rows = kept_row (held r) (rows r)
 row_move r (Shadowed region new) rows = shadow_row (r == region) new (rows r)
+row_move r (Unmarked region) rows = unmarked_row (r == region) (rows r)
 row_move r e rows = rows r
 
 abbrev pub row : Ground → ℕ → List Deed → Row

@@ -257,6 +257,27 @@ shadowed_filling header outside region new old past c filling task host address 
       no_entry = f.no_entry;
     }
 
+unmarked_filling : (header : Header) (outside : Outside) (region : RegionId) (past : List Event) → Filling header outside past
+    → Filling header outside (event.Unmarked region ∷ past)
+unmarked_filling header outside region past filling task host address bytes to t lives waits target =
+    let f : FilledAt header outside past host t = filling task host address bytes to t lives waits target in
+    record {
+      later = f.later;
+      made = f.made;
+      object_made = f.object_made;
+      is_over = f.is_over;
+      top = f.top;
+      shift = f.shift;
+      mark = plain (t.region == region.0) (region_of header t.region past).mark f.mark;
+      used_here = f.used_here;
+      alone = f.alone;
+      no_entry = f.no_entry;
+    }
+  where
+    plain : (b mark : Bool) → mark ≡ false → (if b then false else mark) ≡ false
+    plain true mark is = refl
+    plain false mark is = is
+
 -- entries
 
 rows_if : (P : Entry → Type 0) (b : Bool) (some none : List Entry) → AllRows P some → AllRows P none → AllRows P (if b then some else none)
@@ -271,6 +292,8 @@ filling_next header outside (event.RegionCopied region source offset pages) past
     copied_filling header outside region source offset pages past c filling task host address bytes to t lives waits target
 filling_next header outside (event.Shadowed region new old) past n entries c filling task host address bytes to t lives waits target =
     shadowed_filling header outside region new old past c filling task host address bytes to t lives waits target
+filling_next header outside (event.Unmarked region) past n entries c filling task host address bytes to t lives waits target =
+    unmarked_filling header outside region past filling task host address bytes to t lives waits target
 filling_next header outside (event.BegunLoad owner a size) past n entries c filling task host address bytes to t lives waits target =
     ended (owner.0 == task) (waiting task past) None (Some (Loading a size)) (Copying address bytes to) (λ is. loading_copying a size address bytes to) waits
     (λ is before. filling task host address bytes to t lives before target)

@@ -37,7 +37,7 @@ use Rattle.vm_flat.proofs.Classes.{ground, deed, deeds, down_deed, region_in, pa
 use Rattle.vm_flat.proofs.Entries.{Entries, PrivateUsed, entries_task_made, entries_task_ended, entries_failed, entries_removed, entries_protected}
 use Rattle.vm_flat.proofs.Entries.{entries_inherited, entries_region_made, entries_region_copied, entries_entered}
 use Rattle.vm_flat.proofs.Filling.{Filling, filling_next}
-use Rattle.vm_flat.proofs.Numbers.{NumberedAt, numbered_start, numbered_region_made, numbered_region_copied, numbered_shadowed, later_alike, told_private}
+use Rattle.vm_flat.proofs.Numbers.{NumberedAt, numbered_start, numbered_region_made, numbered_region_copied, numbered_shadowed, numbered_unmarked, later_alike, told_private}
 use Rattle.vm_flat.proofs.Ports.{ups_start, ups_next, numbers_next, asked_next, downs_start, downs_next, locks_start, locks_next, private_there}
 use Rattle.vm_flat.proofs.Holds.{Holds, Homes, Flats, led, tops, walks}
 use Rattle.vm_flat.proofs.Caused.{here_is, bytes_are, cause, change_is, source_made, shadowed_made}
@@ -246,6 +246,7 @@ numbered_next header outside (event.RegionCopied region source offset pages) pas
     (source_made header outside region.0 source.0 offset pages past h c)
 numbered_next header outside (event.Shadowed region new old) past h c =
     numbered_shadowed header region new old past h.numbered c.next c.marked (shadowed_made header outside region.0 new.0 old.0 past h c)
+numbered_next header outside (event.Unmarked region) past h c = numbered_unmarked header region past h.numbered
 numbered_next header outside e past h c = h.numbered
 
 pub holds : (header : Header) (outside : Outside) (past : List Event) → AllSustained header outside past → EachEvent (CopiesCurrent header outside) past

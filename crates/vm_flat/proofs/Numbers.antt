@@ -99,6 +99,23 @@ marked_later header r past n marked = by_test (nat_lt r (named header)) refl
     by_test true is = absurd (clash (region_of header r past).mark (n.declared_mark r (grind (arith, nat_tests))) marked)
     by_test false is = grind (arith, nat_tests)
 
+pub numbered_unmarked : (header : Header) (region : RegionId) (past : List Event) → NumberedAt header past → NumberedAt header (event.Unmarked region ∷ past)
+numbered_unmarked header region past n =
+    record {
+      later_regions = n.later_regions;
+      later_objects = n.later_objects;
+      declared_top = n.declared_top;
+      declared_shift = n.declared_shift;
+      declared_mark = λ r less. plain (r == region.0) (region_of header r past).mark (n.declared_mark r less);
+      temporary = n.temporary;
+      upper = n.upper;
+      lower = n.lower;
+    }
+  where
+    plain : (b mark : Bool) → mark ≡ false → (if b then false else mark) ≡ false
+    plain true mark is = refl
+    plain false mark is = is
+
 pub numbered_shadowed : (header : Header) (region : RegionId) (new old : ObjectId) (past : List Event) → NumberedAt header past
     → new.0 ≡ next_object header past → (region_of header region.0 past).mark ≡ true → region.0 < next_region header past
     → NumberedAt header (event.Shadowed region new old ∷ past)

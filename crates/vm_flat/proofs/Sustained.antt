@@ -152,6 +152,7 @@ Sustained header outside (event.RegionMade region object pages) past = (region.0
 Sustained header outside (event.RegionCopied region source offset pages) past = L.CopiesRegion header region.0 source.0 offset pages past
 Sustained header outside (event.Entered task address bytes region offset prot inherit) past = Enters header outside task.0 bytes region.0 offset past
 Sustained header outside (event.Shadowed region new old) past = L.Shadows header region.0 new.0 old.0 past
+Sustained header outside (event.Unmarked region) past = L.Unmarks header region.0 past
 Sustained header outside (event.Loaded task object page value) past = L.Loads header task.0 object.0 page.0 past
 Sustained header outside (event.Stored task object page at bytes value) past = L.Stores header task.0 object.0 page.0 at bytes value past
 Sustained header outside (event.CopiedPage task page object object_page target) past = L.CopiesPage header task.0 page.0 object.0 object_page.0 target.0 past

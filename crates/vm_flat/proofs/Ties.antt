@@ -47,6 +47,7 @@ row_is header outside host r (event.TaskEnded task ∷ past) =
 row_is header outside host r (event.Failed task object page ∷ past) =
     ap (λ w. D.row_move r (deed header outside host (event.Failed task object page) past) (λ k. w)) (row_is header outside host r past)
 row_is header outside host r (event.Shadowed region new old ∷ past) = ap (λ w. D.shadow_row (r == region.0) new.0 w) (row_is header outside host r past)
+row_is header outside host r (event.Unmarked region ∷ past) = ap (λ w. D.unmarked_row (r == region.0) w) (row_is header outside host r past)
 row_is header outside host r (event.Sent (Up at object) m ∷ past) =
     up_case (λ d. D.row (ground header outside) r (d ∷ deeds header outside host past) ≡ D.row (ground header outside) r (deeds header outside host past))
     (λ own o. refl) (λ own lives o p. refl) (λ own o p keep bytes. refl) (λ own o. refl) refl (at.0 == host) (live_control host object.0 past) object.0 m

@@ -166,6 +166,7 @@ sustains header outside doing (event.RegionCopied region source offset pages) pa
 sustains header outside doing (event.Entered task address bytes region offset prot inherit) past caused c =
     entered header outside task.0 bytes region.0 offset past caused c
 sustains header outside doing (event.Shadowed region new old) past caused c = c
+sustains header outside doing (event.Unmarked region) past caused c = c
 sustains header outside doing (event.Loaded task object page value) past caused c = c
 sustains header outside doing (event.Stored task object page at bytes value) past caused c = c
 sustains header outside doing (event.CopiedPage task page object object_page target) past caused c = c

@@ -1,7 +1,7 @@
 -- What each deed leaves.
 use Rattle.std.proofs.Common.{subst, ◌≡◌, ℕ, List, [], ◌∷◌, arith, Bool, true, false, ap, sym, ◌∙◌, zero, suc, refl, if◌then◌else◌, ◌+◌}
 use Rattle.std.proofs.lemmas.Bool.Decides.{nat_tests}
-use Rattle.vm_flat.proofs.Deeds.{Ground, is_file, Deed, Line, Region, Cow, Kept, Shadowed, Zeroed, Raised, Stored, Dropped, Created, Asked, Copied, Returned}
+use Rattle.vm_flat.proofs.Deeds.{Ground, is_file, Deed, Line, Region, Cow, Kept, Shadowed, Unmarked, Zeroed, Raised, Stored, Dropped, Created, Asked, Copied, Returned}
 use Rattle.vm_flat.proofs.Deeds.{TookRequest, TookReturn, Answered, Took, Terminated, Elsewhere}
 use Rattle.vm_flat.proofs.Causes.{Cause, AllCaused}
 use Rattle.vm_flat.specs.Spot.{first_spot}
@@ -14,7 +14,7 @@ use Rattle.vm_flat.proofs.Traffic.{after_created, after_terminated, after_zeroed
 use Rattle.vm_flat.proofs.Answered.{after_answered}
 use Rattle.vm_flat.proofs.Stored.{after_stored}
 use Rattle.vm_flat.proofs.Regions.{after_region, after_kept}
-use Rattle.vm_flat.proofs.Copies.{after_cow, after_shadowed}
+use Rattle.vm_flat.proofs.Copies.{after_cow, after_shadowed, after_unmarked}
 
 pub after : (z : Ground) (e : Deed) (past : List Deed) → World z past → Cause z e past → World z (e ∷ past)
 after z Line past w c = after_line z past w
@@ -22,6 +22,7 @@ after z (Region own region object count) past w c = after_region z own region ob
 after z (Cow region source off count) past w c = after_cow z region source off count past w c
 after z (Kept held) past w c = after_kept z held past w
 after z (Shadowed region new) past w c = after_shadowed z region new past w c
+after z (Unmarked region) past w c = after_unmarked z region past w c
 after z (Zeroed own object page) past w c = after_zeroed z own object page past w c
 after z (Raised own lower lower_page upper upper_page) past w c = after_raised z own lower lower_page upper upper_page past w c
 after z (Stored own region index object page at bytes) past w c = after_stored z own region index object page at bytes past w c

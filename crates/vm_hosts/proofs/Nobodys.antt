@@ -100,6 +100,7 @@ same_tables : (header : Header) (e : Event) (past : List Event) → IsNobodys e 
 same_tables header (event.RegionMade region object pages) past nobodys = absurd nobodys
 same_tables header (event.RegionCopied region source offset pages) past nobodys = absurd nobodys
 same_tables header (event.Shadowed region new old) past nobodys = absurd nobodys
+same_tables header (event.Unmarked region) past nobodys = absurd nobodys
 same_tables header (event.Entered task address bytes region offset prot inherit) past nobodys = absurd nobodys
 same_tables header other past nobodys = record { region = refl; object = refl; marks = refl }
 

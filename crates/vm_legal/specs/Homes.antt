@@ -49,6 +49,7 @@ is_home header h (event.Dropped host object page) past = host.0 == h
 is_home header h (event.Zeroed host object page) past = host.0 == h
 is_home header h (event.Raised host lower lower_page upper upper_page) past = host.0 == h
 is_home header h (event.Shadowed region new old) past = in_use header h region.0 past
+is_home header h (event.Unmarked region) past = in_use header h region.0 past
 is_home header h (event.DeviceFailed who way object page) past = false
 is_home header h (event.NoSlot object page) past = false
 is_home header h (event.Wired host count) past = host.0 == h

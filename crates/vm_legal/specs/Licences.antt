@@ -443,6 +443,22 @@ pub record Shadows (header : Header) (region new old : ℕ) (past : List Event) 
   pub waits : Waits header task (Storing address bytes value) past
   pub region_is : region ≡ waits.at.entry.region.0
 
+-- The region is the one reference of the temporary object: no other region in use has it as its top, and no object that is reached stands on it.
+pub record IsTopAlone (header : Header) (host region object : ℕ) (past : List Event) : Type 0 where
+  pub tops : (other : ℕ) → named header ≤ other → in_use header host other past ≡ true → (region_of header other past).top ≡ object → other ≡ region
+  pub bare : (upper : ℕ) → Reach header host upper past → (backing_of header upper past).backed ≡ true → (backing_of header upper past).under ≡ object → ⊥
+
+-- a marked region of a waiting store loses its mark, since it is the one reference of its top object
+pub record Unmarks (header : Header) (region : ℕ) (past : List Event) : Type 0 where
+  pub marked : (region_of header region past).mark ≡ true
+  pub task : ℕ
+  pub address : ℕ
+  pub bytes : ℕ
+  pub value : ℕ
+  pub waits : Waits header task (Storing address bytes value) past
+  pub region_is : region ≡ waits.at.entry.region.0
+  pub sole : IsTopAlone header waits.at.host region (region_of header region past).top past
+
 -- why a page goes away without a word
 pub data DropCause (header : Header) (doing : Command) (host object page : ℕ) (seen : Local) (past : List Event) : Type 0 where
   -- it is clean, and is reclaimed
@@ -561,6 +577,7 @@ Caused header outside why (event.RegionMade region object pages) past = (region.
 Caused header outside why (event.RegionCopied region source offset pages) past = CopiesRegion header region.0 source.0 offset pages past
 Caused header outside why (event.Entered task address bytes region offset prot inherit) past = Enters header task.0 bytes region.0 offset past
 Caused header outside why (event.Shadowed region new old) past = Shadows header region.0 new.0 old.0 past
+Caused header outside why (event.Unmarked region) past = Unmarks header region.0 past
 Caused header outside why (event.Loaded task object page value) past = Loads header task.0 object.0 page.0 past
 Caused header outside why (event.Stored task object page at bytes value) past = Stores header task.0 object.0 page.0 at bytes value past
 Caused header outside why (event.CopiedPage task page object object_page target) past = CopiesPage header task.0 page.0 object.0 object_page.0 target.0 past

@@ -21,7 +21,7 @@ pub data About : Type 0 where
   Takings : About
   -- a page of a host comes or goes, with no message
   Pages : About
-  -- a region gets a new object over its top
+  -- a marked region gets a new object over its top, or loses its mark
   Shadows : About
   -- a backing fails, or has no slot
   Backings : About
@@ -53,6 +53,7 @@ about (event.Dropped host object page) = Pages
 about (event.Zeroed host object page) = Pages
 about (event.Raised host lower lower_page upper upper_page) = Pages
 about (event.Shadowed region new old) = Shadows
+about (event.Unmarked region) = Shadows
 about (event.DeviceFailed who way object page) = Backings
 about (event.NoSlot object page) = Backings
 about (event.Wired host count) = Wirings

@@ -56,6 +56,10 @@ shadowed this new was =
       pages = was.pages;
     }
 
+-- a region that loses its mark
+abbrev pub unmarked : Bool → Region → Region
+unmarked this was = record was { mark = if this then false else was.mark }
+
 abbrev pub region_of : Header → ℕ → List Event → Region
 region_of header region [] = record { mark = false; top = region; shift = 0; pages = declared_pages header region }
 region_of header region (event.RegionMade new object pages ∷ past) =
@@ -64,6 +68,7 @@ region_of header region (event.RegionCopied new source offset pages ∷ past) =
     copied (region == new.0) (region == source.0) offset pages (region_of header source.0 past) (region_of header region past)
 region_of header region (event.Shadowed changed new old ∷ past) =
     shadowed (region == changed.0) new.0 (region_of header region past)
+region_of header region (event.Unmarked changed ∷ past) = unmarked (region == changed.0) (region_of header region past)
 region_of header region (e ∷ past) = region_of header region past
 
 -- how many of the first n regions are marked
@@ -71,7 +76,7 @@ abbrev pub marked_below : Header → ℕ → List Event → ℕ
 marked_below header zero past = 0
 marked_below header (suc n) past = if (region_of header n past).mark then marked_below header n past + 1 else marked_below header n past
 
--- how many regions are marked: a region is so from a symmetric copy until it is shadowed, also when it has ended
+-- how many regions are marked: a region is so from a symmetric copy until it is shadowed or unmarked, also when it has ended
 abbrev pub marked_regions : Header → List Event → ℕ
 marked_regions header past = marked_below header (next_region header past) past
 

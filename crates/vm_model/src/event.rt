@@ -170,6 +170,10 @@ pub enum Event {
         new: ObjectId,
         old: ObjectId,
     },
+    /// The region has a copy mark no more, since nothing else is over its top.
+    Unmarked {
+        region: RegionId,
+    },
     /// A backing failed.
     DeviceFailed {
         who: Device,

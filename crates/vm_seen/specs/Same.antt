@@ -83,6 +83,7 @@ abbrev pub is_of_regions : Event → Bool
 is_of_regions (event.RegionMade region object pages) = true
 is_of_regions (event.RegionCopied region source offset pages) = true
 is_of_regions (event.Shadowed region new old) = true
+is_of_regions (event.Unmarked region) = true
 is_of_regions (event.CopiedPage task page object object_page target) = true
 is_of_regions other = false
 

@@ -183,6 +183,7 @@ fn same_event(a: &Event, b: &Event) -> bool
         Event::RegionMade { .. } => same_region_event(a, b),
         Event::RegionCopied { .. } => same_region_event(a, b),
         Event::Shadowed { .. } => same_region_event(a, b),
+        Event::Unmarked { .. } => same_region_event(a, b),
         Event::CopiedPage { .. } => same_region_event(a, b),
         Event::Dropped { .. } => same_page_event(a, b),
         Event::Zeroed { .. } => same_page_event(a, b),
@@ -368,6 +369,7 @@ fn same_region_event(a: &Event, b: &Event) -> bool
         Event::Shadowed { region, new, old } => {
             matches!(b, Event::Shadowed { region: r, new: n, old: o } if region == r && new == n && old == o)
         }
+        Event::Unmarked { region } => matches!(b, Event::Unmarked { region: r } if region == r),
         Event::CopiedPage {
             task,
             page,

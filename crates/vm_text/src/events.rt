@@ -45,8 +45,10 @@ pub fn put_event(text: &mut Line, event: &Event) -> Result<(), NoMemory>
         } => device_failed(text, *who, *way, *object, *page),
         Event::NoSlot { object, page } => no_slot(text, *object, *page),
         Event::Wired { host, count } => wired(text, *host, *count),
-        Event::RegionMade { .. } | Event::RegionCopied { .. } | Event::Shadowed { .. } =>
-            region_event(text, event),
+        Event::RegionMade { .. }
+        | Event::RegionCopied { .. }
+        | Event::Shadowed { .. }
+        | Event::Unmarked { .. } => region_event(text, event),
         Event::Entered { .. }
         | Event::Removed { .. }
         | Event::Protected { .. }
@@ -84,6 +86,7 @@ fn region_event(text: &mut Line, event: &Event) -> Result<(), NoMemory>
             pages,
         } => region_copied(text, *region, *source, *offset, *pages),
         Event::Shadowed { region, new, old } => shadowed(text, *region, *new, *old),
+        Event::Unmarked { region } => unmarked(text, *region),
         _ => unreachable!(),
     }
 }
@@ -519,6 +522,12 @@ fn shadowed(text: &mut Line, region: RegionId, new: ObjectId, old: ObjectId) -> 
         b"shadowed",
         &[u64::from(region.0), u64::from(new.0), u64::from(old.0)],
     )
+}
+
+fn unmarked(text: &mut Line, region: RegionId) -> Result<(), NoMemory>
+    ensures { OnOk result (text.new ≡ text.old ++ line_of (Event.Unmarked region)) }
+{
+    text.put_line(b"unmarked", &[u64::from(region.0)])
 }
 
 fn device_failed(
