@@ -12,7 +12,7 @@ use Rattle.vm_base.specs.declared.ids.ObjectId.{ObjectId}
 use Rattle.vm_base.specs.declared.ids.PageKey.{PageKey}
 use Rattle.vm_base.specs.declared.ids.TaskId.{TaskId}
 use Rattle.vm_fault.specs.Faults.{AfterZeros, AtOnce, CanFault, Copied, CopiesPage, CopiesTo, Ended, FaultState, Faulted, GoesOn, Raised, Runs, goes_on}
-use Rattle.vm_fault.specs.Faults.{want_after}
+use Rattle.vm_fault.specs.Faults.{has_one, want_after}
 use Rattle.vm_fault.specs.Rooms.{HasRoom, TakesRoom}
 use Rattle.vm_fault.specs.declared.step.FaultStep.{FaultStep}
 use Rattle.vm_fault.specs.declared.step.FaultStep.TheVariants as step
@@ -25,7 +25,7 @@ use Rattle.vm_parts.specs.Fits.{object_pages}
 use Rattle.vm_parts.specs.declared.parts.HostParts.{HostParts}
 use Rattle.vm_resident.specs.Resident.{PutsRow, ResidentTable, row_at}
 use Rattle.vm_resident.specs.declared.page_row.PageRow.{PageRow}
-use Rattle.vm_shadow.specs.Chains.{ChainTable, ObjectsBelow, region_at, shadow_at}
+use Rattle.vm_shadow.specs.Chains.{ChainTable, IsOnlyTop, ObjectsBelow, region_at, shadow_at}
 use Rattle.vm_shadow.specs.declared.ids.Ids.{Ids}
 use Rattle.vm_waits.specs.declared.waiting.Want.{Want}
 use Rattle.vm_waits.specs.declared.waiting.Want.TheVariants as want
@@ -160,6 +160,8 @@ next_can maps host task may_claim value address pages next target old new can f 
       inside = can.inside;
       copies = copies_then can.row.top target pages next old new made can.copies;
       counted = λ marked. subst (λ (z : Ids). 0 < z.marks) (sym ids) (can.counted marked);
+      referred = λ marked one. subst (λ (z : ChainTable). IsOnlyTop can.entry.region.0 can.row.top.0 z) (sym made.chains)
+          (can.referred marked (sym (ap (λ (z : ObjectTable). has_one (object_at z can.row.top.0)) made.page.objects) ∙ one));
       named =
           subst (λ (z : ChainTable). ObjectsBelow new.ids.next_object z) (sym made.chains)
           (subst (λ (z : Ids). ObjectsBelow z.next_object old.chains) (sym ids) can.named);

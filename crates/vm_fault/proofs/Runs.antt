@@ -1,7 +1,7 @@
 -- An access is run: its region has an object of its own where it needs one, and then its walk begins at the top.
 use Rattle.std.proofs.Math.Nat.{mul-add-mod_self_left}
 use Rattle.std.proofs.lemmas.Option.{MatchOption-at_some, same_Some}
-use Rattle.std.proofs.Common.{◌≡◌, ℕ, ◌+◌, ◌*◌, ◌%◌, ◌<◌, ◌≤◌, ◌&&◌, Bool, true, false, List, Some, refl, ap, sym, ◌∙◌, subst, arith, Result, Ok, Err}
+use Rattle.std.proofs.Common.{◌≡◌, ℕ, ◌+◌, ◌*◌, ◌%◌, ◌<◌, ◌≤◌, ◌&&◌, Bool, true, false, List, Some, refl, ap, sym, ◌∙◌, subst, arith, inl, inr, Result, Ok, Err}
 use Rattle.std.specs.Prelude.{IfOk, IfSome, OnOk}
 use Rattle.vm_base.specs.Entries.{entry_at}
 use Rattle.vm_base.specs.Pages.{IsPageSize, access_fits}
@@ -49,7 +49,7 @@ copies_from (want.Store address n value) row page parts chains size sized can = 
 copies_from (want.CopyTo address pages target next) row page parts chains size sized can =
     record { told = can.told; present = can.present (row.shift + page); inside = omega (arith, can.inside, sized.1); unmade = can.unmade next (omega arith) }
 
--- a store makes the region's object and other accesses leave all as it was, so a slow copy can still
+-- a store takes the region's mark and other accesses leave all as it was, so a slow copy can still
 pub copies_prepared : (what : Want) (region : RegionId) (row : RegionRow) (page : ℕ) (s mid : FaultState) (size : ℕ) → IsSizedWant size what
     → CanCopy what row s.parts s.chains → Prepares (is_storing what && row.marked) region row s mid
     → (now : RegionRow) → region_at s.chains region.0 ≡ Some row → region_at mid.chains region.0 ≡ Some now → CopiesFrom what (top_place now page) mid.parts
@@ -61,7 +61,7 @@ copies_prepared (want.CopyTo address pages target next) region row page s mid si
     subst (λ (z : RegionRow). CopiesNext (top_place z page) target next mid.parts) (same_Some row now rows)
     (subst (λ (z : FaultState). CopiesNext (top_place row page) target next z.parts) (sym same) first)
 
--- what is known behind the shadow, if one was made
+-- what is known behind what a mark brings
 pub record IsPrepared (region : RegionId) (s mid : FaultState) : Type 0 where
   pub fit : Fit mid.parts
   pub fits : ChainsFit mid.chains mid.parts.objects
@@ -71,13 +71,21 @@ pub record IsPrepared (region : RegionId) (s mid : FaultState) : Type 0 where
 
 pub prepared : (is : Bool) (region : RegionId) (row : RegionRow) (s mid : FaultState) → Fit s.parts → ChainsFit s.chains s.parts.objects
     → region_at s.chains region.0 ≡ Some row → Prepares is region row s mid → IsPrepared region s mid
-prepared true region row s mid fit fits found made =
+prepared true region row s mid fit fits found (inl made) =
     record {
       fit = made.fit;
       fits = made.fits;
       buffers = ap (λ (z : HostParts). z.buffers) made.parts;
       row = record row { top = made.object; shift = 0; marked = false };
       found = if_true region.0 _ _ _ (made.chains.at region.0);
+    }
+prepared true region row s mid fit fits found (inr loses) =
+    record {
+      fit = subst (λ (z : HostParts). Fit z) (sym loses.parts) fit;
+      fits = loses.fits;
+      buffers = ap (λ (z : HostParts). z.buffers) loses.parts;
+      row = record row { marked = false };
+      found = if_true region.0 _ _ _ (loses.chains.at region.0);
     }
 prepared false region row s mid fit fits found same =
     record {

@@ -1,10 +1,10 @@
--- A region gets an object of its own: what is known of objects then, and that all fits still.
-use Rattle.std.proofs.Common.{◌≡◌, ℕ, ◌+◌, ◌≤◌, Some, None, false, refl, ap, sym, ◌∙◌, subst, arith, inl, inr, Result, Ok, Err}
+-- A region gets an object of its own, or loses its mark: what is known of objects then, and that all fits still.
+use Rattle.std.proofs.Common.{◌≡◌, ℕ, ◌+◌, ◌≤◌, Bool, Option, Some, None, false, refl, ap, sym, ◌∙◌, subst, arith, inl, inr, Result, Ok, Err}
 use Rattle.std.proofs.lemmas.Bool.Decides.{nat_tests}
 use Rattle.std.specs.Prelude.{OnOk}
 use Rattle.vm_base.specs.declared.ids.ObjectId.{ObjectId}
 use Rattle.vm_base.specs.declared.ids.RegionId.{RegionId}
-use Rattle.vm_fault.specs.Faults.{FaultState, MakesShadow}
+use Rattle.vm_fault.specs.Faults.{FaultState, LosesMark, MakesShadow}
 use Rattle.vm_fault.specs.Walks.{ChainsFit}
 use Rattle.vm_objects.specs.Objects.{ObjectTable, PutsObject, SameMarks, absent_among, object_among, object_at}
 use Rattle.vm_objects.specs.declared.row.ObjectRow.{ObjectRow}
@@ -12,9 +12,12 @@ use Rattle.vm_parts.specs.Fits.{Fit, object_pages, pages_of_row}
 use Rattle.vm_parts.specs.declared.parts.HostParts.{HostParts}
 use Rattle.vm_parts.proofs.Fitting.{fit_within}
 use Rattle.vm_parts.proofs.Rows.{one_case}
-use Rattle.vm_shadow.specs.Chains.{ChainTable, ObjectsBelow, ShadowsRegion, region_at, shadow_at}
+use Rattle.vm_shadow.specs.Chains.{ChainTable, ObjectsBelow, PutsRegion, ShadowsRegion, region_at, shadow_at}
 use Rattle.vm_shadow.specs.declared.region_row.RegionRow.{RegionRow}
 use Rattle.vm_shadow.specs.declared.shadow_row.ShadowRow.{ShadowRow}
+
+some_same : {A : Type 0} (x y : A) → Some x ≡ Some y → x ≡ y
+some_same x y e = cc
 
 -- what was told makes a shadow
 pub told_makes : {E : Type 0} (result : Result (Unit {0}) E) (region : RegionId) (row : RegionRow) (old new : FaultState) (told : Type 0)
@@ -22,8 +25,27 @@ pub told_makes : {E : Type 0} (result : Result (Unit {0}) E) (region : RegionId)
 told_makes (Ok x) region row old new told makes is = makes is
 told_makes (Err e) region row old new told makes is = tt
 
-some_same : {A : Type 0} (x y : A) → Some x ≡ Some y → x ≡ y
-some_same x y e = cc
+-- what was told behind a mark that went
+pub told_loses : {E : Type 0} (result : Result (Unit {0}) E) (region : RegionId) (row : RegionRow) (old new : FaultState) (told : Type 0)
+    → (told → LosesMark region row old new) → OnOk result told → OnOk result (LosesMark region row old new)
+told_loses (Ok x) region row old new told loses is = loses is
+told_loses (Err e) region row old new told loses is = tt
+
+-- the chains fit the objects still, where a region has another mark
+pub chains_unmarked : (chains new : ChainTable) (os : ObjectTable) (region : ℕ) (row : RegionRow) (mark : Bool) → ChainsFit chains os
+    → region_at chains region ≡ Some row → PutsRegion region (Some (record row { marked = mark })) chains new → ChainsFit new os
+chains_unmarked chains new os region row mark fits found put =
+    record {
+      tops = λ r other is. elim (one_case region r (Some now) (region_at chains r) (region_at new r) (put.at r)) [
+        | inl this ↦
+            subst (λ (z : RegionRow). z.shift + z.pages ≤ object_pages os z.top.0) (some_same now other (sym this.1 ∙ is)) (fits.tops region row found)
+        | inr that ↦ fits.tops r other (sym that.1 ∙ is)
+      ];
+      unders = λ o under is. fits.unders o under (sym (ap (λ (z : ℕ → Option ShadowRow). z o) put.shadows) ∙ is);
+    }
+  where
+    now : RegionRow
+    now = record row { marked = mark }
 
 -- an object is made where room was made first, and referred to
 pub put_twice : (os roomier mid new : ObjectTable) (id : ℕ) (made row : ObjectRow) → roomier.entries ≡ os.entries → PutsObject id (Some made) roomier mid

@@ -1,5 +1,5 @@
 -- What running an access once comes to, and what it changes.
-use Rattle.std.specs.Prelude.{ℕ, suc, ◌≡◌, ◌≢◌, ◌+◌, ◌-◌, ◌*◌, ◌%◌, ◌^◌, ◌<◌, ◌≤◌, ◌⊎◌, nat_lt, ◌&&◌, Bool, true, false, List, ◌∷◌, Option, Some, None}
+use Rattle.std.specs.Prelude.{ℕ, suc, ◌≡◌, ◌≢◌, ◌+◌, ◌-◌, ◌*◌, ◌%◌, ◌^◌, ◌<◌, ◌≤◌, ◌⊎◌, nat_lt, ◌&&◌, ◌==◌, Bool, true, false, List, ◌∷◌, Option, Some, None}
 use Rattle.std.specs.Prelude.{slice_range}
 use Rattle.vm_base.specs.declared.entry.Entry.{Entry}
 use Rattle.vm_base.specs.declared.ids.FrameNo.{FrameNo}
@@ -21,7 +21,7 @@ use Rattle.vm_model.specs.declared.event.Event.{Event}
 use Rattle.vm_model.specs.declared.event.Event.TheVariants as event
 use Rattle.vm_model.specs.declared.message.Channel.TheVariants.{Up}
 use Rattle.vm_model.specs.declared.message.Message.TheVariants as message
-use Rattle.vm_objects.specs.Objects.{PutsObject, SameMarks, absent_at, object_at}
+use Rattle.vm_objects.specs.Objects.{ObjectTable, PutsObject, SameMarks, absent_at, object_at}
 use Rattle.vm_objects.specs.declared.row.ObjectRow.{ObjectRow}
 use Rattle.vm_objects.specs.declared.row.PagerState.TheVariants as state
 use Rattle.vm_parts.specs.Changes.{AsksPage, Brings, NotesUnlock, RaisesPage, Writes}
@@ -30,7 +30,7 @@ use Rattle.vm_parts.specs.declared.parts.HostParts.{HostParts}
 use Rattle.vm_queues.specs.Queues.{KeepsPages, with_reference}
 use Rattle.vm_resident.specs.Resident.{row_at}
 use Rattle.vm_resident.specs.declared.page_row.PageRow.{PageRow}
-use Rattle.vm_shadow.specs.Chains.{ChainTable, ObjectsBelow, ShadowsRegion, region_at, shadow_at}
+use Rattle.vm_shadow.specs.Chains.{ChainTable, IsOnlyTop, ObjectsBelow, PutsRegion, ShadowsRegion, region_at, shadow_at}
 use Rattle.vm_shadow.specs.declared.ids.Ids.{Ids}
 use Rattle.vm_shadow.specs.declared.region_row.RegionRow.{RegionRow}
 use Rattle.vm_waits.specs.Wants.{IsSizedWant, address_in, need_in, with_page_done}
@@ -66,8 +66,17 @@ CanCopy (want.Load address bytes) row parts chains = Unit {0}
 CanCopy (want.Store address bytes value) row parts chains = Unit {0}
 CanCopy (want.CopyTo address pages target next) row parts chains = CopiesTo row.top target pages next parts chains
 
+-- an object has one reference
+abbrev pub has_one : Option ObjectRow → Bool
+has_one None = false
+has_one (Some known) = known.references == 1
+
+-- where one reference is counted of the top of a region with this row, the region is that
+abbrev pub IsCounted : ℕ → RegionRow → ObjectTable → ChainTable → Type 0
+IsCounted region row objects chains = has_one (object_at objects row.top.0) ≡ true → IsOnlyTop region row.top.0 chains
+
 -- An access can be run: an entry of its task allows it, and it is about a page of the entry's region, which fits the objects below it. The next object
--- isn't there yet, and marks are counted where the region has one.
+-- isn't there yet, and marks, and references of the top, are counted where the region has a mark.
 pub record CanFault (maps : Mapped) (s : FaultState) (task : ℕ) (what : Want) : Type 0 where
   pub fit : Fit s.parts
   pub chains : ChainsFit s.chains s.parts.objects
@@ -81,6 +90,7 @@ pub record CanFault (maps : Mapped) (s : FaultState) (task : ℕ) (what : Want) 
   pub inside : LiesWithin maps.size what (rows_in task maps) entry row
   pub copies : CanCopy what row s.parts s.chains
   pub counted : row.marked ≡ true → 0 < s.ids.marks
+  pub referred : row.marked ≡ true → IsCounted entry.region.0 row s.parts.objects s.chains
   pub named : ObjectsBelow s.ids.next_object s.chains
   pub unmade : (o : ℕ) → s.ids.next_object ≤ o → object_at s.parts.objects o ≡ None
   pub few : s.ids.next_object < 2 ^ 32 - 1
@@ -91,8 +101,9 @@ pub record KeepsPlan (old new : HostParts) : Type 0 where
   pub objects : new.objects ≡ old.objects
   pub buffers : new.buffers ≡ old.buffers
 
--- a region with this row gets an object of its own over its old top
+-- a region with this row, whose top has another reference, gets an object of its own over its old top
 pub record MakesShadow (region : RegionId) (row : RegionRow) (old new : FaultState) : Type 0 where
+  pub shared : has_one (object_at old.parts.objects row.top.0) ≡ false
   pub object : ObjectId
   pub next : object.0 ≡ old.ids.next_object
   pub chains : ShadowsRegion region.0 object row old.chains new.chains
@@ -106,9 +117,19 @@ pub record MakesShadow (region : RegionId) (row : RegionRow) (old new : FaultSta
   pub ids : new.ids ≡ record old.ids { next_object = old.ids.next_object + 1; marks = old.ids.marks - 1 }
   pub told : new.events ≡ event.Shadowed region object row.top ∷ old.events
 
--- a store in a marked region does so first, and any other access nothing
+-- a region with this row, which is the one reference of its top, loses its mark
+pub record LosesMark (region : RegionId) (row : RegionRow) (old new : FaultState) : Type 0 where
+  pub sole : has_one (object_at old.parts.objects row.top.0) ≡ true
+  pub chains : PutsRegion region.0 (Some (record row { marked = false })) old.chains new.chains
+  pub fewer : new.chains.marked + 1 ≡ old.chains.marked
+  pub parts : new.parts ≡ old.parts
+  pub fits : ChainsFit new.chains new.parts.objects
+  pub ids : new.ids ≡ record old.ids { marks = old.ids.marks - 1 }
+  pub told : new.events ≡ event.Unmarked region ∷ old.events
+
+-- a store in a marked region does one of these first, and any other access nothing
 abbrev pub Prepares : Bool → RegionId → RegionRow → FaultState → FaultState → Type 0
-Prepares true region row old new = MakesShadow region row old new
+Prepares true region row old new = MakesShadow region row old new ⊎ LosesMark region row old new
 Prepares false region row old new = new ≡ old
 
 -- the page in a frame is marked as referenced
@@ -232,7 +253,7 @@ Comes host task what may_claim top at (step.WaitAnswer key) old new = AwaitsPage
 Comes host task what may_claim top at (step.NeedFrame source) old new =
     Needs what top old.parts old.chains source × (may_claim ≡ true → free old.parts.frames ≡ 0) × NothingChanges old new
 
--- an access of a task was run once, a slow copy for its next page: a store gave its region an object of its own first, where that was marked
+-- an access of a task was run once, a slow copy for its next page: a store took the mark of its region first, where that was marked
 pub record Faulted (maps : Mapped) (host : HostId) (task : TaskId) (what : Want) (may_claim : Bool) (answer : FaultStep) (old new : FaultState) : Type 0 where
   pub entry : Entry
   pub found : entry_at (address_in maps.size what) (rows_in task.0 maps) ≡ Some entry

@@ -3,6 +3,7 @@ pub mod ComesForAccess
 pub mod FramesHeld
 pub mod FramesWashed
 pub mod FramesWired
+pub mod MarkGone
 pub mod MayLeave
 pub mod PageReclaimed
 pub mod PageReturned
@@ -14,6 +15,7 @@ pub mod ReturnTaken
 pub mod ShadowMade
 pub mod SourceIsTold
 pub mod SourceOfCopy
+pub mod TopAlone
 pub mod WalkLands
 pub mod WalksShown
 pub mod WhatIsKnown

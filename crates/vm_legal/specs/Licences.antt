@@ -431,7 +431,12 @@ pub record Enters (header : Header) (task bytes region offset : ℕ) (past : Lis
   pub file : is_file header region ≡ true → in_use header host region past ≡ true
   pub unfilled : is_filled region (tasks past) past ≡ false
 
--- the top object of a marked region of a waiting store gets a shadow
+-- The region is the one reference of the temporary object: no other region in use has it as its top, and no object that is reached stands on it.
+pub record IsTopAlone (header : Header) (host region object : ℕ) (past : List Event) : Type 0 where
+  pub tops : (other : ℕ) → named header ≤ other → in_use header host other past ≡ true → (region_of header other past).top ≡ object → other ≡ region
+  pub bare : (upper : ℕ) → Reach header host upper past → (backing_of header upper past).backed ≡ true → (backing_of header upper past).under ≡ object → ⊥
+
+-- the top object of a marked region of a waiting store, which has another reference, gets a shadow
 pub record Shadows (header : Header) (region new old : ℕ) (past : List Event) : Type 0 where
   pub next : new ≡ next_object header past
   pub is_top : (region_of header region past).top ≡ old
@@ -442,11 +447,7 @@ pub record Shadows (header : Header) (region new old : ℕ) (past : List Event) 
   pub value : ℕ
   pub waits : Waits header task (Storing address bytes value) past
   pub region_is : region ≡ waits.at.entry.region.0
-
--- The region is the one reference of the temporary object: no other region in use has it as its top, and no object that is reached stands on it.
-pub record IsTopAlone (header : Header) (host region object : ℕ) (past : List Event) : Type 0 where
-  pub tops : (other : ℕ) → named header ≤ other → in_use header host other past ≡ true → (region_of header other past).top ≡ object → other ≡ region
-  pub bare : (upper : ℕ) → Reach header host upper past → (backing_of header upper past).backed ≡ true → (backing_of header upper past).under ≡ object → ⊥
+  pub shared : IsTopAlone header waits.at.host region old past → ⊥
 
 -- a marked region of a waiting store loses its mark, since it is the one reference of its top object
 pub record Unmarks (header : Header) (region : ℕ) (past : List Event) : Type 0 where

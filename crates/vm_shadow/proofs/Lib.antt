@@ -1,3 +1,4 @@
 mod Counts
 pub mod Ranks
+pub mod Sole
 mod Tables

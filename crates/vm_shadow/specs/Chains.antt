@@ -2,7 +2,7 @@
 use Rattle.std.specs.List.{count_by}
 use Rattle.std.specs.Map.{lookup, values_of}
 use Rattle.std.specs.Option.{option_map_or}
-use Rattle.std.specs.Prelude.{ℕ, zero, suc, ◌≡◌, ◌+◌, ◌<◌, ◌≤◌, ◌==◌, true, false, List, length, Option, Some, None, if◌then◌else◌}
+use Rattle.std.specs.Prelude.{ℕ, zero, suc, ◌≡◌, ◌≢◌, ◌+◌, ◌<◌, ◌≤◌, ◌==◌, true, false, List, length, Option, Some, None, if◌then◌else◌}
 use Rattle.vm_base.specs.declared.ids.ObjectId.{ObjectId}
 use Rattle.vm_base.specs.declared.ids.PageKey.{PageKey}
 use Rattle.vm_base.specs.declared.ids.RegionId.{RegionId}
@@ -65,6 +65,11 @@ pub record DropsShadow (object : ℕ) (old new : ChainTable) : Type 0 where
 abbrev pub references_in : ChainTable → ℕ → ℕ
 references_in table o =
     count_by (λ (row : RegionRow). row.top.0 == o) (values_of table.regions) + count_by (λ (row : ShadowRow). row.under.0 == o) (values_of table.shadows)
+
+-- the region is the one reference of an object: no other region has that as its top, and no object stands on it
+pub record IsOnlyTop (region object : ℕ) (table : ChainTable) : Type 0 where
+  pub tops : (r : ℕ) (row : RegionRow) → region_at table r ≡ Some row → row.top.0 ≡ object → r ≡ region
+  pub bare : (o : ℕ) (row : ShadowRow) → shadow_at table o ≡ Some row → row.under.0 ≢ object
 
 -- what stands under a shadow once the object under it is merged into it: what stood under that one, by the sum of both shifts
 abbrev pub joined : ShadowRow → Option ShadowRow → Option ShadowRow

@@ -3,7 +3,7 @@ ghost use Rattle.std.specs.List.{count_by};
 ghost use Rattle.std.specs.Option.{option_map};
 ghost use Rattle.std.specs.Prelude.{ℕ, ◌≡◌, ◌+◌, ◌-◌, ◌==◌, ◌<◌, ◌≤◌, ◌^◌, min, Some, None, false, true, if◌then◌else◌, IfOk, IfSome, IsOk, IsSome, IsSomeAnd};
 ghost use Rattle.std.specs.Prelude.{OnErr, OnOk};
-ghost use Rattle.vm_shadow.specs.Chains.{CopiesRegion, DropsShadow, IsDeep, IsRanked, ObjectsBelow, PutsRegion, RegionsBelow, SameChains, ShadowsRegion};
+ghost use Rattle.vm_shadow.specs.Chains.{CopiesRegion, DropsShadow, IsDeep, IsOnlyTop, IsRanked, ObjectsBelow, PutsRegion, RegionsBelow, SameChains, ShadowsRegion};
 ghost use Rattle.vm_shadow.specs.Chains.{MergesShadow, height, place_under, references_in, region_at, shadow_at};
 
 use crate::{Ids, RegionRow, ShadowRow};
@@ -247,7 +247,8 @@ impl Chains {
     /// Takes the mark off a region whose top object nothing else refers to: whoever writes to it writes
     /// into the object itself. It takes no memory.
     pub fn unmark(&mut self, region: RegionId, ids: &mut Ids)
-        requires marked { IsSomeAnd (region_at self.old region.0) (λ row. (row.marked ≡ true) × (references_in self.old row.top.0 ≡ 1)) }
+        requires marked { IsSomeAnd (region_at self.old region.0) (λ row. row.marked ≡ true) }
+        requires alone { IfSome (region_at self.old region.0) (λ row. IsOnlyTop region.0 row.top.0 self.old) }
         requires marks { 0 < ids.old.marks }
         ensures unmarks { IfSome (region_at self.old region.0) (λ row.
             PutsRegion region.0 (Some (record row { marked = false })) self.old self.new) }

@@ -1,3 +1,4 @@
+pub mod Alone
 pub mod Bare
 pub mod Bypassing
 pub mod Chains
@@ -23,6 +24,7 @@ pub mod Shown
 pub mod Tallies
 pub mod Told
 pub mod Unlocked
+pub mod Unmarking
 pub mod Waited
 pub mod Waiting
 pub mod Waking

@@ -59,20 +59,33 @@ marked_some header past r less marked =
     let is = marks_counted header (next_region header past) past in
     omega (arith, some, is)
 
+-- one of the regions that are there loses its mark
+one_fewer : (header : Header) (past now : List Event) (region : ℕ) → region < next_region header past → (region_of header region past).mark ≡ true
+    → ((r : ℕ) → is_marked header now r ≡ (if r == region then false else is_marked header past r))
+    → marked_in (next_region header past) (λ r. region_of header r now) + 1 ≡ marks_of header past
+one_fewer header past now region less marked changed =
+    let n = next_region header past in
+    let put = tally_put (is_marked header past) (is_marked header now) n region less
+    (λ m apart. changed m ∙ ap (λ b. if b then false else is_marked header past m) (not_self m region (λ eq. apart (sym eq)))) in
+    let was : one (is_marked header past region) ≡ 1 = ap one marked in
+    let is : one (is_marked header now region) ≡ 0 = ap one (changed region)
+    ∙ ap (λ b. one (if b then false else is_marked header past region)) (is_self region region refl) in
+    let before = marks_counted header n past in
+    let after = marks_counted header n now in
+    omega (arith, put, was, is, before, after)
+
 -- a region that gets an object of its own loses its mark
 pub marked_shadowed : (header : Header) (past : List Event) (region : RegionId) (new old : ObjectId) → region.0 < next_region header past
     → (region_of header region.0 past).mark ≡ true
     → marks_of header (event.Shadowed region new old ∷ past) + 1 ≡ marks_of header past
 marked_shadowed header past region new old less marked =
-    let now = event.Shadowed region new old ∷ past in
-    let n = next_region header past in
-    let put = tally_put (is_marked header past) (is_marked header now) n region.0 less
-    (λ m apart. ap (λ b. if b then false else is_marked header past m) (not_self m region.0 (λ eq. apart (sym eq)))) in
-    let was : one (is_marked header past region.0) ≡ 1 = ap one marked in
-    let is : one (is_marked header now region.0) ≡ 0 = ap (λ b. one (if b then false else is_marked header past region.0)) (is_self region.0 region.0 refl) in
-    let before = marks_counted header n past in
-    let after = marks_counted header n now in
-    omega (arith, put, was, is, before, after)
+    one_fewer header past (event.Shadowed region new old ∷ past) region.0 less marked (λ r. refl)
+
+-- and so does one that keeps its object
+pub marked_unmarked : (header : Header) (past : List Event) (region : RegionId) → region.0 < next_region header past
+    → (region_of header region.0 past).mark ≡ true
+    → marks_of header (event.Unmarked region ∷ past) + 1 ≡ marks_of header past
+marked_unmarked header past region less marked = one_fewer header past (event.Unmarked region ∷ past) region.0 less marked (λ r. refl)
 
 -- a new region has no mark
 pub marked_made : (header : Header) (past : List Event) (region : RegionId) (object : ObjectId) (pages : ℕ) → region.0 ≡ next_region header past

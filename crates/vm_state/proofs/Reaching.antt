@@ -1,7 +1,15 @@
 -- The objects to which something refers are those in the chains of regions.
-use Rattle.std.proofs.Common.{◌≡◌, ◌≤◌, ℕ, zero, suc, ◌+◌, Bool, true, false, Option, Some, None, length, ap, refl, sym, ◌∙◌, subst, arith}
+use Rattle.std.proofs.Common.{◌≡◌, ◌≤◌, ◌<◌, ◌||◌, ℕ, zero, suc, ◌+◌, Bool, true, false, Option, Some, None, length, ap, refl, sym, ◌∙◌, subst, arith}
+use Rattle.std.proofs.Common.{inl, inr}
+use Rattle.std.proofs.lemmas.Bool.Decides.{nat_tests}
+use Rattle.std.specs.Prelude.{nat_lt}
+use Rattle.vm_abroad.proofs.Regions.{kind_cases}
+use Rattle.vm_abroad.specs.Home.{AreHomes}
 use Rattle.vm_legal.specs.Walks.{Below, Reaches}
+use Rattle.vm_model.specs.declared.script.Header.{Header}
+use Rattle.vm_model.specs.Named.{named}
 use Rattle.vm_model.specs.Regions.{Backing, Region}
+use Rattle.vm_model.specs.Waiting.{Target}
 use Rattle.vm_objects.specs.Objects.{ObjectTable}
 use Rattle.vm_shadow.proofs.Ranks.{height_falls, height_most}
 use Rattle.vm_shadow.specs.Chains.{ChainTable, IsRanked, height, region_at, shadow_at}
@@ -82,3 +90,62 @@ pub reach_down : {chains : ChainTable} {objects : ObjectTable} {ids : Ids} {regi
 reach_down has used known o reach =
     let row = known reach.0 reach.2 in
     chain_known has reach.0 row.0 row.1 reach.1 o reach.3
+
+-- the chain of a declared region is of its own object alone
+pub chain_declared : {header : Header} {n m : ℕ} {home_from made_for : ℕ → Option ℕ} {used_at : ℕ → ℕ → Bool} {region_from : ℕ → Region}
+    {backing_from : ℕ → Backing} {target_from : ℕ → Option Target} → AreHomes header n m home_from made_for used_at region_from backing_from target_from
+    → (r steps u : ℕ) → r < named header → Below backing_from steps (region_from r).top u → r ≡ u
+chain_declared {backing_from = backing_from} homes r steps u declared below =
+    by_steps steps (subst (λ (z : ℕ). Below backing_from steps z u) (ap (λ (z : Region). z.top) (homes.whole r declared)) below)
+  where
+    by_steps : (n : ℕ) → Below backing_from n r u → r ≡ u
+    by_steps zero is = is
+    by_steps (suc n) is = absurd (let bad : true ≡ false = sym is.0 ∙ homes.bare r declared in cc)
+
+-- a temporary object that is referred to is in the chain of a temporary region
+pub temporary_up : {header : Header} {chains : ChainTable} {objects : ObjectTable} {ids : Ids} {region_from : ℕ → Region} {backing_from : ℕ → Backing}
+    {n m : ℕ} {home_from made_for : ℕ → Option ℕ} {used_at : ℕ → ℕ → Bool} {target_from : ℕ → Option Target} {regions_made objects_made marked : ℕ}
+    → HasRegions chains objects ids region_from backing_from regions_made objects_made marked
+    → AreHomes header n m home_from made_for used_at region_from backing_from target_from
+    → ((s : ℕ) (row : ShadowRow) → shadow_at chains s ≡ Some row → IsReferred objects s) → (used : ℕ → Bool)
+    → ((r : ℕ) (row : RegionRow) → named header ≤ r → region_at chains r ≡ Some row → used r ≡ true) → (o : ℕ) → named header ≤ o → IsReferred objects o
+    → Reaches used region_from backing_from o
+temporary_up {header = header} {chains = chains} {region_from = region_from} {backing_from = backing_from} has homes shadows used all o least referred =
+    elim (kind_cases header reach.0) [
+      | inl declared ↦ let same = chain_declared homes reach.0 reach.1 o declared reach.3 in absurd (omega (arith, same, declared, least))
+      | inr temporary ↦ (
+        reach.0,
+        reach.1,
+        sym (of_declared reach.0 false (let test : nat_lt reach.0 (named header) ≡ false = grind (arith, nat_tests) in test)) ∙ reach.2,
+        reach.3,
+      )
+    ]
+  where
+    -- a declared region counts as used here
+    used_too : ℕ → Bool
+    used_too r = nat_lt r (named header) || used r
+
+    of_declared : (r : ℕ) (b : Bool) → nat_lt r (named header) ≡ b → used_too r ≡ (b || used r)
+    of_declared r b test = ap (λ z. z || used r) test
+
+    each : (r : ℕ) (row : RegionRow) → region_at chains r ≡ Some row → used_too r ≡ true
+    each r row found = elim (kind_cases header r) [
+      | inl declared ↦ of_declared r true (let test : nat_lt r (named header) ≡ true = grind (arith, nat_tests) in test)
+      | inr temporary ↦
+          of_declared r false (let test : nat_lt r (named header) ≡ false = grind (arith, nat_tests) in test) ∙ all r row temporary found
+    ]
+
+    reach : Reaches used_too region_from backing_from o
+    reach = reach_up has has.ranked shadows used_too each o referred
+
+-- and what is temporary and in the chain of a region in use is referred to
+pub temporary_down : {header : Header} {chains : ChainTable} {objects : ObjectTable} {ids : Ids} {region_from : ℕ → Region} {backing_from : ℕ → Backing}
+    {n m : ℕ} {home_from made_for : ℕ → Option ℕ} {used_at : ℕ → ℕ → Bool} {target_from : ℕ → Option Target} {regions_made objects_made marked : ℕ}
+    → HasRegions chains objects ids region_from backing_from regions_made objects_made marked
+    → AreHomes header n m home_from made_for used_at region_from backing_from target_from → (used : ℕ → Bool)
+    → ((r : ℕ) → named header ≤ r → used r ≡ true → (row : RegionRow) × (region_at chains r ≡ Some row)) → (o : ℕ) → named header ≤ o
+    → Reaches used region_from backing_from o → IsReferred objects o
+temporary_down {header = header} has homes used known o least reach = elim (kind_cases header reach.0) [
+  | inl declared ↦ let same = chain_declared homes reach.0 reach.1 o declared reach.3 in absurd (omega (arith, same, declared, least))
+  | inr temporary ↦ let row = known reach.0 temporary reach.2 in chain_known has reach.0 row.0 row.1 reach.1 o reach.3
+]

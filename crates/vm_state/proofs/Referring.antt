@@ -2,17 +2,19 @@
 use Rattle.std.proofs.Common.{◌≡◌, ◌≤◌, ℕ, ◌<◌, ◌==◌, Bool, true, false, Option, Some, None, IsSome, ap, refl, sym, ◌∙◌, arith, inl, inr}
 use Rattle.std.proofs.lemmas.Bool.Decides.{eqb_tells, nat_tests}
 use Rattle.std.specs.Prelude.{nat_lt}
+use Rattle.vm_fault.specs.Faults.{IsCounted, has_one}
 use Rattle.vm_model.specs.Regions.{Backing, Region}
 use Rattle.vm_objects.specs.Objects.{ObjectTable, object_at}
 use Rattle.vm_objects.specs.declared.row.ObjectRow.{ObjectRow}
-use Rattle.vm_shadow.specs.Chains.{ChainTable, ObjectsBelow, RegionsBelow, region_at, shadow_at}
+use Rattle.vm_parts.specs.Changes.{one}
+use Rattle.vm_shadow.specs.Chains.{ChainTable, IsOnlyTop, ObjectsBelow, RegionsBelow, region_at, shadow_at}
 use Rattle.vm_shadow.specs.declared.ids.Ids.{Ids}
 use Rattle.vm_shadow.specs.declared.region_row.RegionRow.{RegionRow}
 use Rattle.vm_shadow.specs.declared.shadow_row.ShadowRow.{ShadowRow}
 use Rattle.vm_terminate.specs.Finishes.{IsReferred}
 use Rattle.vm_state.specs.References.{is_backing, is_over, tally}
 use Rattle.vm_state.specs.Stands.{HasRegions}
-use Rattle.vm_state.proofs.Tallies.{tally_found, tally_some, tally_two}
+use Rattle.vm_state.proofs.Tallies.{tally_found, tally_none, tally_put, tally_some, tally_two}
 
 -- the row that is there
 pub row_of : {A : Type 0} (x : Option A) → IsSome x → (y : A) × (x ≡ Some y)
@@ -199,3 +201,69 @@ sole_shadow {chains = chains} {objects_made = objects_made} has o known is singl
       (backing_is o (shadow_at chains t) row2 found2 under2) (backing_is o (shadow_at chains s) row found under) in
       absurd (omega (arith, count, two, single))
 ]
+
+-- the region over an object with one reference is that reference
+pub only_top : {chains : ChainTable} {objects : ObjectTable} {ids : Ids} {region_from : ℕ → Region} {backing_from : ℕ → Backing}
+    {regions_made objects_made marked : ℕ} → HasRegions chains objects ids region_from backing_from regions_made objects_made marked → (r : ℕ) (row : RegionRow)
+    (known : ObjectRow) → region_at chains r ≡ Some row → object_at objects row.top.0 ≡ Some known → known.references ≡ 1 → IsOnlyTop r row.top.0 chains
+only_top {chains = chains} {regions_made = regions_made} has r row known found is single =
+    record {
+      tops = λ q other found2 top. elim (eqb_tells q r) [
+        | inl same ↦ same.1
+        | inr apart ↦
+            let count = has.counts row.top.0 known is in
+            let two = tally_two (λ q. is_over row.top.0 (region_at chains q)) regions_made q r (small_region has q other found2) (small_region has r row found)
+            apart.1 (over_is row.top.0 (region_at chains q) other found2 top) (over_is row.top.0 (region_at chains r) row found refl) in
+            absurd (omega (arith, count, two, single))
+      ];
+      bare = λ s shadow found2 under. sole_region has row.top.0 known is single s shadow found2 under r row found refl;
+    }
+
+-- and the object of a region that is the one reference has one
+pub only_one : {chains : ChainTable} {objects : ObjectTable} {ids : Ids} {region_from : ℕ → Region} {backing_from : ℕ → Backing}
+    {regions_made objects_made marked : ℕ} → HasRegions chains objects ids region_from backing_from regions_made objects_made marked → (r : ℕ) (row : RegionRow)
+    (known : ObjectRow) → region_at chains r ≡ Some row → object_at objects row.top.0 ≡ Some known → IsOnlyTop r row.top.0 chains → known.references ≡ 1
+only_one {chains = chains} {regions_made = regions_made} {objects_made = objects_made} has r row known found is only =
+    let count = has.counts row.top.0 known is in
+    let tops = tally_put (λ q. false) overs regions_made r (small_region has r row found) (λ q apart. other_region q apart (overs q) refl) in
+    let none = tally_none (λ q. false) regions_made (λ q less. refl) in
+    let own : one (overs r) ≡ 1 = ap one (over_is row.top.0 (region_at chains r) row found refl) in
+    let unders = tally_none backs objects_made (λ s less. no_shadow s (backs s) refl) in
+    omega (arith, count, tops, none, own, unders)
+  where
+    overs : ℕ → Bool
+    overs q = is_over row.top.0 (region_at chains q)
+
+    backs : ℕ → Bool
+    backs s = is_backing row.top.0 (shadow_at chains s)
+
+    other_region : (q : ℕ) → (r ≡ q → ⊥) → (b : Bool) → overs q ≡ b → b ≡ false
+    other_region q apart false fails = refl
+    other_region q apart true passes =
+        let other = over_found row.top.0 (region_at chains q) passes in absurd (apart (sym (only.tops q other.0 other.1 other.2)))
+
+    no_shadow : (s : ℕ) → (b : Bool) → backs s ≡ b → b ≡ false
+    no_shadow s false fails = refl
+    no_shadow s true passes = let shadow = backing_found row.top.0 (shadow_at chains s) passes in absurd (only.bare s shadow.0 shadow.1 shadow.2)
+
+-- as an access that stores needs it
+pub top_counted : {chains : ChainTable} {objects : ObjectTable} {ids : Ids} {region_from : ℕ → Region} {backing_from : ℕ → Backing}
+    {regions_made objects_made marked : ℕ} → HasRegions chains objects ids region_from backing_from regions_made objects_made marked → (r : ℕ) (row : RegionRow)
+    → region_at chains r ≡ Some row → IsCounted r row objects chains
+top_counted {chains = chains} {objects = objects} has r row found single =
+    let known = row_of (object_at objects row.top.0) (has.tops r row found) in
+    only_top has r row known.0 found known.1 (one_of known.0 (sym (ap has_one known.1) ∙ single))
+  where
+    one_of : (known : ObjectRow) → (known.references == 1) ≡ true → known.references ≡ 1
+    one_of known is = grind (arith, nat_tests)
+
+-- a region whose top has another reference is not the one
+pub top_not_counted : {chains : ChainTable} {objects : ObjectTable} {ids : Ids} {region_from : ℕ → Region} {backing_from : ℕ → Backing}
+    {regions_made objects_made marked : ℕ} → HasRegions chains objects ids region_from backing_from regions_made objects_made marked → (r : ℕ) (row : RegionRow)
+    → region_at chains r ≡ Some row → has_one (object_at objects row.top.0) ≡ false → IsOnlyTop r row.top.0 chains → ⊥
+top_not_counted {chains = chains} {objects = objects} has r row found shared only =
+    let known = row_of (object_at objects row.top.0) (has.tops r row found) in
+    two_of known.0 (sym (ap has_one known.1) ∙ shared) (only_one has r row known.0 found known.1 only)
+  where
+    two_of : (known : ObjectRow) → (known.references == 1) ≡ false → known.references ≡ 1 → ⊥
+    two_of known is single = grind (arith, nat_tests)

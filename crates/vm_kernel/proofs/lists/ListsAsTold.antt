@@ -205,7 +205,8 @@ apart_placed o p o2 p2 frame other was none some = elim (eqb_tells o o2) [
 -- what stands in front of a run says nothing of the lists
 prepares_plays : (header : Header) (past : List Event) (is : Bool) (region : RegionId) (row : RegionRow) (s mid : FaultState) → Prepares is region row s mid
     → Plays header past s.events (paging_in s.parts) mid.events (paging_in mid.parts)
-prepares_plays header past true region row s mid makes = plays_told makes.told (ap paging_in makes.parts)
+prepares_plays header past true region row s mid (inl makes) = plays_told makes.told (ap paging_in makes.parts)
+prepares_plays header past true region row s mid (inr loses) = plays_told loses.told (ap paging_in loses.parts)
 prepares_plays header past false region row s mid same =
     plays_none header past _ _ _ _ (ap (λ (z : FaultState). z.events) same) (ap (λ (z : FaultState). paging_in z.parts) same)
 

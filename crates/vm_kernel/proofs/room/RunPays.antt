@@ -1,6 +1,6 @@
 -- What running an access pays for what it tells: each event comes out of what was due, but for three where it ends or waits for a pager.
 use Rattle.vm_kernel.proofs.Common.{Bool, ChainTable, Changes, Event, FrameNo, HostId, HostParts, List, Mapped, None, ObjectId, Option, PageKey, PageRow}
-use Rattle.vm_kernel.proofs.Common.{Queues, RegionId, RegionRow, Some, TaskId, Want, ap, arith, false, frame_count, free, length, length-set, refl, suc, true}
+use Rattle.vm_kernel.proofs.Common.{Queues, RegionId, RegionRow, Some, TaskId, Want, ap, arith, false, frame_count, free, inl, inr, length, length-set, refl, suc, true}
 use Rattle.vm_kernel.proofs.Common.{zero, ℕ, ◌&&◌, ◌*◌, ◌+◌, ◌-◌, ◌<◌, ◌==◌, ◌||◌, ◌∙◌, ◌∷◌, ◌≡◌, ◌≤◌}
 use Rattle.vm_fault.specs.Faults.{AfterZeros, AtOnce, Comes, Copied, Ended, FaultState, Faulted, GoesOn, Hits, NothingChanges, Prepares, Raised, References}
 use Rattle.vm_fault.specs.Faults.{Runs, Stops, WritesPage, want_after}
@@ -224,14 +224,18 @@ comes_to copies host task what may top at (step.WaitReady object) mid new some w
 comes_to copies host task what may top at (step.WaitAnswer key) mid new some waits = nothing_due copies mid new 3 waits.1
 comes_to copies host task what may top at (step.NeedFrame source) mid new some needs = nothing_due copies mid new 0 needs.2
 
--- a shadow is paid by its mark
+-- a shadow is paid by its mark, and so is what is told of a mark that goes
 prepares_due : (copies : ℕ) (is : Bool) (region : RegionId) (row : RegionRow) (old mid : FaultState) → Prepares is region row old mid
     → (length mid.events + mid.chains.marked ≡ length old.events + old.chains.marked) × (frames_due copies mid.parts ≡ frames_due copies old.parts)
     × (mid.parts.buffers ≡ old.parts.buffers)
-prepares_due copies true region row old mid made =
+prepares_due copies true region row old mid (inl made) =
     let more : length mid.events ≡ suc (length old.events) = ap length made.told in
     let fewer = made.fewer in
     (omega (arith, more, fewer), ap (frames_due copies) made.parts, ap (λ (z : HostParts). z.buffers) made.parts)
+prepares_due copies true region row old mid (inr loses) =
+    let more : length mid.events ≡ suc (length old.events) = ap length loses.told in
+    let fewer = loses.fewer in
+    (omega (arith, more, fewer), ap (frames_due copies) loses.parts, ap (λ (z : HostParts). z.buffers) loses.parts)
 prepares_due copies false region row old mid same = (
   ap (λ (z : FaultState). length z.events + z.chains.marked) same,
   ap (λ (z : FaultState). frames_due copies z.parts) same,

@@ -1,15 +1,15 @@
 -- An object to which nothing refers: its pages go, its control ends, where one lives, and what stood under it has one reference less.
 use Rattle.vm_kernel.proofs.Common.{AllEntriesInside, Below, Bool, CausedInTurn, ChainTable, Changes, Command, Does, Drops, Elsewhere, EndsObject, Entry, Event}
 use Rattle.vm_kernel.proofs.Common.{Fit, FrameTable, HasControls, HasEntries, HasFrames, HasKinds, HasPages, HasSlow, HasWaiters, HaveHomes, Header, HostParts}
-use Rattle.vm_kernel.proofs.Common.{Ids, Inside, IsAmid, IsInside, IsOfKind, IsReferred, IsWhole, LaundryList, LegalEvents, List, Local, LocalEffect, Mapped}
+use Rattle.vm_kernel.proofs.Common.{Ids, Inside, IsAmid, IsInside, IsOfKind, IsWhole, LaundryList, LegalEvents, List, Local, LocalEffect, Mapped}
 use Rattle.vm_kernel.proofs.Common.{Matches, None, ObjectId, ObjectRow, ObjectTable, Option, Outside, PageKey, PageRow, Parts, PutsAbsent, PutsObject, Reach}
-use Rattle.vm_kernel.proofs.Common.{Region, RegionRow, ResidentTable, ReturnCause, Returns, SameMarks, SameObjects, Some, Unreached, Up, UsesAll, Woken, []}
+use Rattle.vm_kernel.proofs.Common.{RegionRow, ResidentTable, ReturnCause, Returns, SameMarks, SameObjects, Some, Unreached, Up, UsesAll, Woken, []}
 use Rattle.vm_kernel.proofs.Common.{absent_at, all_tasks, ap, arith, away, backing_of, entries_in, entries_of, eqb_tells, false, fit_objects, frames_held}
 use Rattle.vm_kernel.proofs.Common.{frames_wired, has_entry, has_region, home_of, host_id, if◌then◌else◌, in_use, inl, inr, is_control, is_ready, is_some}
 use Rattle.vm_kernel.proofs.Common.{is_woken, last_control, last_in, length, live_control, live_in, local, local_after, local_of_row, marks_of, named}
 use Rattle.vm_kernel.proofs.Common.{nat_tests, next_object, next_region, not, object_at, one_case, page_in, pages_in, pages_of_row, paging, place_of}
 use Rattle.vm_kernel.proofs.Common.{queues_except, ready_in, refl, region_at, region_of, returns_out, reverse, row_at, row_cases, rows_in, rows_map, same_pages}
-use Rattle.vm_kernel.proofs.Common.{slice_get, some_is, subst, suc, sym, true, waiting, without_control, zero, ℕ, ◌&&◌, ◌++◌, ◌+◌, ◌-◌, ◌<◌, ◌==◌, ◌^◌, ◌||◌}
+use Rattle.vm_kernel.proofs.Common.{slice_get, some_is, subst, sym, true, waiting, without_control, ℕ, ◌&&◌, ◌++◌, ◌+◌, ◌-◌, ◌<◌, ◌==◌, ◌^◌, ◌||◌}
 use Rattle.vm_kernel.proofs.Common.{◌∙◌, ◌∷◌, ◌≡◌, ◌≤◌, ◌⊎◌}
 use Rattle.std.proofs.lemmas.Bool.{or_parts}
 use Rattle.vm_kernel.specs.Fits.{ArePlain}
@@ -44,7 +44,7 @@ use Rattle.vm_state.proofs.Files.{files_put, files_same}
 use Rattle.vm_state.proofs.Going.{regions_dropped}
 use Rattle.vm_state.proofs.Knowing.{known_put}
 use Rattle.vm_state.proofs.Places.{told_apart, unsent_apart, waits_dropped}
-use Rattle.vm_state.proofs.Reaching.{chain_known}
+use Rattle.vm_state.proofs.Reaching.{chain_declared, temporary_down}
 use Rattle.vm_state.proofs.Referred.{but_dropped, but_gone, but_known, referred_dropped}
 use Rattle.vm_state.proofs.Referring.{unreferred_region, unreferred_shadow}
 use Rattle.vm_state.proofs.Filling.{away_put, copies_kept, filled_there, rows_unmade, used_away}
@@ -82,25 +82,17 @@ used_there header h k ids rest past r m copies temporary used = elim ((m.uses.us
 -- the chain of a declared region is of its own object alone
 pub declared_chain : (header : Header) (past : List Event) (r n u : ℕ) → HaveHomes header past → r < named header
     → Below (λ o. backing_of header o past) n (region_of header r past).top u → r ≡ u
-declared_chain header past r n u homes declared below =
-    by_steps n (subst (λ (z : ℕ). Below (λ o. backing_of header o past) n z u) (ap (λ (z : Region). z.top) (homes.whole r declared)) below)
-  where
-    by_steps : (n : ℕ) → Below (λ o. backing_of header o past) n r u → r ≡ u
-    by_steps zero is = is
-    by_steps (suc n) is = absurd (let bad : true ≡ false = sym is.0 ∙ homes.bare r declared in cc)
+declared_chain header past r n u homes declared below = chain_declared homes r n u declared below
 
 pub unreached : (header : Header) (h : ℕ) (k : Parts) (ids : Ids) (rest : List Entry) (past : List Event) (o : ℕ) (row : ObjectRow)
     → Matches header h k ids rest past → HasSlow header k past → object_at k.memory.objects o ≡ Some row → row.references ≡ 0 → named header ≤ o
     → Reach header h o past → ⊥
-unreached header h k ids rest past o row m copies known none least reach = elim (kind_cases header reach.0) [
-  | inl declared ↦ let same = declared_chain header past reach.0 reach.1 o m.homeless declared reach.3 in omega (arith, same, declared, least)
-  | inr temporary ↦
-      let there = used_there header h k ids rest past reach.0 m copies temporary reach.2 in
-      let is : IsReferred k.memory.objects o = chain_known m.regions reach.0 there.0 there.1 reach.1 o reach.3 in
-      let some = is.some in
-      let same = ap (λ z. z.references) (some_is row is.row (sym known ∙ is.known)) in
-      omega (arith, some, same, none)
-]
+unreached header h k ids rest past o row m copies known none least reach =
+    let is = temporary_down m.regions m.homeless (λ r. in_use header h r past)
+    (λ r temporary used. used_there header h k ids rest past r m copies temporary used) o least reach in
+    let some = is.some in
+    let same = ap (λ z. z.references) (some_is row is.row (sym known ∙ is.known)) in
+    omega (arith, some, same, none)
 
 -- nothing holds a declared object to which nothing refers
 pub unheld : (header : Header) (h : ℕ) (k : Parts) (ids : Ids) (rest : List Entry) (past : List Event) (o : ℕ) (row : ObjectRow)

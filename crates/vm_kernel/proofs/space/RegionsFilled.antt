@@ -102,6 +102,26 @@ shadowed_filled n new row cs cs2 there some made fresh r object pages region alo
   },
 )
 
+-- a region with entries loses its mark
+pub unmarked_filled : (n : ℕ) (row : RegionRow) (cs cs2 : ChainTable) → region_at cs n ≡ Some row → 0 < row.entries
+    → PutsRegion n (Some (record row { marked = false })) cs cs2 → KeepsFilled cs cs2
+unmarked_filled n row cs cs2 there some put r object pages region alone = (
+  elim (region_put n r (Some (record row { marked = false })) cs cs2 put) [
+    | inl this ↦
+        let none : row.entries ≡ 0 = ap (λ z. z.entries) (some_is row (filled_row object pages) (sym there ∙ (ap (region_at cs) this.0 ∙ region))) in
+        absurd (omega (arith, some, none))
+    | inr other ↦ other.1 ∙ region
+  ],
+  record {
+    tops = λ q now found top. elim (region_put n q (Some (record row { marked = false })) cs cs2 put) [
+      | inl this ↦ alone.tops q row (ap (region_at cs) (sym this.0) ∙ there)
+          (ap (λ z. z.top.0) (some_is (record row { marked = false }) now (sym this.1 ∙ found)) ∙ top)
+      | inr other ↦ alone.tops q now (sym other.1 ∙ found) top
+    ];
+    unders = λ s now found under. alone.unders s now (sym (ap (λ f. f s) put.shadows) ∙ found) under;
+  },
+)
+
 -- no region is over an object that isn't known
 pub unknown_unfilled : (cs : ChainTable) (os : ObjectTable) (o : ℕ) → ((r : ℕ) (row : RegionRow) → region_at cs r ≡ Some row → IsSome (object_at os row.top.0))
     → object_at os o ≡ None → IsUnfilled cs o

@@ -14,11 +14,13 @@ use Rattle.vm_fault.specs.declared.step.FaultStep.{FaultStep}
 use Rattle.vm_fault.specs.declared.step.FaultStep.TheVariants as step
 use Rattle.vm_kernel.proofs.memory.ComesForAccess.{works_loaded, works_raised, works_stored, works_touched, works_zeroed}
 use Rattle.vm_kernel.proofs.controls.PageAsked.{works_asked, works_joined, works_turned}
-use Rattle.vm_kernel.proofs.steps.AccessCauses.{comes_at, loaded_follows, raised_follows, request_follows, shadowed_follows, stored_follows, zeroed_follows}
+use Rattle.vm_kernel.proofs.steps.AccessCauses.{comes_at, loaded_follows, raised_follows, request_follows, shadowed_follows, stored_follows, unmarked_follows}
+use Rattle.vm_kernel.proofs.steps.AccessCauses.{zeroed_follows}
 use Rattle.vm_kernel.proofs.steps.EventsGrow.{goes_both, goes_none, goes_one, suffices}
 use Rattle.vm_kernel.proofs.steps.WhereAccessLeads.{Leads, it_waits, leads_of, top_at}
 use Rattle.vm_kernel.proofs.steps.RowsInOrder.{PutsInOrder}
 use Rattle.vm_kernel.proofs.abroad.OwnHost.{named_host, own_host}
+use Rattle.vm_kernel.proofs.memory.MarkGone.{works_unmarked}
 use Rattle.vm_kernel.proofs.memory.ShadowMade.{works_shadowed}
 pub use Rattle.vm_kernel.proofs.steps.FaultStates.{state_of, with_state}
 use Rattle.vm_kernel.proofs.memory.SourceIsTold.{needs_it}
@@ -303,7 +305,7 @@ unlocked_by header h outside doing past k ids w top key events m2 after waits2 t
           (suffices header h m2.frames (unlock ∷ moment) works.matches.frames));
     })
 
--- the region of a store has an object of its own first
+-- the region of a store has an object of its own first, or loses its mark
 
 pub record Prepared (header : Header) (h : ℕ) (outside : Outside) (doing : Command) (past : List Event) (k : Parts) (ids : Ids) (w : Waiting)
     (events : List Event) (mid : FaultState) (top : PageKey) : Type 0 where
@@ -350,7 +352,7 @@ prepared header h outside doing past k ids w may answer events new works is now 
         bare f.mid (sym same) f.at
         (λ stores. its_mark k f.mid.chains w f.top f.row f.entry f.at f.found (ap (λ (z : FaultState). region_at z.chains f.entry.region.0) same ∙ f.region)
         (not_both (is_storing w.want) f.row.marked test stores))
-    by true test made =
+    by true test (inl made) =
         let both = and_parts (is_storing w.want) f.row.marked test in
         let store = store_of w.want both.0 in
         let before : PageKey = top_place f.row (page_at k.maps.size (address_in k.maps.size w.want) f.entry) in
@@ -361,7 +363,7 @@ prepared header h outside doing past k ids w may answer events new works is now 
         (on_its_region (address_in k.maps.size w.want) (rows_in w.task.0 k.maps) f.entry f.found)) both.1 made in
         let to = leads_of header h k ids moment woken.Nobody w.task.0 w before works.matches works.waits works.used.copies is at in
         let follows = shadowed_follows header h outside doing moment k ids w.task w.want before at made.object store.address store.size store.value
-        works.matches to store.is both.1 made.next
+        works to store.is both.1 made.shared made.next
         (suffices header h f.mid.parts.frames (shadow ∷ moment) works1.matches.frames) in
         let row2 : RegionRow = record f.row { top = made.object; shift = 0; marked = false } in
         let region : region_at f.mid.chains f.entry.region.0 ≡ Some row2 =
@@ -378,8 +380,35 @@ prepared header h outside doing past k ids w may answer events new works is now 
               subst (λ (z : List Event). LegalEvents header h outside doing past events z) (sym made.told)
               (goes_one header h outside doing past events shadow works.matches.settled follows);
         }
+    by true test (inr loses) =
+        let both = and_parts (is_storing w.want) f.row.marked test in
+        let store = store_of w.want both.0 in
+        let before : PageKey = top_place f.row (page_at k.maps.size (address_in k.maps.size w.want) f.entry) in
+        let at : IsAt k.maps k.chains w.task.0 w.want before = record { entry = f.entry; found = f.found; row = f.row; region = f.region; is = refl } in
+        let mark : Event = event.Unmarked f.entry.region in
+        let works1 = works_unmarked header h moment k ids f.entry.region f.row (state_of k ids events) f.mid works refl refl refl f.region
+        (entry_some header.size f.entry.region.0 w.task.0 k.maps k.chains [] f.row works.matches.entries f.region
+        (on_its_region (address_in k.maps.size w.want) (rows_in w.task.0 k.maps) f.entry f.found)) both.1 loses in
+        let to = leads_of header h k ids moment woken.Nobody w.task.0 w before works.matches works.waits works.used.copies is at in
+        let follows = unmarked_follows header h outside doing moment k ids w.task w.want before at store.address store.size store.value works to store.is both.1
+        loses.sole (suffices header h f.mid.parts.frames (mark ∷ moment) works1.matches.frames) in
+        let row2 : RegionRow = record f.row { marked = false } in
+        let region : region_at f.mid.chains f.entry.region.0 ≡ Some row2 =
+        loses.chains.at f.entry.region.0 ∙ ap (λ b. if b then Some row2 else region_at k.chains f.entry.region.0) (own_host f.entry.region.0) in
+        record {
+          tries = record {
+            works = subst (λ (z : List Event). Works header h (with_state k f.mid) f.mid.ids woken.Nobody (z ++ past)) (sym loses.told) works1;
+            is = is;
+            now = now;
+            at = f.at;
+            clear = λ stores. its_mark k f.mid.chains w f.top row2 f.entry f.at f.found region refl;
+          };
+          goes =
+              subst (λ (z : List Event). LegalEvents header h outside doing past events z) (sym loses.told)
+              (goes_one header h outside doing past events mark works.matches.settled follows);
+        }
 
--- the chains and the next numbers are those behind the shadow
+-- the chains and the next numbers are those behind what the mark brought
 settle : (header : Header) (h : ℕ) (outside : Outside) (doing : Command) (past : List Event) (k : Parts) (events : List Event) (mid new : FaultState)
     (waits2 : WaitTable) → LegalEvents header h outside doing past events mid.events
     → Reaches header h outside doing past mid.events (record (with_state k mid) { memory = new.parts; waits = waits2 }) mid.ids new.events

@@ -38,7 +38,7 @@ use Rattle.vm_waits.specs.declared.waiting.Waiting.{Waiting}
 use Rattle.vm_waits.specs.declared.waiting.Want.{Want}
 use Rattle.vm_waits.specs.declared.waiting.Want.TheVariants as want
 use Rattle.vm_kernel.specs.Turns.{AreCopied, Did, Filled, ForAsked, ForCopy, ForUnlock, ForZeros, Found, IsFront, NoPage, Nothing, OnePage, Pages, QueueAfter}
-use Rattle.vm_kernel.specs.Turns.{RunsOnce, Shadow}
+use Rattle.vm_kernel.specs.Turns.{RunsOnce, Shadow, Unmark}
 use Rattle.vm_kernel.proofs.steps.PageByPage.{PageDone, Pagewise, page_done, pagewise}
 
 -- what stands first: a shadow claims no frame, and each page of a slow copy one; and no row of a page has gone
@@ -68,7 +68,7 @@ stores_plain (want.CopyTo address pages target next) marked bad = absurd (let cl
 front_of : {maps : Mapped} {host : HostId} {task : TaskId} {may : Bool} {answer : FaultStep} {what last : Want} {s new : FaultState}
     (p : Pagewise maps host task may answer what last s new) (is : Bool) (region : RegionId) (row : RegionRow) (mid : FaultState)
     → (is ≡ true → is_copying p.at ≡ false) → Prepares is region row p.mid mid → Front task (is_copying what) s mid
-front_of {s = s} p true region row mid plain makes =
+front_of {s = s} p true region row mid plain (inl makes) =
     let start : p.mid ≡ s = (p.so.none (not_some p.so.some (is_copying p.at) p.so.copies (plain refl))).0 in
     let frames : mid.parts.frames ≡ s.parts.frames = ap (λ (z : HostParts). z.frames) makes.parts ∙ ap (λ (z : FaultState). z.parts.frames) start in
     let rows : mid.parts.resident ≡ s.parts.resident = ap (λ (z : HostParts). z.resident) makes.parts ∙ ap (λ (z : FaultState). z.parts.resident) start in
@@ -79,6 +79,22 @@ front_of {s = s} p true region row mid plain makes =
       front = e ∷ [];
       is = Shadow region makes.object row.top;
       told = makes.told ∙ ap (λ (z : FaultState). e ∷ z.events) start;
+      spent = λ bad. absurd (let clash : false ≡ true = bad in cc);
+      frames = omega (arith, even);
+      plain = λ other. refl;
+      rows = λ o q none. ap (λ z. row_at z o q) (sym rows) ∙ none;
+    }
+front_of {s = s} p true region row mid plain (inr loses) =
+    let start : p.mid ≡ s = (p.so.none (not_some p.so.some (is_copying p.at) p.so.copies (plain refl))).0 in
+    let frames : mid.parts.frames ≡ s.parts.frames = ap (λ (z : HostParts). z.frames) loses.parts ∙ ap (λ (z : FaultState). z.parts.frames) start in
+    let rows : mid.parts.resident ≡ s.parts.resident = ap (λ (z : HostParts). z.resident) loses.parts ∙ ap (λ (z : FaultState). z.parts.resident) start in
+    let even : free mid.parts.frames ≡ free s.parts.frames = ap free frames in
+    let e : Event = event.Unmarked region in
+    record {
+      claims = false;
+      front = e ∷ [];
+      is = Unmark region;
+      told = loses.told ∙ ap (λ (z : FaultState). e ∷ z.events) start;
       spent = λ bad. absurd (let clash : false ≡ true = bad in cc);
       frames = omega (arith, even);
       plain = λ other. refl;

@@ -12,7 +12,7 @@ use Rattle.vm_model.specs.declared.message.Message.TheVariants as message
 use Rattle.vm_waits.specs.declared.waiting.On.TheVariants as on
 use Rattle.vm_supply.specs.declared.woken.Woken.TheVariants as woken
 use Rattle.vm_kernel.specs.Serving.{wants_frame}
-use Rattle.vm_kernel.specs.Turns.{AreCopied, Filled, ForCopy, ForUnlock, IsFront, NoPage, OnePage, Pages, RunsFront, Shadow}
+use Rattle.vm_kernel.specs.Turns.{AreCopied, Filled, ForCopy, ForUnlock, IsFront, NoPage, OnePage, Pages, RunsFront, Shadow, Unmark}
 use Rattle.vm_kernel.specs.declared.attempt.Attempt.{Attempt}
 use Rattle.vm_kernel.specs.declared.attempt.Attempt.TheVariants as attempt
 use Rattle.vm_kernel.proofs.steps.EventsGrow.{free_is}
@@ -139,6 +139,7 @@ copied_quiet (OnePage page object_page object target some front copied) = (refl,
 
 pub front_quiet : {task : TaskId} {claims : Bool} {front : List Event} → IsFront task claims front → EachOf (RunsFront (Some task)) front
 front_quiet (Shadow region new old) = (tt, tt)
+front_quiet (Unmark region) = (tt, tt)
 front_quiet (Pages some front copied) = copied_quiet copied
 
 -- nobody joins or leaves
@@ -220,6 +221,7 @@ copied_begun t events past (OnePage page object_page object target some front co
 front_begun : {task : TaskId} {claims : Bool} {front : List Event} (t : ℕ) (events past : List Event) → IsFront task claims front
     → begun_at t ((front ++ events) ++ past) ≡ begun_at t (events ++ past)
 front_begun t events past (Shadow region new old) = refl
+front_begun t events past (Unmark region) = refl
 front_begun t events past (Pages some front copied) = copied_begun t events past copied
 
 did_begun : {rows : List Waiting} {earlier : ℕ → Type 0} {task : TaskId} {claims : Bool} {own : List Event} (t : ℕ) (events past : List Event)

@@ -55,7 +55,7 @@ no_store (want.Load address n) copying storing = let bad : false ≡ true = copy
 no_store (want.Store address n number) copying storing = let bad : false ≡ true = copying in cc
 no_store (want.CopyTo address pages target next) copying storing = let bad : false ≡ true = storing in cc
 
--- nor does it make a shadow first
+-- nor does it make a shadow first, or take a mark
 pub unprepared : (what : Want) (region : RegionId) (row : RegionRow) (old new : FaultState) → is_copying what ≡ true
     → Prepares (is_storing what && row.marked) region row old new → new ≡ old
 unprepared (want.Load address n) region row old new copying same = same
@@ -221,7 +221,8 @@ left_at_end {answer = answer} {what = what} p =
 -- who wants a frame has claimed one for each page that it made
 prepared_frames : (is : Bool) (region : RegionId) (row : RegionRow) (old mid : FaultState) → Prepares is region row old mid
     → mid.parts.frames ≡ old.parts.frames
-prepared_frames true region row old mid makes = ap (λ (z : HostParts). z.frames) makes.parts
+prepared_frames true region row old mid (inl makes) = ap (λ (z : HostParts). z.frames) makes.parts
+prepared_frames true region row old mid (inr loses) = ap (λ (z : HostParts). z.frames) loses.parts
 prepared_frames false region row old mid same = ap (λ (z : FaultState). z.parts.frames) same
 
 pub claims_and_left : {maps : Mapped} {host : HostId} {task : TaskId} {may : Bool} {source : Option PageKey} {what last : Want} {s new : FaultState}

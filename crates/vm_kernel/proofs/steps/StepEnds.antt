@@ -1,21 +1,18 @@
 -- At the end of a step nobody waits in vain, and nothing is left behind.
-use Rattle.vm_kernel.proofs.Common.{Access, Bool, Event, FrameTable, HasQueue, HasRegions, HasWaits, Header, HostIsFull, Ids, IsPagerTold, IsSwept, List}
+use Rattle.vm_kernel.proofs.Common.{Access, Bool, Event, FrameTable, HasQueue, HasWaits, Header, HostIsFull, Ids, IsPagerTold, IsSwept, List}
 use Rattle.vm_kernel.proofs.Common.{Matches, None, NoneInVain, ObjectRow, On, Option, PageRow, Parts, PromptAt, QueueIsServed, Reach, Reason, RegionRow, Rests}
-use Rattle.vm_kernel.proofs.Common.{Some, Waiting, Waits, WaitsForPager, Want, [], absent_at, access_in, all_tasks, ap, arith, backing_of, copies_to, count_by}
+use Rattle.vm_kernel.proofs.Common.{Some, Waiting, Waits, WaitsForPager, Want, [], absent_at, access_in, all_tasks, ap, arith, copies_to, count_by}
 use Rattle.vm_kernel.proofs.Common.{entries_in, entry, false, has_entry, if◌then◌else◌, in_use, inl, inr, is_again, is_frame, is_on, is_store, live_in}
-use Rattle.vm_kernel.proofs.Common.{local_of_row, marks_of, named, nat_lt, nat_tests, next_object, next_region, none_again, none_queued, object_at}
-use Rattle.vm_kernel.proofs.Common.{page_on, refl, region_at, region_of, row_at, rows_in, subst, sym, true, waiting, waiting_in, ℕ, ◌<◌, ◌≤◌, ◌||◌, ◌∙◌, ◌≡◌}
+use Rattle.vm_kernel.proofs.Common.{local_of_row, named, none_again, none_queued, object_at}
+use Rattle.vm_kernel.proofs.Common.{page_on, refl, region_at, row_at, rows_in, subst, sym, true, waiting, waiting_in, ℕ, ◌<◌, ◌≤◌, ◌∙◌, ◌≡◌}
 use Rattle.vm_kernel.proofs.Common.{◌⊎◌}
 use Rattle.vm_kernel.proofs.space.RegionsFilled.{filled_temporary, row_use}
 use Rattle.std.proofs.Common.{is_some}
 use Rattle.vm_legal.specs.Licences.{IsUnheld}
-use Rattle.vm_legal.specs.Walks.{Reaches}
 use Rattle.vm_kernel.proofs.abroad.OthersEvents.{with_entry}
 use Rattle.vm_kernel.proofs.space.EntriesCounted.{by_some}
-use Rattle.vm_kernel.proofs.space.ObjectEnds.{declared_chain}
-use Rattle.vm_abroad.proofs.Regions.{kind_cases}
 use Rattle.vm_state.proofs.Declared.{over_declared}
-use Rattle.vm_state.proofs.Reaching.{reach_up}
+use Rattle.vm_state.proofs.Reaching.{temporary_up}
 use Rattle.vm_state.proofs.Referring.{OfRegion, OfShadow, referrer_of}
 use Rattle.vm_state.proofs.Locks.{awaits_word}
 use Rattle.vm_state.proofs.Shown.{awaits_ready}
@@ -118,38 +115,9 @@ regions_used header h k ids past rests r row temporary found =
 -- a temporary object to which something refers is in the chain of one of them
 reaches : (header : Header) (h : ℕ) (k : Parts) (ids : Ids) (past : List Event) (object : ℕ) → Rests header h k ids past → named header ≤ object
     → IsReferred k.memory.objects object → Reach header h object past
-reaches header h k ids past object rests temporary referred = elim (kind_cases header reach.0) [
-  | inl declared ↦ let same =
-      declared_chain header past reach.0 reach.1 object rests.matches.homeless declared reach.3 in absurd (omega (arith, same, declared, temporary))
-  | inr least ↦ (
-    reach.0,
-    reach.1,
-    sym (of_declared reach.0 false (let test : nat_lt reach.0 (named header) ≡ false = grind (arith, nat_tests) in test))
-        ∙ reach.2,
-    reach.3,
-  )
-]
-  where
-    has : HasRegions k.chains k.memory.objects ids (λ r. region_of header r past) (λ o. backing_of header o past) (next_region header past)
-        (next_object header past) (marks_of header past)
-    has = rests.matches.regions
-
-    -- a declared region counts as used here
-    used : ℕ → Bool
-    used r = nat_lt r (named header) || in_use header h r past
-
-    of_declared : (r : ℕ) (b : Bool) → nat_lt r (named header) ≡ b → used r ≡ (b || in_use header h r past)
-    of_declared r b test = ap (λ z. z || in_use header h r past) test
-
-    all : (r : ℕ) (row : RegionRow) → region_at k.chains r ≡ Some row → used r ≡ true
-    all r row found = elim (kind_cases header r) [
-      | inl declared ↦ of_declared r true (let test : nat_lt r (named header) ≡ true = grind (arith, nat_tests) in test)
-      | inr least ↦ of_declared r false (let test : nat_lt r (named header) ≡ false = grind (arith, nat_tests) in test)
-          ∙ regions_used header h k ids past rests r row least found
-    ]
-
-    reach : Reaches used (λ r. region_of header r past) (λ o. backing_of header o past) object
-    reach = reach_up has has.ranked rests.referred.shadows used all object referred
+reaches header h k ids past object rests temporary referred =
+    temporary_up rests.matches.regions rests.matches.homeless rests.referred.shadows (λ r. in_use header h r past)
+    (λ r row least found. regions_used header h k ids past rests r row least found) object temporary referred
 
 -- a declared object to which something refers is held: a task here has an entry on its region
 held : (header : Header) (h : ℕ) (k : Parts) (ids : Ids) (past : List Event) (object : ℕ) → Rests header h k ids past → object < named header

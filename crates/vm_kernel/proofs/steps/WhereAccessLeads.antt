@@ -11,7 +11,7 @@ use Rattle.vm_kernel.proofs.memory.SourceOfCopy.{walks_down}
 use Rattle.vm_model.specs.Regions.{Region}
 use Rattle.vm_shadow.specs.Chains.{ObjectsBelow}
 use Rattle.vm_state.proofs.Marks.{marked_some}
-use Rattle.vm_state.proofs.Referring.{objects_below, refers_region, small_region}
+use Rattle.vm_state.proofs.Referring.{objects_below, refers_region, small_region, top_counted}
 use Rattle.vm_state.proofs.Walks.{top_of}
 use Rattle.vm_terminate.specs.Finishes.{IsReferred}
 use Rattle.vm_kernel.proofs.memory.WalksShown.{page_left, shown_at, want_address}
@@ -134,6 +134,7 @@ can_fault header h past k ids who w events works is =
           (ap (λ (z : Region). z.mark) (m.regions.rows walk.entry.region.0 walk.row walk.region) ∙ marked) in
           let marks = m.regions.marks in
           omega (arith, some, marks));
+      referred = λ marked. top_counted m.regions walk.entry.region.0 walk.row walk.region;
       named = subst (λ (z : ℕ). ObjectsBelow z k.chains) (sym object) (objects_below m.regions);
       unmade = λ o less. m.regions.unknown o (omega (arith, object, less));
       few = below_last ids.next_object (omega (arith, object, few));

@@ -29,6 +29,7 @@ returns-clause-ok c =
     let shadows = MatchOption-at_some _ (λ r. ShadowsRegion c.args.region.0 object r chains c.shadow_over.new.self) row c.requires.row over.ok in
     told_makes c.push.result _ _ _ _ _
     (λ told. record {
+      shared = c.requires.shared;
       object = object;
       next = over.object;
       chains = shadows;

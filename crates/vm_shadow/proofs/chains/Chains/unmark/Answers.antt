@@ -12,7 +12,7 @@ overflow_sub-self c =
     let row : RegionRow = c.unwrap-unmarked.result.now in
     let found = sym c.get_mut.ensures.value ∙ ap option_copied_mut c.unwrap-unmarked.ensures in
     let is : region_at c.args.self.now c.args.region.0 ≡ Some row = rw (← c.self.view_is) found in
-    let counted = marked_counted _ c.args.region row found (row_must _ _ _ is c.requires.marked).0 in
+    let counted = marked_counted _ c.args.region row found (row_must _ _ _ is c.requires.marked) in
     omega (arith, counted, c.self.invariant.count)
 
 pub invariant_of-self : goal.invariant_of-self
@@ -21,7 +21,7 @@ invariant_of-self c =
     let unmarked : RegionRow = record row { marked = false } in
     let found = sym c.get_mut.ensures.value ∙ ap option_copied_mut c.unwrap-unmarked.ensures in
     let is : region_at c.args.self.now c.args.region.0 ≡ Some row = rw (← c.self.view_is) found in
-    let marked : row.marked ≡ true = (row_must _ _ _ is c.requires.marked).0 in
+    let marked : row.marked ≡ true = (row_must _ _ _ is c.requires.marked) in
     let set = marked_set _ _ c.args.region row unmarked found (c.get_mut.follows.holds unmarked).0 in
     record {
       ranked = ranked_same _ _ (λ o. refl) c.self.invariant.ranked;
@@ -43,5 +43,5 @@ returns-clause-marked c =
     let row : RegionRow = c.unwrap-unmarked.result.now in
     let found = sym c.get_mut.ensures.value ∙ ap option_copied_mut c.unwrap-unmarked.ensures in
     let is : region_at c.args.self.now c.args.region.0 ≡ Some row = rw (← c.self.view_is) found in
-    let counted = marked_counted _ c.args.region row found (row_must _ _ _ is c.requires.marked).0 in
+    let counted = marked_counted _ c.args.region row found (row_must _ _ _ is c.requires.marked) in
     rw (← c.self.view_is) (omega (arith, counted, c.self.invariant.count))

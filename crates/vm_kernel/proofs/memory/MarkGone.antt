@@ -1,0 +1,145 @@
+-- What is left of the kernel where a store's region loses its mark.
+use Rattle.vm_kernel.proofs.Common.{ChainTable, Event, Header, HostParts, Ids, Matches, ObjectTable, Parts, Region, RegionRow, Some, Works, ap, arith, cc, false}
+use Rattle.vm_kernel.proofs.Common.{has_region, in_use, inl, inr, is_some, is_woken, marks_of, named, next_object, next_region, pages_in, refl, region_at}
+use Rattle.vm_kernel.proofs.Common.{region_of, some_is, subst, sym, true, waiting, ℕ, ◌+◌, ◌-◌, ◌<◌, ◌==◌, ◌∙◌, ◌∷◌, ◌≡◌, ◌≤◌, ◌⊎◌}
+use Rattle.vm_kernel.proofs.controls.LockReplied.{replied_behind}
+use Rattle.vm_kernel.proofs.memory.ShadowMade.{KeepsRegions, entries_kept}
+use Rattle.vm_kernel.proofs.space.RegionsFilled.{unmarked_filled}
+use Rattle.vm_base.specs.declared.ids.RegionId.{RegionId}
+use Rattle.vm_fault.specs.Faults.{FaultState, LosesMark}
+use Rattle.vm_fault.specs.Walks.{ChainsFit}
+use Rattle.vm_model.specs.Regions.{unmarked}
+use Rattle.vm_model.specs.declared.event.Event.TheVariants as event
+use Rattle.vm_parts.proofs.Rows.{one_case}
+use Rattle.vm_shadow.specs.Chains.{PutsRegion}
+use Rattle.vm_state.proofs.Declared.{marked_temporary}
+use Rattle.vm_state.proofs.Filling.{copies_kept, rows_unmade}
+use Rattle.vm_state.proofs.Fresh.{other_test}
+use Rattle.vm_state.proofs.Marks.{marked_unmarked}
+use Rattle.vm_state.proofs.Referring.{small_region}
+use Rattle.vm_state.proofs.Unmarking.{kinds_unmarked, referred_unmarked, regions_unmarked, waits_unmarked}
+use Rattle.vm_supply.specs.declared.woken.Woken.TheVariants as woken
+
+keeps_unmarked : (region : ℕ) (row : RegionRow) (old new : ChainTable) → PutsRegion region (Some (record row { marked = false })) old new
+    → region_at old region ≡ Some row → KeepsRegions old new
+keeps_unmarked region row old new put there =
+    record {
+      has = λ r. elim (cases r) [
+        | inl this ↦ ap is_some this.1 ∙ sym (ap is_some (was r this.0))
+        | inr other ↦ ap is_some other.1
+      ];
+      pages = λ r. elim (cases r) [
+        | inl this ↦ ap pages_in this.1 ∙ sym (ap pages_in (was r this.0))
+        | inr other ↦ ap pages_in other.1
+      ];
+      row = λ r found is. elim (cases r) [
+        | inl this ↦ (row, was r this.0, ap (λ (z : RegionRow). z.entries) (some_is found now (sym is ∙ this.1)))
+        | inr other ↦ (found, sym other.1 ∙ is, refl)
+      ];
+    }
+  where
+    now : RegionRow
+    now = record row { marked = false }
+
+    cases : (r : ℕ) → ((region ≡ r) × (region_at new r ≡ Some now)) ⊎ ((region ≡ r → ⊥) × (region_at new r ≡ region_at old r))
+    cases r = one_case region r (Some now) (region_at old r) (region_at new r) (put.at r)
+
+    was : (r : ℕ) → region ≡ r → region_at old r ≡ Some row
+    was r same = subst (λ (z : ℕ). region_at old z ≡ Some row) same there
+
+-- nothing but the mark and its count changes
+unmarked_with : (header : Header) (h : ℕ) (past : List Event) (k : Parts) (ids : Ids) (region : RegionId) (row : RegionRow) (chains : ChainTable)
+    → Works header h k ids woken.Nobody past → region_at k.chains region.0 ≡ Some row → 0 < row.entries → row.marked ≡ true
+    → PutsRegion region.0 (Some (record row { marked = false })) k.chains chains → ChainsFit chains k.memory.objects
+    → Works header h (record k { chains = chains }) (record ids { marks = ids.marks - 1 }) woken.Nobody (event.Unmarked region ∷ past)
+unmarked_with header h past k ids region row chains works there counted marked put fits =
+    record {
+      matches = record {
+        ranged = m.ranged;
+        declared = m.declared;
+        kinds = kinds_unmarked header region.0 row k.memory.objects k.chains chains put there m.kinds;
+        shared = m.shared;
+        known = m.known;
+        size = m.size;
+        host = m.host;
+        fits = m.fits;
+        tasks = m.tasks;
+        regions =
+            regions_unmarked header past region row k.chains chains k.memory.objects ids (record ids { marks = ids.marks - 1 }) (next_region header past)
+            (next_object header past) (marks_of header past) (marks_of header (e ∷ past)) put there fits refl refl marks_now (omega (arith, one_less)) m.regions;
+        homes =
+            λ r found paged is. elim (one_case region.0 r (Some (record row { marked = false })) (region_at k.chains r) (region_at chains r) (put.at r)) [
+              | inl this ↦ m.homes r row paged (subst (λ (z : ℕ). region_at k.chains z ≡ Some row) this.0 there)
+              | inr other ↦ m.homes r found paged (sym other.1 ∙ is)
+            ];
+        files = m.files;
+        entries = entries_kept header.size k chains m.entries keeps;
+        pages = m.pages;
+        uses = m.uses;
+        controls = m.controls;
+        homeless = record {
+          regions = m.homeless.regions;
+          objects = m.homeless.objects;
+          stay = m.homeless.stay;
+          files = m.homeless.files;
+          whole = λ r declared.
+              let other : (r == region.0) ≡ false = other_test r region.0 (λ eq. omega (arith, eq, declared, temporary)) in
+              ap (λ b. unmarked b (region_of header r past)) other ∙ m.homeless.whole r declared;
+          bare = m.homeless.bare;
+          fills = m.homeless.fills;
+        };
+        settled = record { none_owed = refl; shut = λ r. refl };
+        replied = replied_behind tt m.replied;
+        laundry = m.laundry;
+        frames = m.frames;
+      };
+      used = record {
+        regions = λ r found is. let was = keeps.row r found is in elim (works.used.regions r was.0 was.1) [
+          | inl some ↦ inl (subst (λ (z : ℕ). 0 < z) (sym was.2) some)
+          | inr filled ↦ inr filled
+        ];
+        copies =
+            copies_kept k.maps k.maps k.chains chains k.memory.resident k.memory.resident works.used.copies
+            (λ t w found. record { size = refl; entries = refl }) (unmarked_filled region.0 row k.chains chains there counted put)
+            (rows_unmade k.chains k.memory.resident);
+      };
+      referred = referred_unmarked region.0 row k.chains chains k.memory.objects k.memory.resident put works.referred;
+      waits =
+          waits_unmarked k.maps k.chains chains k.memory.resident k.memory.objects k.waits.rows (is_woken woken.Nobody) (λ u. waiting u past) region.0 row
+          works.waits there put;
+      order = works.order;
+    }
+  where
+    m : Matches header h k ids [] past
+    m = works.matches
+
+    e : Event
+    e = event.Unmarked region
+
+    temporary : named header ≤ region.0
+    temporary = marked_temporary m.regions m.homeless region.0 row there marked
+
+    keeps : KeepsRegions k.chains chains
+    keeps = keeps_unmarked region.0 row k.chains chains put there
+
+    one_less : marks_of header (e ∷ past) + 1 ≡ marks_of header past
+    one_less =
+        marked_unmarked header past region (small_region m.regions region.0 row there) (ap (λ (z : Region). z.mark) (m.regions.rows region.0 row there) ∙ marked)
+
+    marks_now : ids.marks - 1 ≡ marks_of header (e ∷ past)
+    marks_now = omega (arith, one_less, m.regions.marks)
+
+pub works_unmarked : (header : Header) (h : ℕ) (past : List Event) (k : Parts) (ids : Ids) (region : RegionId) (row : RegionRow) (old new : FaultState)
+    → Works header h k ids woken.Nobody past → old.parts ≡ k.memory → old.chains ≡ k.chains → old.ids ≡ ids
+    → region_at k.chains region.0 ≡ Some row → 0 < row.entries → row.marked ≡ true → LosesMark region row old new
+    → Works header h (record k { memory = new.parts; chains = new.chains }) new.ids woken.Nobody (event.Unmarked region ∷ past)
+works_unmarked header h past k ids region row old new works memory chains numbers there counted marked loses =
+    let e : Event = event.Unmarked region in
+    let parts : new.parts ≡ k.memory = loses.parts ∙ memory in
+    let ids_now : new.ids ≡ record ids { marks = ids.marks - 1 } = loses.ids ∙ ap (λ (z : Ids). record z { marks = z.marks - 1 }) numbers in
+    subst (λ (z : Ids). Works header h (record k { memory = new.parts; chains = new.chains }) z woken.Nobody (e ∷ past)) (sym ids_now)
+    (subst (λ (z : HostParts). Works header h (record k { memory = z; chains = new.chains }) (record ids { marks = ids.marks - 1 }) woken.Nobody (e ∷ past))
+    (sym parts)
+    (unmarked_with header h past k ids region row new.chains works there counted marked
+    (subst (λ (z : ChainTable). PutsRegion region.0 (Some (record row { marked = false })) z new.chains) chains loses.chains)
+    (subst (λ (z : ObjectTable). ChainsFit new.chains z) (ap (λ (z : HostParts). z.objects) parts) loses.fits)))
