@@ -35,8 +35,8 @@ abbrev pub NoneKnows : HostTable → ℕ → ℕ → ℕ → Type 0
 NoneKnows hosts o h n = (g : ℕ) (k : Parts) → g < n → g ≢ h → slice_get hosts.kernels g ≡ Some k → knows_file (object_at k.memory.objects o) ≡ false
 
 module _ (header : Header) (hosts : HostTable) (past : List Event) (o : ℕ) (all : AllRest header hosts past) where
-  homeless : HaveHomes header past
-  homeless = (common_all header hosts past all).homeless
+  homes : HaveHomes header past
+  homes = (common_all header hosts past all).homes
 
   knows_at : (g : ℕ) (k : Parts) → slice_get hosts.kernels g ≡ Some k
       → knows_file (object_at k.memory.objects o) ≡ (is_some (object_at k.memory.objects o) && is_file header o)
@@ -51,7 +51,7 @@ module _ (header : Header) (hosts : HostTable) (past : List Event) (o : ℕ) (al
       ap (λ b. b && not (in_use header h o past)) parts.1 ∙ by_use (in_use header h o past) refl home
     where
       by_use : (b : Bool) → in_use header h o past ≡ b → home_of o past ≡ Some g → not b ≡ true
-      by_use true used home = absurd (apart (sym (homeless.stay h g o used home)))
+      by_use true used home = absurd (apart (sym (homes.stay h g o used home)))
       by_use false unused home = refl
 
   pub none_more : (h n : ℕ) (k : Parts) → slice_get hosts.kernels n ≡ Some k → (n ≢ h → knows_file (object_at k.memory.objects o) ≡ false)
@@ -68,9 +68,9 @@ module _ (header : Header) (hosts : HostTable) (past : List Event) (o : ℕ) (al
   known_nowhere h n count none = by_kind (is_file header o) refl
     where
       in_home : is_file header o ≡ true → (x : Option ℕ) → home_of o past ≡ x → in_use header h o past ≡ true
-      in_home file None nowhere = homeless.files o h file (inl nowhere)
+      in_home file None nowhere = homes.files o h file (inl nowhere)
       in_home file (Some g) home = elim (ℕ_discrete g h) [
-        | yes same ↦ homeless.files o h file (inr (home ∙ ap Some same))
+        | yes same ↦ homes.files o h file (inr (home ∙ ap Some same))
         | no apart ↦
             let known = all.homes o g home in
             let some = kernel_of header hosts past all g known in

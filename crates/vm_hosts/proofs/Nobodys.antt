@@ -117,7 +117,7 @@ common_more header outside doing ids (e ∷ events) past none nobodys licensed c
       few =
           subst (λ (z : ℕ). z + marks_of header (e ∷ events ++ past) ≤ most_objects) (sym same.object)
           (subst (λ (z : ℕ). next_object header (events ++ past) + z ≤ most_objects) (sym same.marks) before.few);
-      homeless = homes_next header outside e (events ++ past) (doing, cause_of header outside doing e (events ++ past) licensed.0.0) before.homeless;
+      homes = homes_next header outside e (events ++ past) (doing, cause_of header outside doing e (events ++ past) licensed.0.0) before.homes;
       settled = record { none_owed = none_owed_behind e (events ++ past) nobodys.0 none.0; shut = nobodys_shut (e ∷ events) past nobodys common.settled.shut };
       replied = nobody_replied e (events ++ past) nobodys.0 before.replied;
     }

@@ -30,7 +30,6 @@ rests_skip header h new old ids past was =
             pages = m.pages;
             uses = m.uses;
             controls = m.controls;
-            homeless = m.homeless;
             settled = m.settled;
             replied = m.replied;
             laundry = m.laundry;

@@ -138,10 +138,10 @@ unfoldable pub use Rattle.vm_state.specs.Counts.{all_tasks}
 pub use Rattle.vm_kernel.specs.Fits.{ArePlain, IsPlainRow, PartsFit}
 pub use Rattle.vm_kernel.specs.Forking.{CanCopy, CanShare, EntersCopy, Shares, entry_on, got}
 pub use Rattle.vm_state.specs.Filling.{AllUsed, HasCopies, IsFilledIn, IsInUse, IsUsed, fills_in}
-pub use Rattle.vm_state.specs.Stands.{AllEntriesInside, AreShared, EachApart, HasControls, HasEntries, HasFrames, HasHomes, HasKinds, HasLaundry, HasPages}
+pub use Rattle.vm_state.specs.Stands.{AllEntriesInside, AreShared, EachApart, HasControls, HasEntries, HasFrames, HasKinds, HasLaundry, HasPages}
 pub use Rattle.vm_state.specs.Stands.{HasRegions, HasTasks, HasUse, IsDeclared, IsInside, IsOfKind, IsShared, IsTemporary, IsWashed, is_among}
 pub use Rattle.vm_state.specs.References.{AllReferred, AllReferredBut}
-pub use Rattle.vm_kernel.specs.Matches.{HasOrder, HasSlow, HasWaits, IsRanged, IsSettled, Matches, Rests, UsesAll, Works, first_ids, host_id}
+pub use Rattle.vm_kernel.specs.Matches.{HasOrder, HasSlow, HasWaits, IsRanged, IsSettled, KnowsHomes, Matches, Rests, UsesAll, Works, first_ids, host_id}
 pub use Rattle.vm_state.specs.Pagers.{has_pager, is_ready_state, last_in, live_in, ready_in}
 pub use Rattle.vm_state.specs.Places.{entries_in_row, has_region, local_of_row, lock_number, pages_in, place_of, region_entries, region_pages, with_entries}
 pub use Rattle.vm_kernel.specs.Plays.{AnswerBrings, DepartsFrom, Does, IsVictim, Marks, Paging, Plays, PlaysAnswer, Still, Then, frame_here, paging}

@@ -16,6 +16,7 @@ pub mod RangeAllocated
 pub mod RegionCases
 pub mod RegionCopied
 pub mod RegionEnds
+pub mod RegionHomes
 pub mod RegionRows
 pub mod RegionsFilled
 pub mod RegionsInUse

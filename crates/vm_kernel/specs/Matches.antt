@@ -33,6 +33,7 @@ use Rattle.vm_supply.specs.declared.woken.Woken.TheVariants as woken
 use Rattle.vm_waits.specs.Waits.{count_again}
 use Rattle.vm_state.specs.Passed.{IsUnmet, StaysAway}
 use Rattle.vm_state.specs.Waiters.{BeganInOrder, HasWaiters, is_woken}
+use Rattle.vm_shadow.specs.Chains.{ChainTable}
 use Rattle.vm_shadow.specs.declared.ids.Ids.{Ids}
 use Rattle.vm_kernel.specs.Fits.{PartsFit}
 use Rattle.vm_state.specs.Places.{known_local, place_of}
@@ -64,6 +65,10 @@ pub record IsSettled (past : List Event) : Type 0 where
 pub record IsReplied (past : List Event) : Type 0 where
   pub at : (request : LockRequest) → lock_taken past ≡ Some request → request.reply ≡ true → since (completes request.host request.object) past ≡ true
 
+-- the regions of a host are on it, and all that a history knows of homes
+abbrev pub KnowsHomes : Header → ℕ → ChainTable → List Event → Type 0
+KnowsHomes header h chains past = HasHomes header h chains (λ r. home_of r past) × HaveHomes header past
+
 -- the kernel of a host after a history, also inside a step; the counts of entries include some that have just gone
 pub record Matches (header : Header) (h : ℕ) (k : Parts) (ids : Ids) (gone : List Entry) (past : List Event) : Type 0 where
   pub ranged : IsRanged header
@@ -76,7 +81,7 @@ pub record Matches (header : Header) (h : ℕ) (k : Parts) (ids : Ids) (gone : L
   pub regions : HasRegions k.chains k.memory.objects ids (λ r. region_of header r past) (λ o. backing_of header o past) (next_region header past)
       (next_object header past) (marks_of header past)
   pub kinds : HasKinds header k.memory.objects k.chains
-  pub homes : HasHomes header h k.chains (λ r. home_of r past)
+  pub homes : KnowsHomes header h k.chains past
   pub files : KnowsFiles header h k.memory.objects (λ o. home_of o past)
   pub entries : HasEntries header.size k.maps k.chains gone
   pub shared : AreShared (named header) k.maps
@@ -85,7 +90,6 @@ pub record Matches (header : Header) (h : ℕ) (k : Parts) (ids : Ids) (gone : L
       (next_region header past)
   pub controls : HasControls (named header) h k.memory.objects (λ o. last_control h o past) (λ o. live_control h o past) (λ o. is_ready h o past)
       (λ o. object_home o past)
-  pub homeless : HaveHomes header past
   pub settled : IsSettled past
   pub replied : IsReplied past
   pub laundry : HasLaundry k.memory.frames k.memory.resident k.laundry (returns_out h past)

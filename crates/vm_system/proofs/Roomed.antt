@@ -171,7 +171,6 @@ module _ (header : Header) (hosts new : HostTable) (line : ℕ) (past : List Eve
         pages = m.pages;
         uses = m.uses;
         controls = m.controls;
-        homeless = common.homeless;
         settled = common.settled;
         replied = common.replied;
         laundry = m.laundry;

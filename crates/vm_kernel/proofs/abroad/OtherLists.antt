@@ -25,7 +25,6 @@ matches_with {k = k} queues buffers waits same fit size m =
       pages = m.pages;
       uses = uses_refilled k.waits.rows waits.rows same m.uses;
       controls = m.controls;
-      homeless = m.homeless;
       settled = m.settled;
       replied = m.replied;
       laundry = m.laundry;

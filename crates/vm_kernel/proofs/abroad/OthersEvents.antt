@@ -59,7 +59,7 @@ common_of header h k ids gone past matches =
       few = has.few;
       settled = matches.settled;
       replied = matches.replied;
-      homeless = matches.homeless;
+      homes = matches.homes.1;
     }
 
 -- what its tables say of its host
@@ -119,7 +119,7 @@ chain_made : (header : Header) (h : ℕ) (k : Parts) (ids : Ids) (past : List Ev
     → Below (λ o. backing_of header o past) n (region_of header r past).top u → u < next_object header past
 chain_made header h k ids past rests r n u own below = elim (kind_cases header r) [
   | inl declared ↦
-      let same = declared_chain header past r n u rests.matches.homeless declared below in
+      let same = declared_chain header past r n u rests.matches.homes.1 declared below in
       let more = named_objects header past in
       omega (arith, same, declared, more)
   | inr temporary ↦
@@ -241,7 +241,7 @@ module _ (header : Header) (h : ℕ) (k : Parts) (ids next : Ids) (past new : Li
         files = λ r file some.
             let task = by_some all_tasks r k.maps some in
             let row = region_row k.chains r (entry_there header.size r k.chains (rows_in task.0 k.maps) (rests.matches.entries.inside task.0) task.1) in
-            common.homeless.files r h file (inr (home r (rests.matches.homes r row.0 (paged_file header r file) row.1)));
+            common.homes.files r h file (inr (home r (rests.matches.homes.0 r row.0 (paged_file header r file) row.1)));
         among =
             λ task rows found. subst (λ (z : List ℕ). is_among task z ≡ true) (sym same.made.is)
             (among_more task same.made.made (tasks past) (has.among task rows found));
@@ -331,7 +331,7 @@ module _ (header : Header) (h : ℕ) (k : Parts) (ids next : Ids) (past new : Li
           fits = rests.matches.fits;
           tasks = tasks_same;
           regions = regions_same;
-          homes = λ r row paged found. home r (rests.matches.homes r row paged found);
+          homes = (λ r row paged found. home r (rests.matches.homes.0 r row paged found), common.homes);
           files = λ o file. known o ∙ rests.matches.files o file;
           entries = rests.matches.entries;
           pages = pages_same;
@@ -339,7 +339,6 @@ module _ (header : Header) (h : ℕ) (k : Parts) (ids next : Ids) (past new : Li
           controls = controls_same objects;
           settled = common.settled;
           replied = common.replied;
-          homeless = common.homeless;
           laundry = laundry_same;
           frames = frames_same;
         };

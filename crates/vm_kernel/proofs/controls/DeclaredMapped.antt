@@ -3,7 +3,7 @@ use Rattle.vm_kernel.proofs.Common.{Begins, Bool, ChainTable, ChangesOnly, Comma
 use Rattle.vm_kernel.proofs.Common.{IfSome, IsInside, IsReferred, IsSome, List, MapChange, Mapped, Matches, None, ObjectId, ObjectRow, ObjectTable, Option}
 use Rattle.vm_kernel.proofs.Common.{Outside, Parts, Plays, PutsObject, PutsRegion, QueueIsStill, Ran, RegionRow, Rests, RunsNone, SameMarks, Shares, Some}
 use Rattle.vm_kernel.proofs.Common.{Starts, TaskId, Temp, Up, [], all_tasks, ap, arith, code_where, entered, entering, entries_in, entries_in_row, entries_of}
-use Rattle.vm_kernel.proofs.Common.{entry, entry_at, eqb_tells, false, get_or, got, has_pager, head, holds, home_of, homes_next, homes_stay, host_id, host_of}
+use Rattle.vm_kernel.proofs.Common.{entry, entry_at, eqb_tells, false, get_or, got, has_pager, head, holds, home_of, host_id, host_of}
 use Rattle.vm_kernel.proofs.Common.{if◌then◌else◌, in_use, inl, inr, is_none, is_on, is_range, is_ready, is_some, is_woken, last_control, length, live_control}
 use Rattle.vm_kernel.proofs.Common.{live_in, lives_on, local, marks_of, meets_range, most_entries, named, nat_tests, next_object, next_region, object_at}
 use Rattle.vm_kernel.proofs.Common.{object_home, page_below, pages_in, paging, place_of, refl, region_at, region_entries, region_of, region_pages, reverse}
@@ -58,7 +58,6 @@ use Rattle.vm_kernel.proofs.abroad.OwnHost.{lives_here, lives_in, named_host, ow
 use Rattle.vm_kernel.proofs.memory.PagesShown.{itself, pages_marked}
 use Rattle.vm_kernel.proofs.lists.ListsAsTold.{lists_same, plays_both, plays_told}
 use Rattle.vm_kernel.proofs.memory.PageReturned.{controls_stay, pages_created, unasked}
-use Rattle.vm_kernel.proofs.space.RegionCases.{region_cases}
 use Rattle.vm_kernel.proofs.space.ForkShares.{MayShare, few_entries, rests_shared, unfilled_declared}
 use Rattle.vm_kernel.proofs.space.SharedEntries.{shared_entered}
 use Rattle.vm_kernel.proofs.space.TaskTables.{tasks_entered}
@@ -66,6 +65,7 @@ use Rattle.vm_kernel.proofs.space.RegionsInUse.{holds_rows, uses_entered}
 use Rattle.vm_kernel.proofs.controls.LockReplied.{replied_behind}
 use Rattle.vm_state.proofs.Bypassing.{waits_quiet}
 use Rattle.vm_state.proofs.Passing.{quiet_if}
+use Rattle.vm_kernel.proofs.space.RegionHomes.{homes_caused, homes_put}
 
 -- what a mapping that isn't refused has
 pub record MayMap (header : Header) (h : ℕ) (k : Parts) (task address bytes : ℕ) (object : ObjectId) (offset : ℕ) (past : List Event) : Type 0 where
@@ -173,7 +173,7 @@ pub map_enters : (header : Header) (h : ℕ) (task : TaskId) (address bytes : �
     → Enters header task.0 bytes object.0 offset past
 map_enters header h task address bytes object offset past k ids rests may =
     let m = rests.matches in
-    let pages : (region_of header object.0 past).pages ≡ declared_pages header object.0 = ap (λ z. z.pages) (m.homeless.whole object.0 may.declared) in
+    let pages : (region_of header object.0 past).pages ≡ declared_pages header object.0 = ap (λ z. z.pages) (m.homes.1.whole object.0 may.declared) in
     let inside = may.inside in
     let less = may.declared in
     let more = named_regions header past in
@@ -186,7 +186,7 @@ map_enters header h task address bytes object offset past k ids rests may =
       made = omega (arith, less, more);
       used = λ temporary. absurd (omega (arith, temporary, less));
       file = may.used;
-      unfilled = unfilled_declared header object.0 (tasks past) past may.declared m.homeless;
+      unfilled = unfilled_declared header object.0 (tasks past) past may.declared m.homes.1;
     }
 
 -- what a kernel has whose task has the first entry on the region of a declared object
@@ -265,7 +265,7 @@ map_home : (header : Header) (h : ℕ) (task : TaskId) (address bytes : ℕ) (ob
     → is_file header object.0 ≡ true → home_of object.0 (got task (shared_entry address bytes object offset) ∷ past) ≡ Some h
 map_home header h task address bytes object offset past k ids rests may file =
     let row = shared_entry address bytes object offset in
-    home_used header h task row.address row.bytes row.region row.offset row.prot row.inherit past rests.matches.homeless (may.used file)
+    home_used header h task row.address row.bytes row.region row.offset row.prot row.inherit past rests.matches.homes.1 (may.used file)
     (lives_here rests.matches.tasks may.lives)
 
 other_home : (task : TaskId) (address bytes : ℕ) (object : ObjectId) (offset : ℕ) (past : List Event) (r : ℕ) → (object.0 ≡ r → ⊥)
@@ -299,7 +299,6 @@ rests_opened header h outside doing task address bytes object offset pages new p
     let row = shared_entry address bytes object offset in
     let enters = got task row in
     let begins = beginning h object new.control size in
-    let events = begins ∷ enters ∷ [] in
     let now = begins ∷ enters ∷ past in
     let lives = may.lives in
     let below : task.0 < all_tasks = rw most_is may.below in
@@ -332,14 +331,14 @@ rests_opened header h outside doing task address bytes object offset pages new p
             tasks = tasks_entered h size k.maps maps past task row m.tasks o.changes lives;
             regions =
                 regions_declared header past object new pages k.chains chains k.memory.objects objects ids (next_region header past) (next_object header past)
-                (marks_of header past) m.regions m.kinds m.homeless may.declared regions known_objects o.free o.sized o.known o.region o.put;
-            homes = λ r region paged found. elim (region_cases object.0 (Some (own_region object pages)) k.chains chains o.region r) [
-              | inl same ↦
-                  subst (λ (z : ℕ). home_of z now ≡ Some h) same.0
-                  (map_home header h task address bytes object offset past k ids rests may
-                  (file_of header object.0 may.declared (ap (is_paged header) same.0 ∙ paged)))
-              | inr apart ↦ homes_stay r h events past (m.homes r region paged (sym apart.1 ∙ found))
-            ];
+                (marks_of header past) m.regions m.kinds m.homes.1 may.declared regions known_objects o.free o.sized o.known o.region o.put;
+            homes =
+                homes_put header h k.chains chains object.0 (own_region object pages) now o.region.at
+                (λ paged. map_home header h task address bytes object offset past k ids rests may (file_of header object.0 may.declared paged))
+                (homes_caused header outside h k.chains begins (enters ∷ past)
+                (doing, map_opens header h task address bytes object offset new past k ids rests may o.known)
+                (homes_caused header outside h k.chains enters past (doing, map_enters header h task address bytes object offset past k ids rests may)
+                m.homes));
             files = λ x file. elim (known_cases object.0 new k.memory.objects objects o.put x) [
               | inl this ↦
                   ap (is_on h) (subst (λ (z : ℕ). home_of z now ≡ Some h) this.0 (map_home header h task address bytes object offset past k ids rests may
@@ -361,9 +360,6 @@ rests_opened header h outside doing task address bytes object offset pages new p
                 (λ t r away why. holds_rows size task.0 t r k.maps (rows_in task.0 k.maps) (entered row (entries_of size t past)) past lives away
                 ∙ m.uses.apart t r away why);
             controls = controls_stay (λ x at_home. object_stays x h enters past at_home) controls;
-            homeless =
-                homes_next header outside begins (enters ∷ past) (doing, map_opens header h task address bytes object offset new past k ids rests may o.known)
-                (homes_next header outside enters past (doing, map_enters header h task address bytes object offset past k ids rests may) m.homeless);
             settled = record { none_owed = refl; shut = λ region. refl };
             replied = replied_behind tt (replied_behind tt m.replied);
             laundry = m.laundry;
@@ -375,7 +371,7 @@ rests_opened header h outside doing task address bytes object offset pages new p
             copies_kept k.maps maps k.chains chains k.memory.resident k.memory.resident rests.used.copies
             (same_waiting k.maps maps task.0 (Some (entered row (rows_in task.0 k.maps))) k.waits.rows o.changes none)
             (put_filled object.0 (own_region object pages) k.chains chains o.free o.region
-            (declared_unfilled object.0 rests.used m.homeless m.kinds may.declared)) (rows_unmade k.chains k.memory.resident);
+            (declared_unfilled object.0 rests.used m.homes.1 m.kinds may.declared)) (rows_unmade k.chains k.memory.resident);
       };
       referred =
           referred_put object.0 new object.0 (Some (own_region object pages)) k.chains chains k.memory.objects objects k.memory.resident o.region o.put
@@ -414,7 +410,7 @@ unreferred_row header h past k ids o row rests less free found =
     let more = named_regions header past in
     m.regions.counts o row found
     ∙ (declared_references header past k.chains k.memory.objects ids (next_region header past) (next_object header past) (marks_of header past) o
-    m.regions m.kinds m.homeless less (omega (arith, less, more))
+    m.regions m.kinds m.homes.1 less (omega (arith, less, more))
     ∙ ap (λ z. one (is_over o z)) free)
 
 quiet_row : (header : Header) (h : ℕ) (past : List Event) (k : Parts) (ids : Ids) (o : ℕ) (row : ObjectRow) → Rests header h k ids past → o < named header
@@ -529,7 +525,7 @@ map_again header h task address bytes object offset past k k2 k3 ids before mid 
     row = shared_entry address bytes object offset
 
     whole : IsWhole header object.0 region
-    whole = whole_row m.regions m.homeless object.0 region may.declared found
+    whole = whole_row m.regions m.homes.1 object.0 region may.declared found
 
     refers : IsReferred k.memory.objects object.0
     refers = subst (λ (z : ℕ). IsReferred k.memory.objects z) whole.top (refers_region m.regions object.0 region found)
@@ -684,7 +680,7 @@ ran_map header h outside task address bytes object offset past k k2 ids before a
     let counted : 0 < region_entries k.chains object.0 = elim (s.rests.used.regions object.0 there.0 there.1) [
       | inl some ↦ subst (λ (z : ℕ). 0 < z) (sym (ap entries_in_row there.1)) some
       | inr filled ↦ let least =
-          filled_temporary object.0 s.rests.used.copies m.homeless filled in let less = may.declared in absurd (omega (arith, least, less))
+          filled_temporary object.0 s.rests.used.copies m.homes.1 filled in let less = may.declared in absurd (omega (arith, least, less))
     ] in
     let share : MayShare header task.0 row past k = record {
       counted = counted;
@@ -790,7 +786,7 @@ few_refer header h past k ids o rests less = by (object_at k.memory.objects o) r
         let more = named_regions header past in
         let count = m.regions.counts o row is in
         let all = declared_references header past k.chains k.memory.objects ids (next_region header past) (next_object header past) (marks_of header past)
-        o m.regions m.kinds m.homeless less (omega (arith, less, more)) in
+        o m.regions m.kinds m.homes.1 less (omega (arith, less, more)) in
         let single = most (is_over o (region_at k.chains o)) in
         omega (arith, count, all, single)
 
@@ -815,7 +811,7 @@ known_held header h task address bytes object offset past k k2 ids before s hold
     by : Holds object d k k2 → IsSome (object_at k2.memory.objects object.0)
     by (Again region found put same) =
         ap (λ (z : Parts). is_some (object_at z.memory.objects object.0)) same
-        ∙ subst (λ (z : ℕ). is_some (object_at k.memory.objects z) ≡ true) (whole_row m.regions m.homeless object.0 region s.range.1 found).top
+        ∙ subst (λ (z : ℕ). is_some (object_at k.memory.objects z) ≡ true) (whole_row m.regions m.homes.1 object.0 region s.range.1 found).top
         (m.regions.tops object.0 region found)
     by (First free put known marks same) =
         ap is_some (known_put object.0 (referred d (object_at k.memory.objects object.0)) k.memory.objects k2.memory.objects known)

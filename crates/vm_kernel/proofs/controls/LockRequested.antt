@@ -61,7 +61,6 @@ mid_rows header h k ids rs2 past m same =
       pages = record { shown = λ o p. m.pages.shown o p ∙ ap (λ z. local_of_row k.memory.frames z (absent_at k.memory.objects o p)) (sym (same.rows o p)) };
       uses = m.uses;
       controls = m.controls;
-      homeless = m.homeless;
       settled = m.settled;
       laundry =
           record {
@@ -354,7 +353,6 @@ mid_taken header h k ids past object control page count returns lock flush reply
       uses =
           uses_refilled k.waits.rows waits2.rows (fills_waked (is_unlocked k.memory.resident object.0 page.0 count) k.waits.rows waits2.rows waked_rows) m.uses;
       controls = m.controls;
-      homeless = m.homeless;
       settled = record { none_owed = refl; shut = λ region. refl };
       laundry = record {
         count = m.laundry.count;

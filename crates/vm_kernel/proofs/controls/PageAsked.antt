@@ -73,7 +73,6 @@ matches_asked header h k ids past key control access frame memory m live c plan 
       pages = rw (plan.objects, own_host h) pages2;
       uses = m.uses;
       controls = rw plan.objects m.controls;
-      homeless = m.homeless;
       settled = record { none_owed = refl; shut = λ region. refl };
       replied = replied_behind tt m.replied;
       laundry = laundry_changed key frame _ _ _ _ _ k.memory memory k.laundry (returns_out h past) m.laundry c;

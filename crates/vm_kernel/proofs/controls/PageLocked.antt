@@ -1,7 +1,7 @@
 -- A page obeys a lock request: what the kernel stands for behind that.
 use Rattle.vm_kernel.proofs.Common.{AllReferred, AreShared, Bool, CausedInTurn, ChainTable, Changes, Command, Discards, Does, Drops, Elsewhere, Event, Fit}
-use Rattle.vm_kernel.proofs.Common.{HasControls, HasEntries, HasFrames, HasHomes, HasKinds, HasLaundry, HasOrder, HasPages, HasRegions, HasTasks, HasUse}
-use Rattle.vm_kernel.proofs.Common.{HasWaiters, HasWaits, HaveHomes, Header, HostParts, Ids, IfSome, IsRanged, IsReferred, IsSettled, LaundryList, List, Local}
+use Rattle.vm_kernel.proofs.Common.{HasControls, HasEntries, HasFrames, HasKinds, HasLaundry, HasOrder, HasPages, HasRegions, HasTasks, HasUse}
+use Rattle.vm_kernel.proofs.Common.{HasWaiters, HasWaits, Header, HostParts, Ids, IfSome, IsRanged, IsReferred, IsSettled, LaundryList, List, Local}
 use Rattle.vm_kernel.proofs.Common.{LocalEffect, None, ObjectId, ObjectRow, ObjectTable, Option, Outside, PageKey, PageNo, PageRow, Parts, PartsFit, PutsAbsent}
 use Rattle.vm_kernel.proofs.Common.{Queues, ResidentTable, Returns, SameObjects, Some, Suffice, Up, UsesAll, Works, [], absent_at, ap, arith, away, backing_of}
 use Rattle.vm_kernel.proofs.Common.{entries_of, false, fit_objects, frame_count, frame_here, frames_held, frames_wired, holds, home_of, host_id, host_of}
@@ -13,7 +13,7 @@ use Rattle.vm_model.specs.Waiting.{copy_target}
 use Rattle.vm_state.proofs.Filling.{KeepsAway, away_put, used_away, used_told}
 use Rattle.vm_state.specs.Stands.{KnowsFiles}
 use Rattle.vm_kernel.proofs.controls.AnswerEffects.{hears}
-use Rattle.vm_kernel.proofs.memory.PartsStillFit.{plain_changed, plain_here, IsPlainAway}
+use Rattle.vm_kernel.proofs.memory.PartsStillFit.{IsPlainAway, plain_changed, plain_here}
 use Rattle.vm_kernel.proofs.steps.EventsGrow.{Follows, suffices}
 use Rattle.vm_kernel.proofs.controls.WordTaken.{may_lock, regions_of}
 use Rattle.vm_kernel.proofs.memory.WhatIsKnown.{IsOther, known_on, nested, other_nested, pages_known}
@@ -45,6 +45,7 @@ use Rattle.vm_state.specs.Passed.{IsUnmet, StaysAway}
 use Rattle.vm_state.proofs.Bypassing.{waits_quiet, waits_returned}
 use Rattle.vm_state.proofs.Passing.{quiet_if}
 use Rattle.vm_kernel.proofs.memory.PlacesPassed.{waits_retold}
+use Rattle.vm_kernel.proofs.Common.{KnowsHomes}
 
 -- The kernel while it does a lock request: it matches its history, but that the reply may be owed.
 pub record Mid (header : Header) (h : ℕ) (k : Parts) (ids : Ids) (past : List Event) : Type 0 where
@@ -58,7 +59,7 @@ pub record Mid (header : Header) (h : ℕ) (k : Parts) (ids : Ids) (past : List 
   pub regions : HasRegions k.chains k.memory.objects ids (λ r. region_of header r past) (λ o. backing_of header o past) (next_region header past)
       (next_object header past) (marks_of header past)
   pub kinds : HasKinds header k.memory.objects k.chains
-  pub homes : HasHomes header h k.chains (λ r. home_of r past)
+  pub homes : KnowsHomes header h k.chains past
   pub files : KnowsFiles header h k.memory.objects (λ o. home_of o past)
   pub entries : HasEntries header.size k.maps k.chains []
   pub shared : AreShared (named header) k.maps
@@ -67,7 +68,6 @@ pub record Mid (header : Header) (h : ℕ) (k : Parts) (ids : Ids) (past : List 
       (next_region header past)
   pub controls : HasControls (named header) h k.memory.objects (λ o. last_control h o past) (λ o. live_control h o past) (λ o. is_ready h o past)
       (λ o. object_home o past)
-  pub homeless : HaveHomes header past
   pub settled : IsSettled past
   pub laundry : HasLaundry k.memory.frames k.memory.resident k.laundry (returns_out h past)
   pub frames : HasFrames (slice_get (reverse header.frames.items) h) k.memory.frames (frames_held header.size h past) (frames_wired h past)
@@ -99,7 +99,6 @@ works_mid m replied =
             pages = m.pages;
             uses = m.uses;
             controls = m.controls;
-            homeless = m.homeless;
             settled = m.settled;
             replied = replied;
             laundry = m.laundry;
@@ -114,12 +113,11 @@ works_mid m replied =
 -- what is not of pages stays behind an event
 pub record Quiet (header : Header) (h : ℕ) (k : Parts) (past now : List Event) : Type 0 where
   pub home : (r : ℕ) → home_of r now ≡ home_of r past
-  pub homeless : HaveHomes header now
   pub target : (task : ℕ) → copy_target task now ≡ copy_target task past
   pub next : (task : ℕ) → next_page task now ≡ next_page task past
   pub tasks : HasTasks h header.size k.maps (λ task. host_of task now) (λ task. entries_of header.size task now)
   pub uses : HasUse header k.maps k.waits.rows (λ r. in_use header h r now) (made_tasks now) (λ task r. holds header.size task r now) (next_region header now)
-  pub homes : HasHomes header h k.chains (λ r. home_of r now)
+  pub homes : KnowsHomes header h k.chains now
   pub regions : {cs : ChainTable} {os : ObjectTable} {ids : Ids} → HasRegions cs os ids (λ r. region_of header r past) (λ o. backing_of header o past)
       (next_region header past) (next_object header past) (marks_of header past)
       → HasRegions cs os ids (λ r. region_of header r now) (λ o. backing_of header o now) (next_region header now) (next_object header now)
@@ -136,7 +134,6 @@ quiet_none rests =
     let m = rests in
     record {
       home = λ r. refl;
-      homeless = m.homeless;
       target = λ task. refl;
       next = λ task. refl;
       tasks = m.tasks;
@@ -159,7 +156,6 @@ quiet_dropped {header = header} {h = h} {past = past} key rests =
     let m = rests in
     record {
       home = λ r. refl;
-      homeless = m.homeless;
       target = λ task. refl;
       next = λ task. refl;
       tasks = m.tasks;
@@ -182,7 +178,6 @@ quiet_given {header = header} {h = h} {past = past} key control dirty keep bytes
     let m = rests in
     record {
       home = λ r. refl;
-      homeless = m.homeless;
       target = λ task. refl;
       next = λ task. refl;
       tasks = m.tasks;
@@ -205,7 +200,6 @@ quiet_completed {header = header} {h = h} {past = past} object control page coun
     let m = rests in
     record {
       home = λ r. refl;
-      homeless = m.homeless;
       target = λ task. refl;
       next = λ task. refl;
       tasks = m.tasks;
@@ -253,7 +247,6 @@ rests_moved header h k ids memory laundry past now rests quiet moved =
       pages = moved.pages;
       uses = quiet.uses;
       controls = quiet.controls (controls_same k.memory.objects memory.objects _ _ _ m.controls moved.objects.at);
-      homeless = quiet.homeless;
       settled = quiet.settled;
       laundry = moved.washed;
       frames = moved.frames;

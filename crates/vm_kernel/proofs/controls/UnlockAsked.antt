@@ -82,7 +82,6 @@ matches_unlocked header h k ids past key row control access memory m here c plan
       pages = rw (plan.objects, own_host h) pages2;
       uses = m.uses;
       controls = rw plan.objects m.controls;
-      homeless = m.homeless;
       settled = record { none_owed = refl; shut = λ region. refl };
       replied = replied_behind tt m.replied;
       laundry = laundry_changed key row.frame _ _ _ _ _ k.memory memory k.laundry (returns_out h past) m.laundry c;

@@ -5,7 +5,7 @@ use Rattle.vm_kernel.proofs.Common.{IsAbsencePaid, IsAmid, IsAnswered, IsEnding,
 use Rattle.vm_kernel.proofs.Common.{OnlyLoses, Option, Outside, PageKey, Parts, PutsEntry, ResidentTable, Some, TaskId, WaitTable, Waiting, Woken, Works, []}
 use Rattle.vm_kernel.proofs.Common.{absence_more, absence_taken, access_in, address_in, ap, append_assoc, begun_at, copies_to, copy_target, entries_in}
 use Rattle.vm_kernel.proofs.Common.{entries_in_row, entries_of, entry, entry_at, eqb_tells, error_more, error_taken, fails_access, fails_task, false, fills_in}
-use Rattle.vm_kernel.proofs.Common.{holds, homes_next, if◌then◌else◌, in_use, inl, inr, next_page, next_region, oldest_row, or_true, page_key, puts_cases, refl}
+use Rattle.vm_kernel.proofs.Common.{holds, if◌then◌else◌, in_use, inl, inr, next_page, next_region, oldest_row, or_true, page_key, puts_cases, refl}
 use Rattle.vm_kernel.proofs.Common.{rows_in, since, since_more, some_is, subst, sym, true, waiting, waiting_in, woken_page, ℕ, ◌++◌, ◌<◌, ◌==◌, ◌||◌, ◌∙◌, ◌∷◌}
 use Rattle.vm_kernel.proofs.Common.{◌≡◌, ◌≢◌, ◌⊎◌}
 use Rattle.vm_kernel.proofs.space.RegionsInUse.{FillsHere, fills_here, holds_waits, uses_none}
@@ -31,6 +31,7 @@ use Rattle.vm_kernel.proofs.controls.LockReplied.{replied_behind}
 use Rattle.vm_state.proofs.Filling.{copies_next}
 use Rattle.vm_base.specs.Pages.{page_positive}
 use Rattle.vm_legal.specs.InTurn.{FailsInTurn}
+use Rattle.vm_kernel.proofs.space.RegionHomes.{homes_caused}
 
 -- who waits for the page
 pub waits_for : (key : PageKey) (reason : On) → woken_page key reason ≡ true → reason ≡ on.Page key
@@ -241,8 +242,7 @@ failed_one header h outside doing past old events key k ids w waits f found pass
               (λ r filled. record { task = filled.task; fills = (fills_apart w.task.0 filled.task r rows waits.rows puts filled.fills).1 })
               (has.allowed w.task.0 w found).lives;
           controls = was.controls;
-          homeless = homes_next header outside e moment (doing, cause.0) was.homeless;
-          homes = was.homes;
+          homes = homes_caused header outside h k.chains e moment (doing, cause.0) was.homes;
           files = was.files;
           settled = record { none_owed = refl; shut = λ region. refl };
           replied = replied_behind tt was.replied;

@@ -1,6 +1,6 @@
 -- A message of a pager is taken: what the kernel stands for behind it.
 use Rattle.vm_kernel.proofs.Common.{Access, AllReferred, ArePlain, Backing, Bool, Cancels, ChainTable, Changes, Command, Elsewhere, EndsNobody, Event, FailsNow}
-use Rattle.vm_kernel.proofs.Common.{FailsPage, FillsPage, Fit, FrameTable, HasAsker, HasControls, HasFrames, HasHomes, HasKinds, HasLaundry, HasOrder, HasPages}
+use Rattle.vm_kernel.proofs.Common.{FailsPage, FillsPage, Fit, FrameTable, HasAsker, HasControls, HasFrames, HasKinds, HasLaundry, HasOrder, HasPages}
 use Rattle.vm_kernel.proofs.Common.{HasRegions, HasTasks, HasUse, HasWaiters, Header, HostId, HostParts, Ids, IsAnswered, IsOfKind, IsPagerTold, IsReferred}
 use Rattle.vm_kernel.proofs.Common.{IsSettled, Lacks, List, Local, LocalEffect, Mapped, Message, None, ObjectId, ObjectRow, ObjectTable, On, Option, Outside}
 use Rattle.vm_kernel.proofs.Common.{PageNo, PageRow, Parts, PutsObject, PutsRow, Readies, Reason, Region, ResidentTable, Rests, SameMarks, SameObjects, Some}
@@ -16,7 +16,6 @@ use Rattle.vm_objects.specs.declared.row.PagerState.TheVariants as state
 use Rattle.vm_supply.specs.declared.woken.Woken.TheVariants as woken
 use Rattle.vm_waits.specs.declared.waiting.On.TheVariants as on
 use Rattle.vm_kernel.proofs.controls.AnswerEffects.{IsLeft, IsNothing, asked_shows, hears, left_failed, left_lacked, lives, on_page, same_effect}
-use Rattle.vm_abroad.specs.Home.{HaveHomes}
 use Rattle.vm_kernel.proofs.memory.PartsStillFit.{plain_changed}
 use Rattle.vm_kernel.proofs.memory.PagesShown.{bytes_now, effect_on, frames_changed, laundry_changed, pages_changed, pages_marked, pages_moved}
 use Rattle.vm_kernel.proofs.abroad.OwnHost.{own_host}
@@ -49,6 +48,7 @@ use Rattle.vm_kernel.proofs.memory.PlacesPassed.{quiet_place, waits_come, waits_
 use Rattle.vm_state.proofs.Bypassing.{waits_taken}
 use Rattle.vm_state.proofs.Passing.{same_of}
 use Rattle.vm_state.specs.Pagers.{is_ready_state}
+use Rattle.vm_kernel.proofs.Common.{KnowsHomes}
 
 -- who waits, where rows of pages and objects are others
 
@@ -128,7 +128,6 @@ zeros h object page = event.Zeroed (host_id h) object page
 -- what stays, of the parts that no message changes
 pub record Stays (header : Header) (h : ℕ) (k : Parts) (past now : List Event) : Type 0 where
   pub home : (r : ℕ) → home_of r now ≡ home_of r past
-  pub homeless : HaveHomes header now
   pub target : (task : ℕ) → copy_target task now ≡ copy_target task past
   pub next : (task : ℕ) → next_page task now ≡ next_page task past
   pub tasks : HasTasks h header.size k.maps (λ task. host_of task now) (λ task. entries_of header.size task now)
@@ -141,7 +140,7 @@ pub record Stays (header : Header) (h : ℕ) (k : Parts) (past now : List Event)
   pub controls : {os : ObjectTable} → HasControls (named header) h os (λ o. last_control h o past) (λ o. live_control h o past) (λ o. is_ready h o now)
       (λ o. object_home o past)
       → HasControls (named header) h os (λ o. last_control h o now) (λ o. live_control h o now) (λ o. is_ready h o now) (λ o. object_home o now)
-  pub homes : HasHomes header h k.chains (λ r. home_of r now)
+  pub homes : KnowsHomes header h k.chains now
   pub order : HasOrder k now
   pub settled : IsSettled now
   pub replied : IsReplied now
@@ -154,7 +153,6 @@ stays_heard header h k ids past object control m rests none =
     let was = rests.matches in
     record {
       home = λ r. refl;
-      homeless = was.homeless;
       target = λ task. refl;
       next = λ task. refl;
       tasks = was.tasks;
@@ -176,7 +174,6 @@ pub stays_zeroed : (header : Header) (h : ℕ) (k : Parts) (past now : List Even
 stays_zeroed header h k past now object page stays =
     record {
       home = stays.home;
-      homeless = stays.homeless;
       target = stays.target;
       next = stays.next;
       tasks = stays.tasks;
@@ -214,7 +211,6 @@ works_of header h k ids who new past now rests stays fit same c =
             pages = c.pages;
             uses = stays.uses;
             controls = stays.controls c.controls;
-            homeless = stays.homeless;
             homes = stays.homes;
             files = λ o file. ap (is_on h) (stays.home o) ∙ c.files o file;
             settled = stays.settled;

@@ -43,7 +43,6 @@ rests_skip {header} {h} {ids} {past} {k} {k2} is rests =
             pages = m.pages;
             uses = m.uses;
             controls = m.controls;
-            homeless = m.homeless;
             homes = m.homes;
             files = m.files;
             settled = m.settled;

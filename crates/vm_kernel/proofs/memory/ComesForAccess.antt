@@ -97,7 +97,6 @@ matches_zeroed header h k ids past key frame memory m c plan =
       pages = rw (plan.objects, own_host h) pages2;
       uses = m.uses;
       controls = rw plan.objects m.controls;
-      homeless = m.homeless;
       settled = record { none_owed = refl; shut = λ region. refl };
       replied = replied_behind tt m.replied;
       laundry = laundry_changed key frame _ _ _ _ _ k.memory memory k.laundry (returns_out h past) m.laundry c;
@@ -160,7 +159,6 @@ matches_raised header h k ids past low top row frame memory m found here c plan 
       uses = m.uses;
       controls =
           rw plan.objects m.controls;
-      homeless = m.homeless;
       settled = record { none_owed = refl; shut = λ region. refl };
       replied = replied_behind tt m.replied;
       laundry = laundry_changed top frame _ _ _ _ _ k.memory memory k.laundry (returns_out h past) m.laundry c;
@@ -250,7 +248,6 @@ works_loaded header h past k ids w key value waits2 number works is now put =
             (uses_still header k.maps _ _ _ _ _ m.uses (λ t r none. holds_waits header.size w.task.0 t r k.maps (rows_in w.task.0 k.maps) past None there
             none));
         controls = m.controls;
-        homeless = m.homeless;
         settled = record { none_owed = refl; shut = λ region. refl };
         replied = replied_behind tt m.replied;
         laundry = m.laundry;
@@ -326,7 +323,6 @@ works_stored header h past k ids w key frame at size value row memory waits2 num
             (uses_still header k.maps _ _ _ _ _ m.uses (λ t r none. holds_waits header.size w.task.0 t r k.maps (rows_in w.task.0 k.maps) past None there
             none));
         controls = rw plan.objects m.controls;
-        homeless = m.homeless;
         settled = record { none_owed = refl; shut = λ region. refl };
         replied = replied_behind tt m.replied;
         laundry = laundry_changed key was.frame _ _ _ _ _ k.memory memory k.laundry (returns_out h past) m.laundry c;

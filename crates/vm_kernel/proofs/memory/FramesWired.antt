@@ -94,7 +94,6 @@ ran_wired header h outside doing past k ids wired rests few first done =
                 m.pages;
             uses = m.uses;
             controls = m.controls;
-            homeless = m.homeless;
             homes = m.homes;
             files = m.files;
             settled = record { none_owed = refl; shut = λ region. refl };

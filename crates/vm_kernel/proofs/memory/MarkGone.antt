@@ -1,20 +1,20 @@
 -- What is left of the kernel where a store's region loses its mark.
-use Rattle.vm_kernel.proofs.Common.{ChainTable, Event, Header, HostParts, Ids, Matches, ObjectTable, Parts, Region, RegionRow, Some, Works, ap, arith, cc, false}
+use Rattle.vm_kernel.proofs.Common.{ChainTable, Event, Header, HostParts, Ids, List, Matches, ObjectTable, Parts, Region, RegionRow, Some, Works, ap, arith, false}
 use Rattle.vm_kernel.proofs.Common.{has_region, in_use, inl, inr, is_some, is_woken, marks_of, named, next_object, next_region, pages_in, refl, region_at}
 use Rattle.vm_kernel.proofs.Common.{region_of, some_is, subst, sym, true, waiting, ℕ, ◌+◌, ◌-◌, ◌<◌, ◌==◌, ◌∙◌, ◌∷◌, ◌≡◌, ◌≤◌, ◌⊎◌}
 use Rattle.vm_kernel.proofs.controls.LockReplied.{replied_behind}
 use Rattle.vm_kernel.proofs.memory.ShadowMade.{KeepsRegions, entries_kept}
 use Rattle.vm_kernel.proofs.space.RegionsFilled.{unmarked_filled}
+use Rattle.vm_kernel.proofs.Common.{Command, Outside}
+use Rattle.vm_kernel.proofs.space.RegionHomes.{homes_caused, homes_put}
+use Rattle.vm_legal.specs.Licences.{Unmarks}
 use Rattle.vm_base.specs.declared.ids.RegionId.{RegionId}
 use Rattle.vm_fault.specs.Faults.{FaultState, LosesMark}
 use Rattle.vm_fault.specs.Walks.{ChainsFit}
-use Rattle.vm_model.specs.Regions.{unmarked}
 use Rattle.vm_model.specs.declared.event.Event.TheVariants as event
 use Rattle.vm_parts.proofs.Rows.{one_case}
 use Rattle.vm_shadow.specs.Chains.{PutsRegion}
-use Rattle.vm_state.proofs.Declared.{marked_temporary}
 use Rattle.vm_state.proofs.Filling.{copies_kept, rows_unmade}
-use Rattle.vm_state.proofs.Fresh.{other_test}
 use Rattle.vm_state.proofs.Marks.{marked_unmarked}
 use Rattle.vm_state.proofs.Referring.{small_region}
 use Rattle.vm_state.proofs.Unmarking.{kinds_unmarked, referred_unmarked, regions_unmarked, waits_unmarked}
@@ -48,11 +48,12 @@ keeps_unmarked region row old new put there =
     was r same = subst (λ (z : ℕ). region_at old z ≡ Some row) same there
 
 -- nothing but the mark and its count changes
-unmarked_with : (header : Header) (h : ℕ) (past : List Event) (k : Parts) (ids : Ids) (region : RegionId) (row : RegionRow) (chains : ChainTable)
+unmarked_with : (header : Header) (h : ℕ) (outside : Outside) (doing : Command) (past : List Event) (k : Parts) (ids : Ids) (region : RegionId)
+    (row : RegionRow) (chains : ChainTable)
     → Works header h k ids woken.Nobody past → region_at k.chains region.0 ≡ Some row → 0 < row.entries → row.marked ≡ true
-    → PutsRegion region.0 (Some (record row { marked = false })) k.chains chains → ChainsFit chains k.memory.objects
+    → PutsRegion region.0 (Some (record row { marked = false })) k.chains chains → ChainsFit chains k.memory.objects → Unmarks header region.0 past
     → Works header h (record k { chains = chains }) (record ids { marks = ids.marks - 1 }) woken.Nobody (event.Unmarked region ∷ past)
-unmarked_with header h past k ids region row chains works there counted marked put fits =
+unmarked_with header h outside doing past k ids region row chains works there counted marked put fits cause =
     record {
       matches = record {
         ranged = m.ranged;
@@ -68,26 +69,13 @@ unmarked_with header h past k ids region row chains works there counted marked p
             regions_unmarked header past region row k.chains chains k.memory.objects ids (record ids { marks = ids.marks - 1 }) (next_region header past)
             (next_object header past) (marks_of header past) (marks_of header (e ∷ past)) put there fits refl refl marks_now (omega (arith, one_less)) m.regions;
         homes =
-            λ r found paged is. elim (one_case region.0 r (Some (record row { marked = false })) (region_at k.chains r) (region_at chains r) (put.at r)) [
-              | inl this ↦ m.homes r row paged (subst (λ (z : ℕ). region_at k.chains z ≡ Some row) this.0 there)
-              | inr other ↦ m.homes r found paged (sym other.1 ∙ is)
-            ];
+            homes_put header h k.chains chains region.0 (record row { marked = false }) (e ∷ past) put.at (λ paged. m.homes.0 region.0 row paged there)
+            (homes_caused header outside h k.chains e past (doing, cause) m.homes);
         files = m.files;
         entries = entries_kept header.size k chains m.entries keeps;
         pages = m.pages;
         uses = m.uses;
         controls = m.controls;
-        homeless = record {
-          regions = m.homeless.regions;
-          objects = m.homeless.objects;
-          stay = m.homeless.stay;
-          files = m.homeless.files;
-          whole = λ r declared.
-              let other : (r == region.0) ≡ false = other_test r region.0 (λ eq. omega (arith, eq, declared, temporary)) in
-              ap (λ b. unmarked b (region_of header r past)) other ∙ m.homeless.whole r declared;
-          bare = m.homeless.bare;
-          fills = m.homeless.fills;
-        };
         settled = record { none_owed = refl; shut = λ r. refl };
         replied = replied_behind tt m.replied;
         laundry = m.laundry;
@@ -116,9 +104,6 @@ unmarked_with header h past k ids region row chains works there counted marked p
     e : Event
     e = event.Unmarked region
 
-    temporary : named header ≤ region.0
-    temporary = marked_temporary m.regions m.homeless region.0 row there marked
-
     keeps : KeepsRegions k.chains chains
     keeps = keeps_unmarked region.0 row k.chains chains put there
 
@@ -129,17 +114,18 @@ unmarked_with header h past k ids region row chains works there counted marked p
     marks_now : ids.marks - 1 ≡ marks_of header (e ∷ past)
     marks_now = omega (arith, one_less, m.regions.marks)
 
-pub works_unmarked : (header : Header) (h : ℕ) (past : List Event) (k : Parts) (ids : Ids) (region : RegionId) (row : RegionRow) (old new : FaultState)
+pub works_unmarked : (header : Header) (h : ℕ) (outside : Outside) (doing : Command) (past : List Event) (k : Parts) (ids : Ids) (region : RegionId)
+    (row : RegionRow) (old new : FaultState)
     → Works header h k ids woken.Nobody past → old.parts ≡ k.memory → old.chains ≡ k.chains → old.ids ≡ ids
-    → region_at k.chains region.0 ≡ Some row → 0 < row.entries → row.marked ≡ true → LosesMark region row old new
+    → region_at k.chains region.0 ≡ Some row → 0 < row.entries → row.marked ≡ true → LosesMark region row old new → Unmarks header region.0 past
     → Works header h (record k { memory = new.parts; chains = new.chains }) new.ids woken.Nobody (event.Unmarked region ∷ past)
-works_unmarked header h past k ids region row old new works memory chains numbers there counted marked loses =
+works_unmarked header h outside doing past k ids region row old new works memory chains numbers there counted marked loses cause =
     let e : Event = event.Unmarked region in
     let parts : new.parts ≡ k.memory = loses.parts ∙ memory in
     let ids_now : new.ids ≡ record ids { marks = ids.marks - 1 } = loses.ids ∙ ap (λ (z : Ids). record z { marks = z.marks - 1 }) numbers in
     subst (λ (z : Ids). Works header h (record k { memory = new.parts; chains = new.chains }) z woken.Nobody (e ∷ past)) (sym ids_now)
     (subst (λ (z : HostParts). Works header h (record k { memory = z; chains = new.chains }) (record ids { marks = ids.marks - 1 }) woken.Nobody (e ∷ past))
     (sym parts)
-    (unmarked_with header h past k ids region row new.chains works there counted marked
+    (unmarked_with header h outside doing past k ids region row new.chains works there counted marked
     (subst (λ (z : ChainTable). PutsRegion region.0 (Some (record row { marked = false })) z new.chains) chains loses.chains)
-    (subst (λ (z : ObjectTable). ChainsFit new.chains z) (ap (λ (z : HostParts). z.objects) parts) loses.fits)))
+    (subst (λ (z : ObjectTable). ChainsFit new.chains z) (ap (λ (z : HostParts). z.objects) parts) loses.fits) cause))

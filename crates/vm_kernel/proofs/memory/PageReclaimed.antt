@@ -1,7 +1,7 @@
 -- One page of a host is reclaimed, and a pageout does that over and over.
 use Rattle.vm_kernel.proofs.Common.{AllLive, AllSkipped, ArePlain, Begins, Bool, Command, Created, Creates, EachGone, Elsewhere, Event, Fit, FrameNo}
 use Rattle.vm_kernel.proofs.Common.{FrameTable, FreesOrReturns, GivesBack, HasControls, HasFrames, HasLaundry, HasOrder, HasPages, HasRegions, HasTasks, HasUse}
-use Rattle.vm_kernel.proofs.Common.{HasWaits, HaveHomes, Header, HostId, HostIsFull, Ids, IfSome, IsExhausted, IsFreed, IsNothing, IsReturned, KeepsPages}
+use Rattle.vm_kernel.proofs.Common.{HasWaits, Header, HostId, HostIsFull, Ids, IfSome, IsExhausted, IsFreed, IsNothing, IsReturned, KeepsPages}
 use Rattle.vm_kernel.proofs.Common.{LegalEvents, List, LocalEffect, Matches, None, ObjectRow, Option, Outside, PageKey, PageRow, PagerState, PagesOut, Parts}
 use Rattle.vm_kernel.proofs.Common.{PartsFit, PutsObject, PutsRow, Queues, Reclaim, ReclaimEffects, ResidentTable, Rests, ReturnCause, Returns, Some, Starves}
 use Rattle.vm_kernel.proofs.Common.{Up, UsesAll, [], absent_at, ap, arith, away, backing_of, claimed, controlled, departures, entries_of, false, fit_touched}
@@ -33,13 +33,13 @@ use Rattle.vm_legal.specs.Prompt.{IsSource}
 use Rattle.vm_model.specs.Regions.{}
 use Rattle.vm_parts.proofs.Rows.{stood}
 use Rattle.vm_state.specs.Places.{known_local}
-use Rattle.vm_state.specs.Stands.{HasHomes, IsOfKind, KnowsFiles}
+use Rattle.vm_state.specs.Stands.{IsOfKind, KnowsFiles}
 use Rattle.vm_state.proofs.Files.{files_put}
 use Rattle.vm_kernel.specs.Serving.{FreesBut, IsToCopy, SkipLocked}
 use Rattle.vm_state.proofs.Changing.{regions_controlled}
 use Rattle.vm_state.proofs.Referred.{referred_controlled, referred_gone}
 use Rattle.vm_state.proofs.Told.{waiters_lost}
-use Rattle.vm_kernel.proofs.memory.FramesWashed.{laundry_room, laundry_returned}
+use Rattle.vm_kernel.proofs.memory.FramesWashed.{laundry_returned, laundry_room}
 use Rattle.vm_kernel.proofs.abroad.OwnHost.{named_host, own_host}
 use Rattle.vm_kernel.proofs.abroad.OwnEvents.{mine_of, own_named}
 use Rattle.vm_kernel.proofs.controls.LockReplied.{replied_behind}
@@ -50,6 +50,7 @@ use Rattle.vm_legal.specs.InTurn.{ReturnsInTurn}
 use Rattle.vm_state.proofs.Bypassing.{waits_quiet, waits_returned}
 use Rattle.vm_state.proofs.Passing.{quiet_if}
 use Rattle.vm_state.specs.Counts.{marks_of}
+use Rattle.vm_kernel.proofs.Common.{KnowsHomes}
 
 -- all but what a reclaim changes is as it was, and what it changes fits
 pub record Beside (k k2 : Parts) : Type 0 where
@@ -131,7 +132,6 @@ took_nothing header h outside doing past ids skip k k2 before after rests beside
                   pages = rw (is.objects, is.frames, is.resident) m.pages;
                   uses = rw (beside.maps, beside.waits) m.uses;
                   controls = rw is.objects m.controls;
-                  homeless = m.homeless;
                   homes = rw beside.chains m.homes;
                   files = rw is.objects m.files;
                   settled = m.settled;
@@ -228,7 +228,6 @@ took_freed header h outside doing past ids skip k k2 before after rests beside l
                       (ap (λ z. record away { asked = not z; absent = absent_at k.memory.objects o p }) here) (λ o p apart. refl)));
                   uses = rw (beside.maps, beside.waits) m.uses;
                   controls = rw freed.objects m.controls;
-                  homeless = m.homeless;
                   homes = rw beside.chains m.homes;
                   files = rw freed.objects m.files;
                   settled = record { none_owed = refl; shut = λ region. refl };
@@ -296,8 +295,7 @@ record Before (header : Header) (h : ℕ) (k : Parts) (ids : Ids) (past : List E
       (next_object header past) (marks_of header past)
   pages : HasPages k.memory.frames k.memory.resident k.memory.objects (λ o p. known_local header o p (local header.size h (place_of o p) past))
   uses : HasUse header k.maps k.waits.rows (λ r. in_use header h r past) (made_tasks past) (λ t r. holds header.size t r past) (next_region header past)
-  homeless : HaveHomes header past
-  homes : HasHomes header h k.chains (λ r. home_of r past)
+  homes : KnowsHomes header h k.chains past
   files : KnowsFiles header h k.memory.objects (λ o. home_of o past)
   laundry : HasLaundry k.memory.frames k.memory.resident k.laundry (returns_out h past)
   frames : HasFrames (slice_get (reverse header.frames.items) h) k.memory.frames (frames_held header.size h past) (frames_wired h past)
@@ -370,7 +368,6 @@ returned_rests header h ids skip k k2 before after moment past control rests bes
             pages = rw (own_host h) pages;
             uses = rw (beside.maps, beside.waits) b.uses;
             controls = controls;
-            homeless = b.homeless;
             homes = rw beside.chains b.homes;
             files =
                 files_put header h o is.object (controlled is.object) k.memory.objects k2.memory.objects (λ r. home_of r moment) is.known is.objects b.files;
@@ -474,7 +471,6 @@ took_told header h outside doing past ids skip k k2 before after rests beside lo
       regions = m.regions;
       pages = m.pages;
       uses = m.uses;
-      homeless = m.homeless;
       homes = m.homes;
       files = m.files;
       laundry = m.laundry;
@@ -559,7 +555,6 @@ took_first header h outside doing past ids skip k k2 before after rests beside l
       regions = m.regions;
       pages = pages;
       uses = m.uses;
-      homeless = m.homeless;
       homes = m.homes;
       files = m.files;
       laundry = m.laundry;
@@ -655,7 +650,6 @@ rests_touched header h ids k queues past rests keeps count =
             pages = m.pages;
             uses = m.uses;
             controls = m.controls;
-            homeless = m.homeless;
             homes = m.homes;
             files = m.files;
             settled = m.settled;

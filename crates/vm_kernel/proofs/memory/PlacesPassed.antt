@@ -266,7 +266,7 @@ over_walk header h k ids past m zero from to referred walks = walks
 over_walk header h k ids past m (suc n) from to referred walks =
     let next = walks.1.0 in
     let under = walks.1.1 in (
-      passed_away header h k ids past m from (shadow_temporary m.regions m.homeless from.object.0 under.row under.found) referred walks.0,
+      passed_away header h k ids past m from (shadow_temporary m.regions m.homes.1 from.object.0 under.row under.found) referred walks.0,
       (next, under, over_walk header h k ids past m n next to (referred_down (shown_at m) 1 from next referred (next, under, refl)) walks.1.2),
     )
 

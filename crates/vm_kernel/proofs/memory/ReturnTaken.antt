@@ -111,7 +111,6 @@ rests_taken header h k ids past object control page dirty bytes f fs laundry res
                 was.pages releases;
             uses = was.uses;
             controls = was.controls;
-            homeless = was.homeless;
             homes = was.homes;
             files = was.files;
             settled = record { none_owed = refl; shut = λ region. refl };

@@ -1,13 +1,12 @@
 -- What a shadow leaves of the kernel, which a store's region gets first where that is marked.
 use Rattle.vm_kernel.proofs.Common.{ChainTable, Event, HasEntries, Header, HostParts, Ids, Inside, IsInside, List, Matches, None, ObjectId, ObjectTable, Parts}
-use Rattle.vm_kernel.proofs.Common.{PutsObject, Region, RegionRow, SameMarks, Some, Works, [], ap, arith, false, has_region, home_of, if◌then◌else◌, inl, inr}
+use Rattle.vm_kernel.proofs.Common.{PutsObject, Region, RegionRow, SameMarks, Some, Works, [], ap, arith, false, has_region, home_of, inl, inr}
 use Rattle.vm_kernel.proofs.Common.{is_some, is_woken, local_of_row, marks_of, next_object, next_region, object_at, one_case, pages_in, refl, region_at}
-use Rattle.vm_kernel.proofs.Common.{region_pages, row_at, rows_in, rows_map, some_is, subst, sym, true, waiting, ℕ, ◌+◌, ◌-◌, ◌<◌, ◌==◌, ◌∙◌, ◌∷◌, ◌≡◌, ◌≤◌}
+use Rattle.vm_kernel.proofs.Common.{region_pages, row_at, rows_in, rows_map, some_is, subst, sym, true, waiting, ℕ, ◌+◌, ◌-◌, ◌<◌, ◌∙◌, ◌∷◌, ◌≡◌, ◌≤◌}
 use Rattle.vm_kernel.proofs.Common.{◌⊎◌}
 use Rattle.vm_kernel.proofs.space.RegionsFilled.{shadowed_filled, unknown_unfilled}
 use Rattle.vm_state.proofs.Filling.{copies_kept, rows_unmade}
 use Rattle.vm_abroad.proofs.Home.{home_shadowed, named_objects, object_stays}
-use Rattle.vm_abroad.specs.Home.{first_of, region_for}
 use Rattle.vm_base.specs.Limits.{most_objects}
 use Rattle.vm_base.specs.declared.ids.RegionId.{RegionId}
 use Rattle.vm_fault.specs.Faults.{FaultState, MakesShadow}
@@ -16,11 +15,9 @@ use Rattle.vm_model.specs.declared.event.Event.TheVariants as event
 use Rattle.vm_parts.specs.Fits.{Fit}
 use Rattle.vm_shadow.specs.Chains.{ObjectsBelow, ShadowsRegion}
 use Rattle.vm_model.specs.Named.{named}
-use Rattle.vm_model.specs.Regions.{backing_of, over, region_of, shadowed}
 use Rattle.vm_legal.proofs.Served.{later_paged as paged_temporary}
 use Rattle.vm_state.proofs.Declared.{kind_new, kinds_put, kinds_shadowed, marked_temporary}
 use Rattle.vm_state.proofs.Files.{files_temporary}
-use Rattle.vm_state.proofs.Fresh.{other_test}
 use Rattle.vm_state.proofs.Marks.{marked_shadowed}
 use Rattle.vm_state.proofs.Places.{waits_shadowed}
 use Rattle.vm_state.proofs.Referred.{referred_shadowed}
@@ -32,6 +29,9 @@ use Rattle.vm_kernel.proofs.space.TaskMade.{controls_made, new_object}
 use Rattle.vm_kernel.proofs.controls.LockReplied.{replied_behind}
 use Rattle.vm_state.specs.References.{is_live_in}
 use Rattle.vm_kernel.proofs.memory.PlacesPassed.{fresh_away}
+use Rattle.vm_kernel.proofs.space.RegionHomes.{homes_caused, homes_put}
+use Rattle.vm_legal.specs.Licences.{Shadows}
+use Rattle.vm_kernel.proofs.Common.{Command, Outside}
 
 -- each region is as it was, but for its top and its mark
 pub record KeepsRegions (old new : ChainTable) : Type 0 where
@@ -85,14 +85,15 @@ entries_kept size k new has keeps =
     }
 
 -- a region gets an object of its own, over its old top
-pub shadowed_with : (header : Header) (h : ℕ) (past : List Event) (k : Parts) (ids : Ids) (region : RegionId) (object : ObjectId) (row : RegionRow)
-    (chains : ChainTable) (objects : ObjectTable) → Works header h k ids woken.Nobody past
+pub shadowed_with : (header : Header) (h : ℕ) (outside : Outside) (doing : Command) (past : List Event) (k : Parts) (ids : Ids) (region : RegionId)
+    (object : ObjectId) (row : RegionRow) (chains : ChainTable) (objects : ObjectTable) → Works header h k ids woken.Nobody past
     → region_at k.chains region.0 ≡ Some row → 0 < row.entries → row.marked ≡ true → object.0 ≡ ids.next_object
     → ShadowsRegion region.0 object row k.chains chains → PutsObject object.0 (Some (new_object row.pages)) k.memory.objects objects
     → SameMarks k.memory.objects objects → Fit (record k.memory { objects = objects }) → ChainsFit chains objects
+    → Shadows header region.0 object.0 row.top.0 past
     → Works header h (record k { memory = record k.memory { objects = objects }; chains = chains })
     (record ids { next_object = ids.next_object + 1; marks = ids.marks - 1 }) woken.Nobody (event.Shadowed region object row.top ∷ past)
-shadowed_with header h past k ids region object row chains objects works there counted marked next made put same fit fits =
+shadowed_with header h outside doing past k ids region object row chains objects works there counted marked next made put same fit fits cause =
     record {
       matches = record {
         ranged = m.ranged;
@@ -113,33 +114,15 @@ shadowed_with header h past k ids region object row chains objects works there c
             (next_region header past) (next_object header past) (marks_of header past) (marks_of header (e ∷ past)) made there number refl put fits
             refl refl marks_now few_now m.regions;
         homes =
-            λ r found paged is. elim (one_case region.0 r (Some (record row { top = object; shift = 0; marked = false })) (region_at k.chains r)
-            (region_at chains r) (made.at r)) [
-              | inl this ↦ subst (λ (z : ℕ). home_of z past ≡ Some h) this.0 (m.homes region.0 row (paged_temporary header region.0 temporary) there)
-              | inr other ↦ m.homes r found paged (sym other.1 ∙ is)
-            ];
+            homes_put header h k.chains chains region.0 (record row { top = object; shift = 0; marked = false }) (e ∷ past) made.at
+            (λ paged. m.homes.0 region.0 row paged there) (homes_caused header outside h k.chains e past (doing, cause) m.homes);
         files = files_temporary header h object.0 (Some (new_object row.pages)) k.memory.objects objects (λ o. home_of o past) new put m.files;
         entries = entries_kept header.size k chains m.entries keeps;
         pages = record { shown = λ o p. m.pages.shown o p ∙ ap (λ b. local_of_row k.memory.frames (row_at k.memory.resident o p) b) (sym (same.at o p)) };
         uses = m.uses;
         controls = controls_made k.memory.objects objects _ _ _ object.0 row.pages m.controls unknown put (λ o home. object_stays o h e past home)
-            (home_shadowed h region object row.top past (m.homeless.objects object.0 at_least)
-            (m.homes region.0 row (paged_temporary header region.0 temporary) there));
-        homeless = record {
-          regions = m.homeless.regions;
-          objects = λ o high.
-              let apart : (object.0 == o) ≡ false = other_test object.0 o (λ eq. omega (arith, eq, number, high)) in
-              ap (λ b. if b then first_of (region_for o past) (Some region.0) else region_for o past) apart ∙ m.homeless.objects o (omega (arith, high));
-          stay = m.homeless.stay;
-          files = m.homeless.files;
-          whole = λ r declared.
-              let other : (r == region.0) ≡ false = other_test r region.0 (λ eq. omega (arith, eq, declared, temporary)) in
-              ap (λ b. shadowed b object.0 (region_of header r past)) other ∙ m.homeless.whole r declared;
-          bare = λ o declared.
-              let other : (o == object.0) ≡ false = other_test o object.0 (λ eq. omega (arith, eq, declared, new)) in
-              ap (λ b. (over b (region_of header region.0 past) (backing_of header o past)).backed) other ∙ m.homeless.bare o declared;
-          fills = m.homeless.fills;
-        };
+            (home_shadowed h region object row.top past (m.homes.1.objects object.0 at_least)
+            (m.homes.0 region.0 row (paged_temporary header region.0 temporary) there));
         settled = record { none_owed = refl; shut = λ r. refl };
         replied = replied_behind tt m.replied;
         laundry = m.laundry;
@@ -178,7 +161,7 @@ shadowed_with header h past k ids region object row chains objects works there c
     number = next ∙ m.regions.object
 
     temporary : named header ≤ region.0
-    temporary = marked_temporary m.regions m.homeless region.0 row there marked
+    temporary = marked_temporary m.regions m.homes.1 region.0 row there marked
 
     new : named header ≤ object.0
     new = let more = named_objects header past in omega (arith, more, number)
@@ -203,11 +186,13 @@ shadowed_with header h past k ids region object row chains objects works there c
     few_now : next_object header past + 1 + marks_of header (e ∷ past) ≤ most_objects
     few_now = let few = m.regions.few in omega (arith, one_less, few)
 
-pub works_shadowed : (header : Header) (h : ℕ) (past : List Event) (k : Parts) (ids : Ids) (region : RegionId) (row : RegionRow) (old new : FaultState)
+pub works_shadowed : (header : Header) (h : ℕ) (outside : Outside) (doing : Command) (past : List Event) (k : Parts) (ids : Ids) (region : RegionId)
+    (row : RegionRow) (old new : FaultState)
     → Works header h k ids woken.Nobody past → old.parts ≡ k.memory → old.chains ≡ k.chains → old.ids ≡ ids
     → region_at k.chains region.0 ≡ Some row → 0 < row.entries → row.marked ≡ true → (made : MakesShadow region row old new)
+    → Shadows header region.0 made.object.0 row.top.0 past
     → Works header h (record k { memory = new.parts; chains = new.chains }) new.ids woken.Nobody (event.Shadowed region made.object row.top ∷ past)
-works_shadowed header h past k ids region row old new works memory chains numbers there counted marked made =
+works_shadowed header h outside doing past k ids region row old new works memory chains numbers there counted marked made cause =
     let e : Event = event.Shadowed region made.object row.top in
     let objects : ObjectTable = new.parts.objects in
     let parts : new.parts ≡ record k.memory { objects = objects } = made.parts ∙ ap (λ (z : HostParts). record z { objects = objects }) memory in
@@ -216,10 +201,10 @@ works_shadowed header h past k ids region row old new works memory chains number
     subst (λ (z : Ids). Works header h (record k { memory = new.parts; chains = new.chains }) z woken.Nobody (e ∷ past)) (sym ids_now)
     (subst (λ (z : HostParts). Works header h (record k { memory = z; chains = new.chains })
     (record ids { next_object = ids.next_object + 1; marks = ids.marks - 1 }) woken.Nobody (e ∷ past)) (sym parts)
-    (shadowed_with header h past k ids region made.object row new.chains objects works there counted marked
+    (shadowed_with header h outside doing past k ids region made.object row new.chains objects works there counted marked
     (made.next ∙ ap (λ (z : Ids). z.next_object) numbers)
     (subst (λ (z : ChainTable). ShadowsRegion region.0 made.object row z new.chains) chains made.chains)
     (subst (λ (z : HostParts). PutsObject made.object.0 (Some (new_object row.pages)) z.objects objects) memory made.objects)
     (subst (λ (z : HostParts). SameMarks z.objects objects) memory made.marks)
     (subst (λ (z : HostParts). Fit z) parts made.fit)
-    made.fits))
+    made.fits cause))

@@ -244,7 +244,6 @@ matches_roomier header h rooms k ids gone past was = record {
   pages = pages_roomier k.memory.objects rooms.objects rooms.marks k.memory.frames k.memory.resident rooms.rows _ was.pages;
   uses = was.uses;
   controls = controls_roomier k.memory.objects rooms.objects rooms.marks _ h _ _ _ _ was.controls;
-  homeless = was.homeless;
   settled = was.settled;
   replied = was.replied;
   laundry = laundry_roomier k.memory.resident rooms.rows k.memory.frames k.laundry _ was.laundry;

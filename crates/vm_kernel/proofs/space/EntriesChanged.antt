@@ -1,9 +1,9 @@
 -- Commands that change a task's entries, from their beginning to their end.
-use Rattle.vm_kernel.proofs.Common.{Access, AllReferred, AllRows, AllUsed, ChainTable, ChangesOnly, Code, Entry, Event, HasEntries, HasHomes, HasKinds}
+use Rattle.vm_kernel.proofs.Common.{Access, AllReferred, AllRows, AllUsed, ChainTable, ChangesOnly, Code, Entry, Event, HasEntries, HasKinds}
 use Rattle.vm_kernel.proofs.Common.{HasPages, HasRegions, HasUse, HasWaiters, Header, Ids, Inherit, IsInside, List, MapChange, Mapped, None, Option, Outside}
 use Rattle.vm_kernel.proofs.Common.{Parts, Prot, Raised, Ran, RegionRow, Rests, Some, Starts, TaskId, Waiting, [], acting, all_tasks, ap, arith, backing_of}
 use Rattle.vm_kernel.proofs.Common.{code_where, copy_target, count_by, count_on, cut_at_ends, entries_in, entries_in_row, entries_of, entry, eqb_tells, false}
-use Rattle.vm_kernel.proofs.Common.{fills, has_entry, has_region, holds, home_of, host_of, if◌then◌else◌, in_use, inheritance, inherited, inl, inr, is_copied}
+use Rattle.vm_kernel.proofs.Common.{fills, has_entry, has_region, holds, host_of, if◌then◌else◌, in_use, inheritance, inherited, inl, inr, is_copied}
 use Rattle.vm_kernel.proofs.Common.{is_none, is_range, is_some, is_woken, local, marks_of, meets_declared, most_entries, named, next_object, next_page}
 use Rattle.vm_kernel.proofs.Common.{next_region, not-false, place_of, protected, protection, refl, region_at, region_entries, region_of, removed, rows_in}
 use Rattle.vm_kernel.proofs.Common.{rows_map, subst, suc, sym, tasks, true, unwrap_or, waiting, waiting_in, zero, ℕ, ◌&&◌, ◌*◌, ◌+◌, ◌-◌, ◌<◌, ◌==◌, ◌^◌, ◌||◌}
@@ -27,13 +27,14 @@ use Rattle.vm_kernel.proofs.space.CountsChanged.{raised_recounts}
 use Rattle.vm_kernel.proofs.space.RegionRows.{region_row, tops_recounted}
 use Rattle.vm_kernel.proofs.space.EntriesRewritten.{entries_changed, lives_below, on_among, recount_homes, recount_referred, recount_regions, recount_used}
 use Rattle.vm_kernel.proofs.space.EntriesRewritten.{tasks_changed}
-use Rattle.vm_kernel.proofs.space.RegionsInUse.{uses_same, holds_rows}
-use Rattle.vm_state.proofs.Waited.{waits_changed, told_changed}
+use Rattle.vm_kernel.proofs.space.RegionsInUse.{holds_rows, uses_same}
+use Rattle.vm_state.proofs.Waited.{told_changed, waits_changed}
 use Rattle.vm_kernel.proofs.abroad.OwnEvents.{own_task}
 use Rattle.vm_kernel.proofs.abroad.OwnHost.{lives_in, rows_here}
 use Rattle.vm_kernel.proofs.space.SharedEntries.{kinds_recounted, shared_changed, shared_inherited, shared_protected}
 use Rattle.vm_kernel.proofs.controls.LockReplied.{replied_behind}
 use Rattle.vm_state.specs.Passed.{IsUnmet, StaysAway}
+use Rattle.vm_kernel.proofs.Common.{KnowsHomes}
 
 -- how many entries lead to a region
 
@@ -102,7 +103,7 @@ pub record Changed (header : Header) (h : ℕ) (past : List Event) (k : Parts) (
         (next_object header past) (marks_of header past)
     pub entries : HasEntries header.size maps chains lost
     pub kinds : HasKinds header k.memory.objects chains
-    pub homes : HasHomes header h chains (λ r. home_of r past)
+    pub homes : KnowsHomes header h chains past
     pub pages : HasPages k.memory.frames k.memory.resident k.memory.objects (λ o p. known_local header o p (local header.size h (place_of o p) past))
     pub used : AllUsed header maps chains k.memory.resident k.waits.rows (λ t. next_page t past) (λ t. copy_target t past)
     pub referred : AllReferred chains k.memory.objects k.memory.resident
@@ -126,7 +127,7 @@ changed_by header h past k ids maps chains task rows lost more rests idle change
           entries_changed header.size task k.maps maps k.chains chains count rows lost m.entries changes lives is
           (λ r there. let sum = cuts.sums r in omega arith) cuts.inside cuts.known cuts.few;
       kinds = kinds_recounted header count k.memory.objects k.chains chains is m.kinds;
-      homes = recount_homes count header h k.chains chains (λ r. home_of r past) is m.homes;
+      homes = recount_homes count header h k.chains chains past is m.homes;
       pages = m.pages;
       used = record {
         regions = recount_used count k.chains chains is (λ r there some. omega arith) k.waits.rows rests.used.regions;
@@ -273,7 +274,6 @@ ran_protect header h outside task address bytes prot past events k ids maps chai
                 uses_kept header h past k ids maps task.0 made more s.rests same lives cuts
                 (λ t. protected header.size address bytes prot (entries_of header.size t past));
             controls = m.controls;
-            homeless = m.homeless;
             homes = c.homes;
             files = m.files;
             settled = record { none_owed = refl; shut = λ region. refl };
@@ -375,7 +375,6 @@ ran_inherit header h outside task address bytes inherit past events k ids maps c
                 uses_kept header h past k ids maps task.0 made more s.rests same lives cuts
                 (λ t. inherited header.size address bytes inherit (entries_of header.size t past));
             controls = m.controls;
-            homeless = m.homeless;
             homes = c.homes;
             files = m.files;
             settled = record { none_owed = refl; shut = λ region. refl };

@@ -2,7 +2,7 @@
 use Rattle.vm_kernel.proofs.Common.{ChainTable, Command, EachOf, EndsOnly, EndsRegion, Entry, Event, HasEntries, HasSlow, Header, Ids, IsEnding, IsFilledIn}
 use Rattle.vm_kernel.proofs.Common.{IsInStep, IsWhole, LegalEvents, List, Mapped, Outside, Parts, PutsEntries, QueueIsStill, RegionRow, RunsNobody, RunsNone}
 use Rattle.vm_kernel.proofs.Common.{Some, Sweeps, TaskId, WaitTable, Waiting, [], ap, append_assoc, arith, backing_of, count_again, count_on, drop}
-use Rattle.vm_kernel.proofs.Common.{entries_in_row, eqb_tells, home_of, if◌then◌else◌, inl, inr, is_woken, marks_of, next_object, next_region, of_both}
+use Rattle.vm_kernel.proofs.Common.{entries_in_row, eqb_tells, if◌then◌else◌, inl, inr, is_woken, marks_of, next_object, next_region, of_both}
 use Rattle.vm_kernel.proofs.Common.{refl, region_at, region_entries, region_of, rows_in, slice_get, subst, suc, sym, waiting, zero, ℕ, ◌++◌, ◌+◌, ◌-◌, ◌<◌}
 use Rattle.vm_kernel.proofs.Common.{◌==◌, ◌∙◌, ◌∷◌, ◌≡◌, ◌≢◌, ◌≤◌, ◌⊎◌}
 use Rattle.vm_kernel.proofs.space.RegionsFilled.{counted_unfilled, recount_filled}
@@ -87,8 +87,7 @@ runs_less header h outside doing past k ids entry rest events chains s put =
         pages = m.pages;
         uses = m.uses;
         controls = m.controls;
-        homeless = m.homeless;
-        homes = recount_homes count header h k.chains chains (λ r. home_of r moment) is m.homes;
+        homes = recount_homes count header h k.chains chains moment is m.homes;
         files = m.files;
         settled = m.settled;
         replied = m.replied;

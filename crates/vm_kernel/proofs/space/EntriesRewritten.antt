@@ -1,6 +1,6 @@
 -- A task's entries are cut, changed or taken away, and regions count what is left.
-use Rattle.vm_kernel.proofs.Common.{AllEntriesInside, AllReferred, AllRows, Backing, Bool, ChainTable, ChangesOnly, Entry, HasEntries, HasHomes, HasRegions}
-use Rattle.vm_kernel.proofs.Common.{HasTasks, Header, Ids, Inside, IsFilledIn, IsInside, List, Mapped, None, ObjectTable, Option, Region, RegionRow}
+use Rattle.vm_kernel.proofs.Common.{AllEntriesInside, AllReferred, AllRows, Backing, Bool, ChainTable, ChangesOnly, Entry, HasEntries, HasRegions, KnowsHomes}
+use Rattle.vm_kernel.proofs.Common.{Event, HasTasks, Header, Ids, Inside, IsFilledIn, IsInside, List, Mapped, None, ObjectTable, Option, Region, RegionRow}
 use Rattle.vm_kernel.proofs.Common.{ResidentTable, Some, Waiting, [], all_tasks, ap, arith, count_on, cut, cut_at, cut_at_ends, entries_in, entries_in_row}
 use Rattle.vm_kernel.proofs.Common.{eqb_tells, false, flat_map, has_entry, has_region, if◌then◌else◌, inl, inr, is_on, is_some, length, max, min, most_entries}
 use Rattle.vm_kernel.proofs.Common.{nat_lt, nat_tests, part, parts_in, refl, region_at, region_entries, removed, rewritten, rows_in, rows_map, subst, suc, sym}
@@ -22,9 +22,10 @@ pub recount_regions : (count : ℕ → ℕ) (cs cs2 : ChainTable) (os : ObjectTa
 recount_regions count cs cs2 os ids region_from backing_from regions_made objects_made marked is has =
     regions_recounted cs cs2 os ids region_from backing_from regions_made objects_made marked (recounts_but count cs cs2 is) has
 
-pub recount_homes : (count : ℕ → ℕ) (header : Header) (h : ℕ) (cs cs2 : ChainTable) (home_from : ℕ → Option ℕ) → Recounts count cs cs2
-    → HasHomes header h cs home_from → HasHomes header h cs2 home_from
-recount_homes count header h cs cs2 home_from is has r row paged found = let b = row_before count cs cs2 is r row found in has r b.was paged b.found
+pub recount_homes : (count : ℕ → ℕ) (header : Header) (h : ℕ) (cs cs2 : ChainTable) (past : List Event) → Recounts count cs cs2
+    → KnowsHomes header h cs past → KnowsHomes header h cs2 past
+recount_homes count header h cs cs2 past is homes =
+    (λ r row paged found. let b = row_before count cs cs2 is r row found in homes.0 r b.was paged b.found, homes.1)
 
 pub recount_referred : (count : ℕ → ℕ) (cs cs2 : ChainTable) (os : ObjectTable) (rs : ResidentTable) → Recounts count cs cs2 → AllReferred cs os rs
     → AllReferred cs2 os rs

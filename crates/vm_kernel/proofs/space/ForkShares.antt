@@ -1,10 +1,10 @@
 -- A fork makes a child, and gives it what is shared, and copies of what is copied, one entry after another.
-use Rattle.vm_kernel.proofs.Common.{Access, AllRows, AreEntries, ArePlain, CanShare, ChainTable, ChangesOnly, Command, Enters, Entry, Event, Fit, HasEntries}
-use Rattle.vm_kernel.proofs.Common.{HasWaiters, HasWholePages, HaveHomes, Header, HostParts, Ids, InOrder, IsFilledIn, IsInside, IsShared, IsSome, List, Mapped}
+use Rattle.vm_kernel.proofs.Common.{Access, AllRows, AreEntries, CanShare, ChainTable, ChangesOnly, Command, Enters, Entry, Event, HasEntries}
+use Rattle.vm_kernel.proofs.Common.{HasWaiters, HasWholePages, HaveHomes, Header, Ids, InOrder, IsFilledIn, IsInside, IsShared, IsSome, List, Mapped}
 use Rattle.vm_kernel.proofs.Common.{None, Option, Outside, Parts, PutsEntries, Ran, RegionRow, Rests, Shares, Some, Starts, Target, TaskId, Waiting, []}
 use Rattle.vm_kernel.proofs.Common.{all_tasks, ap, arith, code_where, copies, copy_target, count_again, count_by, drop, entered, entering, entries_in}
-use Rattle.vm_kernel.proofs.Common.{entries_in_row, entries_of, entry, entry_at, eqb_tells, false, got, has_entry, has_region, head, holds, home_stays}
-use Rattle.vm_kernel.proofs.Common.{homes_next, host_id, host_of, if◌then◌else◌, in_use, inl, inr, is_copied, is_filled, is_fork_full, is_none, is_range}
+use Rattle.vm_kernel.proofs.Common.{entries_in_row, entries_of, entry, entry_at, eqb_tells, false, got, has_entry, has_region, head, holds}
+use Rattle.vm_kernel.proofs.Common.{host_id, host_of, if◌then◌else◌, in_use, inl, inr, is_copied, is_filled, is_fork_full, is_none, is_range}
 use Rattle.vm_kernel.proofs.Common.{is_some, is_woken, length, length_entered, lives_on, most_entries, named, nat_tests, next_region, one_case, pages_in, refl}
 use Rattle.vm_kernel.proofs.Common.{region_at, region_entries, region_of, region_pages, reverse, reverse-append, rows_entered, rows_in, rows_known, rows_map}
 use Rattle.vm_kernel.proofs.Common.{slice_get, slice_get_within, some_is, subst, sym, tasks, true, unwrap_or, waiting, ℕ, ◌%◌, ◌*◌, ◌++◌, ◌+◌, ◌/◌, ◌<◌, ◌==◌}
@@ -38,7 +38,7 @@ use Rattle.vm_kernel.proofs.space.CopiesCounted.{drop_past}
 use Rattle.vm_kernel.proofs.space.RegionCopied.{MayCopy, copied, free_of, heads_copied, heads_more, keeps_recounted, no_row, rests_copied, same_put}
 use Rattle.vm_kernel.proofs.space.RegionCopied.{told_copied, used_there}
 use Rattle.vm_kernel.proofs.space.EntriesCounted.{by_few, most_is, none_on, on_entered, one_on}
-use Rattle.vm_kernel.proofs.space.ChildEntries.{free_behind, found_first, told_next}
+use Rattle.vm_kernel.proofs.space.ChildEntries.{found_first, free_behind, told_next}
 use Rattle.vm_maps.proofs.Pages.{whole_at}
 use Rattle.vm_kernel.proofs.steps.EventsGrow.{suffices}
 use Rattle.vm_kernel.proofs.steps.HeadAlone.{Heads, passed, ran_head}
@@ -50,10 +50,11 @@ use Rattle.vm_kernel.proofs.space.RegionRows.{region_row}
 use Rattle.vm_kernel.proofs.steps.RoomOfFork.{HasRoom, room_copied, room_more, room_of, room_other}
 use Rattle.vm_kernel.proofs.space.TaskTables.{Keeps, entries_changed, inside_kept, tasks_entered}
 use Rattle.vm_kernel.proofs.space.SharedEntries.{kinds_recounted, shared_entered}
-use Rattle.vm_kernel.proofs.space.EntriesRewritten.{lives_below}
+use Rattle.vm_kernel.proofs.space.EntriesRewritten.{lives_below, recount_homes}
 use Rattle.vm_kernel.proofs.controls.LockReplied.{replied_behind}
 use Rattle.vm_state.specs.Passed.{IsUnmet, StaysAway}
 use Rattle.vm_kernel.proofs.memory.PageReturned.{controls_stay}
+use Rattle.vm_kernel.proofs.space.RegionHomes.{homes_caused}
 
 -- One entry is shared.
 
@@ -168,7 +169,7 @@ share_enters header h task row past k ids rests may =
       used = λ temporary. used (paged_temporary header r temporary);
       file = λ is. used (paged_file header r is);
       unfilled = elim (kind_cases header r) [
-        | inl declared ↦ unfilled_declared header r (tasks past) past declared m.homeless
+        | inl declared ↦ unfilled_declared header r (tasks past) past declared m.homes.1
         | inr temporary ↦ unfilled header.size r (tasks past) k.maps k.waits.rows past (fills_here {past = past} rests.waits rests.used.copies)
             (counted_unfilled r there.0 rests.used.copies there.1 (subst (λ (z : ℕ). 0 < z) (ap entries_in_row there.1) may.counted))
             (λ t none. m.uses.apart t r none (inl (used (paged_temporary header r temporary))))
@@ -213,8 +214,10 @@ rests_shared header h outside doing task row past k k2 ids before after rests ma
             tasks = tasks_entered h size k.maps k2.maps past task row m.tasks s.maps lives;
             regions =
                 rw s.memory (regions_recounted k.chains k2.chains k.memory.objects ids _ _ _ _ _ recount m.regions);
-            files = rw s.memory (files_entered header h task row k.memory.objects past (λ file. m.homes r there.0 (paged_file header r file) there.1) m.files);
-            homes = λ q now paged found. home_stays q h e past (m.homes q (was_row recount q now found).0 paged (was_row recount q now found).1);
+            files = rw s.memory (files_entered header h task row k.memory.objects past (λ file. m.homes.0 r there.0 (paged_file header r file) there.1) m.files);
+            homes =
+                homes_caused header outside h k2.chains e past (doing, share_enters header h task row past k ids rests may)
+                (recount_homes _ header h k.chains k2.chains past (recounts_put r (region_entries k.chains r + 1) k.chains k2.chains s.counts) m.homes);
             entries = entries_share size k.maps k2.maps k.chains k2.chains task.0 row m.entries may.inside s.counts s.maps below free.room;
             pages = rw s.memory m.pages;
             uses =
@@ -224,7 +227,6 @@ rests_shared header h outside doing task row past k k2 ids before after rests ma
                 (m.tasks.hosts task.0 ∙ ap is_some lives)
                 (λ t q away why. holds_rows header.size task.0 t q k.maps (rows_in task.0 k.maps) _ past lives away ∙ m.uses.apart t q away why));
             controls = rw s.memory (controls_stay (λ o at_home. object_stays o h e past at_home) m.controls);
-            homeless = homes_next header outside e past (doing, share_enters header h task row past k ids rests may) m.homeless;
             settled = record { none_owed = refl; shut = λ region. refl };
             replied = replied_behind tt m.replied;
             laundry = rw (s.memory, s.laundry) m.laundry;
@@ -250,14 +252,6 @@ rests_shared header h outside doing task row past k k2 ids before after rests ma
       | inl same ↦ let some = may.counted in let that = ap (region_entries k.chains) same.1 in absurd (omega (arith, some, that, none_q))
       | inr apart ↦ ap (λ b. if b then region_entries k.chains row.region.0 + 1 else region_entries k.chains q) apart.0 ∙ none_q
     ]
-
-    some_of : (n : ℕ) (x : Option RegionRow) (now : RegionRow) → with_entries n x ≡ Some now → (was : RegionRow) × (x ≡ Some was)
-    some_of n None now is = absurd (let bad : None ≡ Some now = is in cc)
-    some_of n (Some was) now is = (was, refl)
-
-    was_row : SameButEntries k.chains k2.chains → (q : ℕ) (now : RegionRow) → region_at k2.chains q ≡ Some now → (was : RegionRow)
-        × (region_at k.chains q ≡ Some was)
-    was_row same q now found = some_of (same.count q) (region_at k.chains q) now (sym (same.at q) ∙ found)
 
 -- The fork.
 

@@ -88,7 +88,7 @@ pub unreached : (header : Header) (h : ℕ) (k : Parts) (ids : Ids) (rest : List
     → Matches header h k ids rest past → HasSlow header k past → object_at k.memory.objects o ≡ Some row → row.references ≡ 0 → named header ≤ o
     → Reach header h o past → ⊥
 unreached header h k ids rest past o row m copies known none least reach =
-    let is = temporary_down m.regions m.homeless (λ r. in_use header h r past)
+    let is = temporary_down m.regions m.homes.1 (λ r. in_use header h r past)
     (λ r temporary used. used_there header h k ids rest past r m copies temporary used) o least reach in
     let some = is.some in
     let same = ap (λ z. z.references) (some_is row is.row (sym known ∙ is.known)) in
@@ -107,7 +107,7 @@ unheld header h k ids rest past o row m known none declared task lives = by_test
     by_test true is =
         let there = region_row k.chains o (entry_there header.size o k.chains (rows_in task k.maps) (m.entries.inside task)
         (sym (ap (has_entry o) (m.tasks.rows task here)) ∙ is)) in
-        absurd (unreferred_region m.regions o row known none o there.0 there.1 (whole_row m.regions m.homeless o there.0 declared there.1).top)
+        absurd (unreferred_region m.regions o row known none o there.0 there.1 (whole_row m.regions m.homes.1 o there.0 declared there.1).top)
 
 -- nobody waits for the unlock of a page of it
 unsent : (header : Header) (h : ℕ) (past : List Event) (who : Woken) (k : Parts) (ids : Ids) (rest : List Entry) (key : PageKey) (row : PageRow)
@@ -160,7 +160,6 @@ ends_lost header h outside doing past who k ids rest key row memory events e fir
         pages = rw objects pages2;
         uses = m.uses;
         controls = rw objects m.controls;
-        homeless = m.homeless;
         settled = record { none_owed = refl; shut = λ region. refl };
         replied = replied_behind tt m.replied;
         laundry = laundry_changed key row.frame _ _ _ _ _ k.memory memory k.laundry (returns_out h moment) m.laundry c;
@@ -375,7 +374,6 @@ ends_returned header h outside doing past who k ids rest key known row memory la
         controls =
             controls_same k.memory.objects memory.objects (λ o2. last_control h o2 moment) (λ o2. live_control h o2 moment)
             (λ o2. is_ready h o2 moment) m.controls goes.objects.at;
-        homeless = m.homeless;
         settled = record { none_owed = refl; shut = λ region. refl };
         replied = replied_behind tt m.replied;
         laundry = rw (own_host h) (laundry_returned key row _ _ k.memory memory k.laundry laundry (returns_out h moment) m.laundry c goes.held goes.room);
@@ -650,7 +648,6 @@ ends_told header h outside doing past who k ids rest object events row objects s
         controls =
             rw (own_host h) (controls_quiet row.control o row k.memory.objects objects (λ o2. last_control h o2 moment)
             (λ o2. live_control h o2 moment) (λ o2. is_ready h o2 moment) m.controls found alive put);
-        homeless = m.homeless;
         settled = record { none_owed = refl; shut = λ region. refl };
         replied = replied_behind tt m.replied;
         laundry = m.laundry;
@@ -794,7 +791,7 @@ runs_dropped header h past who k ids rest o left row known events chains objects
             regions_dropped o left row e.row known k.chains chains k.memory.objects objects ids (λ r. region_of header r moment)
             (λ o2. backing_of header o2 moment) (next_region header moment) (next_object header moment) (marks_of header moment)
             leaves.found e.known e.none leaves.drops leaves.under leaves.less leaves.put m.regions;
-        homes = λ r region paged found. m.homes r region paged (sym (ap (λ f. f r) leaves.drops.regions) ∙ found);
+        homes = (λ r region paged found. m.homes.0 r region paged (sym (ap (λ f. f r) leaves.drops.regions) ∙ found), m.homes.1);
         files =
             files_put header h under known (record known { references = left }) k.memory.objects objects (λ o2. home_of o2 moment) leaves.under leaves.put
             m.files;
@@ -802,7 +799,6 @@ runs_dropped header h past who k ids rest o left row known events chains objects
         pages = record { shown = λ o2 p. m.pages.shown o2 p ∙ ap (local_of_row k.memory.frames (row_at k.memory.resident o2 p)) (sym (leaves.marks.at o2 p)) };
         uses = m.uses;
         controls = controls_referred under left known k.memory.objects objects _ _ _ leaves.under leaves.put m.controls;
-        homeless = m.homeless;
         settled = m.settled;
         replied = m.replied;
         laundry = m.laundry;

@@ -1,10 +1,10 @@
 -- A range is allocated: a region over a new object, and an entry on the whole of it.
-use Rattle.vm_kernel.proofs.Common.{AllInTurn, AllReferred, Bool, ChainTable, ChangesOnly, EachIn, Enters, Entry, Event, Fit, HasCause, HasEntries, HasHomes}
-use Rattle.vm_kernel.proofs.Common.{HasRegions, HasSlow, HasUse, HasWaits, HaveHomes, Header, HostParts, Ids, IfSome, IsFilledIn, IsInside, IsLined, IsMine}
-use Rattle.vm_kernel.proofs.Common.{IsUsed, List, MadeRange, MapChange, Mapped, None, ObjectId, ObjectRow, ObjectTable, Option, Outside, Parts, PutsObject}
+use Rattle.vm_kernel.proofs.Common.{AllInTurn, AllReferred, Bool, ChainTable, ChangesOnly, EachIn, Enters, Entry, Event, Fit, HasCause, HasEntries}
+use Rattle.vm_kernel.proofs.Common.{HasRegions, HasSlow, HasUse, HasWaits, Header, HostParts, Ids, IfSome, IsFilledIn, IsInside, IsLined, IsMine}
+use Rattle.vm_kernel.proofs.Common.{IsUsed, List, MadeRange, MapChange, Mapped, None, ObjectId, ObjectRow, ObjectTable, Outside, Parts, PutsObject}
 use Rattle.vm_kernel.proofs.Common.{PutsRegion, Ran, Region, RegionId, RegionRow, Rests, Some, Starts, TaskId, Waiting, [], all_tasks, ap, arith, backing_of}
 use Rattle.vm_kernel.proofs.Common.{begins_copy, begins_here, both_left, code_where, copy_target, count_by, entered, entering, entries_in, entries_of, entry}
-use Rattle.vm_kernel.proofs.Common.{eqb_tells, false, fills, fit_within, got, has_entry, head, holds, home_entered, home_of, homes_next, homes_stay, host_of}
+use Rattle.vm_kernel.proofs.Common.{eqb_tells, false, fills, fit_within, got, has_entry, head, holds, home_entered, home_of, host_of}
 use Rattle.vm_kernel.proofs.Common.{if◌then◌else◌, in_use, inl, inr, is_none, is_on, is_range, is_ready, is_some, last_control, length, length_entered}
 use Rattle.vm_kernel.proofs.Common.{live_control, lives_on, local, made_here, marked_regions, meets_range, most_entries, nat_le, nat_tests, next_object}
 use Rattle.vm_kernel.proofs.Common.{next_region, object_at, object_home, one_case, page_below, pages_in, pages_of_row, place_of, refl, region_at, region_of}
@@ -41,7 +41,7 @@ use Rattle.vm_state.proofs.Marks.{marked_made, regions_marked}
 use Rattle.vm_state.proofs.Places.{keeps_made}
 use Rattle.vm_state.proofs.Referred.{referred_put}
 use Rattle.vm_state.proofs.Told.{knows_made, waits_known}
-use Rattle.vm_state.proofs.Waited.{waits_changed, told_changed}
+use Rattle.vm_state.proofs.Waited.{told_changed, waits_changed}
 use Rattle.vm_kernel.proofs.abroad.OwnHost.{lives_here, lives_in, rows_here}
 use Rattle.vm_kernel.proofs.space.RegionRows.{apart_there, none_leads}
 use Rattle.vm_kernel.proofs.memory.PagesShown.{pages_marked}
@@ -49,6 +49,8 @@ use Rattle.vm_kernel.proofs.controls.LockReplied.{replied_behind}
 use Rattle.std.proofs.lemmas.Bool.{not-false, or_parts}
 use Rattle.vm_state.specs.References.{is_live_in}
 use Rattle.vm_state.specs.Counts.{marks_of}
+use Rattle.vm_kernel.proofs.Common.{KnowsHomes}
+use Rattle.vm_kernel.proofs.space.RegionHomes.{homes_caused, homes_put}
 
 -- what an allocation that isn't refused has
 pub record MayRange (size : ℕ) (k : Parts) (ids : Ids) (task address bytes : ℕ) : Type 0 where
@@ -217,15 +219,6 @@ fit_range parts os chains n row fit referred none put =
       | inr apart ↦ subst (λ (z : ℕ). p < z) (sym (ap pages_of_row apart.1)) (fit.inside o p r found)
     ])
 
--- the regions are the host's, and the new one was made for its task
-pub homes_range : (header : Header) (h : ℕ) (chains chains2 : ChainTable) (n : ℕ) (row : RegionRow) (home_from home_from2 : ℕ → Option ℕ)
-    → HasHomes header h chains home_from → ((r : ℕ) → home_from r ≡ Some h → home_from2 r ≡ Some h) → home_from2 n ≡ Some h
-    → PutsRegion n (Some row) chains chains2 → HasHomes header h chains2 home_from2
-homes_range header h chains chains2 n row home_from home_from2 has stay home put r row2 paged found = elim (region_cases n (Some row) chains chains2 put r) [
-  | inl same ↦ subst (λ (z : ℕ). home_from2 z ≡ Some h) same.0 home
-  | inr apart ↦ stay r (has r row2 paged (sym apart.1 ∙ found))
-]
-
 -- the entry that was entered
 pub changes_entered : (old new : Mapped) (task : ℕ) (change : MapChange) (row : Entry) → change ≡ entering row
     → IfSome change.entry (λ other. ChangesOnly old new task (Some (entered other (rows_in task old))))
@@ -380,14 +373,14 @@ range_made : (header : Header) (h : ℕ) (outside : Outside) (task : TaskId) (ad
 range_made header h outside task address bytes past k ids rests =
     (command.Allocate task address bytes, (rests.matches.regions.region, rests.matches.regions.object))
 
-range_homeless : (header : Header) (h : ℕ) (outside : Outside) (task : TaskId) (address bytes : ℕ) (past : List Event) (k : Parts) (ids : Ids) → IsLined past
+range_knows : (header : Header) (h : ℕ) (outside : Outside) (task : TaskId) (address bytes : ℕ) (past : List Event) (k : Parts) (ids : Ids) → IsLined past
     → Rests header h k ids past → MayRange header.size k ids task.0 address bytes
-    → HaveHomes header (ranged task ids address bytes (bytes / header.size) ++ past)
-range_homeless header h outside task address bytes past k ids lined rests may =
+    → KnowsHomes header h k.chains (ranged task ids address bytes (bytes / header.size) ++ past)
+range_knows header h outside task address bytes past k ids lined rests may =
     let made : Event = event.RegionMade (record { 0 = ids.next_region }) (record { 0 = ids.next_object }) (bytes / header.size) in
-    homes_next header outside (got task (whole_entry address bytes (record { 0 = ids.next_region }))) (made ∷ past)
+    homes_caused header outside h k.chains (got task (whole_entry address bytes (record { 0 = ids.next_region }))) (made ∷ past)
     (command.Allocate task address bytes, range_enters header h task address bytes past k ids lined rests may)
-    (homes_next header outside made past (range_made header h outside task address bytes past k ids rests) rests.matches.homeless)
+    (homes_caused header outside h k.chains made past (range_made header h outside task address bytes past k ids rests) rests.matches.homes)
 
 -- behind a line no slow copy fills it
 range_homes : (past : List Event) → IsLined past → (r : ℕ) (region : RegionId) (object : ObjectId) (pages : ℕ)
@@ -404,7 +397,7 @@ range_home header h task address bytes past k ids lined rests may =
     let row = whole_entry address bytes (record { 0 = ids.next_region }) in
     home_entered h task row.address row.bytes row.region row.offset row.prot row.inherit (made ∷ past)
     (range_homes past lined ids.next_region (record { 0 = ids.next_region }) (record { 0 = ids.next_object }) (bytes / header.size)
-    ∙ m.homeless.regions ids.next_region (omega (arith, m.regions.region))) (lives_here m.tasks may.lives)
+    ∙ m.homes.1.regions ids.next_region (omega (arith, m.regions.region))) (lives_here m.tasks may.lives)
 
 range_object_home : (header : Header) (h : ℕ) (task : TaskId) (address bytes : ℕ) (past : List Event) (k : Parts) (ids : Ids) → IsLined past
     → Rests header h k ids past → MayRange header.size k ids task.0 address bytes
@@ -413,7 +406,7 @@ range_object_home header h task address bytes past k ids lined rests may =
     let m = rests.matches in
     let region : RegionId = record { 0 = ids.next_region } in
     let object : ObjectId = record { 0 = ids.next_object } in
-    let none = m.homeless.objects ids.next_object (omega (arith, m.regions.object)) in
+    let none = m.homes.1.objects ids.next_object (omega (arith, m.regions.object)) in
     ap (home_in (λ r. home_of r (ranged task ids address bytes (bytes / header.size) ++ past))) (region_made region object (bytes / header.size) past none)
     ∙ range_home header h task address bytes past k ids lined rests may
 
@@ -435,7 +428,7 @@ range_regions header h task address bytes past k k2 ids rests may made =
     let room : next_object header past + marks_of header past < most_objects = omega (arith, may.marks, m.regions.object, m.regions.marks) in
     let now = regions_made header past region object (new_region object pages) (new_object pages) pages k.chains k2.chains k.memory.objects k2.memory.objects
     ids (next_region header past) (next_object header past) (marks_of header past)
-    m.regions.region m.regions.object room (next_bare header past m.homeless) refl refl made.region_row made.object_row m.regions in
+    m.regions.region m.regions.object room (next_bare header past m.homes.1) refl refl made.region_row made.object_row m.regions in
     let marks : marks_of header (e ∷ past) ≡ marks_of header past = marked_made header past region object pages m.regions.region in
     subst (λ (z : ℕ). HasRegions k2.chains k2.memory.objects (ids_after ids) (λ r. region_of header r (e ∷ past)) (λ o. backing_of header o (e ∷ past))
     (next_region header past + 1) (next_object header past + 1) z) (sym marks) now
@@ -511,7 +504,6 @@ rests_range header h outside task address bytes past k k2 ids maps lined rests m
                 ids.next_object pages m.controls unknown made.object_row
                 (λ o is. objects_stay o h (ranged task ids address bytes pages) past is)
                 (range_object_home header h task address bytes past k ids lined rests may);
-            homeless = range_homeless header h outside task address bytes past k ids lined rests may;
             files =
                 files_entered header h task row k2.memory.objects (event.RegionMade (record { 0 = n }) object pages ∷ past)
                 (λ file. absurd (no_file header n (first_temporary header h past k ids rests).region file))
@@ -519,9 +511,9 @@ rests_range header h outside task address bytes past k k2 ids maps lined rests m
                 ∙ files_temporary header h ids.next_object (Some (new_object pages)) k.memory.objects k2.memory.objects (λ z. home_of z past)
                 (first_temporary header h past k ids rests).object made.object_row m.files o file);
             homes =
-                homes_range header h k.chains k2.chains n (new_region object pages) (λ r. home_of r past)
-                (λ r. home_of r (ranged task ids address bytes pages ++ past)) m.homes (λ r is. homes_stay r h (ranged task ids address bytes pages) past is)
-                (range_home header h task address bytes past k ids lined rests may) made.region_row;
+                homes_put header h k.chains k2.chains n (new_region object pages) (ranged task ids address bytes pages ++ past) made.region_row.at
+                (λ paged. range_home header h task address bytes past k ids lined rests may)
+                (range_knows header h outside task address bytes past k ids lined rests may);
             settled = record { none_owed = refl; shut = λ region. refl };
             replied = replied_behind tt (replied_behind tt m.replied);
             laundry = m.laundry;

@@ -4,7 +4,7 @@ use Rattle.vm_kernel.proofs.Common.{HasEntries, HasKinds, HasRegions, HasSlow, H
 use Rattle.vm_kernel.proofs.Common.{IsInside, IsUsed, List, Mapped, None, ObjectRow, ObjectTable, Option, Outside, Parts, Place, PutsEntries, PutsObject, Ran}
 use Rattle.vm_kernel.proofs.Common.{Region, RegionRow, ResidentTable, Rests, SameMarks, Some, Starts, TaskId, Waiting, [], all_tasks, allows, ap, arith}
 use Rattle.vm_kernel.proofs.Common.{code_where, count_again, count_by, count_on, entered, entering, entries_in, entries_of, entry, entry_at, eqb_tells, false}
-use Rattle.vm_kernel.proofs.Common.{fit_objects, found_row, got, has_entry, head, holds, home_entered, home_of, home_stays, homes_next, host_of, if◌then◌else◌}
+use Rattle.vm_kernel.proofs.Common.{fit_objects, found_row, got, has_entry, head, holds, home_entered, home_of, host_of, if◌then◌else◌}
 use Rattle.vm_kernel.proofs.Common.{in_use, inl, inr, is_none, is_on, is_range, is_ready, is_some, is_woken, last_control, length, length_entered, live_control}
 use Rattle.vm_kernel.proofs.Common.{lives_on, local_of_row, marks_of, meets_range, most_entries, named, nat_le, nat_tests, next_object, next_region}
 use Rattle.vm_kernel.proofs.Common.{object_at, one_case, page_at, page_below, pages_in, pages_of_row, place_at, refl, region_at, region_entries, region_of}
@@ -35,7 +35,7 @@ use Rattle.vm_state.proofs.Counting.{elsewhere}
 use Rattle.vm_state.proofs.Files.{files_entered, files_put, no_file}
 use Rattle.vm_state.proofs.Marks.{marked_copied, regions_marked}
 use Rattle.vm_state.proofs.Referred.{referred_copied, referred_recounted}
-use Rattle.vm_state.proofs.Waited.{KeepsPlaces, waits_changed, told_changed}
+use Rattle.vm_state.proofs.Waited.{KeepsPlaces, told_changed, waits_changed}
 use Rattle.vm_state.specs.Places.{with_entries}
 use Rattle.vm_state.specs.References.{is_backing, is_live_in, is_over, tally}
 use Rattle.vm_kernel.specs.Forking.{CanCopy, EntersCopy, entry_on}
@@ -67,6 +67,8 @@ use Rattle.std.proofs.lemmas.Bool.{and_parts, not-false, or_parts}
 use Rattle.vm_state.specs.Passed.{IsUnmet, StaysAway}
 use Rattle.vm_model.specs.Regions.{marked_regions}
 use Rattle.vm_kernel.proofs.memory.PageReturned.{controls_stay}
+use Rattle.vm_kernel.proofs.Common.{KnowsHomes}
+use Rattle.vm_kernel.proofs.space.RegionHomes.{homes_caused}
 
 -- regions that count other entries
 
@@ -399,7 +401,7 @@ used_there header h k ids past r row rests there paged =
     elim (kind_cases header r) [
       | inl declared ↦ elim (row_use r row m.entries there rests.used) [
         | inl some ↦ m.uses.files r (file_of header r declared paged) some
-        | inr filled ↦ let least = filled_temporary r rests.used.copies m.homeless filled in absurd (omega (arith, declared, least))
+        | inr filled ↦ let least = filled_temporary r rests.used.copies m.homes.1 filled in absurd (omega (arith, declared, least))
       ]
       | inr temporary ↦ (m.uses.used r temporary).is (row_use r row m.entries there rests.used)
     ]
@@ -508,6 +510,8 @@ rests_copied header h outside doing task source offset row past k k2 ids ids2 be
     let lives = may.lives in
     let below = lives_below size task.0 k.maps k.chains [] m.entries lives in
     let enters = copy_enters header h task s.copy source offset row past k ids rests may number in
+    let knows = homes_caused header outside h k.chains e (now ∷ past) (doing, enters) (homes_caused header outside h k.chains now past
+    (doing, copy_cause header s.copy source offset pages past may.temporary may.from number) m.homes) in
     let recount = same_put s.copy.0 1 s.mid k2.chains s.counts in
     let small = small_region m.regions source.0 s.region s.there in
     let marked = marked_copied header past s.copy source offset pages number small in
@@ -572,9 +576,11 @@ rests_copied header h outside doing task source offset row past k k2 ids ids2 be
                 (no_file header s.copy.0 (let more = named_regions header past in omega (arith, number, more)) file))
                 (files_put header h top s.known (record s.known { references = s.known.references + 1 }) k.memory.objects k2.memory.objects
                 (λ o. home_of o past) s.object s.refers m.files);
-            homes =
-                λ r found_row paged found. by_row number r found_row paged (row_now source.0 s.copy.0 offset pages s.region k.chains s.mid k2.chains once r
-                found_row found);
+            homes = (
+              λ r found_row paged found. by_row number knows r found_row paged (row_now source.0 s.copy.0 offset pages s.region k.chains s.mid k2.chains once r
+                  found_row found),
+              knows.1,
+            );
             entries = entries_copy size k.maps k2.maps source.0 offset s.region k.chains s.mid k2.chains task.0 s.copy row m.entries once s.maps below free;
             pages =
                 record {
@@ -596,12 +602,6 @@ rests_copied header h outside doing task source offset row past k k2 ids ids2 be
             controls = controls_stay (λ o home. object_stays o h e (now ∷ past) home)
                 (controls_referred top (s.known.references + 1) s.known k.memory.objects k2.memory.objects (λ o. last_control h o past)
                 (λ o. live_control h o past) (λ o. is_ready h o past) s.object s.refers m.controls);
-            homeless =
-                homes_next header outside e (now ∷ past) (
-                  doing,
-                  enters,
-                ) (homes_next header outside now past (doing, copy_cause header s.copy source offset pages past may.temporary may.from number)
-                m.homeless);
             settled = record { none_owed = refl; shut = λ region. refl };
             replied = replied_behind tt (replied_behind tt m.replied);
             laundry = rw (frames_are, rows_are, s.laundry) m.laundry;
@@ -620,21 +620,21 @@ rests_copied header h outside doing task source offset row past k k2 ids ids2 be
       idle = ap (λ z. count_again z.rows) s.waits ∙ rests.idle;
     }
   where
-    by_row : s.copy.0 ≡ next_region header past → (r : ℕ) (found_row : RegionRow) → cause.is_paged header r ≡ true
+    by_row : s.copy.0 ≡ next_region header past
+        → KnowsHomes header h k.chains (got task (entry_on row s.copy) ∷ copied s.copy source offset (row.bytes / header.size) ∷ past)
+        → (r : ℕ) (found_row : RegionRow) → cause.is_paged header r ≡ true
         → RowNow source.0 s.copy.0 offset (row.bytes / header.size) s.region k.chains r found_row
         → home_of r (got task (entry_on row s.copy) ∷ copied s.copy source offset (row.bytes / header.size) ∷ past) ≡ Some h
-    by_row number r found_row paged (OfCopy same is) =
+    by_row number homes r found_row paged (OfCopy same is) =
         let m = rests.matches in
         let now : Event = copied s.copy source offset (row.bytes / header.size) in
         subst (λ (z : ℕ). home_of z (got task (entry_on row s.copy) ∷ now ∷ past) ≡ Some h) same
-        (home_entered h task row.address row.bytes s.copy 0 row.prot row.inherit (now ∷ past) (m.homeless.regions s.copy.0 (omega (arith, number)))
+        (home_entered h task row.address row.bytes s.copy 0 row.prot row.inherit (now ∷ past) (m.homes.1.regions s.copy.0 (omega (arith, number)))
         (lives_here m.tasks may.lives))
-    by_row number r found_row paged (OfSource same is) =
-        home_stays r h (got task (entry_on row s.copy)) (copied s.copy source offset (row.bytes / header.size) ∷ past)
-        (subst (λ (z : ℕ). home_of z past ≡ Some h) same (rests.matches.homes source.0 s.region (paged_temporary header source.0 may.temporary) s.there))
-    by_row number r found_row paged (OfOther apart was) =
-        home_stays r h (got task (entry_on row s.copy)) (copied s.copy source offset (row.bytes / header.size) ∷ past)
-        (rests.matches.homes r found_row paged was)
+    by_row number homes r found_row paged (OfSource same is) =
+        subst (λ (z : ℕ). home_of z (got task (entry_on row s.copy) ∷ copied s.copy source offset (row.bytes / header.size) ∷ past) ≡ Some h) same
+        (homes.0 source.0 s.region (paged_temporary header source.0 may.temporary) s.there)
+    by_row number homes r found_row paged (OfOther apart was) = homes.0 r found_row paged was
 
 -- the head of a command with an event more
 pub heads_more : (header : Header) (h : ℕ) (outside : Outside) (doing : Command) (past events : List Event) (e : Event)
@@ -667,7 +667,7 @@ heads_copied header h outside doing task copy source offset row past events k id
       frames = fine;
       inner = tt;
       said = tt;
-      own = λ g used. m.homeless.stay g h source.0 used (m.homes source.0 may.region (paged_temporary header source.0 may.temporary) may.there);
+      own = λ g used. m.homes.1.stay g h source.0 used (m.homes.0 source.0 may.region (paged_temporary header source.0 may.temporary) may.there);
       creates = tt;
     }))
     (record {

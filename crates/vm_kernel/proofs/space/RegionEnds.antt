@@ -229,13 +229,12 @@ runs_gone header h past who k ids rest r left events object chains objects e los
             regions_gone r left loses.row was k.chains chains k.memory.objects objects ids (λ r. region_of header r moment) (λ o. backing_of header o moment)
             (next_region header moment) (next_object header moment) (marks_of header moment) loses.found loses.region loses.known loses.less loses.put
             m.regions;
-        homes = λ r2 row paged found. m.homes r2 row paged (other_row r k.chains chains loses.region r2 row found).1;
+        homes = (λ r2 row paged found. m.homes.0 r2 row paged (other_row r k.chains chains loses.region r2 row found).1, m.homes.1);
         files = files_put header h top was (record was { references = left }) k.memory.objects objects (λ o. home_of o moment) loses.known loses.put m.files;
         entries = entries_without header.size r k.maps k.chains chains rest loses.region m.entries e.there e.none;
         pages = record { shown = λ o p. m.pages.shown o p ∙ ap (local_of_row k.memory.frames (row_at k.memory.resident o p)) (sym (loses.marks.at o p)) };
         uses = m.uses;
         controls = controls_referred top left was k.memory.objects objects _ _ _ loses.known loses.put m.controls;
-        homeless = m.homeless;
         settled = m.settled;
         replied = m.replied;
         laundry = m.laundry;

@@ -91,7 +91,6 @@ rests_made header h task past k ids maps rests changes free below =
                 uses_made header k.maps maps _ (tasks past) _ _ (next_region header past) task.0 m.uses changes free (rw most_is below)
                 (holds_made header.size task (host_id h) past);
             controls = m.controls;
-            homeless = m.homeless;
             homes = m.homes;
             files = m.files;
             settled = record { none_owed = refl; shut = λ region. refl };

@@ -5,7 +5,6 @@ use Rattle.vm_kernel.proofs.Common.{Rests, Some, Starts, Sweeps, TaskId, Waiting
 use Rattle.vm_kernel.proofs.Common.{if◌then◌else◌, in_use, inl, inr, is_on, is_woken, named, next_region, parts_for, parts_in, refl, removal, removed, rows_in}
 use Rattle.vm_kernel.proofs.Common.{rows_rewritten, subst, sym, true, unwrap_or, waiting, ℕ, ◌++◌, ◌==◌, ◌∙◌, ◌∷◌, ◌≡◌}
 use Rattle.std.proofs.Common.{is_some}
-use Rattle.vm_abroad.proofs.Home.{homes_next}
 use Rattle.vm_model.specs.declared.event.Event.TheVariants as event
 use Rattle.vm_model.specs.declared.command.Command.TheVariants as command
 use Rattle.vm_supply.specs.declared.woken.Woken.TheVariants as woken
@@ -17,11 +16,12 @@ use Rattle.vm_kernel.proofs.steps.HeadAlone.{grows_one}
 use Rattle.vm_kernel.proofs.space.CountsChanged.{raised_none}
 use Rattle.vm_kernel.proofs.space.EntriesRewritten.{tasks_changed}
 use Rattle.vm_kernel.proofs.space.SharedEntries.{shared_changed}
-use Rattle.vm_kernel.proofs.space.RegionsInUse.{fills_here, uses_cut, ApartFrom, elsewhere, holds_rows}
+use Rattle.vm_kernel.proofs.space.RegionsInUse.{ApartFrom, elsewhere, fills_here, holds_rows, uses_cut}
 use Rattle.vm_kernel.proofs.abroad.OwnEvents.{own_task}
 use Rattle.vm_kernel.proofs.controls.LockReplied.{replied_behind}
 use Rattle.vm_state.specs.Passed.{IsUnmet, StaysAway}
 use Rattle.vm_base.specs.declared.ids.PageKey.{PageKey}
+use Rattle.vm_kernel.proofs.space.RegionHomes.{homes_caused}
 
 -- a task ends
 
@@ -109,8 +109,7 @@ sweeps_exit header h outside task past events k ids maps gone s value changes =
               (record { rows = shown_tasks.rows; filled = fills_here {past = event.TaskEnded task ∷ past} shown_waits c.used.copies }) c.entries.most
               (apart_ended header header.size k.maps maps (λ r. in_use header h r past) _ (next_region header past) task past m.uses changes);
           controls = m.controls;
-          homeless = homes_next header outside (event.TaskEnded task) past (command.Exit task, idle) m.homeless;
-          homes = c.homes;
+          homes = homes_caused header outside h k.chains (event.TaskEnded task) past (command.Exit task, idle) c.homes;
           files = m.files;
           settled = record { none_owed = refl; shut = λ region. refl };
           replied = replied_behind tt m.replied;
@@ -203,8 +202,7 @@ sweeps_removed header h outside task address bytes past events k ids maps chains
               let was = sym (changes.others t (λ e. other (sym e))) ∙ none in
               holds_rows header.size task.0 t r k.maps rows _ past lives was ∙ m.uses.apart t r was why);
           controls = m.controls;
-          homeless = homes_next header outside (event.Removed task address bytes) past (command.Deallocate task address bytes, idle) m.homeless;
-          homes = c.homes;
+          homes = homes_caused header outside h chains (event.Removed task address bytes) past (command.Deallocate task address bytes, idle) c.homes;
           files = m.files;
           settled = record { none_owed = refl; shut = λ region. refl };
           replied = replied_behind tt m.replied;

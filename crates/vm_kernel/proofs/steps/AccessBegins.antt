@@ -153,7 +153,6 @@ begun_matches header h k ids past waits task (Loads address size) rows same m li
           uses_refilled k.waits.rows waits.rows same (uses_still header k.maps _ _ _ _ _ m.uses
           (λ t r none. holds_waits header.size task.0 t r k.maps rows past _ lives none));
       controls = m.controls;
-      homeless = m.homeless;
       homes = m.homes;
       files = m.files;
       settled = record { none_owed = refl; shut = λ region. refl };
@@ -179,7 +178,6 @@ begun_matches header h k ids past waits task (Stores address size value) rows sa
           uses_refilled k.waits.rows waits.rows same (uses_still header k.maps _ _ _ _ _ m.uses
           (λ t r none. holds_waits header.size task.0 t r k.maps rows past _ lives none));
       controls = m.controls;
-      homeless = m.homeless;
       homes = m.homes;
       files = m.files;
       settled = record { none_owed = refl; shut = λ region. refl };

@@ -1,6 +1,7 @@
 -- The causes of what an access does: in the history in front of it stands what its event wants.
-use Rattle.vm_kernel.proofs.Common.{Command, Comes, Event, Header, Ids, IsAt, List, Matches, ObjectId, ObjectRow, Outside, PageKey, PageRow, Parts, Some}
-use Rattle.vm_kernel.proofs.Common.{Suffice, TaskId, Up, Waits, Want, Works, object_at, [], access_in, address_in, ap, arith, desired_access, entries_of, entry_at, false}
+use Rattle.vm_kernel.proofs.Common.{Comes, Command, Event, Header, Ids, IsAt, List, Matches, ObjectId, ObjectRow, Outside, PageKey, PageRow, Parts, RegionRow}
+use Rattle.vm_kernel.proofs.Common.{Some, Suffice, TaskId, Up, Waits, Want, Works, [], access_in, address_in, ap, arith, desired_access, entries_of, entry_at}
+use Rattle.vm_kernel.proofs.Common.{false, in_use, object_at, region_at}
 use Rattle.vm_kernel.proofs.Common.{host_id, if◌then◌else◌, inl, inr, is_store, little_endian, named, nat_tests, number_at, page_at, page_in, page_of, refl}
 use Rattle.vm_kernel.proofs.Common.{region_of, slice_range, subst, suc, sym, true, zero, ℕ, ◌%◌, ◌+◌, ◌==◌, ◌∙◌, ◌∷◌, ◌≡◌, ◌≤◌}
 use Rattle.vm_fault.specs.Walks.{Finds, MayCome, Sinks, WalksTo, is_storing, wanted_number}
@@ -19,13 +20,15 @@ use Rattle.vm_legal.proofs.Served.{later_paged as paged_temporary}
 use Rattle.vm_state.proofs.Declared.{marked_temporary}
 use Rattle.vm_state.proofs.Referring.{top_counted}
 use Rattle.vm_fault.specs.Faults.{has_one}
-use Rattle.vm_legal.specs.Licences.{IsTopAlone}
+use Rattle.vm_legal.specs.Licences.{IsTopAlone, Unmarks}
 use Rattle.vm_kernel.proofs.memory.TopAlone.{alone_told, shared_told}
 use Rattle.vm_supply.specs.declared.woken.Woken.TheVariants as woken
 use Rattle.vm_state.proofs.Shown.{IsShown, may_ask, shows_row}
 use Rattle.vm_state.proofs.Walks.{sinks_of, walks_of}
 use Rattle.vm_waits.specs.declared.waiting.Want.TheVariants as want
 use Rattle.std.specs.Prelude.{◌⊎◌}
+use Rattle.vm_legal.specs.Licences.{Shadows}
+use Rattle.vm_kernel.proofs.Common.{RegionId}
 
 -- a load, and a store, as the history has it
 
@@ -84,68 +87,81 @@ unmarked_of : (header : Header) (h : ℕ) (past : List Event) (k : Parts) (task 
     → is_store (access_in k.maps.size to.destination what) ≡ true → (region_of header at.entry.region.0 past).mark ≡ false
 unmarked_of header h past k task what top at to plain store = to.marks ∙ plain (sym (storing_is k.maps.size to.destination what) ∙ store)
 
+-- a marked region is in use on its host alone
+own_marked : (header : Header) (h : ℕ) (past : List Event) (k : Parts) (ids : Ids) (region : RegionId) (row : RegionRow)
+    → Matches header h k ids [] past → region_at k.chains region.0 ≡ Some row → row.marked ≡ true → (g : ℕ) → in_use header g region.0 past ≡ true → g ≡ h
+own_marked header h past k ids region row m there marked g used =
+    let temporary = marked_temporary m.regions m.homes.1 region.0 row there marked in
+    m.homes.1.stay g h region.0 used (m.homes.0 region.0 row (paged_temporary header region.0 temporary) there)
+
 -- the region of a store, whose top has another reference, gets an object of its own
-pub shadowed_follows : (header : Header) (h : ℕ) (outside : Outside) (doing : Command) (past : List Event) (k : Parts) (ids : Ids) (task : TaskId) (what : Want)
-    (top : PageKey) (at : IsAt k.maps k.chains task.0 what top) (object : ObjectId) (address size value : ℕ)
+pub shadow_caused : (header : Header) (h : ℕ) (past : List Event) (k : Parts) (ids : Ids) (task : TaskId) (what : Want) (top : PageKey)
+    (at : IsAt k.maps k.chains task.0 what top) (object : ObjectId) (address size value : ℕ)
     → Works header h k ids woken.Nobody past → Leads header h past k task.0 what top at → what ≡ want.Store address size value → at.row.marked ≡ true
-    → has_one (object_at k.memory.objects at.row.top.0) ≡ false
-    → object.0 ≡ ids.next_object → Suffice header h (event.Shadowed at.entry.region object at.row.top ∷ past)
-    → Follows header h outside doing (event.Shadowed at.entry.region object at.row.top) past
-shadowed_follows header h outside doing past k ids task what top at object address size value works to is marked shared next frames =
-    let m = works.matches in
-    let r = at.entry.region.0 in
-    let temporary = marked_temporary m.regions m.homeless r at.row at.region marked in
+    → has_one (object_at k.memory.objects at.row.top.0) ≡ false → object.0 ≡ ids.next_object
+    → Shadows header at.entry.region.0 object.0 at.row.top.0 past
+shadow_caused header h past k ids task what top at object address size value works to is marked shared next =
+    record {
+      next = next ∙ works.matches.regions.object;
+      is_top = ap (λ (z : Region). z.top) (works.matches.regions.rows at.entry.region.0 at.row at.region);
+      marked = to.marks ∙ marked;
+      task = task.0;
+      address = address;
+      bytes = size;
+      value = value;
+      waits = store_waits header h past k task.0 what top at address size value to is;
+      region_is = refl;
+      shared = shared_told header h k ids woken.Nobody past works at.entry.region.0 at.row at.region marked shared;
+    }
+
+pub shadowed_follows : (header : Header) (h : ℕ) (outside : Outside) (doing : Command) (past : List Event) (k : Parts) (ids : Ids) (region : RegionId)
+    (object : ObjectId) (row : RegionRow)
+    → Matches header h k ids [] past → region_at k.chains region.0 ≡ Some row → row.marked ≡ true → Shadows header region.0 object.0 row.top.0 past
+    → Suffice header h (event.Shadowed region object row.top ∷ past) → Follows header h outside doing (event.Shadowed region object row.top) past
+shadowed_follows header h outside doing past k ids region object row m there marked cause frames =
     record {
       consequence = tt;
-      cause = record {
-        next = next ∙ m.regions.object;
-        is_top = ap (λ (z : Region). z.top) (m.regions.rows r at.row at.region);
-        marked = to.marks ∙ marked;
-        task = task.0;
-        address = address;
-        bytes = size;
-        value = value;
-        waits = store_waits header h past k task.0 what top at address size value to is;
-        region_is = refl;
-        shared = shared_told header h k ids woken.Nobody past works r at.row at.region marked shared;
-      };
+      cause = cause;
       own_bytes = tt;
       frames = frames;
       inner = tt;
       said = tt;
-      own = λ g used. m.homeless.stay g h r used (m.homes r at.row (paged_temporary header r temporary) at.region);
+      own = own_marked header h past k ids region row m there marked;
       creates = tt;
     }
 
 -- the region of a store, which is the one reference of its top, loses its mark
-pub unmarked_follows : (header : Header) (h : ℕ) (outside : Outside) (doing : Command) (past : List Event) (k : Parts) (ids : Ids) (task : TaskId) (what : Want)
-    (top : PageKey) (at : IsAt k.maps k.chains task.0 what top) (address size value : ℕ)
+pub unmark_caused : (header : Header) (h : ℕ) (past : List Event) (k : Parts) (ids : Ids) (task : TaskId) (what : Want) (top : PageKey)
+    (at : IsAt k.maps k.chains task.0 what top) (address size value : ℕ)
     → Works header h k ids woken.Nobody past → Leads header h past k task.0 what top at → what ≡ want.Store address size value → at.row.marked ≡ true
-    → has_one (object_at k.memory.objects at.row.top.0) ≡ true → Suffice header h (event.Unmarked at.entry.region ∷ past)
-    → Follows header h outside doing (event.Unmarked at.entry.region) past
-unmarked_follows header h outside doing past k ids task what top at address size value works to is marked sole frames =
-    let m = works.matches in
+    → has_one (object_at k.memory.objects at.row.top.0) ≡ true → Unmarks header at.entry.region.0 past
+unmark_caused header h past k ids task what top at address size value works to is marked sole =
+    let rows = works.matches.regions in
     let r = at.entry.region.0 in
-    let temporary = marked_temporary m.regions m.homeless r at.row at.region marked in
-    let only = top_counted m.regions r at.row at.region sole in
+    record {
+      marked = to.marks ∙ marked;
+      task = task.0;
+      address = address;
+      bytes = size;
+      value = value;
+      waits = store_waits header h past k task.0 what top at address size value to is;
+      region_is = refl;
+      sole = subst (λ (z : ℕ). IsTopAlone header h r z past) (sym (ap (λ (z : Region). z.top) (rows.rows r at.row at.region)))
+          (alone_told header h k ids woken.Nobody past works r at.row.top.0 (top_counted rows r at.row at.region sole));
+    }
+
+pub unmarked_follows : (header : Header) (h : ℕ) (outside : Outside) (doing : Command) (past : List Event) (k : Parts) (ids : Ids) (region : RegionId)
+    (row : RegionRow) → Matches header h k ids [] past → region_at k.chains region.0 ≡ Some row → row.marked ≡ true → Unmarks header region.0 past
+    → Suffice header h (event.Unmarked region ∷ past) → Follows header h outside doing (event.Unmarked region) past
+unmarked_follows header h outside doing past k ids region row m there marked cause frames =
     record {
       consequence = tt;
-      cause = record {
-        marked = to.marks ∙ marked;
-        task = task.0;
-        address = address;
-        bytes = size;
-        value = value;
-        waits = store_waits header h past k task.0 what top at address size value to is;
-        region_is = refl;
-        sole = subst (λ (z : ℕ). IsTopAlone header h r z past) (sym (ap (λ (z : Region). z.top) (m.regions.rows r at.row at.region)))
-            (alone_told header h k ids woken.Nobody past works r at.row.top.0 only);
-      };
+      cause = cause;
       own_bytes = tt;
       frames = frames;
       inner = tt;
       said = tt;
-      own = λ g used. m.homeless.stay g h r used (m.homes r at.row (paged_temporary header r temporary) at.region);
+      own = own_marked header h past k ids region row m there marked;
       creates = tt;
     }
 

@@ -14,8 +14,8 @@ use Rattle.vm_fault.specs.declared.step.FaultStep.{FaultStep}
 use Rattle.vm_fault.specs.declared.step.FaultStep.TheVariants as step
 use Rattle.vm_kernel.proofs.memory.ComesForAccess.{works_loaded, works_raised, works_stored, works_touched, works_zeroed}
 use Rattle.vm_kernel.proofs.controls.PageAsked.{works_asked, works_joined, works_turned}
-use Rattle.vm_kernel.proofs.steps.AccessCauses.{comes_at, loaded_follows, raised_follows, request_follows, shadowed_follows, stored_follows, unmarked_follows}
-use Rattle.vm_kernel.proofs.steps.AccessCauses.{zeroed_follows}
+use Rattle.vm_kernel.proofs.steps.AccessCauses.{comes_at, loaded_follows, raised_follows, request_follows, shadow_caused, shadowed_follows, stored_follows}
+use Rattle.vm_kernel.proofs.steps.AccessCauses.{unmark_caused, unmarked_follows, zeroed_follows}
 use Rattle.vm_kernel.proofs.steps.EventsGrow.{goes_both, goes_none, goes_one, suffices}
 use Rattle.vm_kernel.proofs.steps.WhereAccessLeads.{Leads, it_waits, leads_of, top_at}
 use Rattle.vm_kernel.proofs.steps.RowsInOrder.{PutsInOrder}
@@ -358,12 +358,13 @@ prepared header h outside doing past k ids w may answer events new works is now 
         let before : PageKey = top_place f.row (page_at k.maps.size (address_in k.maps.size w.want) f.entry) in
         let at : IsAt k.maps k.chains w.task.0 w.want before = record { entry = f.entry; found = f.found; row = f.row; region = f.region; is = refl } in
         let shadow : Event = event.Shadowed f.entry.region made.object f.row.top in
-        let works1 = works_shadowed header h moment k ids f.entry.region f.row (state_of k ids events) f.mid works refl refl refl f.region
-        (entry_some header.size f.entry.region.0 w.task.0 k.maps k.chains [] f.row works.matches.entries f.region
-        (on_its_region (address_in k.maps.size w.want) (rows_in w.task.0 k.maps) f.entry f.found)) both.1 made in
         let to = leads_of header h k ids moment woken.Nobody w.task.0 w before works.matches works.waits works.used.copies is at in
-        let follows = shadowed_follows header h outside doing moment k ids w.task w.want before at made.object store.address store.size store.value
-        works to store.is both.1 made.shared made.next
+        let cause = shadow_caused header h moment k ids w.task w.want before at made.object store.address store.size store.value works to store.is
+        both.1 made.shared made.next in
+        let works1 = works_shadowed header h outside doing moment k ids f.entry.region f.row (state_of k ids events) f.mid works refl refl refl f.region
+        (entry_some header.size f.entry.region.0 w.task.0 k.maps k.chains [] f.row works.matches.entries f.region
+        (on_its_region (address_in k.maps.size w.want) (rows_in w.task.0 k.maps) f.entry f.found)) both.1 made cause in
+        let follows = shadowed_follows header h outside doing moment k ids f.entry.region made.object f.row works.matches f.region both.1 cause
         (suffices header h f.mid.parts.frames (shadow ∷ moment) works1.matches.frames) in
         let row2 : RegionRow = record f.row { top = made.object; shift = 0; marked = false } in
         let region : region_at f.mid.chains f.entry.region.0 ≡ Some row2 =
@@ -386,12 +387,13 @@ prepared header h outside doing past k ids w may answer events new works is now 
         let before : PageKey = top_place f.row (page_at k.maps.size (address_in k.maps.size w.want) f.entry) in
         let at : IsAt k.maps k.chains w.task.0 w.want before = record { entry = f.entry; found = f.found; row = f.row; region = f.region; is = refl } in
         let mark : Event = event.Unmarked f.entry.region in
-        let works1 = works_unmarked header h moment k ids f.entry.region f.row (state_of k ids events) f.mid works refl refl refl f.region
-        (entry_some header.size f.entry.region.0 w.task.0 k.maps k.chains [] f.row works.matches.entries f.region
-        (on_its_region (address_in k.maps.size w.want) (rows_in w.task.0 k.maps) f.entry f.found)) both.1 loses in
         let to = leads_of header h k ids moment woken.Nobody w.task.0 w before works.matches works.waits works.used.copies is at in
-        let follows = unmarked_follows header h outside doing moment k ids w.task w.want before at store.address store.size store.value works to store.is both.1
-        loses.sole (suffices header h f.mid.parts.frames (mark ∷ moment) works1.matches.frames) in
+        let cause = unmark_caused header h moment k ids w.task w.want before at store.address store.size store.value works to store.is both.1 loses.sole in
+        let works1 = works_unmarked header h outside doing moment k ids f.entry.region f.row (state_of k ids events) f.mid works refl refl refl f.region
+        (entry_some header.size f.entry.region.0 w.task.0 k.maps k.chains [] f.row works.matches.entries f.region
+        (on_its_region (address_in k.maps.size w.want) (rows_in w.task.0 k.maps) f.entry f.found)) both.1 loses cause in
+        let follows = unmarked_follows header h outside doing moment k ids f.entry.region f.row works.matches f.region both.1 cause
+        (suffices header h f.mid.parts.frames (mark ∷ moment) works1.matches.frames) in
         let row2 : RegionRow = record f.row { marked = false } in
         let region : region_at f.mid.chains f.entry.region.0 ≡ Some row2 =
         loses.chains.at f.entry.region.0 ∙ ap (λ b. if b then Some row2 else region_at k.chains f.entry.region.0) (own_host f.entry.region.0) in

@@ -137,8 +137,7 @@ first_rests header h k count ranged known size host declared hosts start maps re
                   ended = λ o row is. none_of (object_at k.memory.objects o) row (objects o) is;
                   home = λ o row least is. none_of (object_at k.memory.objects o) row (objects o) is;
                 };
-            homeless = homes_start header;
-            homes = λ r row paged is. none_of (region_at k.chains r) row (regions r) is;
+            homes = (λ r row paged is. none_of (region_at k.chains r) row (regions r) is, homes_start header);
             files = λ o file. sym (ap is_some (objects o));
             settled = record { none_owed = refl; shut = λ region. refl };
             replied = replied_none refl;
@@ -207,7 +206,6 @@ rests_line header h k ids line past rests =
             pages = m.pages;
             uses = m.uses;
             controls = m.controls;
-            homeless = m.homeless;
             homes = m.homes;
             files = m.files;
             settled = record { none_owed = refl; shut = λ region. refl };

@@ -1,10 +1,10 @@
 -- A slow copy begins: its region is there at once, over an object of its own, and its task waits.
 use Rattle.vm_kernel.proofs.Common.{AllUsed, BeganInOrder, Bool, ChainTable, Command, EachOf, Entry, Event, Grows, HasEntries, HasRegions, HasUse, HasWaiters}
-use Rattle.vm_kernel.proofs.Common.{HaveHomes, Header, Ids, InOrder, IsAllowed, IsDoneInTurn, IsFilledIn, IsInUse, IsInside, IsLined, LegalEvents, List}
+use Rattle.vm_kernel.proofs.Common.{Header, Ids, InOrder, IsAllowed, IsDoneInTurn, IsFilledIn, IsInUse, IsInside, IsLined, LegalEvents, List}
 use Rattle.vm_kernel.proofs.Common.{MadeRange, Mapped, Matches, None, ObjectId, ObjectRow, Option, Outside, PageRow, Parts, Place, PutsEntry, PutsRegion}
 use Rattle.vm_kernel.proofs.Common.{QueueIsStill, Ran, RegionId, RegionRow, Rests, RunsNone, Some, Starts, TaskId, WaitTable, Waiting, Works, [], all_tasks, ap}
 use Rattle.vm_kernel.proofs.Common.{arith, backing_of, begun_at, copy_target, count_by, entries_in, entries_of, entry, entry_at, eqb_tells, false, fills}
-use Rattle.vm_kernel.proofs.Common.{fills_in, has_entry, head, holds, home_of, homes_next, homes_stay, host_of, if◌then◌else◌, in_use, inl, inr, is_on}
+use Rattle.vm_kernel.proofs.Common.{fills_in, has_entry, head, holds, home_of, host_of, if◌then◌else◌, in_use, inl, inr, is_on}
 use Rattle.vm_kernel.proofs.Common.{is_range, is_ready, is_some, is_woken, last_control, length, live_control, lives_on, local, made_here, marked_regions}
 use Rattle.vm_kernel.proofs.Common.{named, nat_le, nat_lt, nat_tests, next_object, next_page, next_region, object_at, object_home, page_at, place_at, place_of}
 use Rattle.vm_kernel.proofs.Common.{puts_cases, refl, region_at, region_of, row_at, rows_in, rows_map, some_is, subst, suc, sym, tasks, true, waiting}
@@ -30,7 +30,7 @@ use Rattle.vm_kernel.proofs.abroad.OwnEvents.{own_task}
 use Rattle.vm_kernel.proofs.steps.RowsInOrder.{begun_order}
 use Rattle.vm_kernel.proofs.abroad.OwnHost.{lives_here, rows_here}
 use Rattle.vm_kernel.proofs.memory.PagesShown.{itself, pages_marked}
-use Rattle.vm_kernel.proofs.space.RangeAllocated.{first_temporary, fit_range, homes_range, ids_after, keeps_new, new_region, object_free, region_free}
+use Rattle.vm_kernel.proofs.space.RangeAllocated.{first_temporary, fit_range, ids_after, keeps_new, new_region, object_free, region_free}
 use Rattle.vm_kernel.proofs.space.RegionRows.{none_leads}
 use Rattle.vm_kernel.proofs.controls.LockReplied.{replied_behind}
 use Rattle.vm_kernel.proofs.space.RegionCases.{region_cases}
@@ -63,6 +63,8 @@ use Rattle.vm_waits.specs.declared.waiting.On.TheVariants as on
 use Rattle.vm_waits.specs.declared.waiting.Want.TheVariants as want
 use Rattle.vm_state.specs.Passed.{IsUnmet, StaysAway}
 use Rattle.vm_state.specs.Counts.{marks_of}
+use Rattle.vm_kernel.proofs.Common.{KnowsHomes}
+use Rattle.vm_kernel.proofs.space.RegionHomes.{homes_caused, homes_put}
 
 -- An address behind another in its entry is in the same entry.
 
@@ -330,8 +332,8 @@ module _ (header : Header) (h : ℕ) (outside : Outside) (task : TaskId) (addres
   own_region : region_at k2.chains n ≡ Some (filled_row target pages)
   own_region = made.region_row.at n ∙ ap (λ b. if b then Some (filled_row target pages) else region_at k.chains n) (itself n)
 
-  homeless_front : HaveHomes header front
-  homeless_front = homes_next header outside begun past (command.Copy task address bytes task to, may.idle) rests.matches.homeless
+  homes_front : KnowsHomes header h k.chains front
+  homes_front = homes_caused header outside h k.chains begun past (command.Copy task address bytes task to, may.idle) rests.matches.homes
 
   regions_front : HasRegions k.chains k.memory.objects ids (λ r. region_of header r front) (λ o. backing_of header o front) (next_region header front)
       (next_object header front) (marks_of header front)
@@ -346,7 +348,7 @@ module _ (header : Header) (h : ℕ) (outside : Outside) (task : TaskId) (addres
       marks = regions_front.marks in omega (arith, room, number, marks) in
       let there = regions_made header front region target (new_region target pages) (new_object pages) pages k.chains mid k.memory.objects k2.memory.objects ids
       (next_region header past) (next_object header past) (marks_of header front)
-      numbers.0 numbers.1 few (next_bare header front homeless_front) refl refl put made.object_row regions_front in
+      numbers.0 numbers.1 few (next_bare header front homes_front.1) refl refl put made.object_row regions_front in
       let counted = same_put n 0 mid k2.chains (counts_put n (new_region target pages) 0 k.chains mid k2.chains put made.region_row) in
       let marked : marks_of header now ≡ marks_of header front = marked_made header front region target pages numbers.0 in
       subst (λ (z : ℕ). HasRegions k2.chains k2.memory.objects (ids_after ids) (λ r. region_of header r now) (λ o. backing_of header o now)
@@ -519,13 +521,13 @@ module _ (header : Header) (h : ℕ) (outside : Outside) (task : TaskId) (addres
 
   home_now : home_of n now ≡ Some h
   home_now =
-      let none : home_of n past ≡ None = rests.matches.homeless.regions n (let number = numbers.0 in omega (arith, number)) in
+      let none : home_of n past ≡ None = rests.matches.homes.1.regions n (let number = numbers.0 in omega (arith, number)) in
       ap (λ b. if b then first_of (home_of n past) (host_of task.0 past) else home_of n past) (itself n)
       ∙ (ap (λ z. first_of z (host_of task.0 past)) none ∙ lives)
 
   object_now : object_home ids.next_object now ≡ Some h
   object_now =
-      let none = rests.matches.homeless.objects ids.next_object (let number = numbers.1 in omega (arith, number)) in
+      let none = rests.matches.homes.1.objects ids.next_object (let number = numbers.1 in omega (arith, number)) in
       ap (home_in (λ r. home_of r now)) (region_made region target pages front none) ∙ home_now
 
   -- the access waits, and is to be run
@@ -579,8 +581,8 @@ module _ (header : Header) (h : ℕ) (outside : Outside) (task : TaskId) (addres
             (kinds_put header ids.next_object (new_object pages) k.memory.objects k2.memory.objects k.chains made.object_row made.marks
             (kind_new header ids.next_object (new_object pages) pages temporary.object refl) m.kinds);
         homes =
-            homes_range header h k.chains k2.chains n (filled_row target pages) (λ r. home_of r past) (λ r. home_of r now) m.homes
-            (λ r is. homes_stay r h (its ∷ begun ∷ []) past is) home_now made.region_row;
+            homes_put header h k.chains k2.chains n (filled_row target pages) now made.region_row.at (λ paged. home_now)
+            (homes_caused header outside h k.chains its front (command.Copy task address bytes task to, numbers) homes_front);
         files = λ o file.
             ap (is_on h) (home_made o region target pages front (λ same. no_file header n least (subst (λ (z : ℕ). is_file header z ≡ true) (sym same) file)))
             ∙ files_temporary header h ids.next_object (Some (new_object pages)) k.memory.objects k2.memory.objects (λ z. home_of z past) temporary.object
@@ -595,7 +597,6 @@ module _ (header : Header) (h : ℕ) (outside : Outside) (task : TaskId) (addres
             controls_made k.memory.objects k2.memory.objects (λ o. last_control h o past) (λ o. live_control h o past) (λ o. is_ready h o past) ids.next_object
             pages m.controls unknown made.object_row
             (λ o is. objects_stay o h (its ∷ begun ∷ []) past is) object_now;
-        homeless = homes_next header outside its front (command.Copy task address bytes task to, numbers) homeless_front;
         settled = record { none_owed = refl; shut = λ r. none_left (r == n) };
         replied = replied_behind tt (replied_behind tt m.replied);
         laundry = m.laundry;

@@ -2,7 +2,7 @@
 use Rattle.vm_kernel.proofs.Common.{Bool, ChainTable, ChangesOnly, Command, Enters, Entry, Event, HasCopies, HasUse, HasWaiters, Header, Ids, IsFilledIn}
 use Rattle.vm_kernel.proofs.Common.{IsInside, IsUsed, LegalEvents, List, Mapped, Matches, None, ObjectId, Option, Outside, Parts, PutsEntries, PutsEntry}
 use Rattle.vm_kernel.proofs.Common.{RegionRow, Some, TaskId, WaitTable, Waiting, Works, [], ap, arith, begun_at, copy_target, entered, entries_in}
-use Rattle.vm_kernel.proofs.Common.{entries_in_row, entries_of, entry, eqb_tells, false, fills_in, got, holds, home_stays, homes_next, host_of, if◌then◌else◌}
+use Rattle.vm_kernel.proofs.Common.{entries_in_row, entries_of, entry, eqb_tells, false, fills_in, got, holds, host_of, if◌then◌else◌}
 use Rattle.vm_kernel.proofs.Common.{in_use, inl, inr, is_range, is_some, is_woken, length, lives_on, most_entries, named, nat_lt, nat_tests, next_page}
 use Rattle.vm_kernel.proofs.Common.{next_region, one_case, owed, page_below, pages_in, refl, region_at, region_entries, region_of, region_pages, rows_in}
 use Rattle.vm_kernel.proofs.Common.{some_is, subst, sym, tasks, true, waiting, waiting_in, whole_entry, with_entries, ℕ, ◌%◌, ◌*◌, ◌++◌, ◌+◌, ◌-◌, ◌/◌, ◌<◌}
@@ -22,13 +22,13 @@ use Rattle.vm_kernel.proofs.abroad.OwnHost.{lives_here}
 use Rattle.vm_kernel.proofs.memory.PagesShown.{itself}
 use Rattle.vm_kernel.proofs.space.CountsChanged.{recounts_put, row_before}
 use Rattle.vm_kernel.proofs.controls.LockReplied.{replied_behind}
-use Rattle.vm_kernel.proofs.space.EntriesRewritten.{lives_below}
+use Rattle.vm_kernel.proofs.space.EntriesRewritten.{lives_below, recount_homes}
 use Rattle.vm_kernel.proofs.space.ForkShares.{entries_share, lives_some}
 use Rattle.vm_kernel.proofs.space.SharedEntries.{kinds_recounted, shared_entered, temporary_shared}
 use Rattle.vm_kernel.proofs.space.TaskTables.{tasks_entered}
 use Rattle.vm_kernel.proofs.space.RegionsInUse.{fills_here, holds_rows, holds_waits, paged_file, unfilled, uses_entered}
 use Rattle.vm_kernel.specs.Serving.{runs_now}
-use Rattle.vm_kernel.specs.Slow.{CanEndCopy, EndsCopyIn, EndsWant, MapsFilled, CanEndWant, filled_entry}
+use Rattle.vm_kernel.specs.Slow.{CanEndCopy, CanEndWant, EndsCopyIn, EndsWant, MapsFilled, filled_entry}
 use Rattle.vm_legal.specs.Licences.{EndsCopy, EntryOf, Owed, Pays, entry_of}
 use Rattle.vm_model.specs.Waiting.{Copying as Copies}
 use Rattle.vm_model.specs.declared.event.Event.TheVariants as event
@@ -48,6 +48,7 @@ use Rattle.vm_waits.specs.declared.waiting.Want.TheVariants as want
 use Rattle.vm_kernel.proofs.controls.WaitersFail.{fills_apart}
 use Rattle.vm_state.specs.Passed.{IsUnmet, StaysAway}
 use Rattle.vm_kernel.proofs.memory.PageReturned.{controls_stay}
+use Rattle.vm_kernel.proofs.space.RegionHomes.{homes_caused}
 
 -- what the test of a range tells
 record IsRange (size address bytes : ℕ) : Type 0 where
@@ -182,7 +183,7 @@ ends_of header h k ids past w address pages target next c =
     let count = counted_pages header.size pages page in
     let found = c.slow.region in
     let own : region_pages k.chains to.region.0 ≡ pages = ap pages_in found in
-    let temporary = m.homeless.fills w.task.0 (record { region = to.region.0; object = target.0 }) c.slow.made in
+    let temporary = m.homes.1.fills w.task.0 (record { region = to.region.0; object = target.0 }) c.slow.made in
     record {
       lives = lives;
       host = lives_here m.tasks lives;
@@ -398,10 +399,12 @@ matches_ended header h outside doing k ids past w address pages target next c la
           regions_recounted k.chains k2.chains k.memory.objects ids _ _ _ _ _ recount m.regions;
       kinds = kinds_recounted header _ k.memory.objects k.chains k2.chains (recounts_put r 1 k.chains k2.chains counts) m.kinds;
       homes =
-          λ q found_row paged found. let was = row_before _ k.chains k2.chains (recounts_put r 1 k.chains k2.chains counts) q found_row found in home_stays q h
-          second (first ∷ past) (m.homes q was.was paged was.found);
+          homes_caused header outside h k2.chains second (first ∷ past)
+          (doing, enters_cause header h k ids past w address pages target next waits2.rows c now put)
+          (homes_caused header outside h k2.chains first past (doing, ends_cause header h k ids past w address pages target next c last)
+          (recount_homes _ header h k.chains k2.chains past (recounts_put r 1 k.chains k2.chains counts) m.homes));
       files =
-          files_entered header h w.task row k.memory.objects (first ∷ past) (λ file. m.homes r (filled_row target pages) (paged_file header r file)
+          files_entered header h w.task row k.memory.objects (first ∷ past) (λ file. m.homes.0 r (filled_row target pages) (paged_file header r file)
           c.slow.region) m.files;
       entries =
           entries_share size k.maps k2.maps k.chains k2.chains t row m.entries e.inside counts_more changes
@@ -410,9 +413,6 @@ matches_ended header h outside doing k ids past w address pages target next c la
       pages = m.pages;
       uses = use_ended header h k ids past w address pages target next c waits2.rows put k2.maps changes;
       controls = controls_stay (λ o home. object_stays o h second (first ∷ past) home) m.controls;
-      homeless =
-          homes_next header outside second (first ∷ past) (doing, enters_cause header h k ids past w address pages target next waits2.rows c now put)
-          (homes_next header outside first past (doing, ends_cause header h k ids past w address pages target next c last) m.homeless);
       settled = record { none_owed = refl; shut = λ region. refl };
       replied = replied_behind tt (replied_behind tt m.replied);
       laundry = m.laundry;

@@ -117,7 +117,6 @@ matches_copied header h k ids past task low target next row frame memory m lives
       pages = rw (plan.objects, lives, own_host h) pages2;
       uses = m.uses;
       controls = rw plan.objects m.controls;
-      homeless = m.homeless;
       settled = record { none_owed = refl; shut = λ region. refl };
       replied = replied_behind tt m.replied;
       laundry = laundry_changed top frame _ _ _ _ _ k.memory memory k.laundry (returns_out h past) m.laundry c;

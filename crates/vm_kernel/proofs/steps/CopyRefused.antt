@@ -59,7 +59,7 @@ wild_is : (header : Header) (h : ℕ) (k : Parts) (ids : Ids) (past : List Event
 wild_is header h k ids past r rests there declared =
     let m = rests.matches in
     let row = region_row k.chains r there in
-    let whole = whole_row m.regions m.homeless r row.0 declared row.1 in
+    let whole = whole_row m.regions m.homes.1 r row.0 declared row.1 in
     let known = row_of (object_at k.memory.objects r) (subst (λ (z : ℕ). IsSome (object_at k.memory.objects z)) whole.top (m.regions.tops r row.0 row.1)) in
     ap is_wild_row known.1 ∙ ap is_wild_kind ((m.kinds.kinds r known.0 known.1).declared declared).kind
 

@@ -116,7 +116,7 @@ regions_used header h k ids past rests r row temporary found =
 reaches : (header : Header) (h : ℕ) (k : Parts) (ids : Ids) (past : List Event) (object : ℕ) → Rests header h k ids past → named header ≤ object
     → IsReferred k.memory.objects object → Reach header h object past
 reaches header h k ids past object rests temporary referred =
-    temporary_up rests.matches.regions rests.matches.homeless rests.referred.shadows (λ r. in_use header h r past)
+    temporary_up rests.matches.regions rests.matches.homes.1 rests.referred.shadows (λ r. in_use header h r past)
     (λ r row least found. regions_used header h k ids past rests r row least found) object temporary referred
 
 -- a declared object to which something refers is held: a task here has an entry on its region
@@ -124,10 +124,10 @@ held : (header : Header) (h : ℕ) (k : Parts) (ids : Ids) (past : List Event) (
     → IsReferred k.memory.objects object → IsUnheld header h object past → ⊥
 held header h k ids past object rests less referred unheld = elim (referrer_of m.regions object referred) [
   | OfRegion r row found top ↦
-      let own : r ≡ object = over_declared m.regions m.kinds m.homeless r row found (omega (arith, top, less)) ∙ top in
+      let own : r ≡ object = over_declared m.regions m.kinds m.homes.1 r row found (omega (arith, top, less)) ∙ top in
       let some : 0 < count_by all_tasks r k.maps = elim (row_use r row m.entries found rests.used) [
         | inl count ↦ count
-        | inr filled ↦ let high = filled_temporary r rests.used.copies m.homeless filled in absurd (omega (arith, high, own, less))
+        | inr filled ↦ let high = filled_temporary r rests.used.copies m.homes.1 filled in absurd (omega (arith, high, own, less))
       ] in
       let task = by_some all_tasks r k.maps some in
       let here = with_entry r (entries_in task.0 k.maps) task.1 in

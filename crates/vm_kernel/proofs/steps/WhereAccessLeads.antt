@@ -51,7 +51,7 @@ declared_bottom {header = header} {k = k} {past = past} r row m declared found =
     }
   where
     top : row.top.0 ≡ r
-    top = ap (λ (z : Region). z.top) (sym (m.regions.rows r row found) ∙ m.homeless.whole r declared)
+    top = ap (λ (z : Region). z.top) (sym (m.regions.rows r row found) ∙ m.homes.1.whole r declared)
 
     low : row.top.0 < named header
     low = omega (arith, top, declared)
@@ -59,7 +59,7 @@ declared_bottom {header = header} {k = k} {past = past} r row m declared found =
     by : (x : Option ShadowRow) → shadow_at k.chains row.top.0 ≡ x → x ≡ None
     by None is = refl
     by (Some under) is =
-        let bad : false ≡ true = sym (m.homeless.bare row.top.0 low) ∙ ap (λ (z : Backing). z.backed) (m.regions.shadows row.top.0 under is) in
+        let bad : false ≡ true = sym (m.homes.1.bare row.top.0 low) ∙ ap (λ (z : Backing). z.backed) (m.regions.shadows row.top.0 under is) in
         absurd (cc)
 
 -- the page of an entry lies in its region
