@@ -36,16 +36,16 @@ AreSendings (event.Sent channel m ∷ es) = AreSendings es
 AreSendings other = ⊥
 
 -- what the step took is not changed by what is sent
-record SameStep (size : ℕ) (past now : List Event) : Type 0 where
+record SameStep (header : Header) (past now : List Event) : Type 0 where
   letter : taken_letter now ≡ taken_letter past
-  no_error : error_taken size now ≡ error_taken size past
-  no_absence : absence_taken size now ≡ absence_taken size past
+  no_error : error_taken header now ≡ error_taken header past
+  no_absence : absence_taken header now ≡ absence_taken header past
 
-same_step : (size : ℕ) (es past : List Event) → AreSendings es → SameStep size past (es ++ past)
-same_step size [] past are = record { letter = refl; no_error = refl; no_absence = refl }
-same_step size (event.Sent channel m ∷ es) past are =
-    let rest = same_step size es past are in record { letter = rest.letter; no_error = rest.no_error; no_absence = rest.no_absence }
-same_step size (e ∷ es) past are = absurd are
+same_step : (header : Header) (es past : List Event) → AreSendings es → SameStep header past (es ++ past)
+same_step header [] past are = record { letter = refl; no_error = refl; no_absence = refl }
+same_step header (event.Sent channel m ∷ es) past are =
+    let rest = same_step header es past are in record { letter = rest.letter; no_error = rest.no_error; no_absence = rest.no_absence }
+same_step header (e ∷ es) past are = absurd are
 
 both_sendings : (later front : List Event) → AreSendings later → AreSendings front → AreSendings (later ++ front)
 both_sendings [] front one two = two
@@ -111,8 +111,8 @@ message_of (Some letter) = letter.message
 record Did (header : Header) (h : ℕ) (object : ObjectId) (m : Message) (now : List Event) : Type 0 where
   none_owed : owed now ≡ None
   took : taken_letter now ≡ Some (record { channel = up h object.0; message = m })
-  no_error : error_taken header.size now ≡ None
-  no_absence : absence_taken header.size now ≡ None
+  no_error : error_taken header now ≡ None
+  no_absence : absence_taken header now ≡ None
   ready : (control size : ℕ) → m ≡ message.Init control size → since (readies object.0) now ≡ true
 
 paid_of : (header : Header) (h : ℕ) (object : ObjectId) (m : Message) (now : List Event) → is_shared header object.0 ≡ true → (IsCreate m → ⊥)
@@ -141,7 +141,7 @@ turned : (header : Header) (h : ℕ) (past : List Event) (object : ObjectId) (m 
     → ((control size : ℕ) → m ≡ message.Init control size → ⊥) → AnswersInTurn old h object m events → IsPaid header (events ++ taking h object m past)
 turned header h past object m old new events s other apart t =
     let first = taking h object m past in
-    let same = same_step header.size (stretches old h object m t.pages) first (stretches_sendings old h object m t.pages) in
+    let same = same_step header (stretches old h object m t.pages) first (stretches_sendings old h object m t.pages) in
     subst (λ (es : List Event). IsPaid header (es ++ first)) (sym t.are)
     (paid_of header h object m (stretches old h object m t.pages ++ first) s.shared other (record {
       none_owed = owed_stretches old h object m t.pages first refl;

@@ -53,8 +53,8 @@ same_none header h past = record {
   backing = λ o small. refl;
 }
 
-more_pages : (size h : ℕ) (old mid new : List Event) → SamePages size h old mid → SamePages size h mid new → SamePages size h old new
-more_pages size h old mid new one two = record {
+more_pages : (header : Header) (h : ℕ) (old mid new : List Event) → SamePages header h old mid → SamePages header h mid new → SamePages header h old new
+more_pages header h old mid new one two = record {
   local = λ place. two.local place ∙ one.local place;
   live = λ o. two.live o ∙ one.live o;
   last = λ o. two.last o ∙ one.last o;
@@ -79,7 +79,7 @@ region_of_host header h r old new same own temporary = same.used r temporary ∙
 
 pub same_more : (header : Header) (h : ℕ) (old mid new : List Event) → SameFacts header h old mid → SameFacts header h mid new → SameFacts header h old new
 same_more header h old mid new one two = record {
-  pages = more_pages header.size h old mid new one.pages two.pages;
+  pages = more_pages header h old mid new one.pages two.pages;
   lives = λ task. two.lives task ∙ one.lives task;
   task = λ task own. more_task header.size task old mid new (one.task task own) (two.task task (one.lives task ∙ own));
   made =

@@ -11,6 +11,7 @@ use Rattle.vm_base.specs.declared.ids.TaskId.{TaskId}
 use Rattle.vm_model.specs.declared.event.Event.{Event}
 use Rattle.vm_model.specs.declared.event.Event.TheVariants as event
 use Rattle.vm_model.specs.declared.script.Header.{Header}
+use Rattle.vm_model.specs.Homes.{copying_host, first_of, home_in, home_of, object_home, region_for}
 use Rattle.vm_model.specs.Local.{is_on}
 use Rattle.vm_model.specs.Named.{declared_pages, named}
 use Rattle.vm_model.specs.Regions.{backing_of, next_object, next_region, region_of}
@@ -22,7 +23,7 @@ use Rattle.vm_legal.specs.Living.{lives_on, tasks}
 use Rattle.vm_legal.specs.Outside.{Outside, is_file}
 use Rattle.vm_legal.specs.Stretches.{EachIn}
 use Rattle.vm_legal.specs.Used.{in_use, is_held, is_kept, made_here}
-use Rattle.vm_abroad.specs.Home.{HaveHomes, copying_host, first_of, home_in, home_of, object_home, region_for}
+use Rattle.vm_abroad.specs.Home.{HaveHomes}
 use Rattle.vm_abroad.specs.Sound.{IsAbroad}
 use Rattle.vm_abroad.proofs.Sounds.{objects_rise, unlike}
 pub use Rattle.vm_legal.proofs.Files.{file_named}

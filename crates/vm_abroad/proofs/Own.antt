@@ -27,7 +27,7 @@ itself n = grind (arith, nat_tests)
 -- places
 
 pub effect_own : (header : Header) (h : ℕ) (place : Place) (others : Place → Local) (e : Event) (past : List Event) → is_home header h e past ≡ true
-    → effect h place others e past ≡ own_effect place others (live_control h place.object past) e
+    → effect header h place others e past ≡ own_effect place others (live_control h place.object past) e
 effect_own header h place others (event.Zeroed at object page) past is = rw is refl
 effect_own header h place others (event.Raised at lower lower_page upper upper_page) past is = rw is refl
 effect_own header h place others (event.CopiedPage task page object object_page target) past is = rw is refl
@@ -40,10 +40,10 @@ effect_own header h place others (event.Taken (Down at object control) m) past i
 effect_own header h place others other past is = refl
 
 pub local_own : (header : Header) (h : ℕ) (e : Event) (past : List Event) → is_home header h e past ≡ true → (place : Place)
-    → local header.size h place (e ∷ past) ≡ local_after header.size (own_effect place (λ source. local header.size h source past)
-    (live_control h place.object past) e) (local header.size h place past)
+    → local header h place (e ∷ past) ≡ local_after header.size (own_effect place (λ source. local header h source past)
+    (live_control h place.object past) e) (local header h place past)
 local_own header h e past is place =
-    ap (λ z. local_after header.size z (local header.size h place past)) (effect_own header h place (λ source. local header.size h source past) e past is)
+    ap (λ z. local_after header.size z (local header h place past)) (effect_own header h place (λ source. local header h source past) e past is)
 
 -- controls
 
@@ -100,8 +100,8 @@ change_taken b own (message.Error page reason) is = rw is refl
 change_taken b own other is = refl
 
 pub change_own : (header : Header) (h : ℕ) (e : Event) (past : List Event) → is_home header h e past ≡ true
-    → change header.size h e past ≡ own_change (λ o control page. is_control control (live_control h o past) &&
-    (local header.size h (record { object = o; page = page }) past).asked) e
+    → change header h e past ≡ own_change (λ o control page. is_control control (live_control h o past) &&
+    (local header h (record { object = o; page = page }) past).asked) e
 change_own header h (event.Zeroed at object page) past is = rw is refl
 change_own header h (event.Raised at lower lower_page upper upper_page) past is = rw is refl
 change_own header h (event.CopiedPage task page object object_page target) past is = rw is refl
@@ -111,14 +111,14 @@ change_own header h (event.Sent (Down at object control) m) past is = refl
 change_own header h (event.Taken (Up at object) m) past is = ap (λ z. taken_up_change z m) (both_left (at.0 == h) (gives_frame m) is)
 change_own header h (event.Taken (Down at object control) m) past is =
     change_taken (at.0 == h) (λ page. is_control control (live_control h object.0 past) &&
-    (local header.size h (record { object = object.0; page = page }) past).asked) m is
+    (local header h (record { object = object.0; page = page }) past).asked) m is
 change_own header h other past is = refl
 
 pub held_own : (header : Header) (h : ℕ) (e : Event) (past : List Event) → is_home header h e past ≡ true
-    → frames_held header.size h (e ∷ past)
+    → frames_held header h (e ∷ past)
     ≡ frames_after (own_change (λ o control page. is_control control (live_control h o past) &&
-    (local header.size h (record { object = o; page = page }) past).asked) e) (frames_held header.size h past)
-held_own header h e past is = ap (λ z. frames_after z (frames_held header.size h past)) (change_own header h e past is)
+    (local header h (record { object = o; page = page }) past).asked) e) (frames_held header h past)
+held_own header h e past is = ap (λ z. frames_after z (frames_held header h past)) (change_own header h e past is)
 
 pub wired_own : (header : Header) (h : ℕ) (e : Event) (past : List Event) → is_home header h e past ≡ true
     → frames_wired h (e ∷ past) ≡ own_wired e (frames_wired h past)

@@ -18,7 +18,7 @@ use Rattle.vm_abroad.specs.Same.{SamePages}
 -- places
 
 effect_abroad : (header : Header) (h : ℕ) (place : Place) (others : Place → Local) (e : Event) (past : List Event) → is_home header h e past ≡ false
-    → effect h place others e past ≡ Elsewhere
+    → effect header h place others e past ≡ Elsewhere
 effect_abroad header h place others (event.Zeroed at object page) past is = rw is refl
 effect_abroad header h place others (event.Raised at lower lower_page upper upper_page) past is = rw is refl
 effect_abroad header h place others (event.CopiedPage task page object object_page target) past is = rw is refl
@@ -31,9 +31,9 @@ effect_abroad header h place others (event.Taken (Down at object control) m) pas
 effect_abroad header h place others other past is = refl
 
 pub local_abroad : (header : Header) (h : ℕ) (e : Event) (past : List Event) → is_home header h e past ≡ false → (place : Place)
-    → local header.size h place (e ∷ past) ≡ local header.size h place past
+    → local header h place (e ∷ past) ≡ local header h place past
 local_abroad header h e past is place =
-    ap (λ z. local_after header.size z (local header.size h place past)) (effect_abroad header h place (λ source. local header.size h source past) e past is)
+    ap (λ z. local_after header.size z (local header h place past)) (effect_abroad header h place (λ source. local header h source past) e past is)
 
 -- controls
 
@@ -96,7 +96,7 @@ change_answered b own (message.Unavailable page) is = rw is refl
 change_answered b own (message.Error page reason) is = rw is refl
 change_answered b own other is = refl
 
-change_abroad : (header : Header) (h : ℕ) (e : Event) (past : List Event) → is_home header h e past ≡ false → change header.size h e past ≡ Keeps
+change_abroad : (header : Header) (h : ℕ) (e : Event) (past : List Event) → is_home header h e past ≡ false → change header h e past ≡ Keeps
 change_abroad header h (event.Zeroed at object page) past is = rw is refl
 change_abroad header h (event.Raised at lower lower_page upper upper_page) past is = rw is refl
 change_abroad header h (event.CopiedPage task page object object_page target) past is = rw is refl
@@ -106,12 +106,12 @@ change_abroad header h (event.Sent (Down at object control) m) past is = refl
 change_abroad header h (event.Taken (Up at object) m) past is = change_returned (at.0 == h) m is
 change_abroad header h (event.Taken (Down at object control) m) past is =
     change_answered (at.0 == h) (λ page. is_control control (live_control h object.0 past) &&
-    (local header.size h (record { object = object.0; page = page }) past).asked) m is
+    (local header h (record { object = object.0; page = page }) past).asked) m is
 change_abroad header h other past is = refl
 
 pub held_abroad : (header : Header) (h : ℕ) (e : Event) (past : List Event) → is_home header h e past ≡ false
-    → frames_held header.size h (e ∷ past) ≡ frames_held header.size h past
-held_abroad header h e past is = ap (λ z. frames_after z (frames_held header.size h past)) (change_abroad header h e past is)
+    → frames_held header h (e ∷ past) ≡ frames_held header h past
+held_abroad header h e past is = ap (λ z. frames_after z (frames_held header h past)) (change_abroad header h e past is)
 
 pub wired_abroad : (header : Header) (h : ℕ) (e : Event) (past : List Event) → is_home header h e past ≡ false → frames_wired h (e ∷ past) ≡ frames_wired h past
 wired_abroad header h (event.Wired at count) past is = rw is refl
@@ -134,7 +134,7 @@ out_abroad header h (event.Taken (Up at object) m) past is = out_taken h at obje
 out_abroad header h (event.Taken (Down at object control) m) past is = refl
 out_abroad header h other past is = refl
 
-pub pages_abroad : (header : Header) (h : ℕ) (e : Event) (past : List Event) → is_home header h e past ≡ false → SamePages header.size h past (e ∷ past)
+pub pages_abroad : (header : Header) (h : ℕ) (e : Event) (past : List Event) → is_home header h e past ≡ false → SamePages header h past (e ∷ past)
 pages_abroad header h e past is = record {
   local = local_abroad header h e past is;
   live = live_abroad header h e past is;

@@ -24,12 +24,12 @@ pub record SameTask (size task : ℕ) (old new : List Event) : Type 0 where
   pub target : copy_target task new ≡ copy_target task old
 
 -- the pages, controls and frames of a host
-pub record SamePages (size h : ℕ) (old new : List Event) : Type 0 where
-  pub local : (place : Place) → local size h place new ≡ local size h place old
+pub record SamePages (header : Header) (h : ℕ) (old new : List Event) : Type 0 where
+  pub local : (place : Place) → local header h place new ≡ local header h place old
   pub live : (o : ℕ) → live_control h o new ≡ live_control h o old
   pub last : (o : ℕ) → last_control h o new ≡ last_control h o old
   pub ready : (o : ℕ) → is_ready h o new ≡ is_ready h o old
-  pub held : frames_held size h new ≡ frames_held size h old
+  pub held : frames_held header h new ≡ frames_held header h old
   pub wired : frames_wired h new ≡ frames_wired h old
   pub out : returns_out h new ≡ returns_out h old
 
@@ -40,7 +40,7 @@ pub record MoreTasks (old new : List Event) : Type 0 where
 
 -- the tasks of the host are the same, and so are the regions that it uses; numbers may have been given to others
 pub record SameFacts (header : Header) (h : ℕ) (old new : List Event) : Type 0 where
-  pub pages : SamePages header.size h old new
+  pub pages : SamePages header h old new
   pub lives : (task : ℕ) → lives_on h task new ≡ lives_on h task old
   pub task : (task : ℕ) → lives_on h task old ≡ true → SameTask header.size task old new
   pub made : MoreTasks old new

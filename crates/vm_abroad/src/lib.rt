@@ -51,8 +51,8 @@ pub fn who_waits_waits_as_before()
 /// What a host's own event does to the host's pages, controls and frames: nothing is asked of numbers of hosts.
 pub fn own_events_move_their_host()
     ensures local { (header : Header) (h : ℕ) (e : Event) (past : List Event) → is_home header h e past ≡ true → (place : Place)
-        → local header.size h place (e ∷ past) ≡ local_after header.size (own_effect place (λ source. local header.size h source past)
-        (live_control h place.object past) e) (local header.size h place past) }
+        → local header h place (e ∷ past) ≡ local_after header.size (own_effect place (λ source. local header h source past)
+        (live_control h place.object past) e) (local header h place past) }
     ensures live { (header : Header) (h : ℕ) (e : Event) (past : List Event) → is_home header h e past ≡ true → (o : ℕ)
         → live_control h o (e ∷ past) ≡ own_live o e (live_control h o past) }
     ensures last { (header : Header) (h : ℕ) (e : Event) (past : List Event) → is_home header h e past ≡ true → (o : ℕ)
@@ -60,8 +60,8 @@ pub fn own_events_move_their_host()
     ensures ready { (header : Header) (h : ℕ) (e : Event) (past : List Event) → is_home header h e past ≡ true → (o : ℕ)
         → is_ready h o (e ∷ past) ≡ own_ready o (live_control h o past) e (is_ready h o past) }
     ensures held { (header : Header) (h : ℕ) (e : Event) (past : List Event) → is_home header h e past ≡ true
-        → frames_held header.size h (e ∷ past) ≡ frames_after (own_change (λ o control page. is_control control (live_control h o past) &&
-        (local header.size h (record { object = o; page = page }) past).asked) e) (frames_held header.size h past) }
+        → frames_held header h (e ∷ past) ≡ frames_after (own_change (λ o control page. is_control control (live_control h o past) &&
+        (local header h (record { object = o; page = page }) past).asked) e) (frames_held header h past) }
     ensures wired { (header : Header) (h : ℕ) (e : Event) (past : List Event)
         → is_home header h e past ≡ true → frames_wired h (e ∷ past) ≡ own_wired e (frames_wired h past) }
     ensures out { (header : Header) (h : ℕ) (e : Event) (past : List Event) → is_home header h e past ≡ true

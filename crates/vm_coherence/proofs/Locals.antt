@@ -12,6 +12,7 @@ use Rattle.vm_model.specs.declared.message.Message.{Message}
 use Rattle.vm_model.specs.declared.message.Message.TheVariants as message
 use Rattle.vm_model.specs.declared.event.Event.{Event}
 use Rattle.vm_model.specs.declared.event.Event.TheVariants as event
+use Rattle.vm_model.specs.declared.script.Header.{Header}
 use Rattle.vm_model.specs.Controls.{is_control, without_control, live_after, live_control}
 use Rattle.vm_model.specs.Founded.{IsFounded}
 use Rattle.vm_model.specs.Local as L
@@ -624,20 +625,20 @@ took size p control live s page m true false i = alike live s _ page (idle StepB
 took size p control live s page m false true i = alike live s _ page (idle StepBegins s tt) i
 took size p control live s page m false false i = alike live s _ page (idle StepBegins s tt) i
 
-granted : (at : HostId) (object : ObjectId) (h o size : ℕ) (m : Message) (past : List Event) → IsFounded size (event.Sent (Up at object) m) past
+granted : (at : HostId) (object : ObjectId) (h o : ℕ) (header : Header) (m : Message) (past : List Event) → IsFounded header (event.Sent (Up at object) m) past
     → (at.0 == h) ≡ true → (object.0 == o) ≡ true → Granted m (live_control h o past)
-granted at object h o size (message.Request control page access) past is mine its =
+granted at object h o header (message.Request control page access) past is mine its =
     subst (λ (n : ℕ). live_control n o past ≡ Some control) (number_is at.0 h mine)
     (subst (λ (n : ℕ). live_control at.0 n past ≡ Some control) (number_is object.0 o its) is)
-granted at object h o size (message.Terminate control) past is mine its =
+granted at object h o header (message.Terminate control) past is mine its =
     subst (λ (n : ℕ). live_control n o past ≡ Some control) (number_is at.0 h mine)
     (subst (λ (n : ℕ). live_control at.0 n past ≡ Some control) (number_is object.0 o its) is)
-granted at object h o size m past is mine its = tt
+granted at object h o header m past is mine its = tt
 
 -- a side's page is what its host has of it, at every moment
-pub side_is_local : (size : ℕ) (past : List Event) (h o p : ℕ) → EachEvent (IsFounded size) past
-    → SideIsLocal (live_control h o past) (side h (page_part size o p past)) (local size h (record { object = o; page = p }) past)
-side_is_local size [] h o p founded =
+pub side_is_local : (header : Header) (past : List Event) (h o p : ℕ) → EachEvent (IsFounded header) past
+    → SideIsLocal (live_control h o past) (side h (page_part header.size o p past)) (local header h (record { object = o; page = p }) past)
+side_is_local header [] h o p founded =
     record {
       right = refl;
       lock = λ here. refl;
@@ -649,81 +650,92 @@ side_is_local size [] h o p founded =
       absent = refl;
       control = refl;
     }
-side_is_local size (event.Sent (Up host object) m ∷ past) h o p founded =
-    sent size h o p (live_control h o past) (side h (page_part size o p past)) (local size h (record { object = o; page = p }) past) host object m
-    (λ mine its. granted host object h o size m past founded.0 mine its) (side_is_local size past h o p founded.1)
-side_is_local size (event.Sent (Down host object control) m ∷ past) h o p founded =
-    idle_act (live_control h o past) (side h (page_part size o p past)) (local size h (record { object = o; page = p }) past) (host.0 == h)
+side_is_local header (event.Sent (Up host object) m ∷ past) h o p founded =
+    sent header.size h o p (live_control h o past) (side h (page_part header.size o p past)) (local header h (record { object = o; page = p }) past) host object
+    m
+    (λ mine its. granted host object h o header m past founded.0 mine its) (side_is_local header past h o p founded.1)
+side_is_local header (event.Sent (Down host object control) m ∷ past) h o p founded =
+    idle_act (live_control h o past) (side h (page_part header.size o p past)) (local header h (record { object = o; page = p }) past) (host.0 == h)
     (if object.0 == o then SentDown control (down_word p m) else Nothing)
-    (idle_if (object.0 == o) (SentDown control (down_word p m)) Nothing tt tt) (side_is_local size past h o p founded.1)
-side_is_local size (event.Taken (Up host object) m ∷ past) h o p founded =
-    idle_act (live_control h o past) (side h (page_part size o p past)) (local size h (record { object = o; page = p }) past) (host.0 == h)
+    (idle_if (object.0 == o) (SentDown control (down_word p m)) Nothing tt tt) (side_is_local header past h o p founded.1)
+side_is_local header (event.Taken (Up host object) m ∷ past) h o p founded =
+    idle_act (live_control h o past) (side h (page_part header.size o p past)) (local header h (record { object = o; page = p }) past) (host.0 == h)
     (if object.0 == o then TakenUp (up_word p m) else StepBegins)
-    (idle_if (object.0 == o) (TakenUp (up_word p m)) StepBegins tt tt) (side_is_local size past h o p founded.1)
-side_is_local size (event.Taken (Down host object control) m ∷ past) h o p founded =
-    took size p control (live_control h o past) (side h (page_part size o p past)) (local size h (record { object = o; page = p }) past) m (host.0 == h)
-    (object.0 == o) (side_is_local size past h o p founded.1)
-side_is_local size (event.Dropped host object page ∷ past) h o p founded =
-    let i : SideIsLocal (live_control h o past) (side h (page_part size o p past)) (local size h (record { object = o; page = p }) past) = side_is_local size
+    (idle_if (object.0 == o) (TakenUp (up_word p m)) StepBegins tt tt) (side_is_local header past h o p founded.1)
+side_is_local header (event.Taken (Down host object control) m ∷ past) h o p founded =
+    took header.size p control (live_control h o past) (side h (page_part header.size o p past)) (local header h (record { object = o; page = p }) past) m
+    (host.0 == h)
+    (object.0 == o) (side_is_local header past h o p founded.1)
+side_is_local header (event.Dropped host object page ∷ past) h o p founded =
+    let i : SideIsLocal (live_control h o past) (side h (page_part header.size o p past))
+    (local header h (record { object = o; page = p }) past) = side_is_local header
     past h o p founded.1 in
-    acted size (live_control h o past) _ _ (host.0 == h) (object.0 == o && page.0 == p) Drops L.Drops (λ mine its. drops size (live_control h o past) _ _ i) i
-side_is_local size (event.Zeroed host object page ∷ past) h o p founded =
-    let i : SideIsLocal (live_control h o past) (side h (page_part size o p past)) (local size h (record { object = o; page = p }) past) = side_is_local size
+    acted header.size (live_control h o past) _ _ (host.0 == h) (object.0 == o && page.0 == p) Drops L.Drops
+    (λ mine its. drops header.size (live_control h o past) _ _ i) i
+side_is_local header (event.Zeroed host object page ∷ past) h o p founded =
+    let i : SideIsLocal (live_control h o past) (side h (page_part header.size o p past))
+    (local header h (record { object = o; page = p }) past) = side_is_local header
     past h o p founded.1 in
-    acted size (live_control h o past) _ _ (host.0 == h) (object.0 == o && page.0 == p) (Puts (replicate size 0) false) L.Zeroes
-    (λ mine its. puts size (live_control h o past) _ _ (replicate size 0) false L.Zeroes refl i) i
-side_is_local size (event.Raised host lower lower_page upper upper_page ∷ past) h o p founded =
-    let i : SideIsLocal (live_control h o past) (side h (page_part size o p past)) (local size h (record { object = o; page = p }) past) = side_is_local size
+    acted header.size (live_control h o past) _ _ (host.0 == h) (object.0 == o && page.0 == p) (Puts (replicate header.size 0) false) L.Zeroes
+    (λ mine its. puts header.size (live_control h o past) _ _ (replicate header.size 0) false L.Zeroes refl i) i
+side_is_local header (event.Raised host lower lower_page upper upper_page ∷ past) h o p founded =
+    let i : SideIsLocal (live_control h o past) (side h (page_part header.size o p past))
+    (local header h (record { object = o; page = p }) past) = side_is_local header
     past h o p founded.1 in
-    let source : (side host.0 (page_part size lower.0 lower_page.0 past)).bytes ≡ (local size host.0 (record { object = lower.0; page = lower_page.0 })
-    past).bytes = (side_is_local size past host.0 lower.0 lower_page.0 founded.1).bytes founded.0 in
-    acted size (live_control h o past) _ _ (host.0 == h) (upper.0 == o && upper_page.0 == p)
-    (Puts (side host.0 (page_part size lower.0 lower_page.0 past)).bytes true)
-    (L.Raises (local size h (record { object = lower.0; page = lower_page.0 }) past).bytes)
-    (λ mine its. raises size (live_control h o past) _ _ _ _ (source
-    ∙ ap (λ (g : ℕ). (local size g (record { object = lower.0; page = lower_page.0 }) past).bytes) (number_is host.0 h mine)) i) i
-side_is_local size (event.CopiedPage task page object object_page target ∷ past) h o p founded =
-    let i : SideIsLocal (live_control h o past) (side h (page_part size o p past)) (local size h (record { object = o; page = p }) past) = side_is_local size
+    let source : (side host.0 (page_part header.size lower.0 lower_page.0 past)).bytes ≡ (local header host.0 (record { object = lower.0; page = lower_page.0 })
+    past).bytes = (side_is_local header past host.0 lower.0 lower_page.0 founded.1).bytes founded.0 in
+    acted header.size (live_control h o past) _ _ (host.0 == h) (upper.0 == o && upper_page.0 == p)
+    (Puts (side host.0 (page_part header.size lower.0 lower_page.0 past)).bytes true)
+    (L.Raises (local header h (record { object = lower.0; page = lower_page.0 }) past).bytes)
+    (λ mine its. raises header.size (live_control h o past) _ _ _ _ (source
+    ∙ ap (λ (g : ℕ). (local header g (record { object = lower.0; page = lower_page.0 }) past).bytes) (number_is host.0 h mine)) i) i
+side_is_local header (event.CopiedPage task page object object_page target ∷ past) h o p founded =
+    let i : SideIsLocal (live_control h o past) (side h (page_part header.size o p past))
+    (local header h (record { object = o; page = p }) past) = side_is_local header
     past h o p founded.1 in
     let g : ℕ = founded.0.0 in
     let on : task_host task.0 past ≡ g = host_lives task.0 g past founded.0.1 in
-    let source : (side g (page_part size object.0 object_page.0 past)).bytes ≡ (local size g (record { object = object.0; page = object_page.0 })
-    past).bytes = (side_is_local size past g object.0 object_page.0 founded.1).bytes founded.0.2 in
-    acted_by size (live_control h o past) _ _ (task_host task.0 past == h) (is_on h (host_of task.0 past)) (target.0 == o && page.0 == p)
-    (Puts (side (task_host task.0 past) (page_part size object.0 object_page.0 past)).bytes true)
+    let source : (side g (page_part header.size object.0 object_page.0 past)).bytes ≡ (local header g (record { object = object.0; page = object_page.0 })
+    past).bytes = (side_is_local header past g object.0 object_page.0 founded.1).bytes founded.0.2 in
+    acted_by header.size (live_control h o past) _ _ (task_host task.0 past == h) (is_on h (host_of task.0 past)) (target.0 == o && page.0 == p)
+    (Puts (side (task_host task.0 past) (page_part header.size object.0 object_page.0 past)).bytes true)
     (if object.0 == o && object_page.0 == p then Copies task.0 else Nothing)
-    (L.Raises (local size h (record { object = object.0; page = object_page.0 }) past).bytes) (on_host h task.0 g past founded.0.1)
+    (L.Raises (local header h (record { object = object.0; page = object_page.0 }) past).bytes) (on_host h task.0 g past founded.0.1)
     (idle_if (object.0 == o && object_page.0 == p) _ _ tt tt)
-    (λ mine its. raises size (live_control h o past) _ _ _ _
-    (ap (λ (k : ℕ). (side k (page_part size object.0 object_page.0 past)).bytes) on ∙ source
-    ∙ ap (λ (k : ℕ). (local size k (record { object = object.0; page = object_page.0 }) past).bytes) (sym on ∙ number_is (task_host task.0 past) h mine)) i)
+    (λ mine its. raises header.size (live_control h o past) _ _ _ _
+    (ap (λ (k : ℕ). (side k (page_part header.size object.0 object_page.0 past)).bytes) on ∙ source
+    ∙ ap (λ (k : ℕ). (local header k (record { object = object.0; page = object_page.0 }) past).bytes) (sym on ∙ number_is (task_host task.0 past) h mine)) i)
     i
-side_is_local size (event.Stored task object page at bytes value ∷ past) h o p founded =
-    let i : SideIsLocal (live_control h o past) (side h (page_part size o p past)) (local size h (record { object = o; page = p }) past) = side_is_local size
+side_is_local header (event.Stored task object page at bytes value ∷ past) h o p founded =
+    let i : SideIsLocal (live_control h o past) (side h (page_part header.size o p past))
+    (local header h (record { object = o; page = p }) past) = side_is_local header
     past h o p founded.1 in
-    acted_by size (live_control h o past) _ _ (task_host task.0 past == h) (is_on h (host_of task.0 past)) (object.0 == o && page.0 == p)
+    acted_by header.size (live_control h o past) _ _ (task_host task.0 past == h) (is_on h (host_of task.0 past)) (object.0 == o && page.0 == p)
     (Stores task.0 at bytes value) Nothing (L.Stores at (little_endian_bytes bytes value)) (on_host h task.0 founded.0.0 past founded.0.1) tt
-    (λ mine its. stores size (live_control h o past) _ _ task.0 at bytes value i) i
-side_is_local size (event.BegunLoad task address bytes ∷ past) h o p founded =
-    idle_act (live_control h o past) _ _ (task_host task.0 past == h) (if means_page size o p task.0 address past then Begins task.0 false (address % size)
-    bytes 0 else Nothing) (idle_if (means_page size o p task.0 address past) _ _ tt tt) (side_is_local size past h o p founded.1)
-side_is_local size (event.BegunStore task address bytes value ∷ past) h o p founded =
-    idle_act (live_control h o past) _ _ (task_host task.0 past == h) (if means_page size o p task.0 address past then Begins task.0 true (address % size) bytes
-    value else Nothing) (idle_if (means_page size o p task.0 address past) _ _ tt tt) (side_is_local size past h o p founded.1)
-side_is_local size (event.Loaded task object page value ∷ past) h o p founded =
+    (λ mine its. stores header.size (live_control h o past) _ _ task.0 at bytes value i) i
+side_is_local header (event.BegunLoad task address bytes ∷ past) h o p founded =
+    idle_act (live_control h o past) _ _ (task_host task.0 past == h) (if means_page header.size o p task.0 address past then Begins task.0 false
+    (address % header.size)
+    bytes 0 else Nothing) (idle_if (means_page header.size o p task.0 address past) _ _ tt tt) (side_is_local header past h o p founded.1)
+side_is_local header (event.BegunStore task address bytes value ∷ past) h o p founded =
+    idle_act (live_control h o past) _ _ (task_host task.0 past == h) (if means_page header.size o p task.0 address past then Begins task.0 true
+    (address % header.size) bytes
+    value else Nothing) (idle_if (means_page header.size o p task.0 address past) _ _ tt tt) (side_is_local header past h o p founded.1)
+side_is_local header (event.Loaded task object page value ∷ past) h o p founded =
     idle_act (live_control h o past) _ _ (task_host task.0 past == h) (if object.0 == o && page.0 == p then Loads task.0 value else Nothing)
-    (idle_if (object.0 == o && page.0 == p) _ _ tt tt) (side_is_local size past h o p founded.1)
-side_is_local size (event.Failed task object page ∷ past) h o p founded =
+    (idle_if (object.0 == o && page.0 == p) _ _ tt tt) (side_is_local header past h o p founded.1)
+side_is_local header (event.Failed task object page ∷ past) h o p founded =
     idle_act (live_control h o past) _ _ (task_host task.0 past == h) (if object.0 == o && page.0 == p then Fails task.0 else EndsCopy task.0)
-    (idle_if (object.0 == o && page.0 == p) _ _ tt tt) (side_is_local size past h o p founded.1)
-side_is_local size (event.BegunCopy task address bytes to ∷ past) h o p founded =
+    (idle_if (object.0 == o && page.0 == p) _ _ tt tt) (side_is_local header past h o p founded.1)
+side_is_local header (event.BegunCopy task address bytes to ∷ past) h o p founded =
     idle_act (live_control h o past) _ _ (task_host task.0 past == h) (BeginsCopy task.0
-    (times_meant size (λ (at : ℕ). means_page size o p task.0 at past) address (bytes / size))) tt (side_is_local size past h o p founded.1)
-side_is_local size (event.CopyEnded task ∷ past) h o p founded =
-    idle_act (live_control h o past) _ _ (task_host task.0 past == h) (EndsCopy task.0) tt (side_is_local size past h o p founded.1)
-side_is_local size (event.Line line ∷ past) h o p founded =
-    idle_act (live_control h o past) _ _ (0 == h) StepBegins tt (side_is_local size past h o p founded.1)
-side_is_local size (e ∷ past) h o p founded = idle_act (live_control h o past) _ _ (0 == h) Nothing tt (side_is_local size past h o p founded.1)
+    (times_meant header.size (λ (at : ℕ). means_page header.size o p task.0 at past) address (bytes / header.size))) tt
+    (side_is_local header past h o p founded.1)
+side_is_local header (event.CopyEnded task ∷ past) h o p founded =
+    idle_act (live_control h o past) _ _ (task_host task.0 past == h) (EndsCopy task.0) tt (side_is_local header past h o p founded.1)
+side_is_local header (event.Line line ∷ past) h o p founded =
+    idle_act (live_control h o past) _ _ (0 == h) StepBegins tt (side_is_local header past h o p founded.1)
+side_is_local header (e ∷ past) h o p founded = idle_act (live_control h o past) _ _ (0 == h) Nothing tt (side_is_local header past h o p founded.1)
 
 -- who can read and write
 
@@ -740,27 +752,29 @@ pub can_write_is : (live : Option ℕ) (s : Side) (page : Local) → SideIsLocal
 can_write_is live s page i can = grind (arith, nat_tests)
 
 -- while a host can write the page, no other can read it
-pub one_writer : (size : ℕ) (past : List Event) (g h o p : ℕ) → EachEvent (IsFounded size) past → ActsLicensed size (page_part size o p past) → g ≢ h
-    → CanWrite (local size h (record { object = o; page = p }) past) → CanRead (local size g (record { object = o; page = p }) past) → ⊥
-one_writer size past g h o p founded licensed apart write read =
-    let writing : can_write (side h (page_part size o p past)) ≡ true = can_write_is _ _ _ (side_is_local size past h o p founded) write in
-    let reading : can_read (side g (page_part size o p past)) ≡ true = can_read_is _ _ _ (side_is_local size past g o p founded) read in
-    never (sym (writer size (page_part size o p past) licensed g h apart writing) ∙ reading)
+pub one_writer : (header : Header) (past : List Event) (g h o p : ℕ) → EachEvent (IsFounded header) past
+    → ActsLicensed header.size (page_part header.size o p past) → g ≢ h
+    → CanWrite (local header h (record { object = o; page = p }) past) → CanRead (local header g (record { object = o; page = p }) past) → ⊥
+one_writer header past g h o p founded licensed apart write read =
+    let writing : can_write (side h (page_part header.size o p past)) ≡ true = can_write_is _ _ _ (side_is_local header past h o p founded) write in
+    let reading : can_read (side g (page_part header.size o p past)) ≡ true = can_read_is _ _ _ (side_is_local header past g o p founded) read in
+    never (sym (writer header.size (page_part header.size o p past) licensed g h apart writing) ∙ reading)
 
 above : (lock : ℕ) → 0 < right_of lock
 above zero = omega arith
 above (suc lock) = omega arith
 
 -- a page that is here has what the stores left
-pub local_bytes : (size : ℕ) (past : List Event) (h o p : ℕ) → EachEvent (IsFounded size) past → ActsLicensed size (page_part size o p past)
-    → (local size h (record { object = o; page = p }) past).here ≡ true
-    → (local size h (record { object = o; page = p }) past).bytes ≡ current size (page_part size o p past)
-local_bytes size past h o p founded licensed here =
-    let page : Local = local size h (record { object = o; page = p }) past in
-    let i : SideIsLocal (live_control h o past) (side h (page_part size o p past)) page = side_is_local size past h o p founded in
-    let right : (side h (page_part size o p past)).right ≡ right_of page.lock = i.right ∙ ap (λ (b : Bool). if b then right_of page.lock else 0) here in
-    let some : 0 < (side h (page_part size o p past)).right = omega (arith, above page.lock) in
-    sym (i.bytes here) ∙ (same_bytes size (page_part size o p past) licensed h).here some
+pub local_bytes : (header : Header) (past : List Event) (h o p : ℕ) → EachEvent (IsFounded header) past
+    → ActsLicensed header.size (page_part header.size o p past)
+    → (local header h (record { object = o; page = p }) past).here ≡ true
+    → (local header h (record { object = o; page = p }) past).bytes ≡ current header.size (page_part header.size o p past)
+local_bytes header past h o p founded licensed here =
+    let page : Local = local header h (record { object = o; page = p }) past in
+    let i : SideIsLocal (live_control h o past) (side h (page_part header.size o p past)) page = side_is_local header past h o p founded in
+    let right : (side h (page_part header.size o p past)).right ≡ right_of page.lock = i.right ∙ ap (λ (b : Bool). if b then right_of page.lock else 0) here in
+    let some : 0 < (side h (page_part header.size o p past)).right = omega (arith, above page.lock) in
+    sym (i.bytes here) ∙ (same_bytes header.size (page_part header.size o p past) licensed h).here some
 
 -- what is asked or ended with a cause is the live control's
 
@@ -779,19 +793,22 @@ ends_live : (size h control : ℕ) (past : List Act) (b : Bool) → b ≡ true �
 ends_live size h control past true one may = (may.0, may.1)
 ends_live size h control past false one may = never one
 
-pub asked_live : (size : ℕ) (past : List Event) (host : HostId) (object : ObjectId) (control access : ℕ) (page : PageNo) → EachEvent (IsFounded size) past
-    → ActsLicensed size (page_part size object.0 page.0 (event.Sent (Up host object) (message.Request control page access) ∷ past))
-    → IsFounded size (event.Sent (Up host object) (message.Request control page access)) past
-asked_live size past host object control access page founded licensed =
-    let s : ((side host.0 (page_part size object.0 page.0 past)).live ≡ true) × ((side host.0 (page_part size object.0 page.0 past)).control ≡ control) =
-    sends_live size host.0 control access (page_part size object.0 page.0 past) (object.0 == object.0) (page.0 == page.0) (itself object.0) (itself page.0)
+pub asked_live : (header : Header) (past : List Event) (host : HostId) (object : ObjectId) (control access : ℕ) (page : PageNo)
+    → EachEvent (IsFounded header) past
+    → ActsLicensed header.size (page_part header.size object.0 page.0 (event.Sent (Up host object) (message.Request control page access) ∷ past))
+    → IsFounded header (event.Sent (Up host object) (message.Request control page access)) past
+asked_live header past host object control access page founded licensed =
+    let s : ((side host.0 (page_part header.size object.0 page.0 past)).live ≡ true)
+    × ((side host.0 (page_part header.size object.0 page.0 past)).control ≡ control) =
+    sends_live header.size host.0 control access (page_part header.size object.0 page.0 past) (object.0 == object.0) (page.0 == page.0) (itself object.0)
+    (itself page.0)
     licensed.0 in
-    lives _ _ _ control (side_is_local size past host.0 object.0 page.0 founded) s.0 s.1
+    lives _ _ _ control (side_is_local header past host.0 object.0 page.0 founded) s.0 s.1
 
-pub ended_live : (size : ℕ) (past : List Event) (host : HostId) (object : ObjectId) (control p : ℕ) → EachEvent (IsFounded size) past
-    → ActsLicensed size (page_part size object.0 p (event.Sent (Up host object) (message.Terminate control) ∷ past))
-    → IsFounded size (event.Sent (Up host object) (message.Terminate control)) past
-ended_live size past host object control p founded licensed =
-    let s : ((side host.0 (page_part size object.0 p past)).live ≡ true) × ((side host.0 (page_part size object.0 p past)).control ≡ control) =
-    ends_live size host.0 control (page_part size object.0 p past) (object.0 == object.0) (itself object.0) licensed.0 in
-    lives _ _ _ control (side_is_local size past host.0 object.0 p founded) s.0 s.1
+pub ended_live : (header : Header) (past : List Event) (host : HostId) (object : ObjectId) (control p : ℕ) → EachEvent (IsFounded header) past
+    → ActsLicensed header.size (page_part header.size object.0 p (event.Sent (Up host object) (message.Terminate control) ∷ past))
+    → IsFounded header (event.Sent (Up host object) (message.Terminate control)) past
+ended_live header past host object control p founded licensed =
+    let s : ((side host.0 (page_part header.size object.0 p past)).live ≡ true) × ((side host.0 (page_part header.size object.0 p past)).control ≡ control) =
+    ends_live header.size host.0 control (page_part header.size object.0 p past) (object.0 == object.0) (itself object.0) licensed.0 in
+    lives _ _ _ control (side_is_local header past host.0 object.0 p founded) s.0 s.1

@@ -14,6 +14,7 @@ ghost use Rattle.vm_model.specs.declared.message.Message.TheVariants.{Request, T
 ghost use Rattle.vm_model.specs.declared.event.Event.TheVariants.{Sent};
 ghost use Rattle.vm_model.specs.Words.{Act, Asking, Unlocking, Doing, Ending};
 ghost use Rattle.vm_model.specs.declared.event.Event.{Event};
+ghost use Rattle.vm_model.specs.declared.script.Header.{Header};
 ghost use Rattle.vm_model.specs.Channels.{UpInOrder, up_queue, up_words, DownInOrder, down_queue, down_words};
 ghost use Rattle.vm_model.specs.Controls.{last_control, live_control};
 ghost use Rattle.vm_model.specs.Founded.{IsFounded};
@@ -141,17 +142,20 @@ pub fn channel_law()
 ///
 /// That a request and the end of a control are the live control's follows from their causes.
 pub fn local_law()
-    ensures page { (size : ℕ) (history : List Event) (h o p : ℕ) → EachEvent (IsFounded size) history
-        → SideIsLocal (live_control h o history) (side h (page_part size o p history)) (local size h (record { object = o; page = p }) history) }
-    ensures one_writer { (size : ℕ) (history : List Event) (g h o p : ℕ) → EachEvent (IsFounded size) history → ActsLicensed size (page_part size o p history)
-        → g ≢ h → CanWrite (local size h (record { object = o; page = p }) history) → CanRead (local size g (record { object = o; page = p }) history) → ⊥ }
-    ensures same_bytes { (size : ℕ) (history : List Event) (h o p : ℕ) → EachEvent (IsFounded size) history → ActsLicensed size (page_part size o p history)
-        → (local size h (record { object = o; page = p }) history).here ≡ true
-        → (local size h (record { object = o; page = p }) history).bytes ≡ current size (page_part size o p history) }
-    ensures asked { (size : ℕ) (past : List Event) (host : HostId) (object : ObjectId) (control access : ℕ) (page : PageNo) → EachEvent (IsFounded size) past
-        → ActsLicensed size (page_part size object.0 page.0 (Sent (Up host object) (Request control page access) ∷ past))
-        → IsFounded size (Sent (Up host object) (Request control page access)) past }
-    ensures ended { (size : ℕ) (past : List Event) (host : HostId) (object : ObjectId) (control p : ℕ) → EachEvent (IsFounded size) past
-        → ActsLicensed size (page_part size object.0 p (Sent (Up host object) (Terminate control) ∷ past))
-        → IsFounded size (Sent (Up host object) (Terminate control)) past }
+    ensures page { (header : Header) (history : List Event) (h o p : ℕ) → EachEvent (IsFounded header) history
+        → SideIsLocal (live_control h o history) (side h (page_part header.size o p history)) (local header h (record { object = o; page = p }) history) }
+    ensures one_writer { (header : Header) (history : List Event) (g h o p : ℕ) → EachEvent (IsFounded header) history
+        → ActsLicensed header.size (page_part header.size o p history)
+        → g ≢ h → CanWrite (local header h (record { object = o; page = p }) history) → CanRead (local header g (record { object = o; page = p }) history) → ⊥ }
+    ensures same_bytes { (header : Header) (history : List Event) (h o p : ℕ) → EachEvent (IsFounded header) history
+        → ActsLicensed header.size (page_part header.size o p history)
+        → (local header h (record { object = o; page = p }) history).here ≡ true
+        → (local header h (record { object = o; page = p }) history).bytes ≡ current header.size (page_part header.size o p history) }
+    ensures asked { (header : Header) (past : List Event) (host : HostId) (object : ObjectId) (control access : ℕ) (page : PageNo)
+        → EachEvent (IsFounded header) past
+        → ActsLicensed header.size (page_part header.size object.0 page.0 (Sent (Up host object) (Request control page access) ∷ past))
+        → IsFounded header (Sent (Up host object) (Request control page access)) past }
+    ensures ended { (header : Header) (past : List Event) (host : HostId) (object : ObjectId) (control p : ℕ) → EachEvent (IsFounded header) past
+        → ActsLicensed header.size (page_part header.size object.0 p (Sent (Up host object) (Terminate control) ∷ past))
+        → IsFounded header (Sent (Up host object) (Terminate control)) past }
 {}

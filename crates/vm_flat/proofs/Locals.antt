@@ -379,7 +379,7 @@ took z size host o p file live s page at object number m past i = by_message m
 -- a place is what its host has of the page, at every moment
 pub spot_is_local : (header : Header) (outside : Outside) (past : List Event) (host o p : ℕ)
     → SpotIsLocal (is_file header o) (last_control host o past) (live_control host o past) (spot header outside host o p past)
-    (local header.size host (record { object = o; page = p }) past)
+    (local header host (record { object = o; page = p }) past)
 spot_is_local header outside [] host o p =
     record { here = refl; bytes = refl; dirty = refl; asked = refl; absent = sym (and_false (not (is_file header o))); file = refl; control = refl }
 spot_is_local header outside (event.Line line ∷ past) host o p =
@@ -387,36 +387,36 @@ spot_is_local header outside (event.Line line ∷ past) host o p =
     (spot_is_local header outside past host o p)
 spot_is_local header outside (event.Zeroed at object page ∷ past) host o p =
     let i : SpotIsLocal (is_file header o) (last_control host o past) (live_control host o past) (spot header outside host o p past)
-    (local header.size host (record { object = o; page = p }) past) = spot_is_local header outside past host o p in
+    (local header host (record { object = o; page = p }) past) = spot_is_local header outside past host o p in
     placed (zeros header) header.size _ _ _ _ _ (at.0 == host) (object.0 == o && page.0 == p) Zeroes L.Zeroes
     (λ mine. zeroes (zeros header) header.size _ _ _ _ _ refl i) i
 spot_is_local header outside (event.Dropped at object page ∷ past) host o p =
     let i : SpotIsLocal (is_file header o) (last_control host o past) (live_control host o past) (spot header outside host o p past)
-    (local header.size host (record { object = o; page = p }) past) = spot_is_local header outside past host o p in
+    (local header host (record { object = o; page = p }) past) = spot_is_local header outside past host o p in
     placed (zeros header) header.size _ _ _ _ _ (at.0 == host) (object.0 == o && page.0 == p) Drops L.Drops
     (λ mine. drops (zeros header) header.size _ _ _ _ _ i) i
 spot_is_local header outside (event.Stored task object page at size value ∷ past) host o p =
     let i : SpotIsLocal (is_file header o) (last_control host o past) (live_control host o past) (spot header outside host o p past)
-    (local header.size host (record { object = o; page = p }) past) = spot_is_local header outside past host o p in
+    (local header host (record { object = o; page = p }) past) = spot_is_local header outside past host o p in
     placed (zeros header) header.size _ _ _ _ _ (lives_on host task.0 past) (object.0 == o && page.0 == p) (Stores at (little_endian_bytes size value))
     (L.Stores at (little_endian_bytes size value)) (λ mine. stores (zeros header) header.size _ _ _ _ _ at (little_endian_bytes size value) i) i
 spot_is_local header outside (event.Raised at lower lower_page upper upper_page ∷ past) host o p =
     let i : SpotIsLocal (is_file header o) (last_control host o past) (live_control host o past) (spot header outside host o p past)
-    (local header.size host (record { object = o; page = p }) past) = spot_is_local header outside past host o p in
+    (local header host (record { object = o; page = p }) past) = spot_is_local header outside past host o p in
     placed (zeros header) header.size _ _ _ _ _ (at.0 == host) (upper.0 == o && upper_page.0 == p)
     (Raises (spot header outside host lower.0 lower_page.0 past).bytes) (L.Raises
-    (local header.size host (record { object = lower.0; page = lower_page.0 }) past).bytes)
+    (local header host (record { object = lower.0; page = lower_page.0 }) past).bytes)
     (λ mine. raises (zeros header) header.size _ _ _ _ _ _ _ (spot_is_local header outside past host lower.0 lower_page.0).bytes i) i
 spot_is_local header outside (event.CopiedPage task page object object_page target ∷ past) host o p =
     let i : SpotIsLocal (is_file header o) (last_control host o past) (live_control host o past) (spot header outside host o p past)
-    (local header.size host (record { object = o; page = p }) past) = spot_is_local header outside past host o p in
+    (local header host (record { object = o; page = p }) past) = spot_is_local header outside past host o p in
     placed (zeros header) header.size _ _ _ _ _ (lives_on host task.0 past) (target.0 == o && page.0 == p)
     (Raises (spot header outside host object.0 object_page.0 past).bytes) (L.Raises
-    (local header.size host (record { object = object.0; page = object_page.0 }) past).bytes)
+    (local header host (record { object = object.0; page = object_page.0 }) past).bytes)
     (λ mine. raises (zeros header) header.size _ _ _ _ _ _ _ (spot_is_local header outside past host object.0 object_page.0).bytes i) i
 spot_is_local header outside (event.Sent (Up at object) m ∷ past) host o p =
     sent (zeros header) header.size host o p (is_file header o) (last_control host o past) (spot header outside host o p past)
-    (local header.size host (record { object = o; page = p }) past) at object m past (spot_is_local header outside past host o p)
+    (local header host (record { object = o; page = p }) past) at object m past (spot_is_local header outside past host o p)
 spot_is_local header outside (event.Sent (Down at object number) m ∷ past) host o p =
     idle _ _ _ (spot header outside host o p past) _ _ (sent_down_idle (zeros header) (spot header outside host o p past) o p
     (at.0 == host && number == last_control host object.0 past) (is_said header outside object.0) object.0 m) (spot_is_local header outside past host o p)
@@ -425,19 +425,19 @@ spot_is_local header outside (event.Taken (Up at object) m ∷ past) host o p =
     (spot_is_local header outside past host o p)
 spot_is_local header outside (event.Taken (Down at object number) m ∷ past) host o p =
     took (zeros header) header.size host o p (is_file header o) (live_control host o past) (spot header outside host o p past)
-    (local header.size host (record { object = o; page = p }) past) at object number m past (spot_is_local header outside past host o p)
+    (local header host (record { object = o; page = p }) past) at object number m past (spot_is_local header outside past host o p)
 spot_is_local header outside (e ∷ past) host o p = spot_is_local header outside past host o p
 
 -- what causes say
 
 sent_founded : (header : Header) (doing : Command) (at : HostId) (object : ObjectId) (m : Message) (past : List Event)
-    → MaySendUp header doing at.0 object.0 m past → IsFounded header.size (event.Sent (Up at object) m) past
+    → MaySendUp header doing at.0 object.0 m past → IsFounded header (event.Sent (Up at object) m) past
 sent_founded header doing at object (message.Request number page access) past c = c.live
 sent_founded header doing at object (message.Terminate number) past c = c.live
 sent_founded header doing at object m past c = tt
 
 event_founded : (header : Header) (outside : Outside) (doing : Command) (e : Event) (past : List Event) → Caused header outside doing e past
-    → IsFounded header.size e past
+    → IsFounded header e past
 event_founded header outside doing (event.Raised at lower lower_page upper upper_page) past c = c.here
 event_founded header outside doing (event.CopiedPage task page object object_page target) past c = (c.waits.at.host, c.waits.at.lives, c.here)
 event_founded header outside doing (event.Stored task object page at bytes value) past c = (c.waits.at.host, c.waits.at.lives)
@@ -445,17 +445,17 @@ event_founded header outside doing (event.Sent (Up at object) m) past c = sent_f
 event_founded header outside doing (event.Sent (Down at object number) m) past c = tt
 event_founded header outside doing e past c = tt
 
-pub each_founded : (header : Header) (outside : Outside) (past : List Event) → EachEvent (HasCause header outside) past → EachEvent (IsFounded header.size) past
+pub each_founded : (header : Header) (outside : Outside) (past : List Event) → EachEvent (HasCause header outside) past → EachEvent (IsFounded header) past
 each_founded header outside [] caused = tt
 each_founded header outside (e ∷ past) caused = (event_founded header outside caused.0.0 e past caused.0.1, each_founded header outside past caused.1)
 
 -- of a private object a page is known absent where the host knows that
 pub known_absent : (header : Header) (outside : Outside) (past : List Event) (host o p : ℕ) → is_private header outside o ≡ true
     → (spot header outside host o p past).absent ≡ is_known_absent header (record { object = o; page = p })
-    (local header.size host (record { object = o; page = p }) past)
+    (local header host (record { object = o; page = p }) past)
 known_absent header outside past host o p ours =
     (spot_is_local header outside past host o p).absent
-    ∙ ap (λ (b : Bool). b && (local header.size host (record { object = o; page = p }) past).absent)
+    ∙ ap (λ (b : Bool). b && (local header host (record { object = o; page = p }) past).absent)
     (by_kind (nat_lt o (named header)) (is_file_kept (declared header o)) outside.paging ours)
   where
     by_kind : (below kept paging : Bool) → ((not below && paging) || (below && kept)) ≡ true → not (below && kept) ≡ not below

@@ -132,14 +132,14 @@ abbrev spot : ℕ → ℕ → Place
 spot o p = record { object = o; page = p }
 
 abbrev sources : Header → ℕ → List Event → Place → Local
-sources header host past = λ source. local header.size host source past
+sources header host past = λ source. local header host source past
 
 -- the object of a message on a channel
 object_is : (a h b o k n : ℕ) (x : Bool) → (a == h && (b == o && x)) ≡ true → b ≡ o
 object_is a h b o k n x is = grind (arith, nat_tests)
 
 event_plain : (header : Header) (outside : Outside) (host o p : ℕ) (e : Event) (past : List Event) → Plain header past → HasCause header outside e past
-    → is_paged header o ≡ true → IsPlain (effect host (spot o p) (sources header host past) e past)
+    → is_paged header o ≡ true → IsPlain (effect header host (spot o p) (sources header host past) e past)
 event_plain header outside host o p (event.Zeroed at object page) past was c paged = plain_if (at.0 == host && is_place (spot o p) object.0 page.0) Zeroes tt
 event_plain header outside host o p (event.Raised at lower lower_page upper upper_page) past was c paged =
     plain_if (at.0 == host && is_place (spot o p) upper.0 upper_page.0) (Raises _) tt
@@ -174,7 +174,7 @@ plain_of header outside (e ∷ past) caused =
     record {
       queued = λ h o k paged. queue_plain header outside h o k e past was caused.0 paged;
       here = λ h o p paged.
-          plain_moved header.size (effect h (spot o p) (sources header h past) e past) (page_on header h o p past)
+          plain_moved header.size (effect header h (spot o p) (sources header h past) e past) (page_on header h o p past)
           (event_plain header outside h o p e past was caused.0 paged) (was.here h o p paged);
     }
 

@@ -85,7 +85,7 @@ same_page header past at object host o p is away =
 
 sent_up : (header : Header) (host o p : ℕ) (at : HostId) (object : ObjectId) (m : Message) (past : List Event)
     → ((doing : Command) × MaySendUp header doing at.0 object.0 m past) → Was (page_on header host o p past) (live_control host o past)
-    → Stays header.size (effect host (record { object = o; page = p }) (λ source. local header.size host source past) (event.Sent (Up at object) m) past)
+    → Stays header.size (effect header host (record { object = o; page = p }) (λ source. local header host source past) (event.Sent (Up at object) m) past)
     (page_on header host o p past) (live_control host o (event.Sent (Up at object) m ∷ past))
 sent_up header host o p at object (message.Init control size) past c was =
     begins header.size (at.0 == host && object.0 == o) control (page_on header host o p past) (live_control host o past) was

@@ -305,7 +305,7 @@ lives : (control : ℕ) (live : Option ℕ) (b : Bool) → (is_control control l
 lives control None b is = absurd (let bad : false ≡ true = is in cc)
 lives control (Some k) b is = refl
 
-absence : (header : Header) (host o p : ℕ) (past : List Event) → absence_taken header.size past ≡ Some (absent host o p) → Absence host o past
+absence : (header : Header) (host o p : ℕ) (past : List Event) → absence_taken header past ≡ Some (absent host o p) → Absence host o past
 absence header host o p [] is = not_absent _ is
 absence header host o p (event.Line line ∷ past) is = not_absent _ is
 absence header host o p (event.Taken (Up at object) m ∷ past) is = not_absent _ is
@@ -327,7 +327,7 @@ none_some x none some = let bad : false ≡ true = sym (ap is_some none) ∙ som
 
 -- no declared object's control ends in such a step
 ends_never : {A : Type 0} (header : Header) (host o p : ℕ) (past : List Event) → EachEvent TakingKeeps past → BeforeSteps (Prompt header) past
-    → host < length header.frames.items → o < named header → absence_taken header.size past ≡ Some (absent host o p)
+    → host < length header.frames.items → o < named header → absence_taken header past ≡ Some (absent host o p)
     → IsUnheld header host o past → A
 ends_never header host o p past keeps prompt inside below is unheld =
     let was : Absence host o past = absence header host o p past is in
@@ -347,7 +347,7 @@ ended_lives false control live never is = is
 -- the control lives on, to the end of the step
 pub lives_on_then : (header : Header) (outside : Outside) (host o p : ℕ) (past : List Event) → EachEvent (HasCause header outside) past
     → EachEvent TakingKeeps past → BeforeSteps (Prompt header) past → host < length header.frames.items → o < named header
-    → absence_taken header.size past ≡ Some (absent host o p) → is_some (live_control host o past) ≡ true
+    → absence_taken header past ≡ Some (absent host o p) → is_some (live_control host o past) ≡ true
 lives_on_then header outside host o p [] caused keeps prompt inside below is = not_absent _ is
 lives_on_then header outside host o p (event.Line line ∷ past) caused keeps prompt inside below is = not_absent _ is
 lives_on_then header outside host o p (event.Taken channel m ∷ past) caused keeps prompt inside below is =

@@ -57,13 +57,13 @@ is_up (Some letter) = by_channel letter.channel
     by_channel (Down host object control) = false
 
 -- what a step took of a pager's word came down, not up
-came_down : (size : ℕ) (past : List Event) (a : Asked) (host object : ℕ) (m : Message) → absence_taken size past ≡ Some a
+came_down : (header : Header) (past : List Event) (a : Asked) (host object : ℕ) (m : Message) → absence_taken header past ≡ Some a
     → taken_letter past ≡ Some (record { channel = Up (record { 0 = host }) (record { 0 = object }); message = m }) → ⊥
-came_down size [] a host object m is up = not_absent a is
-came_down size (event.Line line ∷ past) a host object m is up = not_absent a is
-came_down size (event.Taken (Up at of) n ∷ past) a host object m is up = not_absent a is
-came_down size (event.Taken (Down at of control) n ∷ past) a host object m is up = absurd (let bad : false ≡ true = ap (λ l. is_up l) up in cc)
-came_down size (e ∷ past) a host object m is up = came_down size past a host object m is up
+came_down header [] a host object m is up = not_absent a is
+came_down header (event.Line line ∷ past) a host object m is up = not_absent a is
+came_down header (event.Taken (Up at of) n ∷ past) a host object m is up = not_absent a is
+came_down header (event.Taken (Down at of control) n ∷ past) a host object m is up = absurd (let bad : false ≡ true = ap (λ l. is_up l) up in cc)
+came_down header (e ∷ past) a host object m is up = came_down header past a host object m is up
 
 second : (a b : Bool) → (a && b) ≡ true → b ≡ true
 second true b is = is
@@ -79,17 +79,17 @@ number_is a b is = grind (arith, nat_tests)
 -- an answer cannot be sent in such a step
 sent_down_void : (header : Header) (outside : Outside) (doing : Command) (z : List ℕ) (s : Spot) (o p at object control : ℕ) (own tells : Bool) (m : Message)
     (past : List Event) (a : Asked)
-    → absence_taken header.size past ≡ Some a → ((object == o) ≡ true → MaySendDown header outside doing at object control m past)
+    → absence_taken header past ≡ Some a → ((object == o) ≡ true → MaySendDown header outside doing at object control m past)
     → (spot_after z s (effect_sent_down o p own tells object m)).void ≡ s.void
 sent_down_void header outside doing z s o p at object control own tells (message.Supply page lock precious bytes) past a is c =
     void_if z s (own && (object == o && page.0 == p)) (Answers tells (Supplying bytes)) Nothing
-    (λ b. absurd (came_down header.size past a at object _ is (c (first (object == o) (page.0 == p) (second own _ b))).0.taken)) refl
+    (λ b. absurd (came_down header past a at object _ is (c (first (object == o) (page.0 == p) (second own _ b))).0.taken)) refl
 sent_down_void header outside doing z s o p at object control own tells (message.Unavailable page) past a is c =
     void_if z s (own && (object == o && page.0 == p)) (Answers tells Unavailing) Nothing
-    (λ b. absurd (came_down header.size past a at object _ is (c (first (object == o) (page.0 == p) (second own _ b))).0.taken)) refl
+    (λ b. absurd (came_down header past a at object _ is (c (first (object == o) (page.0 == p) (second own _ b))).0.taken)) refl
 sent_down_void header outside doing z s o p at object control own tells (message.Error page reason) past a is c =
     void_if z s (own && (object == o && page.0 == p)) (Answers tells Erring) Nothing
-    (λ b. absurd (came_down header.size past a at object _ is (c (first (object == o) (page.0 == p) (second own _ b))).0.taken)) refl
+    (λ b. absurd (came_down header past a at object _ is (c (first (object == o) (page.0 == p) (second own _ b))).0.taken)) refl
 sent_down_void header outside doing z s o p at object control own tells other past a is c = refl
 
 zeroed_void : (z : List ℕ) (s : Spot) (own here : Bool) → here ≡ false → (spot_after z s (if own && here then Zeroes else Nothing)).void ≡ s.void
@@ -153,7 +153,7 @@ took_void header outside host o p control past file counts =
 
 taken_void : (header : Header) (outside : Outside) (host o p : ℕ) (at : HostId) (object : ObjectId) (control : ℕ) (m : Message) (past : List Event)
     → is_file header o ≡ true
-    → absence_taken header.size (event.Taken (Down at object control) m ∷ past) ≡ Some (absent host o p)
+    → absence_taken header (event.Taken (Down at object control) m ∷ past) ≡ Some (absent host o p)
     → (spot header outside host o p (event.Taken (Down at object control) m ∷ past)).void ≡ true
 taken_void header outside host o p at object control (message.Unavailable page) past file is =
     let c : Came host o p at.0 object.0 page.0 (is_control control (live_control at.0 object.0 past) && (page_on header at.0 object.0 page.0 past).asked) = came
@@ -173,7 +173,7 @@ taken_void header outside host o p at object control (message.Unavailable page) 
 taken_void header outside host o p at object control other past file is = not_absent _ is
 
 pub void_is : (header : Header) (outside : Outside) (host o p : ℕ) (past : List Event) → EachEvent (HasCause header outside) past → is_file header o ≡ true
-    → absence_taken header.size past ≡ Some (absent host o p) → since (zeroes o p) past ≡ false → (spot header outside host o p past).void ≡ true
+    → absence_taken header past ≡ Some (absent host o p) → since (zeroes o p) past ≡ false → (spot header outside host o p past).void ≡ true
 void_is header outside host o p [] caused file is none = not_absent _ is
 void_is header outside host o p (event.Line line ∷ past) caused file is none = not_absent _ is
 void_is header outside host o p (event.Taken (Up at object) m ∷ past) caused file is none = not_absent _ is

@@ -48,12 +48,12 @@ pub fn loads_answer()
 pub fn places_are_local()
     ensures page { (header : Header) (outside : Outside) (history : List Event) (host o p : ℕ)
         → SpotIsLocal (is_file header o) (last_control host o history) (live_control host o history) (spot header outside host o p history)
-        (local header.size host (record { object = o; page = p }) history) }
+        (local header host (record { object = o; page = p }) history) }
     ensures known_absent { (header : Header) (outside : Outside) (history : List Event) (host o p : ℕ) → is_private header outside o ≡ true
         → (spot header outside host o p history).absent ≡ is_known_absent header (record { object = o; page = p })
-        (local header.size host (record { object = o; page = p }) history) }
+        (local header host (record { object = o; page = p }) history) }
     ensures founded { (header : Header) (outside : Outside) (history : List Event)
-        → EachEvent (HasCause header outside) history → EachEvent (IsFounded header.size) history }
+        → EachEvent (HasCause header outside) history → EachEvent (IsFounded header) history }
 {}
 
 /// What a file's pager took last is the flat map's page, where the file is told, no changed copy of the page

@@ -9,7 +9,6 @@ pub use Rattle.std.proofs.lemmas.Option.{same_Some, slice_get_read, slice_get_wi
 pub use Rattle.std.specs.Prelude.{IfSome, MatchOption, if◌then◌else◌, is_some, nat_lt, not, reverse, slice_get, ◌⊎◌, ◌||◌}
 pub use Rattle.vm_abroad.proofs.Sounds.{sound_start}
 pub use Rattle.vm_abroad.proofs.Whose.{abroad_of_own, own_of_home}
-pub use Rattle.vm_abroad.specs.Home.{copying_host, first_of as first_home, home_of}
 pub use Rattle.vm_abroad.specs.Sound.{IsAbroad}
 pub use Rattle.vm_abroad.specs.Whose.{IsNewTask, IsOfHost}
 pub use Rattle.vm_base.specs.declared.code.Code.{Code}
@@ -52,6 +51,7 @@ pub use Rattle.vm_legal.specs.Steps.{before_step, fails_task, just_begun}
 pub use Rattle.vm_legal.specs.Stretches.{AllInner, EachIn, EachOf, MomentsIn}
 pub use Rattle.vm_legal.specs.Used.{in_use}
 pub use Rattle.vm_maps.specs.Maps.{entries_in}
+pub use Rattle.vm_model.specs.Homes.{copying_host, first_of as first_home, home_of}
 pub use Rattle.vm_model.specs.Local.{is_on}
 pub use Rattle.vm_model.specs.Named.{named}
 pub use Rattle.vm_model.specs.Ranges.{InRange}

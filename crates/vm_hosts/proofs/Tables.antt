@@ -47,13 +47,13 @@ common_all header hosts past all =
 pub all_suffice : (header : Header) (hosts : HostTable) (past : List Event) → AllRest header hosts past → FramesSuffice header past
 all_suffice header hosts past all g = by_frames (slice_get (reverse header.frames.items) g) refl
   where
-    by_frames : (x : Option ℕ) → slice_get (reverse header.frames.items) g ≡ x → IfSome x (λ frames. frames_used header.size g past ≤ frames)
+    by_frames : (x : Option ℕ) → slice_get (reverse header.frames.items) g ≡ x → IfSome x (λ frames. frames_used header g past ≤ frames)
     by_frames None is = tt
     by_frames (Some frames) is =
         let within = slice_get_within (reverse header.frames.items) g frames is in
         let same = length-reverse header.frames.items in
         let some = kernel_of header hosts past all g (omega (arith, within, same)) in
-        subst (λ (z : Option ℕ). IfSome z (λ most. frames_used header.size g past ≤ most)) is
+        subst (λ (z : Option ℕ). IfSome z (λ most. frames_used header g past ≤ most)) is
         (suffices header g some.0.memory.frames past (all.rests g some.0 some.1).matches.frames)
 
 -- the kernel of a host, which goes by its own number

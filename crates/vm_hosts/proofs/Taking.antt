@@ -105,7 +105,7 @@ ends_went header outside doing past old new hosts went ends =
 absence_paid : (header : Header) (more past : List Event) → AllInner more → IsAbsencePaid header past → IsAbsencePaid header (more ++ past)
 absence_paid header more past inner paid =
     λ host object page declared is. since_more (zeroes object page) more past inner
-    (paid host object page declared (sym (absence_more header.size more past inner) ∙ is))
+    (paid host object page declared (sym (absence_more header more past inner) ∙ is))
 
 lock_paid : (header : Header) (more past : List Event) → AllInner more → IsLockPaid header past → IsLockPaid header (more ++ past)
 lock_paid header more past inner paid = λ request is. locked_more header request more past inner (paid request (sym (lock_more more past inner) ∙ is))

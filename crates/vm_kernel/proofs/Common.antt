@@ -17,7 +17,7 @@ pub use Rattle.vm_abroad.proofs.Home.{home_entered, home_stays, homes_next, home
 pub use Rattle.vm_abroad.proofs.Pages.{pages_abroad}
 pub use Rattle.vm_abroad.proofs.Sounds.{both_left, one_home, sound_next, use_of, used_of}
 pub use Rattle.vm_abroad.proofs.Waits.{leads_now, swept_now, vain_now}
-pub use Rattle.vm_abroad.specs.Home.{HaveHomes, home_of, object_home}
+pub use Rattle.vm_abroad.specs.Home.{HaveHomes}
 pub use Rattle.vm_abroad.specs.Same.{SameFacts, SameForHost}
 pub use Rattle.vm_abroad.specs.Sound.{IsAbroad, IsAmong, IsHeldOn, IsRegionOf, Knows, Sound, holds}
 pub use Rattle.vm_abroad.specs.Whose.{IsOfHost, IsShut}
@@ -71,6 +71,7 @@ pub use Rattle.vm_maps.specs.declared.change.MapChange.{MapChange}
 pub use Rattle.vm_maps.specs.declared.place.Place.{Place}
 pub use Rattle.vm_model.specs.Bytes.{number_at}
 pub use Rattle.vm_model.specs.Controls.{is_control, last_control, live_control, without_control}
+pub use Rattle.vm_model.specs.Homes.{home_of, object_home}
 pub use Rattle.vm_model.specs.Local.{Asks, Begins, Drops, Elsewhere, Ends, Local, LocalEffect, Raises, Returns, Stores, TakesError, TakesLock, TakesNothing}
 pub use Rattle.vm_model.specs.Local.{TakesPage, Unlocks, Zeroes, away, is_known_absent, is_on, local, local_after, local_with_page, taken_effect}
 pub use Rattle.vm_model.specs.Named.{named}

@@ -9,6 +9,7 @@ use Rattle.vm_model.specs.declared.event.Event.{Event}
 use Rattle.vm_model.specs.declared.script.Declared.{Declared}
 use Rattle.vm_model.specs.declared.script.Header.{Header}
 use Rattle.vm_model.specs.Controls.{last_control, live_control}
+use Rattle.vm_model.specs.Homes.{home_of, object_home}
 use Rattle.vm_model.specs.Ranges.{IsBetween}
 use Rattle.vm_model.specs.Local.{local}
 use Rattle.vm_model.specs.Named.{named}
@@ -21,7 +22,7 @@ use Rattle.vm_legal.specs.Licences.{LockRequest, lock_taken, owed}
 use Rattle.vm_legal.specs.Living.{tasks as made_tasks}
 use Rattle.vm_legal.specs.Steps.{completes, since}
 use Rattle.vm_legal.specs.Used.{in_use}
-use Rattle.vm_abroad.specs.Home.{HaveHomes, home_of, object_home}
+use Rattle.vm_abroad.specs.Home.{HaveHomes}
 use Rattle.vm_state.specs.References.{AllReferred}
 use Rattle.vm_state.specs.Filling.{AllUsed, HasCopies}
 use Rattle.vm_state.specs.Stands.{AreShared, HasControls, HasEntries, HasFrames, HasHomes, HasKinds, HasLaundry, HasPages, HasRegions, HasTasks, HasUse}
@@ -85,7 +86,7 @@ pub record Matches (header : Header) (h : ℕ) (k : Parts) (ids : Ids) (gone : L
   pub files : KnowsFiles header h k.memory.objects (λ o. home_of o past)
   pub entries : HasEntries header.size k.maps k.chains gone
   pub shared : AreShared (named header) k.maps
-  pub pages : HasPages k.memory.frames k.memory.resident k.memory.objects (λ o p. known_local header o p (local header.size h (place_of o p) past))
+  pub pages : HasPages k.memory.frames k.memory.resident k.memory.objects (λ o p. known_local header o p (local header h (place_of o p) past))
   pub uses : HasUse header k.maps k.waits.rows (λ r. in_use header h r past) (made_tasks past) (λ task r. holds header.size task r past)
       (next_region header past)
   pub controls : HasControls (named header) h k.memory.objects (λ o. last_control h o past) (λ o. live_control h o past) (λ o. is_ready h o past)
@@ -93,7 +94,7 @@ pub record Matches (header : Header) (h : ℕ) (k : Parts) (ids : Ids) (gone : L
   pub settled : IsSettled past
   pub replied : IsReplied past
   pub laundry : HasLaundry k.memory.frames k.memory.resident k.laundry (returns_out h past)
-  pub frames : HasFrames (slice_get (reverse header.frames.items) h) k.memory.frames (frames_held header.size h past) (frames_wired h past)
+  pub frames : HasFrames (slice_get (reverse header.frames.items) h) k.memory.frames (frames_held header h past) (frames_wired h past)
 
 -- the accesses that wait, of a kernel with these maps, regions, pages and objects; some may have been woken
 abbrev pub HasWaits : Header → ℕ → Parts → Woken → List Event → Type 0

@@ -47,8 +47,8 @@ is_away (Some row) = not row.here
 
 -- the step took the error that ends those who wait for a page; or it took none that counts
 abbrev pub FailsNow : Header → ℕ → Woken → List Event → Type 0
-FailsNow header h (woken.Fails key) past = error_taken header.size past ≡ Some (record { host = h; object = key.object.0; page = key.page.0 })
-FailsNow header h other past = error_taken header.size past ≡ None
+FailsNow header h (woken.Fails key) past = error_taken header past ≡ Some (record { host = h; object = key.object.0; page = key.page.0 })
+FailsNow header h other past = error_taken header past ≡ None
 
 -- what is told of a step whose error ends those who wait for a page
 pub record Erring : Type 0 where
@@ -102,20 +102,20 @@ KeepsAskers (woken.Page key) old new = Unit {0}
 -- an error that the step took has ended each access that waited for its page
 abbrev pub EndsEach : Header → List Waiting → List Event → Type 0
 EndsEach header rows past =
-    (host object page t : ℕ) (w : Waiting) → error_taken header.size past ≡ Some (record { host = host; object = object; page = page }) → entry rows t ≡ Some w
+    (host object page t : ℕ) (w : Waiting) → error_taken header past ≡ Some (record { host = host; object = object; page = page }) → entry rows t ≡ Some w
     → w.on ≡ on.Page (page_key object page)
     → since (fails_task t object page) past ≡ true
 
 -- an error that the step took has ended some access
 abbrev pub IsErrorPaid : Header → List Event → Type 0
 IsErrorPaid header past =
-    (host object page : ℕ) → error_taken header.size past ≡ Some (record { host = host; object = object; page = page })
+    (host object page : ℕ) → error_taken header past ≡ Some (record { host = host; object = object; page = page })
     → since (fails_access object page) past ≡ true
 
 -- zeros have come where the step took the word of a declared object's pager that it has no such page
 abbrev pub IsAbsencePaid : Header → List Event → Type 0
 IsAbsencePaid header past =
-    (host object page : ℕ) → object < named header → absence_taken header.size past ≡ Some (record { host = host; object = object; page = page })
+    (host object page : ℕ) → object < named header → absence_taken header past ≡ Some (record { host = host; object = object; page = page })
     → since (zeroes object page) past ≡ true
 
 -- a lock request that the step took is obeyed

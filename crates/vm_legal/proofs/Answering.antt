@@ -68,8 +68,8 @@ test_of test (Some letter) = test letter.message
 pub record Did (header : Header) (host o : ℕ) (m : Message) (now : List Event) : Type 0 where
   pub none_owed : owed now ≡ None
   pub took : taken_letter now ≡ Some (record { channel = up host o; message = m })
-  pub no_error : error_taken header.size now ≡ None
-  pub no_absence : absence_taken header.size now ≡ None
+  pub no_error : error_taken header now ≡ None
+  pub no_absence : absence_taken header now ≡ None
   pub ready : opens m ≡ true → since (readies o) now ≡ true
   pub answered : (p : ℕ) → asks p m ≡ true → since (answers o p) now ≡ true
   pub lacking : (p : ℕ) → named header ≤ o → returns p m ≡ true → LacksSlot header host o p (before_step now) → since (lacks_slot o p) now ≡ true
@@ -132,7 +132,7 @@ ready_paid header host o at object control strategy m past own unasked unreturne
 -- a request was answered
 pub request_paid : (header : Header) (host o control : ℕ) (page : PageNo) (access : ℕ) (now : List Event) → owed now ≡ None
     → taken_letter now ≡ Some (record { channel = up host o; message = message.Request control page access })
-    → error_taken header.size now ≡ None → absence_taken header.size now ≡ None
+    → error_taken header now ≡ None → absence_taken header now ≡ None
     → ((p : ℕ) → (page.0 == p) ≡ true → since (answers o p) now ≡ true) → IsPaid header now
 request_paid header host o control page access now none took no_error no_absence answered =
     paid_of header host o (message.Request control page access) now (record {
@@ -148,7 +148,7 @@ request_paid header host o control page access now none took no_error no_absence
 -- a page was returned, and a slot that it lacks was told
 pub return_paid : (header : Header) (host o control : ℕ) (page : PageNo) (dirty keep : Bool) (bytes : List ℕ) (now : List Event) → owed now ≡ None
     → taken_letter now ≡ Some (record { channel = up host o; message = message.Return control page dirty keep bytes })
-    → error_taken header.size now ≡ None → absence_taken header.size now ≡ None
+    → error_taken header now ≡ None → absence_taken header now ≡ None
     → ((p : ℕ) → named header ≤ o → (page.0 == p) ≡ true → LacksSlot header host o p (before_step now) → since (lacks_slot o p) now ≡ true)
     → IsPaid header now
 return_paid header host o control page dirty keep bytes now none took no_error no_absence lacking =

@@ -2,6 +2,7 @@
 use Rattle.std.proofs.Common.{◌≡◌, ℕ, ◌||◌, Bool, true, false, List, [], ◌∷◌, ◌++◌, refl, ◌∙◌}
 use Rattle.vm_model.specs.declared.event.Event.{Event}
 use Rattle.vm_model.specs.declared.event.Event.TheVariants as event
+use Rattle.vm_model.specs.declared.script.Header.{Header}
 use Rattle.vm_legal.specs.Steps.{absence_taken, before_step, error_taken, since, taken_letter, takings}
 use Rattle.vm_legal.specs.Stretches.{AllInner, IsInner}
 
@@ -14,23 +15,23 @@ pub taken_more : (events past : List Event) → AllInner events → taken_letter
 taken_more [] past inner = refl
 taken_more (e ∷ events) past inner = taken_inner e (events ++ past) inner.0 ∙ taken_more events past inner.1
 
-error_inner : (size : ℕ) (e : Event) (past : List Event) → IsInner e → error_taken size (e ∷ past) ≡ error_taken size past
-error_inner size (event.Line line) past inner = absurd inner
-error_inner size (event.Taken channel m) past inner = absurd inner
-error_inner size other past inner = refl
+error_inner : (header : Header) (e : Event) (past : List Event) → IsInner e → error_taken header (e ∷ past) ≡ error_taken header past
+error_inner header (event.Line line) past inner = absurd inner
+error_inner header (event.Taken channel m) past inner = absurd inner
+error_inner header other past inner = refl
 
-pub error_more : (size : ℕ) (events past : List Event) → AllInner events → error_taken size (events ++ past) ≡ error_taken size past
-error_more size [] past inner = refl
-error_more size (e ∷ events) past inner = error_inner size e (events ++ past) inner.0 ∙ error_more size events past inner.1
+pub error_more : (header : Header) (events past : List Event) → AllInner events → error_taken header (events ++ past) ≡ error_taken header past
+error_more header [] past inner = refl
+error_more header (e ∷ events) past inner = error_inner header e (events ++ past) inner.0 ∙ error_more header events past inner.1
 
-absence_inner : (size : ℕ) (e : Event) (past : List Event) → IsInner e → absence_taken size (e ∷ past) ≡ absence_taken size past
-absence_inner size (event.Line line) past inner = absurd inner
-absence_inner size (event.Taken channel m) past inner = absurd inner
-absence_inner size other past inner = refl
+absence_inner : (header : Header) (e : Event) (past : List Event) → IsInner e → absence_taken header (e ∷ past) ≡ absence_taken header past
+absence_inner header (event.Line line) past inner = absurd inner
+absence_inner header (event.Taken channel m) past inner = absurd inner
+absence_inner header other past inner = refl
 
-pub absence_more : (size : ℕ) (events past : List Event) → AllInner events → absence_taken size (events ++ past) ≡ absence_taken size past
-absence_more size [] past inner = refl
-absence_more size (e ∷ events) past inner = absence_inner size e (events ++ past) inner.0 ∙ absence_more size events past inner.1
+pub absence_more : (header : Header) (events past : List Event) → AllInner events → absence_taken header (events ++ past) ≡ absence_taken header past
+absence_more header [] past inner = refl
+absence_more header (e ∷ events) past inner = absence_inner header e (events ++ past) inner.0 ∙ absence_more header events past inner.1
 
 before_inner : (e : Event) (past : List Event) → IsInner e → before_step (e ∷ past) ≡ before_step past
 before_inner (event.Line line) past inner = absurd inner

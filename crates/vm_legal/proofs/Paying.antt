@@ -24,7 +24,7 @@ waiters_more header host object page events past inner was = λ task stops frees
 
 pub ends_more : (header : Header) (events past : List Event) → AllInner events → EndsAll header past → EndsAll header (events ++ past)
 ends_more header events past inner ends host object page is =
-    waiters_more header host object page events past inner (ends host object page (sym (error_more header.size events past inner) ∙ is))
+    waiters_more header host object page events past inner (ends host object page (sym (error_more header events past inner) ∙ is))
 
 lock_inner : (e : Event) (past : List Event) → IsInner e → lock_taken (e ∷ past) ≡ lock_taken past
 lock_inner (event.Line line) past inner = absurd inner
@@ -69,10 +69,10 @@ paid_more header events past inner paid none =
           (paid.request host object control page access paged (sym same ∙ is));
       error =
           λ host object page is. since_more (fails_access object page) events past inner
-          (paid.error host object page (sym (error_more header.size events past inner) ∙ is));
+          (paid.error host object page (sym (error_more header events past inner) ∙ is));
       absence =
           λ host object page declared is. since_more (zeroes object page) events past inner
-          (paid.absence host object page declared (sym (absence_more header.size events past inner) ∙ is));
+          (paid.absence host object page declared (sym (absence_more header events past inner) ∙ is));
       lock = λ request is. locked_more header request events past inner (paid.lock request (sym (lock_more events past inner) ∙ is));
       slot = λ host object control page dirty keep bytes temporary is lacks.
           since_more (lacks_slot object page) events past inner

@@ -42,12 +42,12 @@ pub record IsPaid (header : Header) (past : List Event) : Type 0 where
       → taken_letter past ≡ Some (record { channel = up host object; message = message.Request control (record { 0 = page }) access })
       → since (answers object page) past ≡ true
   -- an error ends some access
-  pub error : (host object page : ℕ) → error_taken header.size past ≡ Some (record { host = host; object = object; page = page })
+  pub error : (host object page : ℕ) → error_taken header past ≡ Some (record { host = host; object = object; page = page })
       → since (fails_access object page) past ≡ true
   -- a lock_request is obeyed
   pub lock : (request : LockRequest) → lock_taken past ≡ Some request → HasLocked header request past
   -- where a pager has no page of a declared object, zeros come
-  pub absence : (host object page : ℕ) → object < named header → absence_taken header.size past ≡ Some (record { host = host; object = object; page = page })
+  pub absence : (host object page : ℕ) → object < named header → absence_taken header past ≡ Some (record { host = host; object = object; page = page })
       → since (zeroes object page) past ≡ true
   -- a returned page for which there is no slot is told of
   pub slot : (host object control page : ℕ) (dirty keep : Bool) (bytes : List ℕ) → named header ≤ object

@@ -35,17 +35,17 @@ taken_down_change asked (message.Unavailable page) = change_where (asked page.0)
 taken_down_change asked (message.Error page reason) = change_where (asked page.0) Gives
 taken_down_change asked other = Keeps
 
-abbrev pub change : ℕ → ℕ → Event → List Event → FrameChange
-change size host (event.Zeroed at object page) past = change_where (at.0 == host) Takes
-change size host (event.Raised at lower lower_page upper upper_page) past = change_where (at.0 == host) Takes
-change size host (event.CopiedPage task page object object_page target) past = change_where (lives_on host task.0 past) Takes
-change size host (event.Dropped at object page) past = change_where (at.0 == host) Gives
-change size host (event.Sent (Up at object) m) past = sent_up_change (at.0 == host) m
-change size host (event.Taken (Up at object) m) past = taken_up_change (at.0 == host) m
-change size host (event.Taken (Down at object control) m) past =
+abbrev pub change : Header → ℕ → Event → List Event → FrameChange
+change header host (event.Zeroed at object page) past = change_where (at.0 == host) Takes
+change header host (event.Raised at lower lower_page upper upper_page) past = change_where (at.0 == host) Takes
+change header host (event.CopiedPage task page object object_page target) past = change_where (lives_on host task.0 past) Takes
+change header host (event.Dropped at object page) past = change_where (at.0 == host) Gives
+change header host (event.Sent (Up at object) m) past = sent_up_change (at.0 == host) m
+change header host (event.Taken (Up at object) m) past = taken_up_change (at.0 == host) m
+change header host (event.Taken (Down at object control) m) past =
     taken_down_change (λ page. at.0 == host && (is_control control (live_control host object.0 past) &&
-    (local size host (record { object = object.0; page = page }) past).asked)) m
-change size host e past = Keeps
+    (local header host (record { object = object.0; page = page }) past).asked)) m
+change header host e past = Keeps
 
 abbrev pub frames_after : FrameChange → ℕ → ℕ
 frames_after Takes held = held + 1
@@ -53,9 +53,9 @@ frames_after Gives held = held - 1
 frames_after Keeps held = held
 
 -- the frames of pages that are here or asked, and of returns that their pagers did not take yet
-abbrev pub frames_held : ℕ → ℕ → List Event → ℕ
-frames_held size host [] = 0
-frames_held size host (e ∷ past) = frames_after (change size host e past) (frames_held size host past)
+abbrev pub frames_held : Header → ℕ → List Event → ℕ
+frames_held header host [] = 0
+frames_held header host (e ∷ past) = frames_after (change header host e past) (frames_held header host past)
 
 -- how many are wired: what was told last
 abbrev pub frames_wired : ℕ → List Event → ℕ
@@ -63,12 +63,12 @@ frames_wired host [] = 0
 frames_wired host (event.Wired at count ∷ past) = if at.0 == host then count else frames_wired host past
 frames_wired host (e ∷ past) = frames_wired host past
 
-abbrev pub frames_used : ℕ → ℕ → List Event → ℕ
-frames_used size host past = frames_held size host past + frames_wired host past
+abbrev pub frames_used : Header → ℕ → List Event → ℕ
+frames_used header host past = frames_held header host past + frames_wired host past
 
 -- a host uses no more frames than it has
 abbrev pub Suffice : Header → ℕ → List Event → Type 0
-Suffice header host past = IfSome (slice_get (reverse header.frames.items) host) (λ frames. frames_used header.size host past ≤ frames)
+Suffice header host past = IfSome (slice_get (reverse header.frames.items) host) (λ frames. frames_used header host past ≤ frames)
 
 -- no host does
 abbrev pub FramesSuffice : Header → List Event → Type 0
@@ -78,7 +78,7 @@ abbrev pub frames_of : Header → ℕ → ℕ
 frames_of header host = unwrap_or (slice_get (reverse header.frames.items) host) 0
 
 abbrev pub frames_free : Header → ℕ → List Event → ℕ
-frames_free header host past = frames_of header host - frames_used header.size host past
+frames_free header host past = frames_of header host - frames_used header host past
 
 -- the returns without a copy that the host sent and whose pagers did not take them yet
 abbrev pub returns_out : ℕ → List Event → ℕ

@@ -95,7 +95,7 @@ EndsWaiters header host object page past =
 -- whichever error the step took
 abbrev pub EndsAll : Header → List Event → Type 0
 EndsAll header past =
-    (host object page : ℕ) → error_taken header.size past ≡ Some (record { host = host; object = object; page = page })
+    (host object page : ℕ) → error_taken header past ≡ Some (record { host = host; object = object; page = page })
     → EndsWaiters header host object page past
 
 -- a task of the host waits whose walk comes to a page that is here, and whose lock lets it in

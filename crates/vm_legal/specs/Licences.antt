@@ -95,7 +95,7 @@ zeroes o p other = false
 -- zeros come, once, to an asked page of a declared object of which the step took its pager's word that there is none
 pub record Fills (header : Header) (host object page : ℕ) (past : List Event) : Type 0 where
   pub declared : object < named header
-  pub void : absence_taken header.size past ≡ Some (record { host = host; object = object; page = page })
+  pub void : absence_taken header past ≡ Some (record { host = host; object = object; page = page })
   pub once : since (zeroes object page) past ≡ false
   pub away : (page_on header host object page past).here ≡ false
   pub unasked : (page_on header host object page past).asked ≡ false
@@ -130,7 +130,7 @@ pub record EndsCopy (header : Header) (task : ℕ) (past : List Event) : Type 0 
 pub record Fails (header : Header) (task object page : ℕ) (past : List Event) : Type 0 where
   pub access : Access
   pub waits : Waits header task access past
-  pub error : error_taken header.size past ≡ Some (record { host = waits.at.host; object = object; page = page })
+  pub error : error_taken header past ≡ Some (record { host = waits.at.host; object = object; page = page })
   pub place : HasPlace header waits.at.entry.region.0 (page_of header task access past waits.at.entry) object page past
 
 -- 3 for a store on its top place, and 1 for everything else

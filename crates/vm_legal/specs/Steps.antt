@@ -10,6 +10,7 @@ use Rattle.vm_model.specs.declared.message.Channel.{Channel}
 use Rattle.vm_model.specs.declared.message.Channel.TheVariants.{Up, Down}
 use Rattle.vm_model.specs.declared.message.Message.{Message}
 use Rattle.vm_model.specs.declared.message.Message.TheVariants as message
+use Rattle.vm_model.specs.declared.script.Header.{Header}
 use Rattle.vm_model.specs.Controls.{is_control, live_control}
 use Rattle.vm_model.specs.Local.{local}
 
@@ -155,28 +156,28 @@ error_of host object asked (message.Error page reason) = if asked page.0 then So
 error_of host object asked other = None
 
 -- the asked page for which the step took an error
-abbrev pub error_taken : ℕ → List Event → Option Asked
-error_taken size [] = None
-error_taken size (event.Line line ∷ past) = None
-error_taken size (event.Taken (Down host object control) m ∷ past) =
+abbrev pub error_taken : Header → List Event → Option Asked
+error_taken header [] = None
+error_taken header (event.Line line ∷ past) = None
+error_taken header (event.Taken (Down host object control) m ∷ past) =
     error_of host.0 object.0 (λ page. is_control control (live_control host.0 object.0 past) &&
-    (local size host.0 (record { object = object.0; page = page }) past).asked) m
-error_taken size (event.Taken channel m ∷ past) = None
-error_taken size (e ∷ past) = error_taken size past
+    (local header host.0 (record { object = object.0; page = page }) past).asked) m
+error_taken header (event.Taken channel m ∷ past) = None
+error_taken header (e ∷ past) = error_taken header past
 
 abbrev pub absence_of : ℕ → ℕ → (ℕ → Bool) → Message → Option Asked
 absence_of host object asked (message.Unavailable page) = if asked page.0 then Some (record { host = host; object = object; page = page.0 }) else None
 absence_of host object asked other = None
 
 -- the asked page of which the step took the word that the pager has none
-abbrev pub absence_taken : ℕ → List Event → Option Asked
-absence_taken size [] = None
-absence_taken size (event.Line line ∷ past) = None
-absence_taken size (event.Taken (Down host object control) m ∷ past) =
+abbrev pub absence_taken : Header → List Event → Option Asked
+absence_taken header [] = None
+absence_taken header (event.Line line ∷ past) = None
+absence_taken header (event.Taken (Down host object control) m ∷ past) =
     absence_of host.0 object.0 (λ page. is_control control (live_control host.0 object.0 past) &&
-    (local size host.0 (record { object = object.0; page = page }) past).asked) m
-absence_taken size (event.Taken channel m ∷ past) = None
-absence_taken size (e ∷ past) = absence_taken size past
+    (local header host.0 (record { object = object.0; page = page }) past).asked) m
+absence_taken header (event.Taken channel m ∷ past) = None
+absence_taken header (e ∷ past) = absence_taken header past
 
 -- the events in front of the present step
 abbrev pub before_step : List Event → List Event

@@ -50,7 +50,7 @@ pub record IsTop (region : Region) (index o p : ℕ) : Type 0 where
 
 -- what the host has of the page
 abbrev pub page_on : Header → ℕ → ℕ → ℕ → List Event → Local
-page_on header host o p past = local header.size host (record { object = o; page = p }) past
+page_on header host o p past = local header host (record { object = o; page = p }) past
 
 -- what a walk sees of it: a pager may have a page that is not known absent, where the host has a live control
 abbrev pub sight : Header → ℕ → ℕ → ℕ → List Event → Sight

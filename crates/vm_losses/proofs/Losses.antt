@@ -177,20 +177,20 @@ taken_place header h o asked (message.Error page reason) past place fits is tame
     by false found = absurd (let bad : None ≡ Some place = found in cc)
 taken_place header h o asked m past place fits is tame = absurd (let bad : None ≡ Some place = is in cc)
 
-error_fits : (header : Header) (outside : Outside) (size : ℕ) (past : List Event) (place : Asked) → EachEvent (HasCause header outside) past
+error_fits : (header : Header) (outside : Outside) (past : List Event) (place : Asked) → EachEvent (HasCause header outside) past
     → ever is_device_event past ≡ false
-    → error_taken size past ≡ Some place → is_wild header place.object ≡ false → ever (lacks_slot place.object place.page) past ≡ true
-error_fits header outside size [] place causes none is tame = absurd (let bad : None ≡ Some place = is in cc)
-error_fits header outside size (event.Line line ∷ past) place causes none is tame = absurd (let bad : None ≡ Some place = is in cc)
-error_fits header outside size (event.Taken (Up host object) m ∷ past) place causes none is tame = absurd (let bad : None ≡ Some place = is in cc)
-error_fits header outside size (event.Taken (Down host object control) m ∷ past) place causes none is tame =
+    → error_taken header past ≡ Some place → is_wild header place.object ≡ false → ever (lacks_slot place.object place.page) past ≡ true
+error_fits header outside [] place causes none is tame = absurd (let bad : None ≡ Some place = is in cc)
+error_fits header outside (event.Line line ∷ past) place causes none is tame = absurd (let bad : None ≡ Some place = is in cc)
+error_fits header outside (event.Taken (Up host object) m ∷ past) place causes none is tame = absurd (let bad : None ≡ Some place = is in cc)
+error_fits header outside (event.Taken (Down host object control) m ∷ past) place causes none is tame =
     let fits : FitsError header object.0 past m = first_fits header (Down host object control) past (queue (Down host object control) past) m
     (queue_fits header outside (Down host object control) past causes.1 none) causes.0.1.0 in
     taken_place header host.0 object.0 _ m past place fits is tame
-error_fits header outside size (event.DeviceFailed who way object page ∷ past) place causes none is tame = never (sym none)
-error_fits header outside size (e ∷ past) place causes none is tame =
+error_fits header outside (event.DeviceFailed who way object page ∷ past) place causes none is tame = never (sym none)
+error_fits header outside (e ∷ past) place causes none is tame =
     or_right (lacks_slot place.object place.page e) (ever (lacks_slot place.object place.page) past)
-    (error_fits header outside size past place causes.1 none is tame)
+    (error_fits header outside past place causes.1 none is tame)
 
 pub fails_unslotted : (header : Header) (outside : Outside) (history : List Event) → EachEvent (HasCause header outside) history
     → ever is_device_event history ≡ false → EachEvent (FailsUnslotted header) history
@@ -199,7 +199,7 @@ fails_unslotted header outside (event.Failed task object page ∷ past) causes n
   where
     now : is_wild header object.0 ≡ false → (named header ≤ object.0) × (ever (lacks_slot object.0 page.0) past ≡ true)
     now tame =
-        let lost : ever (lacks_slot object.0 page.0) past ≡ true = error_fits header outside header.size past _ causes.1 none causes.0.1.error tame in
+        let lost : ever (lacks_slot object.0 page.0) past ≡ true = error_fits header outside past _ causes.1 none causes.0.1.error tame in
         (slotless_temporary header outside object.0 page.0 past causes.1 lost, lost)
 fails_unslotted header outside (event.DeviceFailed who way object page ∷ past) causes none = never (sym none)
 fails_unslotted header outside (e ∷ past) causes none = (tt, fails_unslotted header outside past causes.1 none)

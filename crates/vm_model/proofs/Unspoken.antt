@@ -18,6 +18,7 @@ use Rattle.vm_model.specs.declared.message.Channel.{Channel}
 use Rattle.vm_model.specs.declared.message.Channel.TheVariants.{Up}
 use Rattle.vm_model.specs.declared.message.Message.{Message}
 use Rattle.vm_model.specs.declared.message.Message.TheVariants as message
+use Rattle.vm_model.specs.declared.script.Header.{Header}
 use Rattle.vm_model.specs.Channels.{DownFirst, TakesFirst}
 use Rattle.vm_model.specs.Founded.{IsFounded}
 use Rattle.vm_model.specs.Kinds.{Accesses, Backings, Beginnings, Entries, Lines, Pages, Sendings, Takings, Tasks, about}
@@ -231,36 +232,37 @@ down_first_of_messages host object past =
     (λ control cache strategy apart. refl)
 
 -- what is taken for granted is about sendings, pages and accesses; of accesses about stores and copied pages, and of pages about those that are copied
-pub is_founded_elsewhere : (size : ℕ) (e : Event) → (about e ≡ Sendings → ⊥) → (about e ≡ Pages → ⊥) → (about e ≡ Accesses → ⊥) → (past : List Event)
-    → IsFounded size e past ≡ Unit {0}
-is_founded_elsewhere size (event.Sent channel m) unsent no_page no_access past = absurd (unsent refl)
-is_founded_elsewhere size (event.Raised host lower lower_page upper upper_page) unsent no_page no_access past = absurd (no_page refl)
-is_founded_elsewhere size (event.CopiedPage task page object object_page target) unsent no_page no_access past = absurd (no_access refl)
-is_founded_elsewhere size (event.Stored task object page at bytes value) unsent no_page no_access past = absurd (no_access refl)
-is_founded_elsewhere size other unsent no_page no_access past = refl
+pub is_founded_elsewhere : (header : Header) (e : Event) → (about e ≡ Sendings → ⊥) → (about e ≡ Pages → ⊥) → (about e ≡ Accesses → ⊥) → (past : List Event)
+    → IsFounded header e past ≡ Unit {0}
+is_founded_elsewhere header (event.Sent channel m) unsent no_page no_access past = absurd (unsent refl)
+is_founded_elsewhere header (event.Raised host lower lower_page upper upper_page) unsent no_page no_access past = absurd (no_page refl)
+is_founded_elsewhere header (event.CopiedPage task page object object_page target) unsent no_page no_access past = absurd (no_access refl)
+is_founded_elsewhere header (event.Stored task object page at bytes value) unsent no_page no_access past = absurd (no_access refl)
+is_founded_elsewhere header other unsent no_page no_access past = refl
 
-pub is_founded_of_accesses : (size : ℕ) (e : Event) → about e ≡ Accesses → is_stored e ≡ false → is_copied_page e ≡ false → (past : List Event)
-    → IsFounded size e past ≡ Unit {0}
-is_founded_of_accesses size =
-    of_accesses (λ e. is_stored e ≡ false → is_copied_page e ≡ false → (past : List Event) → IsFounded size e past ≡ Unit {0})
+pub is_founded_of_accesses : (header : Header) (e : Event) → about e ≡ Accesses → is_stored e ≡ false → is_copied_page e ≡ false → (past : List Event)
+    → IsFounded header e past ≡ Unit {0}
+is_founded_of_accesses header =
+    of_accesses (λ e. is_stored e ≡ false → is_copied_page e ≡ false → (past : List Event) → IsFounded header e past ≡ Unit {0})
     (λ task object page value unstored uncopied past. refl)
     (λ task object page at bytes value unstored uncopied past. absurd (cc))
     (λ task page object object_page target unstored uncopied past. absurd (cc))
     (λ task unstored uncopied past. refl)
     (λ task object page unstored uncopied past. refl)
 
-pub is_founded_of_pages : (size : ℕ) (e : Event) → about e ≡ Pages → is_raised e ≡ false → (past : List Event) → IsFounded size e past ≡ Unit {0}
-is_founded_of_pages size =
-    of_pages (λ e. is_raised e ≡ false → (past : List Event) → IsFounded size e past ≡ Unit {0})
+pub is_founded_of_pages : (header : Header) (e : Event) → about e ≡ Pages → is_raised e ≡ false → (past : List Event) → IsFounded header e past ≡ Unit {0}
+is_founded_of_pages header =
+    of_pages (λ e. is_raised e ≡ false → (past : List Event) → IsFounded header e past ≡ Unit {0})
     (λ host object page unraised past. refl)
     (λ host object page unraised past. refl)
     (λ host lower lower_page upper upper_page unraised past. absurd (cc))
 
 -- of what is sent up, requests and ends
-pub is_founded_of_messages : (size : ℕ) (host : HostId) (object : ObjectId) (past : List Event) → (m : Message) → is_request m ≡ false → is_terminate m ≡ false
-    → IsFounded size (event.Sent (Up host object) m) past ≡ Unit {0}
-is_founded_of_messages size host object past =
-    of_messages (λ m. is_request m ≡ false → is_terminate m ≡ false → IsFounded size (event.Sent (Up host object) m) past ≡ Unit {0})
+pub is_founded_of_messages : (header : Header) (host : HostId) (object : ObjectId) (past : List Event) → (m : Message) → is_request m ≡ false
+    → is_terminate m ≡ false
+    → IsFounded header (event.Sent (Up host object) m) past ≡ Unit {0}
+is_founded_of_messages header host object past =
+    of_messages (λ m. is_request m ≡ false → is_terminate m ≡ false → IsFounded header (event.Sent (Up host object) m) past ≡ Unit {0})
     (λ control size apart other. refl)
     (λ control size apart other. refl)
     (λ control page access apart other. absurd (cc))
@@ -278,21 +280,22 @@ is_founded_of_messages size host object past =
     (λ control cache strategy apart other. refl)
 
 -- what a host has of a page changes by messages, pages and accesses; of accesses by stores and copied pages
-pub effect_elsewhere : (h : ℕ) (place : Place) (others : Place → Local) (e : Event) → (about e ≡ Sendings → ⊥) → (about e ≡ Takings → ⊥)
-    → (about e ≡ Pages → ⊥) → (about e ≡ Accesses → ⊥) → (past : List Event) → effect h place others e past ≡ Elsewhere
-effect_elsewhere h place others (event.Sent channel m) unsent untaken no_page no_access past = absurd (unsent refl)
-effect_elsewhere h place others (event.Taken channel m) unsent untaken no_page no_access past = absurd (untaken refl)
-effect_elsewhere h place others (event.Dropped host object page) unsent untaken no_page no_access past = absurd (no_page refl)
-effect_elsewhere h place others (event.Zeroed host object page) unsent untaken no_page no_access past = absurd (no_page refl)
-effect_elsewhere h place others (event.Raised host lower lower_page upper upper_page) unsent untaken no_page no_access past = absurd (no_page refl)
-effect_elsewhere h place others (event.CopiedPage task page object object_page target) unsent untaken no_page no_access past = absurd (no_access refl)
-effect_elsewhere h place others (event.Stored task object page at size value) unsent untaken no_page no_access past = absurd (no_access refl)
-effect_elsewhere h place others other unsent untaken no_page no_access past = refl
+pub effect_elsewhere : (header : Header) (h : ℕ) (place : Place) (others : Place → Local) (e : Event) → (about e ≡ Sendings → ⊥) → (about e ≡ Takings → ⊥)
+    → (about e ≡ Pages → ⊥) → (about e ≡ Accesses → ⊥) → (past : List Event) → effect header h place others e past ≡ Elsewhere
+effect_elsewhere header h place others (event.Sent channel m) unsent untaken no_page no_access past = absurd (unsent refl)
+effect_elsewhere header h place others (event.Taken channel m) unsent untaken no_page no_access past = absurd (untaken refl)
+effect_elsewhere header h place others (event.Dropped host object page) unsent untaken no_page no_access past = absurd (no_page refl)
+effect_elsewhere header h place others (event.Zeroed host object page) unsent untaken no_page no_access past = absurd (no_page refl)
+effect_elsewhere header h place others (event.Raised host lower lower_page upper upper_page) unsent untaken no_page no_access past = absurd (no_page refl)
+effect_elsewhere header h place others (event.CopiedPage task page object object_page target) unsent untaken no_page no_access past = absurd (no_access refl)
+effect_elsewhere header h place others (event.Stored task object page at size value) unsent untaken no_page no_access past = absurd (no_access refl)
+effect_elsewhere header h place others other unsent untaken no_page no_access past = refl
 
-pub effect_of_accesses : (h : ℕ) (place : Place) (others : Place → Local) (past : List Event) (e : Event) → about e ≡ Accesses → is_stored e ≡ false
-    → is_copied_page e ≡ false → effect h place others e past ≡ Elsewhere
-effect_of_accesses h place others past =
-    of_accesses (λ e. is_stored e ≡ false → is_copied_page e ≡ false → effect h place others e past ≡ Elsewhere)
+pub effect_of_accesses : (header : Header) (h : ℕ) (place : Place) (others : Place → Local) (past : List Event) (e : Event) → about e ≡ Accesses
+    → is_stored e ≡ false
+    → is_copied_page e ≡ false → effect header h place others e past ≡ Elsewhere
+effect_of_accesses header h place others past =
+    of_accesses (λ e. is_stored e ≡ false → is_copied_page e ≡ false → effect header h place others e past ≡ Elsewhere)
     (λ task object page value unstored uncopied. refl)
     (λ task object page at bytes value unstored uncopied. absurd (cc))
     (λ task page object object_page target unstored uncopied. absurd (cc))
@@ -300,10 +303,10 @@ effect_of_accesses h place others past =
     (λ task object page unstored uncopied. refl)
 
 -- each event about pages is to some place
-record IsSomewhere (others : Place → Local) (past : List Event) (e : Event) : Type 0 where
+record IsSomewhere (header : Header) (others : Place → Local) (past : List Event) (e : Event) : Type 0 where
   host : ℕ
   place : Place
-  there : effect host place others e past ≢ Elsewhere
+  there : effect header host place others e past ≢ Elsewhere
 
 same_spot : (h o p : ℕ) → (h == h && (o == o && p == p)) ≡ true
 same_spot h o p = rw (eq-eqb h h refl) (rw (eq-eqb o o refl) (eq-eqb p p refl))
@@ -312,9 +315,9 @@ if_there : {A : Type 0} (b : Bool) (a c : A) → b ≡ true → (if b then a els
 if_there true a c is = refl
 if_there false a c is = absurd (cc)
 
-effect_of_pages : (others : Place → Local) (past : List Event) (e : Event) → about e ≡ Pages → IsSomewhere others past e
-effect_of_pages others past =
-    of_pages (IsSomewhere others past)
+effect_of_pages : (header : Header) (others : Place → Local) (past : List Event) (e : Event) → about e ≡ Pages → IsSomewhere header others past e
+effect_of_pages header others past =
+    of_pages (IsSomewhere header others past)
     (λ host object page. record {
       host = host.0;
       place = record { object = object.0; page = page.0 };

@@ -1,6 +1,7 @@
 pub mod Bytes
 pub mod Fault
 pub mod Founded
+pub mod Homes
 pub mod Kinds
 pub mod Limits
 pub mod Local

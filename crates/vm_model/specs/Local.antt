@@ -109,24 +109,24 @@ taken_effect page (message.Destroy reason) = Elsewhere
 taken_effect page (message.Changed control cache strategy) = Elsewhere
 
 -- What an event is to the place on the host. What the host has of the other places comes in as a function.
-abbrev pub effect : ℕ → Place → (Place → Local) → Event → List Event → LocalEffect
-effect host place others (Zeroed at object page) past =
+abbrev pub effect : Header → ℕ → Place → (Place → Local) → Event → List Event → LocalEffect
+effect header host place others (Zeroed at object page) past =
     if at.0 == host && is_place place object.0 page.0 then Zeroes else Elsewhere
-effect host place others (Raised at lower lower_page upper upper_page) past =
+effect header host place others (Raised at lower lower_page upper upper_page) past =
     if at.0 == host && is_place place upper.0 upper_page.0 then Raises (others (record { object = lower.0; page = lower_page.0 })).bytes else Elsewhere
-effect host place others (CopiedPage task page object object_page target) past =
+effect header host place others (CopiedPage task page object object_page target) past =
     if is_on host (host_of task.0 past) && is_place place target.0 page.0 then Raises (others (record { object = object.0; page = object_page.0 })).bytes else
     Elsewhere
-effect host place others (Stored task object page at size value) past =
+effect header host place others (Stored task object page at size value) past =
     if is_on host (host_of task.0 past) && is_place place object.0 page.0 then Stores at (little_endian_bytes size value) else Elsewhere
-effect host place others (Dropped at object page) past =
+effect header host place others (Dropped at object page) past =
     if at.0 == host && is_place place object.0 page.0 then Drops else Elsewhere
-effect host place others (Sent (Up at object) m) past =
+effect header host place others (Sent (Up at object) m) past =
     if at.0 == host && object.0 == place.object then sent_effect place.page (live_control host place.object past) m
     else Elsewhere
-effect host place others (Taken (Down at object control) m) past =
+effect header host place others (Taken (Down at object control) m) past =
     if at.0 == host && (object.0 == place.object && is_control control (live_control host place.object past)) then taken_effect place.page m else Elsewhere
-effect host place others other past = Elsewhere
+effect header host place others other past = Elsewhere
 
 abbrev pub local_with_page : List ℕ → ℕ → Bool → Bool → Local → Local
 local_with_page bytes lock dirty precious was =
@@ -159,10 +159,11 @@ local_after size Elsewhere was = was
 abbrev pub away : Local
 away = record { here = false; bytes = []; lock = 0; dirty = false; precious = false; asked = false; unlocking = false; absent = false }
 
--- for a page size
-abbrev pub local : ℕ → ℕ → Place → List Event → Local
-local size host place [] = away
-local size host place (event ∷ past) = local_after size (effect host place (λ source. local size host source past) event past) (local size host place past)
+-- what a host has of a place
+abbrev pub local : Header → ℕ → Place → List Event → Local
+local header host place [] = away
+local header host place (event ∷ past) =
+    local_after header.size (effect header host place (λ source. local header host source past) event past) (local header host place past)
 
 -- the host can read the page
 pub record CanRead (page : Local) : Type 0 where

@@ -36,7 +36,7 @@ framed header host past o p = has_frame (page_on header host o p past)
 pub record Count (header : Header) (host : ℕ) (past : List Event) : Type 0 where
   pub number : ℕ
   pub held : Held (framed header host past) number
-  pub sum : number + returns_out host past ≡ frames_held header.size host past
+  pub sum : number + returns_out host past ≡ frames_held header host past
 
 vacant_free : (page : Local) → IsVacant page → has_frame page ≡ false
 vacant_free page v = ap (λ b. b || page.asked) v.away ∙ v.unasked
@@ -106,7 +106,7 @@ on_host P a h is holds = subst P (own_host a h is) holds
 sent_same : (header : Header) (host : ℕ) (at : HostId) (object : ObjectId) (m : Message) (past : List Event)
     → ((o p : ℕ) → framed header host (event.Sent (Up at object) m ∷ past) o p ≡ framed header host past o p)
     → returns_out host (event.Sent (Up at object) m ∷ past) ≡ returns_out host past
-    → frames_held header.size host (event.Sent (Up at object) m ∷ past) ≡ frames_held header.size host past → Count header host past
+    → frames_held header host (event.Sent (Up at object) m ∷ past) ≡ frames_held header host past → Count header host past
     → Count header host (event.Sent (Up at object) m ∷ past)
 sent_same header host at object m past same out frames count =
     record {
@@ -187,7 +187,7 @@ count_up header host at object (message.Request control page access) past base c
           (page_on header host o p past)
           (λ is. control_of (live_control host o past) control (at_place (λ h k. live_control h k past ≡ Some control) at.0 object.0 host o is c.1.live)))
           count.held;
-      sum = takes (at.0 == host) count.number (returns_out host past) (frames_held header.size host past) count.sum;
+      sum = takes (at.0 == host) count.number (returns_out host past) (frames_held header host past) count.sum;
     }
 count_up header host at object (message.Return control page dirty true bytes) past base c count =
     sent_same header host at object (message.Return control page dirty true bytes) past
@@ -196,7 +196,7 @@ count_up header host at object (message.Return control page dirty true bytes) pa
 count_up header host at object (message.Return control page dirty false bytes) past base c count =
     let out = out_more (at.0 == host) (framed header host past) (framed header host
     (event.Sent (Up at object) (message.Return control page dirty false bytes) ∷ past)) count.number object.0 page.0 (returns_out host past)
-    (frames_held header.size host past)
+    (frames_held header host past)
     (λ is. here_framed (page_on header host object.0 page.0 past) (on_host (λ h. (page_on header h object.0 page.0 past).here ≡ true) at.0 host is c.1.here))
     (λ o p. used_two header.size (at.0 == host) (object.0 == o) (page.0 == p) (Returns false) (page_on header host o p past) false
     (λ is. (base.sane o p).apart (there (λ h k q. (page_on header h k q past).here ≡ true) at.0 object.0 page.0 host o p is c.1.here)))
@@ -296,7 +296,7 @@ count_end : (header : Header) (host : ℕ) (at : HostId) (object : ObjectId) (co
     × ((if at.0 == host && (is_control control (live_control host object.0 past) && (page_on header host object.0 page past).asked) then count.number - 1 else
     count.number) + returns_out host past
     ≡ frames_after (change_where (at.0 == host && (is_control control (live_control host object.0 past) && (page_on header host object.0 page past).asked))
-    Gives) (frames_held header.size host past))
+    Gives) (frames_held header host past))
 count_end header host at object control page past V base new count =
     let own : Bool = at.0 == host && (is_control control (live_control host object.0 past) && (page_on header host object.0 page past).asked) in (
       less_if own (framed header host past) V count.number object.0 page there_is
@@ -305,7 +305,7 @@ count_end header host at object control page past V base new count =
           (λ is. same_control host object.0 o control past (object_there object.0 page o p is))
           (λ is. test_there (λ k q. (page_on header host k q past).asked) object.0 page o p is))
           count.held,
-      gives own (framed header host past) count.number object.0 page (returns_out host past) (frames_held header.size host past) there_is count.held count.sum,
+      gives own (framed header host past) count.number object.0 page (returns_out host past) (frames_held header host past) there_is count.held count.sum,
     )
   where
     there_is : (at.0 == host && (is_control control (live_control host object.0 past) && (page_on header host object.0 page past).asked)) ≡ true
@@ -317,7 +317,7 @@ count_end header host at object control page past V base new count =
 
 down_same : (header : Header) (host : ℕ) (at : HostId) (object : ObjectId) (control : ℕ) (m : Message) (past : List Event)
     → ((o p : ℕ) → framed header host (event.Taken (Down at object control) m ∷ past) o p ≡ framed header host past o p)
-    → frames_held header.size host (event.Taken (Down at object control) m ∷ past) ≡ frames_held header.size host past → Count header host past
+    → frames_held header host (event.Taken (Down at object control) m ∷ past) ≡ frames_held header host past → Count header host past
     → Count header host (event.Taken (Down at object control) m ∷ past)
 down_same header host at object control m past same frames count =
     record {
@@ -361,7 +361,7 @@ count_down header host at object control m past base count =
 
 taken_same : (header : Header) (host : ℕ) (at : HostId) (object : ObjectId) (m : Message) (past : List Event)
     → returns_out host (event.Taken (Up at object) m ∷ past) ≡ returns_out host past
-    → frames_held header.size host (event.Taken (Up at object) m ∷ past) ≡ frames_held header.size host past → Count header host past
+    → frames_held header host (event.Taken (Up at object) m ∷ past) ≡ frames_held header host past → Count header host past
     → Count header host (event.Taken (Up at object) m ∷ past)
 taken_same header host at object m past out frames count =
     record {
@@ -377,7 +377,7 @@ count_taken header host at object (message.Return control page dirty keep bytes)
       number = count.number;
       held = held_same (framed header host past) (framed header host past) count.number (λ o p. refl) count.held;
       sum =
-          by (at.0 == host && not keep) count.number (returns_out host past) (frames_held header.size host past)
+          by (at.0 == host && not keep) count.number (returns_out host past) (frames_held header host past)
           (λ is. some_out host (Up at object) (message.Return control page dirty keep bytes) past head is base.returns) count.sum;
     }
   where
@@ -396,7 +396,7 @@ count_next header outside host (event.Zeroed at object page) past base c count =
           (vacant_zeroed header at.0 object.0 page.0 past c.1)))
           (λ o p. used_if header.size (at.0 == host && (object.0 == o && page.0 == p)) Zeroes (page_on header host o p past) true (λ is. refl))
           count.held;
-      sum = takes (at.0 == host) count.number (returns_out host past) (frames_held header.size host past) count.sum;
+      sum = takes (at.0 == host) count.number (returns_out host past) (frames_held header host past) count.sum;
     }
 count_next header outside host (event.Raised at lower lower_page upper upper_page) past base c count =
     record {
@@ -409,7 +409,7 @@ count_next header outside host (event.Raised at lower lower_page upper upper_pag
           (λ o p. used_if header.size (at.0 == host && (upper.0 == o && upper_page.0 == p)) (Raises (page_on header host lower.0 lower_page.0 past).bytes)
           (page_on header host o p past) true (λ is. refl))
           count.held;
-      sum = takes (at.0 == host) count.number (returns_out host past) (frames_held header.size host past) count.sum;
+      sum = takes (at.0 == host) count.number (returns_out host past) (frames_held header host past) count.sum;
     }
 count_next header outside host (event.CopiedPage task page object object_page target) past base c count =
     record {
@@ -421,7 +421,7 @@ count_next header outside host (event.CopiedPage task page object object_page ta
           (λ o p. used_if header.size (is_on host (host_of task.0 past) && (target.0 == o && page.0 == p))
           (Raises (page_on header host object.0 object_page.0 past).bytes) (page_on header host o p past) true (λ is. refl))
           count.held;
-      sum = takes (is_on host (host_of task.0 past)) count.number (returns_out host past) (frames_held header.size host past) count.sum;
+      sum = takes (is_on host (host_of task.0 past)) count.number (returns_out host past) (frames_held header host past) count.sum;
     }
 count_next header outside host (event.Stored task object page at size value) past base c count =
     record {
@@ -441,7 +441,7 @@ count_next header outside host (event.Dropped at object page) past base c count 
           (λ is. (base.sane o p).apart (there (λ h k q. (page_on header h k q past).here ≡ true) at.0 object.0 page.0 host o p is c.1.here)))
           count.held;
       sum =
-          gives (at.0 == host) (framed header host past) count.number object.0 page.0 (returns_out host past) (frames_held header.size host past)
+          gives (at.0 == host) (framed header host past) count.number object.0 page.0 (returns_out host past) (frames_held header host past)
           (λ is. here_framed (page_on header host object.0 page.0 past) (own is)) count.held count.sum;
     }
   where

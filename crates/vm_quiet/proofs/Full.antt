@@ -22,7 +22,7 @@ pub full_paged : AllPaged header
 full_paged o below = absurd (omega (arith, below))
 
 -- a step that took nothing owes nothing
-idle : (past : List Event) → owed past ≡ None → taken_letter past ≡ None → error_taken header.size past ≡ None → absence_taken header.size past ≡ None
+idle : (past : List Event) → owed past ≡ None → taken_letter past ≡ None → error_taken header past ≡ None → absence_taken header past ≡ None
     → IsPaid header past
 idle past made took failed lacked =
     record {

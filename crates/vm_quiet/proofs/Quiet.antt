@@ -256,13 +256,13 @@ full_short header outside history host quiet base count full = by full.why
         let r : Rest (IsHeldWild header host history) places =
         keep_rest (IsHeldWild header host history) e.spare places (λ o p. most (framed header host history o p) (times o p places) (count.held.each o p))
         (λ o p some. held e.spare e.held o p (has (framed header host history o p) (times o p places) (count.held.each o p) some)) in
-        let few : frames_held header.size host history ≤ length r.kept + 1 = omega (arith, r.few, count.held.count, count.sum, none_out) in
+        let few : frames_held header host history ≤ length r.kept + 1 = omega (arith, r.few, count.held.count, count.sum, none_out) in
         record {
           none = full.none;
           wild = r.kept;
           held = r.each;
           once = r.once;
-          usable = usable (frames_of header host) (frames_held header.size host history) (frames_wired host history) (length r.kept) full.none few;
+          usable = usable (frames_of header host) (frames_held header host history) (frames_wired host history) (length r.kept) full.none few;
         }
 
 one_short : (header : Header) (outside : Outside) (history : List Event) (host task : ℕ) (access : Access) → IsQuiet header outside history

@@ -206,7 +206,7 @@ elsewhere_allowed false page live = λ is. is
 
 up_allowed : (header : Header) (host : ℕ) (at : HostId) (object : ObjectId) (m : Message) (past : List Event) (o p : ℕ)
     → ((doing : Command) × MaySendUp header doing at.0 object.0 m past)
-    → Allowed (effect host (record { object = o; page = p }) (λ source. local header.size host source past) (event.Sent (Up at object) m) past)
+    → Allowed (effect header host (record { object = o; page = p }) (λ source. local header host source past) (event.Sent (Up at object) m) past)
     (page_on header host o p past) (live_control host o past) (live_control host o (event.Sent (Up at object) m ∷ past))
 up_allowed header host at object (message.Init control size) past o p c =
     begins_allowed (at.0 == host && object.0 == o) control (page_on header host o p past) (live_control host o past)
@@ -245,7 +245,7 @@ up_allowed header host at object (message.Completed control page count) past o p
 up_allowed header host at object m past o p c = absurd c.1
 
 down_allowed : (header : Header) (host : ℕ) (at : HostId) (object : ObjectId) (control : ℕ) (m : Message) (past : List Event) (o p : ℕ)
-    → Allowed (effect host (record { object = o; page = p }) (λ source. local header.size host source past) (event.Taken (Down at object control) m) past)
+    → Allowed (effect header host (record { object = o; page = p }) (λ source. local header host source past) (event.Taken (Down at object control) m) past)
     (page_on header host o p past) (live_control host o past) (live_control host o past)
 down_allowed header host at object control (message.Supply page lock precious bytes) past o p =
     allowed_two (at.0 == host && (object.0 == o && is_control control (live_control host o past))) (page.0 == p) (TakesPage lock precious bytes)
@@ -265,7 +265,7 @@ down_allowed header host at object control m past o p =
     (live_control host o past)
 
 allowed_next : (header : Header) (outside : Outside) (host : ℕ) (e : Event) (past : List Event) → HasCause header outside e past → (o p : ℕ)
-    → Allowed (effect host (record { object = o; page = p }) (λ source. local header.size host source past) e past) (page_on header host o p past)
+    → Allowed (effect header host (record { object = o; page = p }) (λ source. local header host source past) e past) (page_on header host o p past)
     (live_control host o past) (live_control host o (e ∷ past))
 allowed_next header outside host (event.Zeroed at object page) past c o p =
     allowed_if (at.0 == host && (object.0 == o && page.0 == p)) Zeroes (page_on header host o p past) (live_control host o past) (live_control host o past)
@@ -330,7 +330,7 @@ pub base_next : (header : Header) (outside : Outside) (host : ℕ) (e : Event) (
 base_next header outside host e past base c =
     record {
       sane =
-          λ o p. sane_moved header.size (effect host (record { object = o; page = p }) (λ source. local header.size host source past) e past)
+          λ o p. sane_moved header.size (effect header host (record { object = o; page = p }) (λ source. local header host source past) e past)
           (page_on header host o p past) (live_control host o past) (live_control host o (e ∷ past)) (allowed_next header outside host e past c o p)
           (base.sane o p);
       numbered = numbered_next header outside host e past base c;

@@ -47,8 +47,8 @@ abbrev letter_object : Option Letter → ℕ
 letter_object None = 0
 letter_object (Some letter) = channel_object letter.channel
 
-paid : (past : List Event) → owed past ≡ None → letter_object (taken_letter past) ≡ 0 → error_taken header.size past ≡ None
-    → absence_taken header.size past ≡ None → lock_taken past ≡ None → IsPaid header past
+paid : (past : List Event) → owed past ≡ None → letter_object (taken_letter past) ≡ 0 → error_taken header past ≡ None
+    → absence_taken header past ≡ None → lock_taken past ≡ None → IsPaid header past
 paid past made took failed lacked locked =
     record {
       none_owed = made;

@@ -123,7 +123,7 @@ two_nothing true t e is = if_nothing t e (λ at. is refl)
 two_nothing false t e is = tt
 
 up_nothing : (header : Header) (host : ℕ) (at : HostId) (object : ObjectId) (m : Message) (past : List Event) (o p : ℕ)
-    → LocksNothing (effect host (record { object = o; page = p }) (λ source. local header.size host source past) (event.Sent (Up at object) m) past)
+    → LocksNothing (effect header host (record { object = o; page = p }) (λ source. local header host source past) (event.Sent (Up at object) m) past)
 up_nothing header host at object (message.Init control size) past o p = if_nothing (at.0 == host && object.0 == o) Begins (λ is. tt)
 up_nothing header host at object (message.Create control size) past o p = if_nothing (at.0 == host && object.0 == o) Begins (λ is. tt)
 up_nothing header host at object (message.Terminate control) past o p =
@@ -137,7 +137,8 @@ up_nothing header host at object m past o p = if_nothing (at.0 == host && object
 
 down_nothing : (header : Header) (host : ℕ) (at : HostId) (object : ObjectId) (control : ℕ) (m : Message) (past : List Event) (o p : ℕ)
     → ((at.0 == host && object.0 == o) ≡ true → IsPlain m)
-    → LocksNothing (effect host (record { object = o; page = p }) (λ source. local header.size host source past) (event.Taken (Down at object control) m) past)
+    → LocksNothing (effect header host (record { object = o; page = p }) (λ source. local header host source past) (event.Taken (Down at object control) m)
+    past)
 down_nothing header host at object control (message.Supply page lock precious bytes) past o p plain =
     two_nothing (at.0 == host && (object.0 == o && is_control control (live_control host o past))) (page.0 == p) (TakesPage lock precious bytes)
     (λ is. plain (pair (at.0 == host) (object.0 == o) (is_control control (live_control host o past)) is))
@@ -163,7 +164,7 @@ down_nothing header host at object control m past o p plain =
 
 nothing_next : (header : Header) (outside : Outside) (host o : ℕ) (e : Event) (past : List Event) → HasNoLock header host o past
     → HasCause header outside e past → (p : ℕ)
-    → LocksNothing (effect host (record { object = o; page = p }) (λ source. local header.size host source past) e past)
+    → LocksNothing (effect header host (record { object = o; page = p }) (λ source. local header host source past) e past)
 nothing_next header outside host o (event.Zeroed at object page) past h c p = if_nothing (at.0 == host && (object.0 == o && page.0 == p)) Zeroes (λ is. tt)
 nothing_next header outside host o (event.Raised at lower lower_page upper upper_page) past h c p =
     if_nothing (at.0 == host && (upper.0 == o && upper_page.0 == p)) (Raises (page_on header host lower.0 lower_page.0 past).bytes) (λ is. tt)
@@ -206,7 +207,7 @@ no_lock header outside host o (e ∷ past) paged c =
     let was = no_lock header outside host o past paged c.1 in
     record {
       locks =
-          λ p. lock_moved header.size (effect host (record { object = o; page = p }) (λ source. local header.size host source past) e past)
+          λ p. lock_moved header.size (effect header host (record { object = o; page = p }) (λ source. local header host source past) e past)
           (page_on header host o p past) (nothing_next header outside host o e past was c.0 p) (was.locks p);
       plain = plain_next header outside host o e past paged was c.0;
     }

@@ -26,4 +26,4 @@ pub record FramesAreCounted (header : Header) (host : ℕ) (past : List Event) :
   pub places : List Place
   pub each : (o p : ℕ) → has_frame (page_on header host o p past) ≡ true → times o p places ≡ 1
   pub only : (o p : ℕ) → has_frame (page_on header host o p past) ≡ false → times o p places ≡ 0
-  pub count : length places + returns_out host past ≡ frames_held header.size host past
+  pub count : length places + returns_out host past ≡ frames_held header host past

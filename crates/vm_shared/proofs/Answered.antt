@@ -68,11 +68,11 @@ quiet_part header outside history o p still shared licensed =
           (stepped_of header outside history still.causes h o p shared).ready live
           ∙ ready_now header outside history h o (side h (page_part header.size o p history)).control still.causes still.steps still.paid still.delivered
           (shared_supplied header o shared)
-          (live_some (side h (page_part header.size o p history)) (live_control h o history) (side_is_local header.size history h o p known).control live);
+          (live_some (side h (page_part header.size o p history)) (live_control h o history) (side_is_local header history h o p known).control live);
       done = done_now header outside o p history shared still.causes still.paid;
     }
   where
-    known : EachEvent (IsFounded header.size) history
+    known : EachEvent (IsFounded header) history
     known = each_founded header outside history still.causes
 
     by : (h : ℕ) (b : Bool) → (side h (page_part header.size o p history)).live ≡ b → (side h (page_part header.size o p history)).down ≡ []
@@ -105,7 +105,7 @@ all_answered header outside history still licensed served =
     }
   where
     tied : (h o p : ℕ) → SideIsLocal (live_control h o history) (side h (page_part header.size o p history)) (page_on header h o p history)
-    tied h o p = side_is_local header.size history h o p (each_founded header outside history still.causes)
+    tied h o p = side_is_local header history h o p (each_founded header outside history still.causes)
 
     none : (o p : ℕ) → is_shared header o ≡ true → NothingIsAsked (page_part header.size o p history)
     none o p shared =

@@ -114,7 +114,7 @@ part_of header outside h o p history known shared =
       at =
           carried header.size (page_part header.size o p history) (known.licensed o p shared)
           (steps_done header outside o p history shared known.causes known.steps) h;
-      tied = side_is_local header.size history h o p (each_founded header outside history known.causes);
+      tied = side_is_local header history h o p (each_founded header outside history known.causes);
       up = page_queue header.size history h o p (up_in_order header outside history known.causes);
       down = page_descent header.size history h o p (down_in_order header outside history known.causes);
       done = done_now header outside o p history shared known.causes known.paid h;

@@ -58,7 +58,7 @@ known : (header : Header) (outside : Outside) (past : List Event) → EachEvent 
     → Known header h o p past
 known header outside past caused h o p shared =
     record {
-      is = side_is_local header.size past h o p (each_founded header outside past caused);
+      is = side_is_local header past h o p (each_founded header outside past caused);
       shared = shareds_of header outside past caused h o p shared;
       steps = stepped_of header outside past caused h o p shared;
     }

@@ -194,7 +194,7 @@ theirs header a h b o t is shared = its header a h b o (both (a == h) (b == o) t
 
 pub gentle : (header : Header) (outside : Outside) (e : Event) (past : List Event) → EachEvent (HasCause header outside) past → HasCause header outside e past
     → (h o p : ℕ) → is_shared header o ≡ true
-    → Gentle (effect h (record { object = o; page = p }) (λ source. local header.size h source past) e past)
+    → Gentle (effect header h (record { object = o; page = p }) (λ source. local header h source past) e past)
 gentle header outside (event.Zeroed at object page) past caused c h o p shared =
     gentle_if (at.0 == h && (object.0 == o && page.0 == p)) Zeroes (λ is. unzeroed header outside at.0 object.0 page.0 past caused
     (theirs header at.0 h object.0 o (page.0 == p) is shared) c.1)
@@ -223,7 +223,7 @@ pub shareds_of : (header : Header) (outside : Outside) (past : List Event) → E
     → IsShareds (page_on header h o p past)
 shareds_of header outside [] caused h o p shared = record { lock = inl refl; plain = refl }
 shareds_of header outside (e ∷ past) caused h o p shared =
-    moved header.size (effect h (record { object = o; page = p }) (λ source. local header.size h source past) e past) (page_on header h o p past)
+    moved header.size (effect header h (record { object = o; page = p }) (λ source. local header h source past) e past) (page_on header h o p past)
     (gentle header outside e past caused.1 caused.0 h o p shared) (shareds_of header outside past caused.1 h o p shared)
 
 -- where a step took a lock over an object whose page is here, its control lives still

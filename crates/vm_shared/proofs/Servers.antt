@@ -161,7 +161,7 @@ failing header host object asked (message.Error page reason) is = elsewhere_if (
 failing header host object asked m is = tt
 
 pub none_lacks : (header : Header) (outside : Outside) (past : List Event) → EachEvent (HasCause header outside) past
-    → IsElsewhere (absence_taken header.size past) header
+    → IsElsewhere (absence_taken header past) header
 none_lacks header outside [] caused = tt
 none_lacks header outside (event.Line line ∷ past) caused = tt
 none_lacks header outside (event.Taken (Down host object control) m ∷ past) caused =
@@ -170,7 +170,7 @@ none_lacks header outside (event.Taken (Up host object) m ∷ past) caused = tt
 none_lacks header outside (e ∷ past) caused = none_lacks header outside past caused.1
 
 pub none_fails : (header : Header) (outside : Outside) (past : List Event) → EachEvent (HasCause header outside) past
-    → IsElsewhere (error_taken header.size past) header
+    → IsElsewhere (error_taken header past) header
 none_fails header outside [] caused = tt
 none_fails header outside (event.Line line ∷ past) caused = tt
 none_fails header outside (event.Taken (Down host object control) m ∷ past) caused =

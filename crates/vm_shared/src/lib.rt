@@ -65,7 +65,7 @@ pub fn channels_are_in_order()
     ensures up { (header : Header) (outside : Outside) (history : List Event) → EachEvent (HasCause header outside) history → UpInOrder history }
     ensures down { (header : Header) (outside : Outside) (history : List Event) → EachEvent (HasCause header outside) history → DownInOrder history }
     ensures founded { (header : Header) (outside : Outside) (history : List Event) → EachEvent (HasCause header outside) history
-        → EachEvent (IsFounded header.size) history }
+        → EachEvent (IsFounded header) history }
 {}
 
 /// A shared page's part has a step of a host under way only where the present step of the history took a lock

@@ -2,10 +2,11 @@
 use Rattle.std.proofs.Common.{◌≡◌, ℕ, ◌==◌, false, List, [], ◌∷◌, Option, Some, None, ap, refl, sym, ◌∙◌, arith, inl, inr}
 use Rattle.std.proofs.lemmas.Bool.Decides.{eqb_tells}
 use Rattle.std.specs.Prelude.{if◌then◌else◌}
-use Rattle.vm_abroad.specs.Home.{HaveHomes, first_of, region_for}
+use Rattle.vm_abroad.specs.Home.{HaveHomes}
 use Rattle.vm_model.specs.declared.event.Event.{Event}
 use Rattle.vm_model.specs.declared.event.Event.TheVariants as event
 use Rattle.vm_model.specs.declared.script.Header.{Header}
+use Rattle.vm_model.specs.Homes.{first_of, region_for}
 use Rattle.vm_model.specs.Regions.{backing_of, next_object, over, region_of}
 use Rattle.vm_state.proofs.Fresh.{other_test}
 

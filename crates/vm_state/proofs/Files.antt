@@ -3,13 +3,13 @@ use Rattle.std.proofs.Common.{List, Option, Some, ap, arith, inl, inr, subst, sy
 use Rattle.std.proofs.lemmas.Bool.Decides.{eqb_tells}
 use Rattle.std.specs.Prelude.{is_some}
 use Rattle.vm_abroad.proofs.Home.{file_named, home_apart, homes_kept, on_own}
-use Rattle.vm_abroad.specs.Home.{home_of}
 use Rattle.vm_base.specs.declared.entry.Entry.{Entry}
 use Rattle.vm_base.specs.declared.ids.TaskId.{TaskId}
 use Rattle.vm_legal.specs.Outside.{is_file}
 use Rattle.vm_model.specs.declared.event.Event.{Event}
 use Rattle.vm_model.specs.declared.event.Event.TheVariants as event
 use Rattle.vm_model.specs.declared.script.Header.{Header}
+use Rattle.vm_model.specs.Homes.{home_of}
 use Rattle.vm_model.specs.Local.{is_on}
 use Rattle.vm_model.specs.Named.{named}
 use Rattle.vm_objects.specs.Objects.{ObjectTable, PutsObject, SameObjects, object_at}

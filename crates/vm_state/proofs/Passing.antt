@@ -130,7 +130,7 @@ unmet_after known size Elsewhere was calm is = is
 
 -- what an event is to a place
 abbrev pub effect_at : Header → ℕ → PageKey → Event → List Event → LocalEffect
-effect_at header h key e past = effect h (place_of key.object.0 key.page.0) (λ source. local header.size h source past) e past
+effect_at header h key e past = effect header h (place_of key.object.0 key.page.0) (λ source. local header h source past) e past
 
 not_returned : (a b c keep x : Bool) → IsQuiet (if a && b then (if c then Returns keep else Elsewhere) else Elsewhere) → ((a && (b && c)) || x) ≡ x
 not_returned true true true keep x quiet = absurd quiet
@@ -138,12 +138,12 @@ not_returned true true false keep x quiet = refl
 not_returned true false c keep x quiet = refl
 not_returned false b c keep x quiet = refl
 
-returned_same : (h : ℕ) (key : PageKey) (others : Place → Local) (e : Event) (past : List Event)
-    → IsQuiet (effect h (place_of key.object.0 key.page.0) others e past)
+returned_same : (header : Header) (h : ℕ) (key : PageKey) (others : Place → Local) (e : Event) (past : List Event)
+    → IsQuiet (effect header h (place_of key.object.0 key.page.0) others e past)
     → was_returned h key.object.0 key.page.0 (e ∷ past) ≡ was_returned h key.object.0 key.page.0 past
-returned_same h key others (event.Sent (Up host object) (message.Return control page dirty keep bytes)) past quiet =
+returned_same header h key others (event.Sent (Up host object) (message.Return control page dirty keep bytes)) past quiet =
     not_returned (host.0 == h) (object.0 == key.object.0) (page.0 == key.page.0) keep (was_returned h key.object.0 key.page.0 past) quiet
-returned_same h key others e past quiet = refl
+returned_same header h key others e past quiet = refl
 
 pub only_before : (least h : ℕ) (e : Event) (past : List Event) → OnlyReturned least h (e ∷ past) → OnlyReturned least h past
 only_before least h (event.Taken (Down host object control) (message.Supply page lock precious bytes)) past only = only.1
@@ -160,7 +160,7 @@ pub stays_quiet : (header : Header) (h : ℕ) (e : Event) (past : List Event) (k
 stays_quiet header h e past key quiet stays = (
   stays.0,
   λ only. subst (λ (z : Bool). IsAway (page_on header h key.object.0 key.page.0 (e ∷ past)) z)
-      (sym (returned_same h key (λ source. local header.size h source past) e past quiet))
+      (sym (returned_same header h key (λ source. local header h source past) e past quiet))
       (away_after header.size (effect_at header h key e past) (page_on header h key.object.0 key.page.0 past) (was_returned h key.object.0 key.page.0 past)
       quiet (stays.1 (only_before (named header) h e past only))),
 )

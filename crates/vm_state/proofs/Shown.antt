@@ -32,7 +32,7 @@ use Rattle.vm_terminate.specs.Finishes.{IsReferred}
 -- what a host has of pages, controls and chains, as a history says it; no page of a declared object is known to be missing
 pub record IsShown (header : Header) (h : ℕ) (parts : HostParts) (chains : ChainTable) (past : List Event) : Type 0 where
   pub present : (o p : ℕ) → o < named header → absent_at parts.objects o p ≡ false
-  pub pages : HasPages parts.frames parts.resident parts.objects (λ o p. known_local header o p (local header.size h (place_of o p) past))
+  pub pages : HasPages parts.frames parts.resident parts.objects (λ o p. known_local header o p (local header h (place_of o p) past))
   pub live : (o : ℕ) → live_control h o past ≡ live_in (object_at parts.objects o)
   pub ready : (o control : ℕ) → live_control h o past ≡ Some control → is_ready h o past ≡ ready_in (object_at parts.objects o)
   pub lives : (o : ℕ) (known : ObjectRow) → object_at parts.objects o ≡ Some known → known.live ≡ has_pager known.state

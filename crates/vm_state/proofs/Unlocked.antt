@@ -13,6 +13,7 @@ use Rattle.vm_model.specs.declared.event.Event.TheVariants as event
 use Rattle.vm_model.specs.declared.message.Channel.TheVariants.{Down, Up}
 use Rattle.vm_model.specs.declared.message.Message.{Message}
 use Rattle.vm_model.specs.declared.message.Message.TheVariants as message
+use Rattle.vm_model.specs.declared.script.Header.{Header}
 use Rattle.vm_state.proofs.Passing.{only_before, same_of}
 use Rattle.vm_state.specs.Places.{place_of}
 
@@ -62,21 +63,21 @@ open_locked false b d c lock flush none = tt
 open_locked true false d c lock flush none = tt
 open_locked true true d c lock flush none = absurd (none refl refl)
 
-open_effect : (least h o p : ℕ) (others : Place → Local) (e : Event) (past : List Event) → least ≤ o → OnlyReturned least h (e ∷ past)
-    → IsOpen (effect h (place_of o p) others e past)
-open_effect least h o p others (event.Zeroed at object page) past high only =
+open_effect : (header : Header) (least h o p : ℕ) (others : Place → Local) (e : Event) (past : List Event) → least ≤ o → OnlyReturned least h (e ∷ past)
+    → IsOpen (effect header h (place_of o p) others e past)
+open_effect header least h o p others (event.Zeroed at object page) past high only =
     open_if (at.0 == h && is_place (place_of o p) object.0 page.0) Zeroes Elsewhere tt tt
-open_effect least h o p others (event.Raised at lower lower_page upper upper_page) past high only =
+open_effect header least h o p others (event.Raised at lower lower_page upper upper_page) past high only =
     open_if (at.0 == h && is_place (place_of o p) upper.0 upper_page.0) (Raises (others (record { object = lower.0; page = lower_page.0 })).bytes) Elsewhere tt
     tt
-open_effect least h o p others (event.CopiedPage task page object object_page target) past high only =
+open_effect header least h o p others (event.CopiedPage task page object object_page target) past high only =
     open_if (is_on h (host_of task.0 past) && is_place (place_of o p) target.0 page.0)
     (Raises (others (record { object = object.0; page = object_page.0 })).bytes) Elsewhere tt tt
-open_effect least h o p others (event.Stored task object page at size value) past high only =
+open_effect header least h o p others (event.Stored task object page at size value) past high only =
     open_if (is_on h (host_of task.0 past) && is_place (place_of o p) object.0 page.0) (Stores at (little_endian_bytes size value)) Elsewhere tt tt
-open_effect least h o p others (event.Dropped at object page) past high only =
+open_effect header least h o p others (event.Dropped at object page) past high only =
     open_if (at.0 == h && is_place (place_of o p) object.0 page.0) Drops Elsewhere tt tt
-open_effect least h o p others (event.Sent (Up at object) m) past high only =
+open_effect header least h o p others (event.Sent (Up at object) m) past high only =
     open_if (at.0 == h && object.0 == o) (sent_effect p (live_control h o past) m) Elsewhere (by m) tt
   where
     by : (m : Message) → IsOpen (sent_effect p (live_control h o past) m)
@@ -85,25 +86,26 @@ open_effect least h o p others (event.Sent (Up at object) m) past high only =
     by (message.Unlock control at access) = open_if (at.0 == p) Unlocks Elsewhere tt tt
     by (message.Return control at dirty keep bytes) = open_if (at.0 == p) (Returns keep) Elsewhere tt tt
     by m = tt
-open_effect least h o p others (event.Taken (Down at object control) (message.Supply page lock precious bytes)) past high only =
+open_effect header least h o p others (event.Taken (Down at object control) (message.Supply page lock precious bytes)) past high only =
     open_supplied (at.0 == h) (object.0 == o) (is_control control (live_control h o past)) (page.0 == p) lock precious bytes
     (λ on of. (only.0 (same_of at.0 h on) (subst (λ (z : ℕ). least ≤ z) (sym (same_of object.0 o of)) high)).0)
-open_effect least h o p others (event.Taken (Down at object control) (message.Lock page count returns flush lock reply)) past high only =
+open_effect header least h o p others (event.Taken (Down at object control) (message.Lock page count returns flush lock reply)) past high only =
     open_locked (at.0 == h) (object.0 == o) (is_control control (live_control h o past)) (in_range p page.0 count) lock flush
     (λ on of. let low = only.0 (same_of at.0 h on) in let same = same_of object.0 o of in omega (arith, low, same, high))
-open_effect least h o p others (event.Taken (Down at object control) (message.Unavailable page)) past high only =
+open_effect header least h o p others (event.Taken (Down at object control) (message.Unavailable page)) past high only =
     open_if (at.0 == h && (object.0 == o && is_control control (live_control h o past))) (taken_effect p (message.Unavailable page)) Elsewhere
     (open_if (page.0 == p) TakesNothing Elsewhere tt tt) tt
-open_effect least h o p others (event.Taken (Down at object control) (message.Error page reason)) past high only =
+open_effect header least h o p others (event.Taken (Down at object control) (message.Error page reason)) past high only =
     open_if (at.0 == h && (object.0 == o && is_control control (live_control h o past))) (taken_effect p (message.Error page reason)) Elsewhere
     (open_if (page.0 == p) TakesError Elsewhere tt tt) tt
-open_effect least h o p others (event.Taken (Down at object control) m) past high only =
+open_effect header least h o p others (event.Taken (Down at object control) m) past high only =
     open_if (at.0 == h && (object.0 == o && is_control control (live_control h o past))) Elsewhere Elsewhere tt tt
-open_effect least h o p others e past high only = tt
+open_effect header least h o p others e past high only = tt
 
-pub unlocked_temporary : (least size h o p : ℕ) (past : List Event) → least ≤ o → OnlyReturned least h past → (local size h (place_of o p) past).lock ≡ 0
-unlocked_temporary least size h o p [] high only = refl
-unlocked_temporary least size h o p (e ∷ past) high only =
-    open_after size (effect h (place_of o p) (λ source. local size h source past) e past) (local size h (place_of o p) past)
-    (open_effect least h o p (λ source. local size h source past) e past high only)
-    (unlocked_temporary least size h o p past high (only_before least h e past only))
+pub unlocked_temporary : (least : ℕ) (header : Header) (h o p : ℕ) (past : List Event) → least ≤ o → OnlyReturned least h past
+    → (local header h (place_of o p) past).lock ≡ 0
+unlocked_temporary least header h o p [] high only = refl
+unlocked_temporary least header h o p (e ∷ past) high only =
+    open_after header.size (effect header h (place_of o p) (λ source. local header h source past) e past) (local header h (place_of o p) past)
+    (open_effect header least h o p (λ source. local header h source past) e past high only)
+    (unlocked_temporary least header h o p past high (only_before least h e past only))

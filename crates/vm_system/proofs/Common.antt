@@ -31,7 +31,7 @@ pub use Rattle.std.specs.List.{AllByRecursion, list_any, position_or_len}
 pub use Rattle.std.specs.Prelude.{IfNone, IfSome, IsSome, OnErr, OnOk, Result, get_or, is_none, is_some, nat_lt, option_map, reverse, slice_get, ◌&&◌, ◌/◌}
 pub use Rattle.std.specs.Prelude.{◌==◌, ◌||◌, ◌≢◌, IfOk}
 pub use Rattle.vm_abroad.proofs.Home.{home_stays, homes_next, homes_start, homes_stay, object_stays}
-pub use Rattle.vm_abroad.specs.Home.{HaveHomes, home_of, object_home}
+pub use Rattle.vm_abroad.specs.Home.{HaveHomes}
 pub use Rattle.vm_base.specs.Buffers.{BufferStore}
 pub use Rattle.vm_base.specs.Entries.{entry_at, is_range, meets_range, most_entries}
 pub use Rattle.vm_base.specs.Listing.{Listed}
@@ -82,6 +82,7 @@ pub use Rattle.vm_model.specs.Channels.{is_channel, queue}
 pub use Rattle.vm_model.specs.Controls.{is_control, last_control, live_control, without_control}
 pub use Rattle.vm_model.specs.Coherence.{PageLegal}
 pub use Rattle.vm_model.specs.Copies.{HasPageOf}
+pub use Rattle.vm_model.specs.Homes.{home_of, object_home}
 pub use Rattle.vm_model.specs.Limits.{most_events}
 pub use Rattle.vm_model.specs.Local.{local}
 pub use Rattle.vm_model.specs.Moments.{BeforeSteps, EachEvent, EachMoment, before_last_line}

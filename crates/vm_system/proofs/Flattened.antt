@@ -16,6 +16,7 @@ use Rattle.vm_model.specs.declared.message.Message.TheVariants as message
 use Rattle.vm_model.specs.declared.script.Header.{Header}
 use Rattle.vm_model.specs.Channels.{up_port}
 use Rattle.vm_model.specs.Controls.{live_control}
+use Rattle.vm_model.specs.Homes.{home_of}
 use Rattle.vm_model.specs.Moments.{EachEvent}
 use Rattle.vm_model.specs.Named.{declared_pages, named}
 use Rattle.vm_legal.proofs.Groups.{so_far}
@@ -28,7 +29,6 @@ use Rattle.vm_legal.specs.Steps.{fails_writing, lacks_slot}
 use Rattle.vm_legal.specs.Undelivered.{undelivered}
 use Rattle.vm_legal.specs.Used.{in_use}
 use Rattle.vm_legal.specs.Walks.{page_on}
-use Rattle.vm_abroad.specs.Home.{home_of}
 use Rattle.vm_flat.proofs.Beyond.{none_beyond}
 use Rattle.vm_flat.proofs.Settled.{settled}
 use Rattle.vm_flat.proofs.Staying.{none_here}

@@ -276,8 +276,8 @@ nothing_taken is = absurd (let bad : false ≡ true = ap is_some is in cc)
 
 -- it took no error either, nor does one that a pager's message begins
 
-ends_none : (header : Header) (events past : List Event) → AllInner events → error_taken header.size past ≡ None → EndsAll header (events ++ past)
-ends_none header events past inner none host object page is = nothing_taken (sym (error_more header.size events past inner ∙ none) ∙ is)
+ends_none : (header : Header) (events past : List Event) → AllInner events → error_taken header past ≡ None → EndsAll header (events ++ past)
+ends_none header events past inner none host object page is = nothing_taken (sym (error_more header events past inner ∙ none) ∙ is)
 
 pub ends_lined : (header : Header) (line : ℕ) (events h : List Event) → AllInner events → EndsAll header (events ++ event.Line line ∷ h)
 ends_lined header line events h inner = ends_none header events (event.Line line ∷ h) inner refl

@@ -105,14 +105,15 @@ down_less asked (message.Error page reason) held = gives_less _ held
 down_less asked other held = keeps_same held
 
 -- a taking takes no frame
-taken_less : (size h : ℕ) (channel : Channel) (m : Message) (past : List Event) → frames_used size h (event.Taken channel m ∷ past) ≤ frames_used size h past
-taken_less size h (Up at object) m past =
-    let less = up_less (at.0 == h) m (frames_held size h past) in
+taken_less : (header : Header) (h : ℕ) (channel : Channel) (m : Message) (past : List Event)
+    → frames_used header h (event.Taken channel m ∷ past) ≤ frames_used header h past
+taken_less header h (Up at object) m past =
+    let less = up_less (at.0 == h) m (frames_held header h past) in
     omega (arith, less)
-taken_less size h (Down at object control) m past =
+taken_less header h (Down at object control) m past =
     let asked : ℕ → Bool = λ page. at.0 == h && (is_control control (live_control h object.0 past) &&
-    (local size h (record { object = object.0; page = page }) past).asked) in
-    let less = down_less asked m (frames_held size h past) in
+    (local header h (record { object = object.0; page = page }) past).asked) in
+    let less = down_less asked m (frames_held header h past) in
     omega (arith, less)
 
 fewer : (most : Option ℕ) (more less : ℕ) → less ≤ more → IfSome most (λ frames. more ≤ frames) → IfSome most (λ frames. less ≤ frames)
@@ -121,7 +122,7 @@ fewer (Some frames) more less le is = omega (arith, le, is)
 
 pub taken_suffice : (header : Header) (channel : Channel) (m : Message) (past : List Event) → FramesSuffice header past
     → FramesSuffice header (event.Taken channel m ∷ past)
-taken_suffice header channel m past suffice h = fewer (slice_get (reverse header.frames.items) h) _ _ (taken_less header.size h channel m past) (suffice h)
+taken_suffice header channel m past suffice h = fewer (slice_get (reverse header.frames.items) h) _ _ (taken_less header h channel m past) (suffice h)
 
 -- the cause of a taking
 pub taken_licensed : (header : Header) (outside : Outside) (doing : Command) (channel : Channel) (m : Message) (past : List Event)

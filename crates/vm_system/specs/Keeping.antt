@@ -2,7 +2,7 @@
 use Rattle.std.specs.Prelude.{ℕ, ◌*◌, ◌≡◌, ◌⊎◌, true, false, List, [], Option, Some, None, unwrap_or}
 use Rattle.vm_model.specs.declared.event.Event.{Event}
 use Rattle.vm_model.specs.declared.script.Header.{Header}
-use Rattle.vm_abroad.specs.Home.{home_of}
+use Rattle.vm_model.specs.Homes.{home_of}
 use Rattle.vm_legal.specs.Licences.{tells}
 use Rattle.vm_legal.specs.Outside.{Outside, is_file}
 use Rattle.vm_legal.specs.Pagers.{is_lost, last_return, slot_at}

@@ -8,6 +8,7 @@ use Rattle.vm_model.specs.declared.message.Message.TheVariants as message
 use Rattle.vm_model.specs.declared.script.Header.{Header}
 use Rattle.vm_model.specs.Channels.{queue}
 use Rattle.vm_model.specs.Controls.{last_control, live_control}
+use Rattle.vm_model.specs.Homes.{home_of, object_home}
 use Rattle.vm_model.specs.PagePart.{page_part}
 use Rattle.vm_model.specs.Server.{Wanting, line}
 use Rattle.vm_model.specs.Side.{side}
@@ -20,7 +21,6 @@ use Rattle.vm_legal.specs.Steps.{Letter}
 use Rattle.vm_legal.specs.Undelivered.{is_made, undelivered}
 use Rattle.vm_quiet.specs.Letters.{messages_on}
 use Rattle.pg_default.specs.Stands.{is_ended, is_heard_elsewhere}
-use Rattle.vm_abroad.specs.Home.{home_of, object_home}
 use Rattle.vm_model.specs.Named.{named}
 use Rattle.vm_kernel.specs.Matches.{host_id}
 use Rattle.vm_kernel.specs.Taking.{IsWord}

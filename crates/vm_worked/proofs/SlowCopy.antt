@@ -386,7 +386,7 @@ made_own h is = grind (arith, nat_tests)
 nobodys : (h : ℕ) → false ≡ true → h ≡ 1
 nobodys h is = absurd (cc)
 
-in_turn : (past : List Event) → error_taken header.size past ≡ None → HostsServed header past → NoneSleeps header past → StepIsInTurn header past
+in_turn : (past : List Event) → error_taken header past ≡ None → HostsServed header past → NoneSleeps header past → StepIsInTurn header past
 in_turn past none served awake = record { ended = ends_nobody header past none; served = served; awake = awake }
 
 -- while the page is asked nothing is here

@@ -61,25 +61,25 @@ each_step P all (e ∷ past) = each_step P all past
 -- frames
 
 -- at every moment the first host uses no more frames than that
-abbrev pub uses_few : ℕ → ℕ → List Event → Bool
-uses_few size frames [] = true
-uses_few size frames (e ∷ past) = nat_lt (frames_used size 0 (e ∷ past)) frames && uses_few size frames past
+abbrev pub uses_few : Header → ℕ → List Event → Bool
+uses_few header frames [] = true
+uses_few header frames (e ∷ past) = nat_lt (frames_used header 0 (e ∷ past)) frames && uses_few header frames past
 
-pub suffice : (header : Header) (frames : ℕ) → ((past : List Event) → frames_used header.size 0 past ≤ frames → FramesSuffice header past) → (past : List Event)
-    → uses_few header.size frames past ≡ true
+pub suffice : (header : Header) (frames : ℕ) → ((past : List Event) → frames_used header 0 past ≤ frames → FramesSuffice header past) → (past : List Event)
+    → uses_few header frames past ≡ true
     → EachMoment (FramesSuffice header) past
 suffice header frames enough [] few = enough [] (omega arith)
 suffice header frames enough (e ∷ past) few = (
-  enough (e ∷ past) (below (frames_used header.size 0 (e ∷ past)) (first_of (nat_lt (frames_used header.size 0 (e ∷ past)) frames)
-      (uses_few header.size frames past) few)),
-  suffice header frames enough past (second_of (nat_lt (frames_used header.size 0 (e ∷ past)) frames) (uses_few header.size frames past) few),
+  enough (e ∷ past) (below (frames_used header 0 (e ∷ past)) (first_of (nat_lt (frames_used header 0 (e ∷ past)) frames)
+      (uses_few header frames past) few)),
+  suffice header frames enough past (second_of (nat_lt (frames_used header 0 (e ∷ past)) frames) (uses_few header frames past) few),
 )
   where
     below : (n : ℕ) → nat_lt n frames ≡ true → n ≤ frames
     below n is = grind (arith, nat_tests)
 
 -- the frames of the only host suffice where it uses no more
-pub one_suffices : (header : Header) (frames : ℕ) → header.frames.items ≡ frames ∷ [] → (past : List Event) → frames_used header.size 0 past ≤ frames
+pub one_suffices : (header : Header) (frames : ℕ) → header.frames.items ≡ frames ∷ [] → (past : List Event) → frames_used header 0 past ≤ frames
     → FramesSuffice header past
 one_suffices header frames one past few zero = rw one few
 one_suffices header frames one past few (suc host) = rw one tt
@@ -95,8 +95,8 @@ came_up (Some letter) = up letter.channel
     up (Down host object control) = false
 
 -- a step owes nothing that took nothing of a host, nor an error, nor the word that there is no page, nor a lock_request
-pub owes_nothing : (header : Header) (past : List Event) → owed past ≡ None → came_up (taken_letter past) ≡ false → error_taken header.size past ≡ None
-    → absence_taken header.size past ≡ None
+pub owes_nothing : (header : Header) (past : List Event) → owed past ≡ None → came_up (taken_letter past) ≡ false → error_taken header past ≡ None
+    → absence_taken header past ≡ None
     → lock_taken past ≡ None → IsPaid header past
 owes_nothing header past made down failed lacked unlocked =
     record {
@@ -111,7 +111,7 @@ owes_nothing header past made down failed lacked unlocked =
     }
 
 -- an error that no step took ends nobody
-pub ends_nobody : (header : Header) (past : List Event) → error_taken header.size past ≡ None → EndsAll header past
+pub ends_nobody : (header : Header) (past : List Event) → error_taken header past ≡ None → EndsAll header past
 ends_nobody header past none h o p is task waits free = absurd (cc)
 
 -- nobody waits in vain

@@ -14,12 +14,12 @@ use Rattle.vm_kernel.proofs.space.RegionsInUse.{fills_here, paged_file, waits_so
 use Rattle.vm_state.proofs.Filling.{used_told}
 use Rattle.vm_model.specs.declared.event.Event.TheVariants as event
 use Rattle.std.specs.Prelude.{◌&&◌, ◌+◌, ◌==◌, ◌||◌}
+use Rattle.vm_model.specs.Homes.{object_home}
 use Rattle.vm_model.specs.Local.{is_on}
 use Rattle.vm_model.specs.Waiting.{waiting}
 use Rattle.vm_state.specs.Places.{known_local}
 use Rattle.vm_state.specs.Waiters.{waiting_in}
 use Rattle.vm_abroad.proofs.Home.{homes_abroad, named_objects, objects_stay}
-use Rattle.vm_abroad.specs.Home.{object_home}
 use Rattle.vm_model.specs.Regions.{}
 use Rattle.vm_parts.specs.Changes.{one}
 use Rattle.vm_shadow.specs.Chains.{ChainTable, shadow_at}
@@ -227,7 +227,7 @@ module _ (header : Header) (h : ℕ) (k : Parts) (ids next : Ids) (past new : Li
       none_from s high None is = refl
       none_from s high (Some row) is = let small = small_shadow rests.matches.regions s row is in absurd (omega (arith, small, high))
 
-  pages_same : HasPages k.memory.frames k.memory.resident k.memory.objects (λ o p. known_local header o p (local header.size h (place_of o p) new))
+  pages_same : HasPages k.memory.frames k.memory.resident k.memory.objects (λ o p. known_local header o p (local header h (place_of o p) new))
   pages_same = record { shown = λ o p. ap (known_local header o p) (same.pages.local (place_of o p)) ∙ rests.matches.pages.shown o p }
 
   uses_same : ApartElsewhere header h new → ((r : ℕ) → home_of r past ≡ Some h → home_of r new ≡ Some h)
@@ -310,7 +310,7 @@ module _ (header : Header) (h : ℕ) (k : Parts) (ids next : Ids) (past new : Li
   laundry_same : HasLaundry k.memory.frames k.memory.resident k.laundry (returns_out h new)
   laundry_same = subst (HasLaundry k.memory.frames k.memory.resident k.laundry) (sym same.pages.out) rests.matches.laundry
 
-  frames_same : HasFrames (slice_get (reverse header.frames.items) h) k.memory.frames (frames_held header.size h new) (frames_wired h new)
+  frames_same : HasFrames (slice_get (reverse header.frames.items) h) k.memory.frames (frames_held header h new) (frames_wired h new)
   frames_same =
       let has = rests.matches.frames in record { total = has.total; held = same.pages.held ∙ has.held; wired = same.pages.wired ∙ has.wired; fits = has.fits }
 
@@ -404,7 +404,7 @@ suffice_next header h e past foreign suffices =
     let same = pages_abroad header h e past foreign in
     let held = same.held in
     let wired = same.wired in
-    let used : frames_used header.size h past ≡ frames_used header.size h (e ∷ past) = omega (arith, held, wired) in
+    let used : frames_used header h past ≡ frames_used header h (e ∷ past) = omega (arith, held, wired) in
     subst (λ (z : ℕ). IfSome (slice_get (reverse header.frames.items) h) (λ frames. z ≤ frames)) used suffices
 
 suffice_all : (header : Header) (outside : Outside) (h : ℕ) (events past : List Event) → EachIn (IsAbroad header outside h) events past → Suffice header h past

@@ -31,11 +31,11 @@ nowhere o o2 live live2 dead same = elim (eqb_tells o o2) [
 
 -- the message changes nothing
 pub record IsNothing (header : Header) (h : ℕ) (object : ObjectId) (control : ℕ) (m : Message) (past : List Event) : Type 0 where
-  pub pages : (o p : ℕ) → local header.size h (place_of o p) (hears h object control m ∷ past) ≡ local header.size h (place_of o p) past
-  pub held : frames_held header.size h (hears h object control m ∷ past) ≡ frames_held header.size h past
+  pub pages : (o p : ℕ) → local header h (place_of o p) (hears h object control m ∷ past) ≡ local header h (place_of o p) past
+  pub held : frames_held header h (hears h object control m ∷ past) ≡ frames_held header h past
   pub ready : (o live : ℕ) → live_control h o past ≡ Some live → is_ready h o (hears h object control m ∷ past) ≡ is_ready h o past
-  pub error : error_taken header.size (hears h object control m ∷ past) ≡ None
-  pub absence : absence_taken header.size (hears h object control m ∷ past) ≡ None
+  pub error : error_taken header (hears h object control m ∷ past) ≡ None
+  pub absence : absence_taken header (hears h object control m ∷ past) ≡ None
 
 -- the control named lives
 abbrev pub lives : ℕ → ObjectId → ℕ → List Event → Bool
@@ -47,13 +47,13 @@ same_live h o o2 control past same = ap (λ z. is_control control (live_control 
 -- the message is for a control that doesn't live
 
 dead_pages : (header : Header) (h : ℕ) (object : ObjectId) (control : ℕ) (m : Message) (past : List Event) → lives h object control past ≡ false
-    → (o p : ℕ) → local header.size h (place_of o p) (hears h object control m ∷ past) ≡ local header.size h (place_of o p) past
+    → (o p : ℕ) → local header h (place_of o p) (hears h object control m ∷ past) ≡ local header h (place_of o p) past
 dead_pages header h object control m past dead o p =
-    rw (own_host h) (ap (λ b. local_after header.size (if b then taken_effect p m else Elsewhere) (local header.size h (place_of o p) past))
+    rw (own_host h) (ap (λ b. local_after header.size (if b then taken_effect p m else Elsewhere) (local header h (place_of o p) past))
     (nowhere object.0 o (lives h object control past) (is_control control (live_control h o past)) dead (same_live h object.0 o control past)))
 
 dead_held : (header : Header) (h : ℕ) (object : ObjectId) (control : ℕ) (m : Message) (past : List Event) → lives h object control past ≡ false
-    → frames_held header.size h (hears h object control m ∷ past) ≡ frames_held header.size h past
+    → frames_held header h (hears h object control m ∷ past) ≡ frames_held header h past
 dead_held header h object control (message.Unavailable page) past dead = rw (own_host h, dead) refl
 dead_held header h object control (message.Error page reason) past dead = rw (own_host h, dead) refl
 dead_held header h object control other past dead = refl
@@ -65,15 +65,15 @@ dead_ready h object control (message.Ready cache strategy) past dead o =
     (nowhere object.0 o (lives h object control past) (is_control control (live_control h o past)) dead (same_live h object.0 o control past)))
 dead_ready h object control other past dead o = refl
 
-dead_error : (h : ℕ) (size : ℕ) (object : ObjectId) (control : ℕ) (m : Message) (past : List Event) → lives h object control past ≡ false
-    → error_taken size (hears h object control m ∷ past) ≡ None
-dead_error h size object control (message.Error page reason) past dead = rw dead refl
-dead_error h size object control other past dead = refl
+dead_error : (h : ℕ) (header : Header) (object : ObjectId) (control : ℕ) (m : Message) (past : List Event) → lives h object control past ≡ false
+    → error_taken header (hears h object control m ∷ past) ≡ None
+dead_error h header object control (message.Error page reason) past dead = rw dead refl
+dead_error h header object control other past dead = refl
 
-dead_absence : (h : ℕ) (size : ℕ) (object : ObjectId) (control : ℕ) (m : Message) (past : List Event) → lives h object control past ≡ false
-    → absence_taken size (hears h object control m ∷ past) ≡ None
-dead_absence h size object control (message.Unavailable page) past dead = rw dead refl
-dead_absence h size object control other past dead = refl
+dead_absence : (h : ℕ) (header : Header) (object : ObjectId) (control : ℕ) (m : Message) (past : List Event) → lives h object control past ≡ false
+    → absence_taken header (hears h object control m ∷ past) ≡ None
+dead_absence h header object control (message.Unavailable page) past dead = rw dead refl
+dead_absence h header object control other past dead = refl
 
 pub nothing_dead : (header : Header) (h : ℕ) (object : ObjectId) (control : ℕ) (m : Message) (past : List Event) → lives h object control past ≡ false
     → IsNothing header h object control m past
@@ -82,8 +82,8 @@ nothing_dead header h object control m past dead =
       pages = dead_pages header h object control m past dead;
       held = dead_held header h object control m past dead;
       ready = λ o live is. dead_ready h object control m past dead o;
-      error = dead_error h header.size object control m past dead;
-      absence = dead_absence h header.size object control m past dead;
+      error = dead_error h header object control m past dead;
+      absence = dead_absence h header object control m past dead;
     }
 
 -- the message is about a page that isn't asked
@@ -116,55 +116,57 @@ error_stays : (size : ℕ) (was : Local) → was.asked ≡ false → local_after
 error_stays size was none = ap (λ z. record was { asked = z }) (sym none)
 
 -- of a page
-abbrev asks : ℕ → ℕ → ObjectId → ℕ → List Event → Bool
-asks h size object page past = (local size h (place_of object.0 page) past).asked
+abbrev asks : ℕ → Header → ObjectId → ℕ → List Event → Bool
+asks h header object page past = (local header h (place_of object.0 page) past).asked
 
-asked_there : (h : ℕ) (size : ℕ) (object : ObjectId) (page o p : ℕ) (past : List Event) → asks h size object page past ≡ false → object.0 ≡ o → page ≡ p
-    → (local size h (place_of o p) past).asked ≡ false
-asked_there h size object page o p past none same also =
-    subst (λ (z : ℕ). (local size h (place_of o z) past).asked ≡ false) also (subst (λ (z : ℕ). (local size h (place_of z page) past).asked ≡ false) same none)
+asked_there : (h : ℕ) (header : Header) (object : ObjectId) (page o p : ℕ) (past : List Event) → asks h header object page past ≡ false → object.0 ≡ o
+    → page ≡ p
+    → (local header h (place_of o p) past).asked ≡ false
+asked_there h header object page o p past none same also =
+    subst (λ (z : ℕ). (local header h (place_of o z) past).asked ≡ false) also (subst (λ (z : ℕ). (local header h (place_of z page) past).asked ≡ false) same
+    none)
 
 pub unsupplied : (header : Header) (h : ℕ) (object : ObjectId) (control : ℕ) (page : PageNo) (lock : ℕ) (precious : Bool) (bytes : List ℕ) (past : List Event)
-    → asks h header.size object page.0 past ≡ false
+    → asks h header object page.0 past ≡ false
     → IsNothing header h object control (message.Supply page lock precious bytes) past
 unsupplied header h object control page lock precious bytes past none =
     record {
       pages =
           λ o p. rw (own_host h) (still header.size (TakesPage lock precious bytes) object.0 o page.0 p (is_control control (live_control h o past))
-          (local header.size h (place_of o p) past)
-          (λ same also. page_stays header.size lock precious bytes (local header.size h (place_of o p) past)
-          (asked_there h header.size object page.0 o p past none same also)));
+          (local header h (place_of o p) past)
+          (λ same also. page_stays header.size lock precious bytes (local header h (place_of o p) past)
+          (asked_there h header object page.0 o p past none same also)));
       held = refl;
       ready = λ o live is. refl;
       error = refl;
       absence = refl;
     }
 
-pub unlacked : (header : Header) (h : ℕ) (object : ObjectId) (control : ℕ) (page : PageNo) (past : List Event) → asks h header.size object page.0 past ≡ false
+pub unlacked : (header : Header) (h : ℕ) (object : ObjectId) (control : ℕ) (page : PageNo) (past : List Event) → asks h header object page.0 past ≡ false
     → IsNothing header h object control (message.Unavailable page) past
 unlacked header h object control page past none =
     record {
       pages =
           λ o p. rw (own_host h) (still header.size TakesNothing object.0 o page.0 p (is_control control (live_control h o past))
-          (local header.size h (place_of o p) past)
-          (λ same also. nothing_stays header.size (local header.size h (place_of o p) past) (asked_there h header.size object page.0 o p past none same also)));
-      held = rw (own_host h, and_right (lives h object control past) (asks h header.size object page.0 past) none) refl;
+          (local header h (place_of o p) past)
+          (λ same also. nothing_stays header.size (local header h (place_of o p) past) (asked_there h header object page.0 o p past none same also)));
+      held = rw (own_host h, and_right (lives h object control past) (asks h header object page.0 past) none) refl;
       ready = λ o live is. refl;
       error = refl;
-      absence = rw (and_right (lives h object control past) (asks h header.size object page.0 past) none) refl;
+      absence = rw (and_right (lives h object control past) (asks h header object page.0 past) none) refl;
     }
 
 pub unfailed : (header : Header) (h : ℕ) (object : ObjectId) (control : ℕ) (page : PageNo) (reason : ℕ) (past : List Event)
-    → asks h header.size object page.0 past ≡ false → IsNothing header h object control (message.Error page reason) past
+    → asks h header object page.0 past ≡ false → IsNothing header h object control (message.Error page reason) past
 unfailed header h object control page reason past none =
     record {
       pages =
           λ o p. rw (own_host h) (still header.size TakesError object.0 o page.0 p (is_control control (live_control h o past))
-          (local header.size h (place_of o p) past)
-          (λ same also. error_stays header.size (local header.size h (place_of o p) past) (asked_there h header.size object page.0 o p past none same also)));
-      held = rw (own_host h, and_right (lives h object control past) (asks h header.size object page.0 past) none) refl;
+          (local header h (place_of o p) past)
+          (λ same also. error_stays header.size (local header h (place_of o p) past) (asked_there h header object page.0 o p past none same also)));
+      held = rw (own_host h, and_right (lives h object control past) (asks h header object page.0 past) none) refl;
       ready = λ o live is. refl;
-      error = rw (and_right (lives h object control past) (asks h header.size object page.0 past) none) refl;
+      error = rw (and_right (lives h object control past) (asks h header object page.0 past) none) refl;
       absence = refl;
     }
 
@@ -180,7 +182,7 @@ ready_again header h object control cache strategy past ready =
     record {
       pages =
           λ o p. rw (own_host h) (same_effect header.size (object.0 == o && is_control control (live_control h o past))
-          (local header.size h (place_of o p) past));
+          (local header h (place_of o p) past));
       held = refl;
       ready = λ o live is. elim (eqb_tells object.0 o) [
         | inl same ↦ rw (own_host h, same.0) (either (is_control control (live_control h o past)) (is_ready h o past)

@@ -17,7 +17,6 @@ use Rattle.std.proofs.lemmas.Bool.{not-false, or_parts}
 use Rattle.std.proofs.lemmas.List.{length-reverse}
 use Rattle.std.proofs.lemmas.Option.{slice_get_cases}
 use Rattle.vm_abroad.proofs.Home.{home_used, named_objects, named_regions, object_stays}
-use Rattle.vm_abroad.specs.Home.{first_of}
 use Rattle.vm_base.specs.declared.code.Code.TheVariants as code
 use Rattle.vm_base.specs.declared.ids.Inherit.TheVariants as inherit
 use Rattle.vm_base.specs.Limits.{most_pages}
@@ -27,6 +26,7 @@ use Rattle.vm_legal.specs.Licences.{Opens as MayOpen, is_paged}
 use Rattle.vm_legal.specs.Outside.{is_file, kind_in, kind_of}
 use Rattle.vm_legal.specs.Refusal.{is_elsewhere}
 use Rattle.vm_maps.specs.Judge.{judged}
+use Rattle.vm_model.specs.Homes.{first_of}
 use Rattle.vm_model.specs.Named.{declared, declared_pages, pages_kept}
 use Rattle.vm_model.specs.declared.command.Command.TheVariants as command
 use Rattle.vm_model.specs.declared.event.Event.TheVariants as event
@@ -277,14 +277,14 @@ other_home task address bytes object offset past r apart =
 pages_opened : (header : Header) (h : ℕ) (task : TaskId) (row : Entry) (object : ObjectId) (control : ℕ) (past : List Event) (k : Parts) (ids : Ids)
     → Rests header h k ids past → live_control h object.0 past ≡ None
     → HasPages k.memory.frames k.memory.resident k.memory.objects (λ o p. known_local header o p
-    (local header.size h (place_of o p) (beginning h object control header.size ∷ got task row ∷ past)))
+    (local header h (place_of o p) (beginning h object control header.size ∷ got task row ∷ past)))
 pages_opened header h task row object control past k ids rests dead =
     let before = got task row ∷ past in
     rw (own_host h)
-    (pages_known header header.size (λ o p. if object.0 == o then Begins else Elsewhere) (λ o p. local header.size h (place_of o p) before)
+    (pages_known header header.size (λ o p. if object.0 == o then Begins else Elsewhere) (λ o p. local header h (place_of o p) before)
     (λ o p. other_if (object.0 == o) Begins tt)
-    (pages_created header.size k.memory.frames k.memory.resident k.memory.objects (λ o p. known_local header o p (local header.size h (place_of o p) before))
-    object.0 rests.matches.pages (λ q. unasked header.size h object.0 q before dead)))
+    (pages_created header.size k.memory.frames k.memory.resident k.memory.objects (λ o p. known_local header o p (local header h (place_of o p) before))
+    object.0 rests.matches.pages (λ q. unasked header h object.0 q before dead)))
 
 -- the kernel behind both events
 pub rests_opened : (header : Header) (h : ℕ) (outside : Outside) (doing : Command) (task : TaskId) (address bytes : ℕ) (object : ObjectId) (offset pages : ℕ)
@@ -350,7 +350,7 @@ rests_opened header h outside doing task address bytes object offset pages new p
                 entries_declared size k.maps maps k.chains chains task.0 object pages row m.entries o.free o.region o.changes refl below may.whole may.some
                 may.end (let inside = may.inside in let all = o.sized in omega (arith, inside, all)) may.room;
             pages =
-                pages_marked k.memory.frames k.memory.resident k.memory.objects objects (λ x p. known_local header x p (local size h (place_of x p) now))
+                pages_marked k.memory.frames k.memory.resident k.memory.objects objects (λ x p. known_local header x p (local header h (place_of x p) now))
                 (pages_opened header h task row object new.control past k ids rests (was_dead header h past k ids object.0 new rests o.known)) o.marks;
             uses =
                 uses_entered header k.maps maps (λ r. in_use header h r past) (tasks past) (λ t r. holds size t r now) (next_region header past) task.0 row

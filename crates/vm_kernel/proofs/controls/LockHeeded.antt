@@ -154,10 +154,10 @@ heeds_live header h outside doing k ids past object control page count returns f
     size =
     record {
       works = works_roomier (record k { waits = waits2 }) memory laundry its.works fit size;
-      fails = error_more header.size after now inner;
+      fails = error_more header after now inner;
       goes = its.goes;
       early = unrun after its.quiet;
-      zeroed = no_absence header (after ++ now) (absence_more header.size after now inner);
+      zeroed = no_absence header (after ++ now) (absence_more header after now inner);
       locked =
           λ request is. subst (λ (z : LockRequest). HasLocked header z (after ++ now))
           (some_is (request_at r) request (sym (lock_more after now inner ∙ taken.taken) ∙ is)) its.paid;

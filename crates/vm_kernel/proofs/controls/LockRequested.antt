@@ -273,10 +273,10 @@ waits_waked {stays = stays} {unmet = unmet} maps k object page count lock flush 
 
 -- the pages as the history has them then
 pages_taken : (header : Header) (h : ℕ) (k : Parts) (object : ObjectId) (control : ℕ) (page : PageNo) (count returns lock : ℕ) (flush reply : Bool)
-    (past : List Event) → HasPages k.memory.frames k.memory.resident k.memory.objects (λ o p. known_local header o p (local header.size h (place_of o p) past))
+    (past : List Event) → HasPages k.memory.frames k.memory.resident k.memory.objects (λ o p. known_local header o p (local header h (place_of o p) past))
     → is_control control (live_control h object.0 past) ≡ true → (lock < 4) ⊎ (lock ≡ 8)
     → HasPages k.memory.frames (retabled (pended (ahead_of object page count flush lock page.0)) k.memory.resident) k.memory.objects
-    (λ o p. known_local header o p (local header.size h (place_of o p) (asks h object control page count returns flush lock reply ∷ past)))
+    (λ o p. known_local header o p (local header h (place_of o p) (asks h object control page count returns flush lock reply ∷ past)))
 pages_taken header h k object control page count returns lock flush reply past has lives few =
     rw (own_host h) (record { shown = λ o p. ap (λ z. known_local header o p (local_after header.size z (there o p))) (reaches o p) ∙ known.shown o p })
   where
@@ -284,7 +284,7 @@ pages_taken header h k object control page count returns lock flush reply past h
     a = ahead_of object page count flush lock page.0
 
     there : ℕ → ℕ → Local
-    there o p = local header.size h (place_of o p) past
+    there o p = local header h (place_of o p) past
 
     effect_at : ℕ → ℕ → LocalEffect
     effect_at o p = if object.0 == o && in_range p page.0 count then TakesLock lock flush else Elsewhere

@@ -45,7 +45,7 @@ pub matches_asked : (header : Header) (h : ℕ) (k : Parts) (ids : Ids) (past : 
     → AsksPage key frame k.memory memory → KeepsPlan k.memory memory
     → Matches header h (record k { memory = memory }) ids [] (requesting h key control access ∷ past)
 matches_asked header h k ids past key control access frame memory m live c plan =
-    let there = λ (o p : ℕ). local header.size h (place_of o p) past in
+    let there = λ (o p : ℕ). local header h (place_of o p) past in
     let moment = λ (o p : ℕ). known_local header o p (there o p) in
     let asks = λ (o p : ℕ). asking (key.object.0 == o) (key.page.0 == p) (is_control control (live_control h o past)) in
     let now = λ (o p : ℕ). local_after header.size (asks o p) (moment o p) in
@@ -77,8 +77,8 @@ matches_asked header h k ids past key control access frame memory m live c plan 
       replied = replied_behind tt m.replied;
       laundry = laundry_changed key frame _ _ _ _ _ k.memory memory k.laundry (returns_out h past) m.laundry c;
       frames =
-          rw (own_host h) (frames_changed (slice_get (reverse header.frames.items) h) key frame _ _ _ _ _ k.memory memory (frames_held header.size h past)
-          (frames_held header.size h past + 1) (frames_wired h past) m.frames c (λ held. let more = c.claims in omega arith));
+          rw (own_host h) (frames_changed (slice_get (reverse header.frames.items) h) key frame _ _ _ _ _ k.memory memory (frames_held header h past)
+          (frames_held header h past + 1) (frames_wired h past) m.frames c (λ held. let more = c.claims in omega arith));
     }
 
 -- a pager that is ready was told before

@@ -63,14 +63,14 @@ pub record Mid (header : Header) (h : ℕ) (k : Parts) (ids : Ids) (past : List 
   pub files : KnowsFiles header h k.memory.objects (λ o. home_of o past)
   pub entries : HasEntries header.size k.maps k.chains []
   pub shared : AreShared (named header) k.maps
-  pub pages : HasPages k.memory.frames k.memory.resident k.memory.objects (λ o p. known_local header o p (local header.size h (place_of o p) past))
+  pub pages : HasPages k.memory.frames k.memory.resident k.memory.objects (λ o p. known_local header o p (local header h (place_of o p) past))
   pub uses : HasUse header k.maps k.waits.rows (λ r. in_use header h r past) (made_tasks past) (λ task r. holds header.size task r past)
       (next_region header past)
   pub controls : HasControls (named header) h k.memory.objects (λ o. last_control h o past) (λ o. live_control h o past) (λ o. is_ready h o past)
       (λ o. object_home o past)
   pub settled : IsSettled past
   pub laundry : HasLaundry k.memory.frames k.memory.resident k.laundry (returns_out h past)
-  pub frames : HasFrames (slice_get (reverse header.frames.items) h) k.memory.frames (frames_held header.size h past) (frames_wired h past)
+  pub frames : HasFrames (slice_get (reverse header.frames.items) h) k.memory.frames (frames_held header h past) (frames_wired h past)
   pub used : UsesAll header k past
   pub referred : AllReferred k.chains k.memory.objects k.memory.resident
   pub waits : HasWaits header h k woken.Nobody past
@@ -218,9 +218,9 @@ pub record Moved (header : Header) (h : ℕ) (k : Parts) (memory : HostParts) (l
   pub away : KeepsAway k.memory.resident memory.resident
   pub objects : SameObjects k.memory.objects memory.objects
   pub kinds : HasKinds header memory.objects k.chains
-  pub pages : HasPages memory.frames memory.resident memory.objects (λ o p. known_local header o p (local header.size h (place_of o p) now))
+  pub pages : HasPages memory.frames memory.resident memory.objects (λ o p. known_local header o p (local header h (place_of o p) now))
   pub washed : HasLaundry memory.frames memory.resident laundry (returns_out h now)
-  pub frames : HasFrames (slice_get (reverse header.frames.items) h) memory.frames (frames_held header.size h now) (frames_wired h now)
+  pub frames : HasFrames (slice_get (reverse header.frames.items) h) memory.frames (frames_held header h now) (frames_wired h now)
   pub referred : AllReferred k.chains memory.objects memory.resident
   pub waits : HasWaiters k.maps k.chains memory.resident memory.objects k.waits.rows (is_woken woken.Nobody) (λ t. waiting t past) (StaysAway header h now)
       (IsUnmet header h now)
@@ -314,9 +314,9 @@ referred_same cs os os2 rs same all = record {
 -- so only what the page shows, the returns and the frames are left to be shown
 moved_of : (header : Header) (h : ℕ) (k : Parts) (ids : Ids) (memory : HostParts) (laundry : LaundryList) (key : PageKey) (row : PageRow) (x : Option PageRow)
     (held : Bool) (lists : Queues) (past now : List Event) → Mid header h k ids past → Rerows header k key row x held lists memory
-    → HasPages memory.frames memory.resident memory.objects (λ o p. known_local header o p (local header.size h (place_of o p) now))
+    → HasPages memory.frames memory.resident memory.objects (λ o p. known_local header o p (local header h (place_of o p) now))
     → HasLaundry memory.frames memory.resident laundry (returns_out h now)
-    → HasFrames (slice_get (reverse header.frames.items) h) memory.frames (frames_held header.size h now) (frames_wired h now)
+    → HasFrames (slice_get (reverse header.frames.items) h) memory.frames (frames_held header h now) (frames_wired h now)
     → (HasWaits header h k woken.Nobody past → HasWaiters k.maps k.chains k.memory.resident k.memory.objects k.waits.rows (is_woken woken.Nobody)
     (λ t. waiting t past) (StaysAway header h now) (IsUnmet header h now)) → Moved header h k memory laundry past now
 moved_of header h k ids memory laundry key row x held lists past now rests r pages washed frames beyond =
@@ -353,13 +353,13 @@ moved_of header h k ids memory laundry key row x held lists past now rests r pag
 -- what the history has of the page
 seen_of : (header : Header) (h : ℕ) (k : Parts) (ids : Ids) (key : PageKey) (row : PageRow) (past : List Event) → Mid header h k ids past
     → row_at k.memory.resident key.object.0 key.page.0 ≡ Some row → row.here ≡ true
-    → IsSeen (known_local header key.object.0 key.page.0 (local header.size h (place_of key.object.0 key.page.0) past)) row
+    → IsSeen (known_local header key.object.0 key.page.0 (local header h (place_of key.object.0 key.page.0) past)) row
     (page_in k.memory.frames row.frame.0)
 seen_of header h k ids key row past rests found here =
     let m = rests in
     let o = key.object.0 in
     let p = key.page.0 in
-    seen_here k.memory.frames row (absent_at k.memory.objects o p) (known_local header o p (local header.size h (place_of o p) past))
+    seen_here k.memory.frames row (absent_at k.memory.objects o p) (known_local header o p (local header h (place_of o p) past))
     (m.pages.shown o p ∙ ap (λ z. local_of_row k.memory.frames z (absent_at k.memory.objects o p)) found) here
 
 -- what a page comes to with an event: the kernel rests, the event has its cause, and the lists of pages are as it says
@@ -420,7 +420,7 @@ comes_dropped header h outside doing ids k memory key row past returns rests loc
     p : ℕ
     p = key.page.0
 
-    seen : IsSeen (known_local header key.object.0 key.page.0 (local header.size h (place_of key.object.0 key.page.0) past)) row
+    seen : IsSeen (known_local header key.object.0 key.page.0 (local header h (place_of key.object.0 key.page.0) past)) row
         (page_in k.memory.frames row.frame.0)
     seen = seen_of header h k ids key row past rests c.found here
 
@@ -440,25 +440,25 @@ comes_dropped header h outside doing ids k memory key row past returns rests loc
     }
 
     pages2 : HasPages memory.frames memory.resident memory.objects (λ o2 p2. known_local header o2 p2
-        (local header.size h (place_of o2 p2) (drops h key ∷ past)))
+        (local header h (place_of o2 p2) (drops h key ∷ past)))
     pages2 =
-        rw (objects, own_host h) (known_on header header.size key Drops (λ o2 p2. local header.size h (place_of o2 p2) past) tt
+        rw (objects, own_host h) (known_on header header.size key Drops (λ o2 p2. local header h (place_of o2 p2) past) tt
         (pages_moved header.size Drops key row.frame _ _ _ _ _ k.memory memory k.memory.objects
-        (λ o2 p2. known_local header o2 p2 (local header.size h (place_of o2 p2) past)) m.fits.parts m.pages c
+        (λ o2 p2. known_local header o2 p2 (local header h (place_of o2 p2) past)) m.fits.parts m.pages c
         (ap (λ z. record away { asked = not z; absent = absent_at k.memory.objects o p }) here) (λ o2 p2 apart. refl)))
 
     washed : HasLaundry memory.frames memory.resident k.laundry (returns_out h (drops h key ∷ past))
     washed = laundry_changed key row.frame _ _ _ _ _ k.memory memory k.laundry (returns_out h past) m.laundry c
 
-    frames2 : HasFrames (slice_get (reverse header.frames.items) h) memory.frames (frames_held header.size h (drops h key ∷ past))
+    frames2 : HasFrames (slice_get (reverse header.frames.items) h) memory.frames (frames_held header h (drops h key ∷ past))
         (frames_wired h (drops h key ∷ past))
     frames2 =
-        rw (own_host h) (frames_changed (slice_get (reverse header.frames.items) h) key row.frame _ _ _ _ _ k.memory memory (frames_held header.size h past)
-        (frames_held header.size h past - 1) (frames_wired h past) m.frames c (λ held. let less = c.claims in omega arith))
+        rw (own_host h) (frames_changed (slice_get (reverse header.frames.items) h) key row.frame _ _ _ _ _ k.memory memory (frames_held header h past)
+        (frames_held header h past - 1) (frames_wired h past) m.frames c (λ held. let less = c.claims in omega arith))
 
-    clean : gives_back returns (local header.size h (place_of o p) past).dirty (local header.size h (place_of o p) past).precious ≡ false
+    clean : gives_back returns (local header h (place_of o p) past).dirty (local header h (place_of o p) past).precious ≡ false
     clean =
-        ap (λ z. gives_back returns z (local header.size h (place_of o p) past).precious) seen.dirty
+        ap (λ z. gives_back returns z (local header h (place_of o p) past).precious) seen.dirty
         ∙ (ap (gives_back returns row.dirty) seen.precious ∙ spared)
 
     cause : CausedInTurn header outside doing (drops h key) past
@@ -484,19 +484,19 @@ pages_given : (header : Header) (h : ℕ) (k : Parts) (ids : Ids) (key : PageKey
     → local_after header.size (Returns keep) (local_of_row k.memory.frames (Some row) (absent_at k.memory.objects key.object.0 key.page.0)) ≡ local_of_row
     memory.frames x (absent_at memory.objects key.object.0 key.page.0)
     → HasPages memory.frames memory.resident memory.objects (λ o p. known_local header o p
-    (local header.size h (place_of o p) (gives h key control dirty keep bytes ∷ past)))
+    (local header h (place_of o p) (gives h key control dirty keep bytes ∷ past)))
 pages_given header h k ids key row x held keep lists memory control dirty bytes past m c absent shows =
-    rw (own_host h) (pages_known header header.size effect_at (λ o2 p2. local header.size h (place_of o2 p2) past)
+    rw (own_host h) (pages_known header header.size effect_at (λ o2 p2. local header h (place_of o2 p2) past)
     (λ o2 p2. other_nested (key.object.0 == o2) (key.page.0 == p2) (Returns keep) (other_returns keep)) shown)
   where
     effect_at : ℕ → ℕ → LocalEffect
     effect_at o2 p2 = if key.object.0 == o2 then (if key.page.0 == p2 then Returns keep else Elsewhere) else Elsewhere
 
     local_at : ℕ → ℕ → Local
-    local_at o2 p2 = known_local header o2 p2 (local header.size h (place_of o2 p2) past)
+    local_at o2 p2 = known_local header o2 p2 (local header h (place_of o2 p2) past)
 
     shown : HasPages memory.frames memory.resident memory.objects (λ o2 p2. local_after header.size (effect_at o2 p2)
-        (known_local header o2 p2 (local header.size h (place_of o2 p2) past)))
+        (known_local header o2 p2 (local header h (place_of o2 p2) past)))
     shown =
         let moved = pages_moved header.size (Returns keep) key row.frame _ _ _ _ _ k.memory memory memory.objects local_at m.fits.parts m.pages c shows
         (λ o2 p2 apart. absent.at o2 p2 ∙ ap (λ b. if b then false else absent_at k.memory.objects o2 p2) apart) in
@@ -545,13 +545,13 @@ given_follows header h outside doing ids k key row known keep flush past returns
     p : ℕ
     p = key.page.0
 
-    seen : IsSeen (known_local header key.object.0 key.page.0 (local header.size h (place_of key.object.0 key.page.0) past)) row
+    seen : IsSeen (known_local header key.object.0 key.page.0 (local header h (place_of key.object.0 key.page.0) past)) row
         (page_in k.memory.frames row.frame.0)
     seen = seen_of header h k ids key row past rests found here
 
-    due : gives_back returns (local header.size h (place_of o p) past).dirty (local header.size h (place_of o p) past).precious ≡ true
+    due : gives_back returns (local header h (place_of o p) past).dirty (local header h (place_of o p) past).precious ≡ true
     due =
-        ap (λ z. gives_back returns z (local header.size h (place_of o p) past).precious) seen.dirty
+        ap (λ z. gives_back returns z (local header h (place_of o p) past).precious) seen.dirty
         ∙ (ap (gives_back returns row.dirty) seen.precious ∙ wanted)
 
     cause : CausedInTurn header outside doing (gives h key known.control row.dirty keep (page_in k.memory.frames row.frame.0)) past
@@ -618,7 +618,7 @@ comes_returned header h outside doing ids k memory laundry key row known past re
       buffers = buffers;
     }
 
-    pages2 : HasPages memory.frames memory.resident memory.objects (λ o2 p2. known_local header o2 p2 (local header.size h (place_of o2 p2) (e ∷ past)))
+    pages2 : HasPages memory.frames memory.resident memory.objects (λ o2 p2. known_local header o2 p2 (local header h (place_of o2 p2) (e ∷ past)))
     pages2 =
         pages_given header h k ids key row None true false (queues_except row.frame.0 k.memory.queues) memory known.control row.dirty
         (page_in k.memory.frames row.frame.0) past m c absent
@@ -627,10 +627,10 @@ comes_returned header h outside doing ids k memory laundry key row known past re
     washed : HasLaundry memory.frames memory.resident laundry (returns_out h (e ∷ past))
     washed = rw (own_host h) (laundry_returned key row _ _ k.memory memory k.laundry laundry (returns_out h past) m.laundry c held room)
 
-    frames2 : HasFrames (slice_get (reverse header.frames.items) h) memory.frames (frames_held header.size h (e ∷ past)) (frames_wired h (e ∷ past))
+    frames2 : HasFrames (slice_get (reverse header.frames.items) h) memory.frames (frames_held header h (e ∷ past)) (frames_wired h (e ∷ past))
     frames2 =
-        frames_changed (slice_get (reverse header.frames.items) h) key row.frame _ _ _ _ _ k.memory memory (frames_held header.size h past)
-        (frames_held header.size h past) (frames_wired h past) m.frames c (λ held. let same = c.claims in omega arith)
+        frames_changed (slice_get (reverse header.frames.items) h) key row.frame _ _ _ _ _ k.memory memory (frames_held header h past)
+        (frames_held header h past) (frames_wired h past) m.frames c (λ held. let same = c.claims in omega arith)
 
 -- what it shows with another row, here too, in the same frame
 
@@ -714,7 +714,7 @@ comes_saved header h outside doing ids k memory key row known past returns rests
     kinds : HasKinds header memory.objects k.chains
     kinds = kinds_marked header o p false k.memory.objects memory.objects k.chains objects absent (λ less. refl) m.kinds
 
-    pages2 : HasPages memory.frames memory.resident memory.objects (λ o2 p2. known_local header o2 p2 (local header.size h (place_of o2 p2) (e ∷ past)))
+    pages2 : HasPages memory.frames memory.resident memory.objects (λ o2 p2. known_local header o2 p2 (local header h (place_of o2 p2) (e ∷ past)))
     pages2 =
         pages_given header h k ids key row (Some (relocked None true row)) true true k.memory.queues memory known.control row.dirty
         (page_in k.memory.frames row.frame.0) past m c absent
@@ -724,10 +724,10 @@ comes_saved header h outside doing ids k memory key row known past returns rests
     washed : HasLaundry memory.frames memory.resident k.laundry (returns_out h (e ∷ past))
     washed = rw (own_host h) (laundry_changed key row.frame _ _ _ _ _ k.memory memory k.laundry (returns_out h past) m.laundry c)
 
-    frames2 : HasFrames (slice_get (reverse header.frames.items) h) memory.frames (frames_held header.size h (e ∷ past)) (frames_wired h (e ∷ past))
+    frames2 : HasFrames (slice_get (reverse header.frames.items) h) memory.frames (frames_held header h (e ∷ past)) (frames_wired h (e ∷ past))
     frames2 =
-        frames_changed (slice_get (reverse header.frames.items) h) key row.frame _ _ _ _ _ k.memory memory (frames_held header.size h past)
-        (frames_held header.size h past) (frames_wired h past) m.frames c (λ held. let same = c.claims in omega arith)
+        frames_changed (slice_get (reverse header.frames.items) h) key row.frame _ _ _ _ _ k.memory memory (frames_held header h past)
+        (frames_held header h past) (frames_wired h past) m.frames c (λ held. let same = c.claims in omega arith)
 
 -- or it stays as it is
 pub record StaysPut (header : Header) (h : ℕ) (ids : Ids) (k k2 : Parts) (past : List Event) : Type 0 where
@@ -747,15 +747,15 @@ comes_still header h ids k memory key row past rests here unsent c objects buffe
       rests = rests_moved header h k ids memory k.laundry past past rests (quiet_none rests)
           (moved_of header h k ids memory k.laundry key row _ true _ past past rests
           (rerows_relocked header h k ids key row false memory past rests here unsent c same (rw objects m.kinds) buffers)
-          (pages_changed key row.frame _ _ _ _ _ k.memory memory memory.objects (λ o2 p2. known_local header o2 p2 (local header.size h (place_of o2 p2) past))
-          (λ o2 p2. known_local header o2 p2 (local header.size h (place_of o2 p2) past)) m.fits.parts m.pages c
+          (pages_changed key row.frame _ _ _ _ _ k.memory memory memory.objects (λ o2 p2. known_local header o2 p2 (local header h (place_of o2 p2) past))
+          (λ o2 p2. known_local header o2 p2 (local header h (place_of o2 p2) past)) m.fits.parts m.pages c
           (λ was. was ∙ (ap (λ b. record (local_of_row k.memory.frames (Some row) (absent_at k.memory.objects o p)) { dirty = if b then row.dirty else false })
           here ∙ (shown_relocked key row false (absent_at k.memory.objects o p) k.memory.queues k.memory memory unsent c here
           ∙ ap (λ z. local_of_row memory.frames (Some (relocked None false row)) (absent_at z o p)) (sym objects))))
           (λ o2 p2 apart. (refl, ap (λ z. absent_at z o2 p2) objects)))
           (laundry_changed key row.frame _ _ _ _ _ k.memory memory k.laundry (returns_out h past) m.laundry c)
-          (frames_changed (slice_get (reverse header.frames.items) h) key row.frame _ _ _ _ _ k.memory memory (frames_held header.size h past)
-          (frames_held header.size h past) (frames_wired h past) m.frames c (λ held. let same = c.claims in omega arith))
+          (frames_changed (slice_get (reverse header.frames.items) h) key row.frame _ _ _ _ _ k.memory memory (frames_held header h past)
+          (frames_held header h past) (frames_wired h past) m.frames c (λ held. let same = c.claims in omega arith))
           (λ has. has));
       same = lists_stay k key row false memory k.laundry c;
     }

@@ -733,7 +733,7 @@ completed_rests r k past rests =
       pages =
           record {
             shown = λ o p. ap (known_local r.header o p) (rw (own_host r.host)
-                (same_effect r.header.size (r.object.0 == o) (local r.header.size r.host (place_of o p) past))) ∙ m.pages.shown o p;
+                (same_effect r.header.size (r.object.0 == o) (local r.header r.host (place_of o p) past))) ∙ m.pages.shown o p;
           };
       washed = m.laundry;
       frames = m.frames;

@@ -52,7 +52,7 @@ matches_unlocked header h k ids past key row control access memory m here c plan
     let e : Event = unlocking h key control access in
     let row2 : PageRow = record row { unlock_sent = true } in
     let lacked = absent_at k.memory.objects key.object.0 key.page.0 in
-    let there = λ (o p : ℕ). local header.size h (place_of o p) past in
+    let there = λ (o p : ℕ). local header h (place_of o p) past in
     let moment = λ (o p : ℕ). known_local header o p (there o p) in
     let effect_at : ℕ → ℕ → LocalEffect = λ o p. if key.object.0 == o then (if key.page.0 == p then model.Unlocks else Elsewhere) else Elsewhere in
     let shows = ap (local_after header.size model.Unlocks) (shown_here k.memory.frames row lacked here)
@@ -86,8 +86,8 @@ matches_unlocked header h k ids past key row control access memory m here c plan
       replied = replied_behind tt m.replied;
       laundry = laundry_changed key row.frame _ _ _ _ _ k.memory memory k.laundry (returns_out h past) m.laundry c;
       frames =
-          frames_changed (slice_get (reverse header.frames.items) h) key row.frame _ _ _ _ _ k.memory memory (frames_held header.size h past)
-          (frames_held header.size h past) (frames_wired h past) m.frames c (λ held. let same = c.claims in omega arith);
+          frames_changed (slice_get (reverse header.frames.items) h) key row.frame _ _ _ _ _ k.memory memory (frames_held header h past)
+          (frames_held header h past) (frames_wired h past) m.frames c (λ held. let same = c.claims in omega arith);
     }
 
 -- the access waits for it

@@ -386,10 +386,10 @@ before_ended key rows past old new only before =
 
 -- what the step took stays what it took
 error_goes : (header : Header) (h : ℕ) (outside : Outside) (doing : Command) (past old new : List Event) → LegalEvents header h outside doing past old new
-    → error_taken header.size (new ++ past) ≡ error_taken header.size (old ++ past)
+    → error_taken header (new ++ past) ≡ error_taken header (old ++ past)
 error_goes header h outside doing past old new goes =
-    ap (λ z. error_taken header.size (z ++ past)) goes.is
-    ∙ (ap (error_taken header.size) (append_assoc goes.more old past) ∙ error_more header.size goes.more (old ++ past) goes.inner)
+    ap (λ z. error_taken header (z ++ past)) goes.is
+    ∙ (ap (error_taken header) (append_assoc goes.more old past) ∙ error_more header goes.more (old ++ past) goes.inner)
 
 -- what the region left has gone too
 pub failed_ended : (header : Header) (h : ℕ) (outside : Outside) (doing : Command) (past old events after : List Event) (key : PageKey) (k k2 : Parts)
@@ -464,7 +464,7 @@ ends_all key first rows past was none t w found waits = elim (was t w found wait
 
 pub paid_more : (header : Header) (more past : List Event) → AllInner more → IsErrorPaid header past → IsErrorPaid header (more ++ past)
 paid_more header more past inner paid =
-    λ host object page is. since_more (fails_access object page) more past inner (paid host object page (sym (error_more header.size more past inner) ∙ is))
+    λ host object page is. since_more (fails_access object page) more past inner (paid host object page (sym (error_more header more past inner) ∙ is))
 
 pub paid_goes : (header : Header) (h : ℕ) (outside : Outside) (doing : Command) (past old new : List Event) → LegalEvents header h outside doing past old new
     → IsErrorPaid header (old ++ past) → IsErrorPaid header (new ++ past)
@@ -476,7 +476,7 @@ paid_goes header h outside doing past old new goes paid =
 asked_same : {x y : Asked} → Some x ≡ Some y → x ≡ y
 asked_same {x = x} {y = y} is = some_is x y is
 
-none_paid : (header : Header) (past : List Event) → error_taken header.size past ≡ None → IsErrorPaid header past
+none_paid : (header : Header) (past : List Event) → error_taken header past ≡ None → IsErrorPaid header past
 none_paid header past none = λ host object page is. absurd (let bad : None ≡ Some (record { host = host; object = object; page = page }) = sym none ∙ is in cc)
 
 pub paid_failed : (header : Header) (h : ℕ) (outside : Outside) (doing : Command) (woke : Woken) (past old new : List Event)
@@ -498,7 +498,7 @@ pub absence_goes : (header : Header) (h : ℕ) (outside : Outside) (doing : Comm
 absence_goes header h outside doing past old new goes paid = λ host object page declared is.
     subst (λ (z : List Event). since (zeroes object page) z ≡ true) (sym told)
     (since_more (zeroes object page) goes.more (old ++ past) goes.inner
-    (paid host object page declared (sym (absence_more header.size goes.more (old ++ past) goes.inner) ∙ (sym (ap (absence_taken header.size) told) ∙ is))))
+    (paid host object page declared (sym (absence_more header goes.more (old ++ past) goes.inner) ∙ (sym (ap (absence_taken header) told) ∙ is))))
   where
     told : new ++ past ≡ goes.more ++ (old ++ past)
     told = ap (λ z. z ++ past) goes.is ∙ append_assoc goes.more old past
@@ -508,7 +508,7 @@ absence_goes header h outside doing past old new goes paid = λ host object page
 each_more : (header : Header) (rows : List Waiting) (more past : List Event) → AllInner more → EndsEach header rows past → EndsEach header rows (more ++ past)
 each_more header rows more past inner each =
     λ host object page t w is found waits. since_more (fails_task t object page) more past inner
-    (each host object page t w (sym (error_more header.size more past inner) ∙ is) found waits)
+    (each host object page t w (sym (error_more header more past inner) ∙ is) found waits)
 
 pub each_goes : (header : Header) (h : ℕ) (outside : Outside) (doing : Command) (rows : List Waiting) (past old new : List Event)
     → LegalEvents header h outside doing past old new → EndsEach header rows (old ++ past) → EndsEach header rows (new ++ past)
@@ -516,7 +516,7 @@ each_goes header h outside doing rows past old new goes each =
     subst (λ (z : List Event). EndsEach header rows z) (sym (append_assoc goes.more old past) ∙ ap (λ z. z ++ past) (sym goes.is))
     (each_more header rows goes.more (old ++ past) goes.inner each)
 
-no_error : (header : Header) (rows : List Waiting) (past : List Event) → error_taken header.size past ≡ None → EndsEach header rows past
+no_error : (header : Header) (rows : List Waiting) (past : List Event) → error_taken header past ≡ None → EndsEach header rows past
 no_error header rows past none =
     λ host object page t w is found waits. absurd (let bad : None ≡ Some (record { host = host; object = object; page = page }) = sym none ∙ is in cc)
 

@@ -44,7 +44,7 @@ unasked_shows fs (Some row) lacked none = by_here row.here none
 
 -- the step took no word that a pager has no page, but of a temporary object
 
-pub no_absence : (header : Header) (past : List Event) → absence_taken header.size past ≡ None → IsAbsencePaid header past
+pub no_absence : (header : Header) (past : List Event) → absence_taken header past ≡ None → IsAbsencePaid header past
 no_absence header past none =
     λ host object page declared is. absurd (let bad : None ≡ Some (record { host = host; object = object; page = page }) = sym none ∙ is in cc)
 
@@ -53,9 +53,10 @@ abbrev asked_at : ℕ → ℕ → ℕ → Asked
 asked_at host object page = record { host = host; object = object; page = page }
 
 -- the page of which it was taken
-absence_is : (h size : ℕ) (object : ObjectId) (control : ℕ) (page : PageNo) (past : List Event) (host o p : ℕ)
-    → absence_taken size (hears h object control (message.Unavailable page) ∷ past) ≡ Some (asked_at host o p) → asked_at h object.0 page.0 ≡ asked_at host o p
-absence_is h size object control page past host o p is = by (lives h object control past && (local size h (place_of object.0 page.0) past).asked) is
+absence_is : (h : ℕ) (header : Header) (object : ObjectId) (control : ℕ) (page : PageNo) (past : List Event) (host o p : ℕ)
+    → absence_taken header (hears h object control (message.Unavailable page) ∷ past) ≡ Some (asked_at host o p)
+    → asked_at h object.0 page.0 ≡ asked_at host o p
+absence_is h header object control page past host o p is = by (lives h object control past && (local header h (place_of object.0 page.0) past).asked) is
   where
     by : (b : Bool) → (if b then Some (asked_at h object.0 page.0) else None) ≡ Some (asked_at host o p) → asked_at h object.0 page.0 ≡ asked_at host o p
     by true same = some_is (asked_at h object.0 page.0) (asked_at host o p) same
@@ -64,13 +65,13 @@ absence_is h size object control page past host o p is = by (lives h object cont
 lacked_absence : (header : Header) (h : ℕ) (object : ObjectId) (control : ℕ) (page : PageNo) (past : List Event) → named header ≤ object.0
     → IsAbsencePaid header (hears h object control (message.Unavailable page) ∷ past)
 lacked_absence header h object control page past temporary = λ host o p declared is.
-    let same : object.0 ≡ o = ap (λ (z : Asked). z.object) (absence_is h header.size object control page past host o p is) in
+    let same : object.0 ≡ o = ap (λ (z : Asked). z.object) (absence_is h header object control page past host o p is) in
     absurd (omega (arith, temporary, declared, same))
 
 zeroed_absence : (header : Header) (h : ℕ) (object : ObjectId) (control : ℕ) (page : PageNo) (past : List Event)
     → IsAbsencePaid header (zeros h object page ∷ hears h object control (message.Unavailable page) ∷ past)
 zeroed_absence header h object control page past = λ host o p declared is.
-    subst (λ (z : Asked). ((object.0 == z.object && page.0 == z.page) || false) ≡ true) (absence_is h header.size object control page past host o p is)
+    subst (λ (z : Asked). ((object.0 == z.object && page.0 == z.page) || false) ≡ true) (absence_is h header object control page past host o p is)
     (rw (own_host object.0, own_host page.0) refl)
 
 -- the message has been heard, and what it brought followed
@@ -199,7 +200,7 @@ hears_it header h outside doing k ids after past object control m who new was te
     -- a page that is asked, or not
     by_asked : (page : PageNo) (outcome : AnswerOutcome) (said : Message) (x : Option PageRow) → lock_taken (hears h object control said ∷ past) ≡ None
         → asked_row (row_at k.memory.resident object.0 page.0) ≡ x
-        → ((local header.size h (place_of object.0 page.0) past).asked ≡ false → IsNothing header h object control said past)
+        → ((local header h (place_of object.0 page.0) past).asked ≡ false → IsNothing header h object control said past)
         → ((row : PageRow) → asked_row (row_at k.memory.resident object.0 page.0) ≡ Some row → Answers outcome → Hear said)
         → Answers (if is_some x then outcome else Discarded) → Hear said
     by_asked page outcome said None unlocked is nothing counts_now done =

@@ -108,11 +108,11 @@ pub record Changed (header : Header) (h : ℕ) (k : Parts) (ids : Ids) (who : Wo
       (next_object header past) (marks_of header past)
   pub kinds : HasKinds header new.objects k.chains
   pub files : KnowsFiles header h new.objects (λ o. home_of o past)
-  pub pages : HasPages new.frames new.resident new.objects (λ o p. known_local header o p (local header.size h (place_of o p) now))
+  pub pages : HasPages new.frames new.resident new.objects (λ o p. known_local header o p (local header h (place_of o p) now))
   pub controls : HasControls (named header) h new.objects (λ o. last_control h o past) (λ o. live_control h o past) (λ o. is_ready h o now)
       (λ o. object_home o past)
   pub laundry : HasLaundry new.frames new.resident k.laundry (returns_out h past)
-  pub frames : HasFrames (slice_get (reverse header.frames.items) h) new.frames (frames_held header.size h now) (frames_wired h past)
+  pub frames : HasFrames (slice_get (reverse header.frames.items) h) new.frames (frames_held header h now) (frames_wired h past)
   pub referred : AllReferred k.chains new.objects new.resident
   pub waits : HasWaiters k.maps k.chains new.resident new.objects k.waits.rows (is_woken who) (λ t. waiting t past) (StaysAway header h now)
       (IsUnmet header h now)
@@ -217,7 +217,7 @@ works_of header h k ids who new past now rests stays fit same c =
             replied = stays.replied;
             laundry = subst (λ (z : ℕ). HasLaundry new.frames new.resident k.laundry z) (sym stays.returned) c.laundry;
             frames =
-                subst (λ (z : ℕ). HasFrames (slice_get (reverse header.frames.items) h) new.frames (frames_held header.size h now) z) (sym stays.wired)
+                subst (λ (z : ℕ). HasFrames (slice_get (reverse header.frames.items) h) new.frames (frames_held header h now) z) (sym stays.wired)
                 c.frames;
           };
       used = used_away k.memory.resident new.resident (used_told rests.used (λ t w found. (stays.next t, stays.target t))) c.away;
@@ -321,8 +321,8 @@ changed_none header h k ids past object control m rests nothing =
       kinds = was.kinds;
       files = was.files;
       pages =
-          pages_eq k.memory.frames k.memory.resident k.memory.objects (λ o p. known_local header o p (local header.size h (place_of o p) past))
-          (λ o p. known_local header o p (local header.size h (place_of o p) (hears h object control m ∷ past)))
+          pages_eq k.memory.frames k.memory.resident k.memory.objects (λ o p. known_local header o p (local header h (place_of o p) past))
+          (λ o p. known_local header o p (local header h (place_of o p) (hears h object control m ∷ past)))
           was.pages (λ o p. ap (known_local header o p) (nothing.pages o p));
       controls =
           controls_of k.memory.objects k.memory.objects (λ o. last_control h o past) (λ o. live_control h o past) (λ o. is_ready h o past)
@@ -449,11 +449,11 @@ changed_ready header h k ids events after past object control cache strategy who
           readies.ready was.files;
       pages =
           pages_marked k.memory.frames k.memory.resident k.memory.objects new.objects
-          (λ o p. known_local header o p (local header.size h (place_of o p) (hears h object control (message.Ready cache strategy) ∷ past)))
-          (pages_eq k.memory.frames k.memory.resident k.memory.objects (λ o p. known_local header o p (local header.size h (place_of o p) past))
-          (λ o p. known_local header o p (local header.size h (place_of o p) (hears h object control (message.Ready cache strategy) ∷ past))) was.pages
+          (λ o p. known_local header o p (local header h (place_of o p) (hears h object control (message.Ready cache strategy) ∷ past)))
+          (pages_eq k.memory.frames k.memory.resident k.memory.objects (λ o p. known_local header o p (local header h (place_of o p) past))
+          (λ o p. known_local header o p (local header h (place_of o p) (hears h object control (message.Ready cache strategy) ∷ past))) was.pages
           (λ o p. ap (known_local header o p) (rw (own_host h) (same_effect header.size (object.0 == o && is_control control (live_control h o past))
-          (local header.size h (place_of o p) past)))))
+          (local header h (place_of o p) past)))))
           readies.marks;
       controls =
           rw (own_host h) (controls_ready k.memory.objects new.objects (λ o. last_control h o past) (λ o. live_control h o past) (λ o. is_ready h o past)
@@ -482,8 +482,8 @@ same_marks : (os os2 : ObjectTable) → os2 ≡ os → SameMarks os os2
 same_marks os os2 same = record { at = λ o p. ap (λ z. absent_at z o p) same }
 
 asks_now : (header : Header) (h : ℕ) (k : Parts) (past : List Event) (o p : ℕ) (was : PageRow)
-    → HasPages k.memory.frames k.memory.resident k.memory.objects (λ o2 p2. known_local header o2 p2 (local header.size h (place_of o2 p2) past))
-    → row_at k.memory.resident o p ≡ Some was → was.here ≡ false → (local header.size h (place_of o p) past).asked ≡ true
+    → HasPages k.memory.frames k.memory.resident k.memory.objects (λ o2 p2. known_local header o2 p2 (local header h (place_of o2 p2) past))
+    → row_at k.memory.resident o p ≡ Some was → was.here ≡ false → (local header h (place_of o p) past).asked ≡ true
 asks_now header h k past o p was has found away_now =
     ap (λ z. z.asked) (has.shown o p) ∙ (ap (λ z. (local_of_row k.memory.frames z (absent_at k.memory.objects o p)).asked) found ∙ ap not away_now)
 
@@ -565,13 +565,13 @@ changed_supplied header h k ids events after past object control page lock preci
     (sym (bytes_now key row.frame _ _ _ _ _ k.memory new comes))
     ∙ ap (λ z. record away { here = true; bytes = page_in new.frames row.frame.0; lock = z; precious = precious; absent = lacked })
     (sym (lock_of-prohibits lock few))) in
-    let local_at = λ (o p : ℕ). local header.size h (place_of o p) past in
+    let local_at = λ (o p : ℕ). local header h (place_of o p) past in
     let pages = known_on header header.size key (TakesPage lock precious bytes) local_at tt
     (pages_moved header.size (TakesPage lock precious bytes) key row.frame _ _ _ _ _ k.memory new k.memory.objects
     (λ o p. known_local header o p (local_at o p)) was.fits.parts was.pages comes shows (λ o p apart. refl)) in
-    let moves : (o p : ℕ) → local header.size h (place_of o p) (hears h object control (message.Supply page lock precious bytes) ∷ past) ≡ effect_on header.size
-    key (TakesPage lock precious bytes) (λ o2 p2. local header.size h (place_of o2 p2) past) o p =
-    λ o p. rw (own_host h) (ap (λ z. local_after header.size z (local header.size h (place_of o p) past))
+    let moves : (o p : ℕ) → local header h (place_of o p) (hears h object control (message.Supply page lock precious bytes) ∷ past) ≡ effect_on header.size
+    key (TakesPage lock precious bytes) (λ o2 p2. local header h (place_of o2 p2) past) o p =
+    λ o p. rw (own_host h) (ap (λ z. local_after header.size z (local header h (place_of o p) past))
     (on_page object.0 o (lives h object control past) (is_control control (live_control h o past)) (page.0 == p) (TakesPage lock precious bytes) Elsewhere
     lives_now (λ e. ap (λ z. is_control control (live_control h z past)) (sym e)))) in
     subst (λ (z : Woken). Changed header h k ids z new past (hears h object control (message.Supply page lock precious bytes) ∷ past)) (sym supplies.woken)
@@ -585,7 +585,7 @@ changed_supplied header h k ids events after past object control page lock preci
       files = files_same header h k.memory.objects new.objects (λ o. home_of o past) same was.files;
       pages =
           pages_eq new.frames new.resident new.objects (λ o p. known_local header o p (effect_on header.size key (TakesPage lock precious bytes) local_at o p))
-          (λ o p. known_local header o p (local header.size h (place_of o p) (hears h object control (message.Supply page lock precious bytes) ∷ past)))
+          (λ o p. known_local header o p (local header h (place_of o p) (hears h object control (message.Supply page lock precious bytes) ∷ past)))
           (subst (λ (z : ObjectTable). HasPages new.frames new.resident z (λ o p. known_local header o p
           (effect_on header.size key (TakesPage lock precious bytes) local_at o p))) (sym supplies.objects) pages)
           (λ o p. ap (known_local header o p) (moves o p));
@@ -594,8 +594,8 @@ changed_supplied header h k ids events after past object control page lock preci
           was.controls same (λ o live is. refl);
       laundry = laundry_changed key row.frame _ _ _ _ _ k.memory new k.laundry (returns_out h past) was.laundry comes;
       frames =
-          frames_changed (slice_get (reverse header.frames.items) h) key row.frame _ _ _ _ _ k.memory new (frames_held header.size h past)
-          (frames_held header.size h past) (frames_wired h past) was.frames comes (λ held. let kept = comes.claims in omega arith);
+          frames_changed (slice_get (reverse header.frames.items) h) key row.frame _ _ _ _ _ k.memory new (frames_held header h past)
+          (frames_held header h past) (frames_wired h past) was.frames comes (λ held. let kept = comes.claims in omega arith);
       referred =
           referred_of k.chains k.memory.objects new.objects new.resident (referred_row object.0 page.0 (Some now) k.chains k.memory.objects k.memory.resident
           new.resident comes.row (λ r is. (
@@ -615,10 +615,10 @@ changed_supplied header h k ids events after past object control page lock preci
 -- what the message is to the history
 record EndsPage (header : Header) (h : ℕ) (k : Parts) (who : Woken) (object : ObjectId) (control : ℕ) (page : PageNo) (m : Message) (effect : LocalEffect)
     (past : List Event) : Type 0 where
-  moves : (o p : ℕ) → local header.size h (place_of o p) (hears h object control m ∷ past)
+  moves : (o p : ℕ) → local header h (place_of o p) (hears h object control m ∷ past)
       ≡ local_after header.size (if object.0 == o && is_control control (live_control h o past) then (if page.0 == p then effect else Elsewhere) else Elsewhere)
-      (local header.size h (place_of o p) past)
-  held : frames_held header.size h (hears h object control m ∷ past) ≡ frames_held header.size h past - 1
+      (local header h (place_of o p) past)
+  held : frames_held header h (hears h object control m ∷ past) ≡ frames_held header h past - 1
   ready : (o : ℕ) → is_ready h o (hears h object control m ∷ past) ≡ is_ready h o past
   known : (was : Local) → known_local header object.0 page.0 (local_after header.size effect was) ≡ local_after header.size effect
       (known_local header object.0 page.0 was)
@@ -638,7 +638,7 @@ changed_ended header h k ids past object control page m effect who row new rests
     let key = key_of object page in
     let asked = asked_is (row_at k.memory.resident object.0 page.0) row is_asked in
     let waits = waits_page header h k ids past object.0 page.0 None who new rests is.test ends.row (none_unawaited None refl) same in
-    let local_at = λ (o p : ℕ). local header.size h (place_of o p) past in
+    let local_at = λ (o p : ℕ). local header h (place_of o p) past in
     let pages = known_at header header.size key effect local_at is.known
     (pages_moved header.size effect key row.frame _ _ _ _ _ k.memory new new.objects (λ o p. known_local header o p (local_at o p)) was.fits.parts was.pages
     ends
@@ -653,10 +653,10 @@ changed_ended header h k ids past object control page m effect who row new rests
       kinds = kinds;
       files = files_same header h k.memory.objects new.objects (λ o. home_of o past) same was.files;
       pages = pages_eq new.frames new.resident new.objects (λ o p. known_local header o p (effect_on header.size key effect local_at o p))
-          (λ o p. known_local header o p (local header.size h (place_of o p) (hears h object control m ∷ past))) pages
+          (λ o p. known_local header o p (local header h (place_of o p) (hears h object control m ∷ past))) pages
           (λ o p. ap (known_local header o p)
           (is.moves o p
-          ∙ ap (λ z. local_after header.size z (local header.size h (place_of o p) past))
+          ∙ ap (λ z. local_after header.size z (local header h (place_of o p) past))
           (on_page object.0 o (lives h object control past) (is_control control (live_control h o past)) (page.0 == p) effect Elsewhere lives_now
           (λ e. ap (λ z. is_control control (live_control h z past)) (sym e)))));
       controls =
@@ -664,8 +664,8 @@ changed_ended header h k ids past object control page m effect who row new rests
           (λ o. is_ready h o (hears h object control m ∷ past)) was.controls same (λ o live number. is.ready o);
       laundry = laundry_changed key row.frame _ _ _ _ _ k.memory new k.laundry (returns_out h past) was.laundry ends;
       frames = subst (λ (z : ℕ). HasFrames (slice_get (reverse header.frames.items) h) new.frames z (frames_wired h past)) (sym is.held)
-          (frames_changed (slice_get (reverse header.frames.items) h) key row.frame _ _ _ _ _ k.memory new (frames_held header.size h past)
-          (frames_held header.size h past - 1) (frames_wired h past) was.frames ends (λ held. let less = ends.claims in omega arith));
+          (frames_changed (slice_get (reverse header.frames.items) h) key row.frame _ _ _ _ _ k.memory new (frames_held header h past)
+          (frames_held header h past - 1) (frames_wired h past) was.frames ends (λ held. let less = ends.claims in omega arith));
       referred =
           referred_of k.chains k.memory.objects new.objects new.resident (referred_gone object.0 page.0 k.chains k.memory.objects k.memory.resident new.resident
           ends.row rests.referred) same;
@@ -682,7 +682,7 @@ pub changed_lacked : (header : Header) (h : ℕ) (k : Parts) (ids : Ids) (events
     → Changed header h k ids who new past (hears h object control (message.Unavailable page) ∷ past)
 changed_lacked header h k ids events after past object control page who new rests lacks lives_now temporary =
     let asked = asked_is (row_at k.memory.resident object.0 page.0) lacks.was lacks.asked in
-    let counts_now = and_from (lives h object control past) (local header.size h (place_of object.0 page.0) past).asked lives_now
+    let counts_now = and_from (lives h object control past) (local header h (place_of object.0 page.0) past).asked lives_now
     (asks_now header h k past object.0 page.0 lacks.was rests.matches.pages asked.0 asked.1) in
     changed_ended header h k ids past object control page (message.Unavailable page) TakesNothing who lacks.was new rests lacks.asked lacks.page lives_now
     lacks.objects
@@ -707,7 +707,7 @@ pub changed_failed : (header : Header) (h : ℕ) (k : Parts) (ids : Ids) (events
     → Changed header h k ids who new past (hears h object control (message.Error page reason) ∷ past)
 changed_failed header h k ids events after past object control page reason who new rests fails lives_now =
     let asked = asked_is (row_at k.memory.resident object.0 page.0) fails.was fails.asked in
-    let counts_now = and_from (lives h object control past) (local header.size h (place_of object.0 page.0) past).asked lives_now
+    let counts_now = and_from (lives h object control past) (local header h (place_of object.0 page.0) past).asked lives_now
     (asks_now header h k past object.0 page.0 fails.was rests.matches.pages asked.0 asked.1) in
     changed_ended header h k ids past object control page (message.Error page reason) TakesError who fails.was new rests fails.asked fails.page lives_now
     (record { at = λ o. ap (λ z. object_at z o) fails.objects })
@@ -742,18 +742,18 @@ zeroed_shows header o p size was lacked declared is =
 
 -- what holds of the page in the history, before zeros come
 pub record Lacking (header : Header) (h : ℕ) (object : ObjectId) (control : ℕ) (page : PageNo) (past : List Event) : Type 0 where
-  pub counts : (lives h object control past && (local header.size h (place_of object.0 page.0) past).asked) ≡ true
-  pub asked : (local header.size h (place_of object.0 page.0) past).asked ≡ true
-  pub away : (local header.size h (place_of object.0 page.0) past).here ≡ false
+  pub counts : (lives h object control past && (local header h (place_of object.0 page.0) past).asked) ≡ true
+  pub asked : (local header h (place_of object.0 page.0) past).asked ≡ true
+  pub away : (local header h (place_of object.0 page.0) past).here ≡ false
 
 pub lacking : (header : Header) (h : ℕ) (k : Parts) (past : List Event) (object : ObjectId) (control : ℕ) (page : PageNo) (row : PageRow)
-    → HasPages k.memory.frames k.memory.resident k.memory.objects (λ o p. known_local header o p (local header.size h (place_of o p) past))
+    → HasPages k.memory.frames k.memory.resident k.memory.objects (λ o p. known_local header o p (local header h (place_of o p) past))
     → asked_row (row_at k.memory.resident object.0 page.0) ≡ Some row → lives h object control past ≡ true → Lacking header h object control page past
 lacking header h k past object control page row has is lives_now =
     let asked = asked_is (row_at k.memory.resident object.0 page.0) row is in
     let now = asks_now header h k past object.0 page.0 row has asked.0 asked.1 in
     record {
-      counts = and_from (lives h object control past) (local header.size h (place_of object.0 page.0) past).asked lives_now now;
+      counts = and_from (lives h object control past) (local header h (place_of object.0 page.0) past).asked lives_now now;
       asked = now;
       away =
           ap (λ (z : Local). z.here) (has.shown object.0 page.0)
@@ -778,8 +778,8 @@ changed_zeroed header h k ids host after past object control page who new rests 
     subst (λ (z : ℕ). FillsPage key row unlocked false (replicate z 0) k.memory new) (was.fits.buffers ∙ was.size) zeroes.page in
     let here : IsUnawaited (Some now) = here_unawaited (Some now) now refl refl refl in
     let waits = waits_page header h k ids past object.0 page.0 (Some now) (woken.Page key) new rests (λ o2 p2. refl) comes.row here same in
-    let local_at = λ (o p : ℕ). known_local header o p (local header.size h (place_of o p) past) in
-    let local_now = λ (o p : ℕ). known_local header o p (local header.size h (place_of o p)
+    let local_at = λ (o p : ℕ). known_local header o p (local header h (place_of o p) past) in
+    let local_now = λ (o p : ℕ). known_local header o p (local header h (place_of o p)
     (zeros h object page ∷ hears h object control (message.Unavailable page) ∷ past)) in
     let shows : local_at object.0 page.0 ≡ local_of_row k.memory.frames (Some row) lacked
     → local_now object.0 page.0 ≡ local_of_row new.frames (Some now) lacked = λ is.
@@ -788,7 +788,7 @@ changed_zeroed header h k ids host after past object control page who new rests 
       own_host object.0,
       own_host page.0,
       lives_now,
-    ) (zeroed_shows header object.0 page.0 header.size (local header.size h (place_of object.0 page.0) past) lacked declared
+    ) (zeroed_shows header object.0 page.0 header.size (local header h (place_of object.0 page.0) past) lacked declared
     (is ∙ asked_shows k.memory.frames row lacked (was.fits.plain object.0 page.0 row asked.0 asked.1) asked.1))
     ∙ (ap (λ z. record away { here = true; bytes = z }) (sym (bytes_now key row.frame _ _ _ _ _ k.memory new comes))
     ∙ ap (λ z. record away { here = true; bytes = page_in new.frames row.frame.0; absent = z }) (sym (was.kinds.present object.0 page.0 declared))) in
@@ -796,10 +796,10 @@ changed_zeroed header h k ids host after past object control page who new rests 
     × (absent_at k.memory.objects o p ≡ absent_at k.memory.objects o p) = λ o p apart. (
       rw (own_host h)
           (ap (λ e. known_local header o p (local_after header.size (if object.0 == o && page.0 == p then Zeroes else Elsewhere)
-          (local_after header.size e (local header.size h (place_of o p) past))))
+          (local_after header.size e (local header h (place_of o p) past))))
           (on_page object.0 o (lives h object control past) (is_control control (live_control h o past)) (page.0 == p) TakesNothing Elsewhere lives_now
           (λ e. ap (λ z. is_control control (live_control h z past)) (sym e)) ∙ ap (λ b. if b then TakesNothing else Elsewhere) apart)
-          ∙ ap (λ b. known_local header o p (local_after header.size (if b then Zeroes else Elsewhere) (local header.size h (place_of o p) past))) apart),
+          ∙ ap (λ b. known_local header o p (local_after header.size (if b then Zeroes else Elsewhere) (local header h (place_of o p) past))) apart),
       refl,
     ) in
     let pages = pages_changed key row.frame _ _ _ _ _ k.memory new k.memory.objects local_at local_now was.fits.parts was.pages comes shows others in
@@ -819,8 +819,8 @@ changed_zeroed header h k ids host after past object control page who new rests 
           was.controls same (λ o live is. refl);
       laundry = laundry_changed key row.frame _ _ _ _ _ k.memory new k.laundry (returns_out h past) was.laundry comes;
       frames = rw (own_host h, lacks.counts)
-          (frames_changed (slice_get (reverse header.frames.items) h) key row.frame _ _ _ _ _ k.memory new (frames_held header.size h past)
-          (frames_held header.size h past - 1 + 1) (frames_wired h past) was.frames comes
+          (frames_changed (slice_get (reverse header.frames.items) h) key row.frame _ _ _ _ _ k.memory new (frames_held header h past)
+          (frames_held header h past - 1 + 1) (frames_wired h past) was.frames comes
           (λ held. let kept = comes.claims in omega (arith, held, kept, some)));
       referred =
           referred_of k.chains k.memory.objects new.objects new.resident (referred_row object.0 page.0 (Some now) k.chains k.memory.objects k.memory.resident
@@ -838,7 +838,7 @@ changed_zeroed header h k ids host after past object control page who new rests 
 -- and the event has its cause
 pub filled_follows : (header : Header) (h : ℕ) (outside : Outside) (doing : Command) (frames : FrameTable) (past : List Event) (object : ObjectId) (control : ℕ)
     (page : PageNo) → Lacking header h object control page past → lives h object control past ≡ true → object.0 < named header
-    → HasFrames (slice_get (reverse header.frames.items) h) frames (frames_held header.size h
+    → HasFrames (slice_get (reverse header.frames.items) h) frames (frames_held header h
     (zeros h object page ∷ hears h object control (message.Unavailable page) ∷ past)) (frames_wired h past)
     → Follows header h outside doing (zeros h object page) (hears h object control (message.Unavailable page) ∷ past)
 filled_follows header h outside doing frames past object control page lacks lives_now declared has =

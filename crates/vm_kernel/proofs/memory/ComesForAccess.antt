@@ -76,9 +76,9 @@ pub matches_zeroed : (header : Header) (h : ℕ) (k : Parts) (ids : Ids) (past :
 matches_zeroed header h k ids past key frame memory m c plan =
     let sized : k.memory.buffers.size ≡ header.size = m.fits.buffers ∙ m.size in
     let zeros = bytes_now key frame _ _ _ _ _ k.memory memory c ∙ ap (λ z. replicate z 0) sized in
-    let pages2 = known_on header header.size key Zeroes (λ o p. local header.size h (place_of o p) past) tt
+    let pages2 = known_on header header.size key Zeroes (λ o p. local header h (place_of o p) past) tt
     (pages_moved header.size Zeroes key frame _ _ _ _ _ k.memory memory k.memory.objects
-    (λ o p. known_local header o p (local header.size h (place_of o p) past)) m.fits.parts m.pages c
+    (λ o p. known_local header o p (local header h (place_of o p) past)) m.fits.parts m.pages c
     (ap (λ z. shown_as (clean_row frame unlocked false) true true z (absent_at k.memory.objects key.object.0 key.page.0)) (sym zeros)) (λ o p apart. refl)) in
     record {
       ranged = m.ranged;
@@ -101,8 +101,8 @@ matches_zeroed header h k ids past key frame memory m c plan =
       replied = replied_behind tt m.replied;
       laundry = laundry_changed key frame _ _ _ _ _ k.memory memory k.laundry (returns_out h past) m.laundry c;
       frames =
-          rw (own_host h) (frames_changed (slice_get (reverse header.frames.items) h) key frame _ _ _ _ _ k.memory memory (frames_held header.size h past)
-          (frames_held header.size h past + 1) (frames_wired h past) m.frames c (λ held. let more = c.claims in omega arith));
+          rw (own_host h) (frames_changed (slice_get (reverse header.frames.items) h) key frame _ _ _ _ _ k.memory memory (frames_held header h past)
+          (frames_held header h past + 1) (frames_wired h past) m.frames c (λ held. let more = c.claims in omega arith));
     }
 
 pub works_zeroed : (header : Header) (h : ℕ) (past : List Event) (k : Parts) (ids : Ids) (key : PageKey) (frame : FrameNo) (memory : HostParts)
@@ -130,15 +130,15 @@ pub matches_raised : (header : Header) (h : ℕ) (k : Parts) (ids : Ids) (past :
     → KeepsPlan k.memory memory
     → Matches header h (record k { memory = memory }) ids [] (event.Raised (host_id h) low.object low.page top.object top.page ∷ past)
 matches_raised header h k ids past low top row frame memory m found here c plan =
-    let lower : Local = local header.size h (place_of low.object.0 low.page.0) past in
+    let lower : Local = local header h (place_of low.object.0 low.page.0) past in
     let lacked = absent_at k.memory.objects low.object.0 low.page.0 in
     let now : PageRow = record (clean_row frame unlocked false) { dirty = true } in
     let seen : known_local header low.object.0 low.page.0 lower ≡ shown_as row true true (page_in k.memory.frames row.frame.0) lacked =
     m.pages.shown low.object.0 low.page.0 ∙ (ap (λ z. local_of_row k.memory.frames z lacked) found ∙ shown_here k.memory.frames row lacked here) in
     let same : lower.bytes ≡ page_in memory.frames frame.0 = ap (λ (z : Local). z.bytes) seen ∙ sym (bytes_now top frame _ _ _ _ _ k.memory memory c) in
-    let pages2 = known_on header header.size top (Raises lower.bytes) (λ o p. local header.size h (place_of o p) past) tt
+    let pages2 = known_on header header.size top (Raises lower.bytes) (λ o p. local header h (place_of o p) past) tt
     (pages_moved header.size (Raises lower.bytes) top frame _ _ _ _ _ k.memory memory k.memory.objects
-    (λ o p. known_local header o p (local header.size h (place_of o p) past)) m.fits.parts m.pages c
+    (λ o p. known_local header o p (local header h (place_of o p) past)) m.fits.parts m.pages c
     (ap (λ z. shown_as now true true z (absent_at k.memory.objects top.object.0 top.page.0)) same) (λ o p apart. refl)) in
     record {
       ranged = m.ranged;
@@ -163,8 +163,8 @@ matches_raised header h k ids past low top row frame memory m found here c plan 
       replied = replied_behind tt m.replied;
       laundry = laundry_changed top frame _ _ _ _ _ k.memory memory k.laundry (returns_out h past) m.laundry c;
       frames =
-          rw (own_host h) (frames_changed (slice_get (reverse header.frames.items) h) top frame _ _ _ _ _ k.memory memory (frames_held header.size h past)
-          (frames_held header.size h past + 1) (frames_wired h past) m.frames c (λ held. let more = c.claims in omega arith));
+          rw (own_host h) (frames_changed (slice_get (reverse header.frames.items) h) top frame _ _ _ _ _ k.memory memory (frames_held header h past)
+          (frames_held header h past + 1) (frames_wired h past) m.frames c (λ held. let more = c.claims in omega arith));
     }
 
 pub works_raised : (header : Header) (h : ℕ) (past : List Event) (k : Parts) (ids : Ids) (steps : ℕ) (low top : PageKey) (row : PageRow) (frame : FrameNo)
@@ -288,13 +288,13 @@ works_stored header h past k ids w key frame at size value row memory waits2 num
     ∙ open_unsent k.maps k.chains k.memory.resident k.memory.objects k.waits.rows (λ u. waiting u past) o p row works.waits found here open_to in
     let written = bytes_now key was.frame _ _ _ _ _ k.memory memory c
     ∙ ap (λ (z : FrameNo). with_bytes at bytes (page_in k.memory.frames z.0)) (sym wrote.is) in
-    let pages2 = known_on header header.size key (Stores at bytes) (λ o2 p2. local header.size h (place_of o2 p2) past) tt
+    let pages2 = known_on header header.size key (Stores at bytes) (λ o2 p2. local header h (place_of o2 p2) past) tt
     (pages_moved header.size (Stores at bytes) key was.frame _ _ _ _ _ k.memory memory k.memory.objects
-    (λ o2 p2. known_local header o2 p2 (local header.size h (place_of o2 p2) past)) m.fits.parts m.pages c
+    (λ o2 p2. known_local header o2 p2 (local header h (place_of o2 p2) past)) m.fits.parts m.pages c
     (ap (local_after header.size (Stores at bytes)) (shown_here k.memory.frames was lacked its)
     ∙ (ap (λ z. shown_as row2 true true z lacked) (sym written) ∙ sym (shown_here memory.frames row2 lacked its))) (λ o2 p2 apart. refl)) in
     let pages3 : HasPages memory.frames memory.resident k.memory.objects (λ o2 p2. known_local header o2 p2
-    (local header.size h (place_of o2 p2) (e ∷ past))) = rw (lives, own_host h) pages2 in
+    (local header h (place_of o2 p2) (e ∷ past))) = rw (lives, own_host h) pages2 in
     let referred2 = page_referred key was.frame _ _ _ _ _ k memory c plan (works.referred.pages o p row found)
     (λ r same. same_lock k.memory.objects o was row2 r refl same (works.referred.locks o p was c.found)) works.referred in
     let waits3 = page_waits key was.frame _ _ _ _ _ k memory (is_woken woken.Nobody) (λ u. waiting u past) c plan (here_unawaited _ was refl its unsent)
@@ -327,8 +327,8 @@ works_stored header h past k ids w key frame at size value row memory waits2 num
         replied = replied_behind tt m.replied;
         laundry = laundry_changed key was.frame _ _ _ _ _ k.memory memory k.laundry (returns_out h past) m.laundry c;
         frames =
-            frames_changed (slice_get (reverse header.frames.items) h) key was.frame _ _ _ _ _ k.memory memory (frames_held header.size h past)
-            (frames_held header.size h past) (frames_wired h past) m.frames c (λ held. let same = c.claims in omega arith);
+            frames_changed (slice_get (reverse header.frames.items) h) key was.frame _ _ _ _ _ k.memory memory (frames_held header h past)
+            (frames_held header h past) (frames_wired h past) m.frames c (λ held. let same = c.claims in omega arith);
       };
       used =
           used_over w.task.0 w k.waits.rows waits2.rows (used_away k.memory.resident memory.resident works.used

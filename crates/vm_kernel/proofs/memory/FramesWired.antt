@@ -60,7 +60,7 @@ ran_wired : (header : Header) (h : ℕ) (outside : Outside) (doing : Command) (p
 ran_wired header h outside doing past k ids wired rests few first done =
     let m = rests.matches in
     let frames : HasFrames (slice_get (reverse header.frames.items) h) (with_wired k.memory.frames wired)
-    (frames_held header.size h (event.Wired (host_id h) wired ∷ past)) (frames_wired h (event.Wired (host_id h) wired ∷ past)) =
+    (frames_held header h (event.Wired (host_id h) wired ∷ past)) (frames_wired h (event.Wired (host_id h) wired ∷ past)) =
     record { total = m.frames.total; held = m.frames.held; wired = rw (own_host h) refl; fits = few } in
     ran_head header h outside doing past (record k { memory = record k.memory { frames = with_wired k.memory.frames wired } }) ids
     (event.Wired (host_id h) wired ∷ []) (event.Wired (host_id h) wired ∷ []) first refl
@@ -90,7 +90,7 @@ ran_wired header h outside doing past k ids wired rests few first done =
             regions = m.regions;
             entries = m.entries;
             pages =
-                pages_wired k.memory.frames k.memory.resident k.memory.objects (λ o p. known_local header o p (local header.size h (place_of o p) past)) wired
+                pages_wired k.memory.frames k.memory.resident k.memory.objects (λ o p. known_local header o p (local header h (place_of o p) past)) wired
                 m.pages;
             uses = m.uses;
             controls = m.controls;

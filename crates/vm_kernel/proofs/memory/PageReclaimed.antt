@@ -16,6 +16,7 @@ use Rattle.vm_legal.specs.Living.{tasks as made_tasks}
 use Rattle.vm_legal.specs.Reclaims.{Reclaims as May}
 use Rattle.vm_model.specs.declared.event.Event.TheVariants as event
 use Rattle.vm_model.specs.declared.message.Message.TheVariants as message
+use Rattle.vm_model.specs.Homes.{object_home}
 use Rattle.vm_model.specs.Local.{Drops as Leaves, Place}
 use Rattle.vm_objects.specs.declared.row.PagerState.TheVariants as state
 use Rattle.vm_pageout.specs.declared.answer.Reclaim.TheVariants as reclaim
@@ -28,7 +29,6 @@ use Rattle.vm_kernel.proofs.memory.WhatIsKnown.{known_on, nested, other_if, othe
 use Rattle.vm_legal.proofs.Owing.{behind_none}
 use Rattle.vm_kernel.proofs.memory.PageReturned.{controls_begun, controls_same, controls_told, counts_controlled, first_of_object, kind_controlled}
 use Rattle.vm_kernel.proofs.memory.PageReturned.{kinds_controlled, pages_created, ready_controlled, told_controlled, unasked, untold_temporary}
-use Rattle.vm_abroad.specs.Home.{object_home}
 use Rattle.vm_legal.specs.Prompt.{IsSource}
 use Rattle.vm_model.specs.Regions.{}
 use Rattle.vm_parts.proofs.Rows.{stood}
@@ -77,7 +77,7 @@ abbrev pub MayTake : Header → ℕ → Command → List Event → Type 0
 MayTake header h doing past = PagesOut doing h past ⊎ Starves header h past
 
 -- a page may be reclaimed of which no unlock is outstanding
-may_take : (header : Header) (h : ℕ) (doing : Command) (o p : ℕ) (past : List Event) → (local header.size h (place_of o p) past).unlocking ≡ false
+may_take : (header : Header) (h : ℕ) (doing : Command) (o p : ℕ) (past : List Event) → (local header h (place_of o p) past).unlocking ≡ false
     → MayTake header h doing past → May header doing h o p past
 may_take header h doing o p past none why = record { spared = λ waits. (let bad : false ≡ true = sym none ∙ waits.unlocking in cc); may = why }
 
@@ -180,13 +180,13 @@ took_freed header h outside doing past ids skip k k2 before after rests beside l
     let moment = before ++ past in
     let e : Event = event.Dropped (host_id h) key.object key.page in
     let log : after ≡ e ∷ before = freed.events ∙ ap (λ z. event.Dropped z key.object key.page ∷ before) (named_host k.host h m.host) in
-    let is : known_local header o p (local header.size h (place_of o p) moment) ≡ local_of_row k.memory.frames (Some row)
+    let is : known_local header o p (local header h (place_of o p) moment) ≡ local_of_row k.memory.frames (Some row)
     (absent_at k.memory.objects o p) = m.pages.shown o p ∙ ap (λ z. local_of_row k.memory.frames z (absent_at k.memory.objects o p)) page.found in
-    let seen = seen_here k.memory.frames row (absent_at k.memory.objects o p) (known_local header o p (local header.size h (place_of o p) moment)) is here in
+    let seen = seen_here k.memory.frames row (absent_at k.memory.objects o p) (known_local header o p (local header h (place_of o p) moment)) is here in
     let none = unsent skip k.memory.resident o p row locked page.found freed.victim.unskipped in
-    let frames : HasFrames (slice_get (reverse header.frames.items) h) k2.memory.frames (frames_held header.size h (e ∷ moment)) (frames_wired h (e ∷ moment)) =
+    let frames : HasFrames (slice_get (reverse header.frames.items) h) k2.memory.frames (frames_held header h (e ∷ moment)) (frames_wired h (e ∷ moment)) =
     rw (own_host h) (frames_changed (slice_get (reverse header.frames.items) h) key row.frame _ _ _ _ _ (looked k.memory) k2.memory
-    (frames_held header.size h moment) (frames_held header.size h moment - 1) (frames_wired h moment) m.frames page
+    (frames_held header h moment) (frames_held header h moment - 1) (frames_wired h moment) m.frames page
     (λ held. let less = page.claims in omega arith)) in
     let drops : Drops header doing h o p moment = record {
       here = seen.here;
@@ -222,9 +222,9 @@ took_freed header h outside doing past ids skip k k2 before after rests beside l
                   regions = rw (beside.chains, freed.objects) m.regions;
                   entries = rw (beside.chains, beside.maps) m.entries;
                   pages = rw (freed.objects, own_host h)
-                      (known_on header header.size key Leaves (λ o p. local header.size h (place_of o p) moment) tt
+                      (known_on header header.size key Leaves (λ o p. local header h (place_of o p) moment) tt
                       (pages_moved header.size Leaves key row.frame _ _ _ _ _ (looked k.memory) k2.memory k.memory.objects
-                      (λ o p. known_local header o p (local header.size h (place_of o p) moment)) fit m.pages page
+                      (λ o p. known_local header o p (local header h (place_of o p) moment)) fit m.pages page
                       (ap (λ z. record away { asked = not z; absent = absent_at k.memory.objects o p }) here) (λ o p apart. refl)));
                   uses = rw (beside.maps, beside.waits) m.uses;
                   controls = rw freed.objects m.controls;
@@ -293,12 +293,12 @@ record Before (header : Header) (h : ℕ) (k : Parts) (ids : Ids) (past : List E
   tasks : HasTasks h header.size k.maps (λ task. host_of task past) (λ task. entries_of header.size task past)
   regions : HasRegions k.chains k.memory.objects ids (λ r. region_of header r past) (λ o. backing_of header o past) (next_region header past)
       (next_object header past) (marks_of header past)
-  pages : HasPages k.memory.frames k.memory.resident k.memory.objects (λ o p. known_local header o p (local header.size h (place_of o p) past))
+  pages : HasPages k.memory.frames k.memory.resident k.memory.objects (λ o p. known_local header o p (local header h (place_of o p) past))
   uses : HasUse header k.maps k.waits.rows (λ r. in_use header h r past) (made_tasks past) (λ t r. holds header.size t r past) (next_region header past)
   homes : KnowsHomes header h k.chains past
   files : KnowsFiles header h k.memory.objects (λ o. home_of o past)
   laundry : HasLaundry k.memory.frames k.memory.resident k.laundry (returns_out h past)
-  frames : HasFrames (slice_get (reverse header.frames.items) h) k.memory.frames (frames_held header.size h past) (frames_wired h past)
+  frames : HasFrames (slice_get (reverse header.frames.items) h) k.memory.frames (frames_held header h past) (frames_wired h past)
   replied : IsReplied past
   waits : HasWaits header h k woken.Nobody past
   order : HasOrder k past
@@ -327,7 +327,7 @@ returned_rests header h ids skip k k2 before after moment past control rests bes
     let row = is.row in
     let page = is.page in
     let fit = fit_touched k.memory (queues_after_search k.memory.queues) m.fits.parts keeps refl in
-    let here_then = seen_here k.memory.frames row (absent_at k.memory.objects o p) (known_local header o p (local header.size h (place_of o p) moment))
+    let here_then = seen_here k.memory.frames row (absent_at k.memory.objects o p) (known_local header o p (local header h (place_of o p) moment))
     (b.pages.shown o p ∙ ap (λ z. local_of_row k.memory.frames z (absent_at k.memory.objects o p)) page.found) is.victim.here in
     let referred = rests.referred.pages o p is.row page.found in
     let counts = counts_controlled is.object.state is.object in
@@ -335,7 +335,7 @@ returned_rests header h ids skip k k2 before after moment past control rests bes
     let some : 0 < (controlled is.object).references =
     subst (λ (z : ℕ). 0 < z) (ap (λ (z : ObjectRow). z.references) (some_is referred.row is.object (sym referred.known ∙ is.known)) ∙ sym counts.references)
     referred.some in
-    let local_at = λ (o p : ℕ). known_local header o p (local header.size h (place_of o p) moment) in
+    let local_at = λ (o p : ℕ). known_local header o p (local header h (place_of o p) moment) in
     let e = returning h key control row.dirty (page_in k.memory.frames row.frame.0) in
     let regions : HasRegions k.chains k2.memory.objects ids (λ r. region_of header r moment) (λ o. backing_of header o moment) (next_region header moment)
     (next_object header moment) (marks_of header moment) =
@@ -347,7 +347,7 @@ returned_rests header h ids skip k k2 before after moment past control rests bes
     let effect_at : ℕ → ℕ → LocalEffect = λ o2 p2. if o == o2 then (if p == p2 then Returns false else Elsewhere) else Elsewhere in
     let shown : HasPages k2.memory.frames k2.memory.resident k2.memory.objects (λ o2 p2. local_after header.size (effect_at o2 p2) (local_at o2 p2)) =
     record { shown = λ o2 p2. ap (λ e. local_after header.size e (local_at o2 p2)) (nested (o == o2) (p == p2) (Returns false)) ∙ moved.shown o2 p2 } in
-    let pages = pages_known header header.size effect_at (λ o2 p2. local header.size h (place_of o2 p2) moment)
+    let pages = pages_known header header.size effect_at (λ o2 p2. local header h (place_of o2 p2) moment)
     (λ o2 p2. other_nested (o == o2) (p == p2) (Returns false) tt) shown in
     record {
       matches =
@@ -378,7 +378,7 @@ returned_rests header h ids skip k k2 before after moment past control rests bes
                 is.room);
             frames =
                 frames_changed (slice_get (reverse header.frames.items) h) key row.frame _ _ _ _ _ (looked k.memory) k2.memory
-                (frames_held header.size h moment) (frames_held header.size h moment) (frames_wired h moment) b.frames page
+                (frames_held header h moment) (frames_held header h moment) (frames_wired h moment) b.frames page
                 (λ held. let same = page.claims in omega arith);
           };
       used =
@@ -406,10 +406,10 @@ either dirty precious one other is = rw (one, other) is
 -- a return has its cause, and its bytes are those of the page
 back_follows : (header : Header) (h : ℕ) (outside : Outside) (doing : Command) (ids : Ids) (k : Parts) (key : PageKey) (row : PageRow) (f control : ℕ)
     (past moment : List Event) → Matches header h k ids [] past → row_at k.memory.resident key.object.0 key.page.0 ≡ Some row → row.frame.0 ≡ f
-    → IsSeen (known_local header key.object.0 key.page.0 (local header.size h (place_of key.object.0 key.page.0) moment)) row
+    → IsSeen (known_local header key.object.0 key.page.0 (local header h (place_of key.object.0 key.page.0) moment)) row
     (page_in k.memory.frames row.frame.0) → (row.dirty || row.precious) ≡ true → live_control h key.object.0 moment ≡ Some control
     → (why : ReturnCause header doing h key.object.0 key.page.0 false moment) → ReturnsInTurn header doing h key.object.0 key.page.0 false moment why
-    → HasFrames (slice_get (reverse header.frames.items) h) k.memory.frames (frames_held header.size h moment) (frames_wired h moment)
+    → HasFrames (slice_get (reverse header.frames.items) h) k.memory.frames (frames_held header h moment) (frames_wired h moment)
     → Follows header h outside doing (returning h key control row.dirty (page_in k.memory.frames f)) moment
 back_follows header h outside doing ids k key row f control past moment m found framed seen wanted live why turn frames =
     let back : GivesBack header doing h control key.object.0 key.page.0 row.dirty false (page_in k.memory.frames f) moment =
@@ -457,7 +457,7 @@ took_told header h outside doing past ids skip k k2 before after rests beside lo
     let p = key.page.0 in
     let moment = before ++ past in
     let e = returning h key is.object.control row.dirty (page_in k.memory.frames is.row.frame.0) in
-    let seen = seen_here k.memory.frames row (absent_at k.memory.objects o p) (known_local header o p (local header.size h (place_of o p) moment))
+    let seen = seen_here k.memory.frames row (absent_at k.memory.objects o p) (known_local header o p (local header h (place_of o p) moment))
     (m.pages.shown o p ∙ ap (λ z. local_of_row k.memory.frames z (absent_at k.memory.objects o p)) page.found) is.victim.here in
     let none = unsent skip k.memory.resident o p row locked page.found is.victim.unskipped in
     let kind = m.kinds.kinds o is.object is.known in
@@ -518,16 +518,16 @@ took_first header h outside doing past ids skip k k2 before after rests beside l
     let none : is.object.control ≡ 0 = first.number ∙ ap (λ z. if has_pager z then 1 else 0) without in
     let dead : live_control h o h0 ≡ None = m.controls.live o
     ∙ (ap live_in is.known ∙ ap (λ b. if b then Some is.object.control else None) (first.live ∙ ap has_pager without)) in
-    let pages : HasPages k.memory.frames k.memory.resident k.memory.objects (λ o p. known_local header o p (local header.size h (place_of o p) moment)) =
+    let pages : HasPages k.memory.frames k.memory.resident k.memory.objects (λ o p. known_local header o p (local header h (place_of o p) moment)) =
     rw (own_host h)
-    (pages_known header header.size (λ o2 p2. if o == o2 then Begins else Elsewhere) (λ o p. local header.size h (place_of o p) h0)
+    (pages_known header header.size (λ o2 p2. if o == o2 then Begins else Elsewhere) (λ o p. local header h (place_of o p) h0)
     (λ o2 p2. other_if (o == o2) Begins tt)
-    (pages_created header.size k.memory.frames k.memory.resident k.memory.objects (λ o p. known_local header o p (local header.size h (place_of o p) h0)) o
-    m.pages (λ q. unasked header.size h o q h0 dead))) in
+    (pages_created header.size k.memory.frames k.memory.resident k.memory.objects (λ o p. known_local header o p (local header h (place_of o p) h0)) o
+    m.pages (λ q. unasked header h o q h0 dead))) in
     let unlocked = unsent skip k.memory.resident o p row locked page.found is.victim.unskipped in
-    let seen0 = seen_here k.memory.frames row (absent_at k.memory.objects o p) (known_local header o p (local header.size h (place_of o p) h0))
+    let seen0 = seen_here k.memory.frames row (absent_at k.memory.objects o p) (known_local header o p (local header h (place_of o p) h0))
     (m.pages.shown o p ∙ ap (λ z. local_of_row k.memory.frames z (absent_at k.memory.objects o p)) page.found) is.victim.here in
-    let seen = seen_here k.memory.frames row (absent_at k.memory.objects o p) (known_local header o p (local header.size h (place_of o p) moment))
+    let seen = seen_here k.memory.frames row (absent_at k.memory.objects o p) (known_local header o p (local header h (place_of o p) moment))
     (pages.shown o p ∙ ap (λ z. local_of_row k.memory.frames z (absent_at k.memory.objects o p)) page.found) is.victim.here in
     let put : PutsObject o (Some (row_with_control state.Without is.object)) k.memory.objects k2.memory.objects = subst
     (λ (z : PagerState). PutsObject o (Some (row_with_control z is.object)) k.memory.objects k2.memory.objects) without is.objects in
@@ -732,7 +732,7 @@ exhausted header h k ids spared moment past rests source each =
     source_spared None is = tt
     source_spared (Some key) is = is
 
-    only : (o p : ℕ) → (local header.size h (place_of o p) past).here ≡ true → (spared ≡ Some (page_key o p)) ⊎ WaitsUnlocked header h o p past
+    only : (o p : ℕ) → (local header h (place_of o p) past).here ≡ true → (spared ≡ Some (page_key o p)) ⊎ WaitsUnlocked header h o p past
     only o p here =
         let row = here_row k.memory.frames (row_at k.memory.resident o p) (absent_at k.memory.objects o p)
         (ap (λ z. z.here) (sym (m.pages.shown o p)) ∙ here) in

@@ -80,29 +80,34 @@ requested size control true true None was none is = is
 requested size control true false None was none is = is
 requested size control false at None was none is = is
 
-pub unasked : (size host o p : ℕ) (past : List Event) → live_control host o past ≡ None → (local size host (place_of o p) past).asked ≡ false
-unasked size host o p [] none = refl
-unasked size host o p (event.Zeroed at object page ∷ past) none = calm size _ _ (calm_if _ Zeroes tt) (unasked size host o p past none)
-unasked size host o p (event.Raised at lower lower_page upper upper_page ∷ past) none =
-    calm size _ _ (calm_if _ (Raises _) tt) (unasked size host o p past none)
-unasked size host o p (event.CopiedPage task page object object_page target ∷ past) none =
-    calm size _ _ (calm_if _ (Raises _) tt) (unasked size host o p past none)
-unasked size host o p (event.Stored task object page at bytes value ∷ past) none = calm size _ _ (calm_if _ (Stores at _) tt) (unasked size host o p past none)
-unasked size host o p (event.Dropped at object page ∷ past) none = calm size _ _ (calm_if _ Drops tt) (unasked size host o p past none)
-unasked size host o p (event.Sent (Up at object) (message.Init control bytes) ∷ past) none = begun size control _ _ _ none (unasked size host o p past)
-unasked size host o p (event.Sent (Up at object) (message.Create control bytes) ∷ past) none = begun size control _ _ _ none (unasked size host o p past)
-unasked size host o p (event.Sent (Up at object) (message.Terminate control) ∷ past) none = ended size control _ _ _ none (unasked size host o p past)
-unasked size host o p (event.Sent (Up at object) (message.Request control page access) ∷ past) none =
-    requested size control _ _ _ _ none (unasked size host o p past none)
-unasked size host o p (event.Sent (Up at object) (message.Unlock control page access) ∷ past) none =
-    calm size _ _ (calm_if (at.0 == host && object.0 == o) (if page.0 == p then Unlocks else Elsewhere) (calm_if (page.0 == p) Unlocks tt))
-    (unasked size host o p past none)
-unasked size host o p (event.Sent (Up at object) (message.Return control page dirty keep bytes) ∷ past) none =
-    calm size _ _ (calm_if (at.0 == host && object.0 == o) (if page.0 == p then Returns keep else Elsewhere) (calm_if (page.0 == p) (Returns keep) tt))
-    (unasked size host o p past none)
-unasked size host o p (event.Sent (Up at object) m ∷ past) none = calm size _ _ (calm_if _ Elsewhere tt) (unasked size host o p past none)
-unasked size host o p (event.Taken (Down at object control) m ∷ past) none = calm size _ _ (calm_if _ _ (calm_taken p m)) (unasked size host o p past none)
-unasked size host o p (e ∷ past) none = unasked size host o p past none
+pub unasked : (header : Header) (host o p : ℕ) (past : List Event) → live_control host o past ≡ None → (local header host (place_of o p) past).asked ≡ false
+unasked header host o p [] none = refl
+unasked header host o p (event.Zeroed at object page ∷ past) none = calm header.size _ _ (calm_if _ Zeroes tt) (unasked header host o p past none)
+unasked header host o p (event.Raised at lower lower_page upper upper_page ∷ past) none =
+    calm header.size _ _ (calm_if _ (Raises _) tt) (unasked header host o p past none)
+unasked header host o p (event.CopiedPage task page object object_page target ∷ past) none =
+    calm header.size _ _ (calm_if _ (Raises _) tt) (unasked header host o p past none)
+unasked header host o p (event.Stored task object page at bytes value ∷ past) none =
+    calm header.size _ _ (calm_if _ (Stores at _) tt) (unasked header host o p past none)
+unasked header host o p (event.Dropped at object page ∷ past) none = calm header.size _ _ (calm_if _ Drops tt) (unasked header host o p past none)
+unasked header host o p (event.Sent (Up at object) (message.Init control bytes) ∷ past) none =
+    begun header.size control _ _ _ none (unasked header host o p past)
+unasked header host o p (event.Sent (Up at object) (message.Create control bytes) ∷ past) none =
+    begun header.size control _ _ _ none (unasked header host o p past)
+unasked header host o p (event.Sent (Up at object) (message.Terminate control) ∷ past) none =
+    ended header.size control _ _ _ none (unasked header host o p past)
+unasked header host o p (event.Sent (Up at object) (message.Request control page access) ∷ past) none =
+    requested header.size control _ _ _ _ none (unasked header host o p past none)
+unasked header host o p (event.Sent (Up at object) (message.Unlock control page access) ∷ past) none =
+    calm header.size _ _ (calm_if (at.0 == host && object.0 == o) (if page.0 == p then Unlocks else Elsewhere) (calm_if (page.0 == p) Unlocks tt))
+    (unasked header host o p past none)
+unasked header host o p (event.Sent (Up at object) (message.Return control page dirty keep bytes) ∷ past) none =
+    calm header.size _ _ (calm_if (at.0 == host && object.0 == o) (if page.0 == p then Returns keep else Elsewhere) (calm_if (page.0 == p) (Returns keep) tt))
+    (unasked header host o p past none)
+unasked header host o p (event.Sent (Up at object) m ∷ past) none = calm header.size _ _ (calm_if _ Elsewhere tt) (unasked header host o p past none)
+unasked header host o p (event.Taken (Down at object control) m ∷ past) none =
+    calm header.size _ _ (calm_if _ _ (calm_taken p m)) (unasked header host o p past none)
+unasked header host o p (e ∷ past) none = unasked header host o p past none
 
 -- the pager is told of the object, of which nothing is asked
 pub pages_created : (size : ℕ) (fs : FrameTable) (rs : ResidentTable) (os : ObjectTable) (local_at : ℕ → ℕ → Local) (o : ℕ)

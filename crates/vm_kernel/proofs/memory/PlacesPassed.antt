@@ -144,7 +144,7 @@ stops_found header h k ids past m only t what (on.Ready object) reason to stop l
 stops_found header h k ids past m only t what (on.Page key) reason to stop least row found here = elim reason.1 [
   | inl asked ↦ let bad : false ≡ true = sym asked.away ∙ (ap (λ (z : PageRow). z.here) (same asked.row asked.found) ∙ here) in cc
   | inr locked ↦
-      let unlocked : (page_on header h key.object.0 key.page.0 past).lock ≡ 0 = unlocked_temporary (named header) header.size h key.object.0 key.page.0 past
+      let unlocked : (page_on header h key.object.0 key.page.0 past).lock ≡ 0 = unlocked_temporary (named header) header h key.object.0 key.page.0 past
       (subst (λ (z : PageKey). named header ≤ z.object.0) (sym stop) least) only in
       no_name (is_store (access_in k.maps.size 0 what)) (ap (λ n. names n (is_store (access_in k.maps.size 0 what))) (sym unlocked)
       ∙ named_at (shown_at m) k.maps.size 0 key.object.0 key.page.0 what locked)
@@ -196,7 +196,7 @@ pub waits_raised : (header : Header) (h : ℕ) (k : Parts) (ids : Ids) (past : L
 waits_raised header h k ids past steps top low row m walks found here has =
     waits_come header h (event.Raised (host_id h) low.object low.page top.object top.page) past top
     (λ key apart. quiet_place (h == h) (top.object.0 == key.object.0) (top.page.0 == key.page.0)
-    (Raises (local header.size h (place_of low.object.0 low.page.0) past).bytes)
+    (Raises (local header h (place_of low.object.0 low.page.0) past).bytes)
     (λ o p. apart (same_of top.object.0 key.object.0 o) (same_of top.page.0 key.page.0 p)))
     (λ t what why reason to stop n place leads only. elim (walks_beside k.memory (StaysAway header h past) k.chains (suc steps) (suc n) top low to walks leads) [
       | IsPassed over ↦ stops_passing header h k ids past m t what why reason to stop over
@@ -220,7 +220,7 @@ pub waits_filled : (header : Header) (h : ℕ) (k : Parts) (ids : Ids) (past : L
 waits_filled header h k ids past task low top none has =
     waits_come header h (event.CopiedPage task top.page low.object low.page top.object) past top
     (λ key apart. quiet_place (is_on h (host_of task.0 past)) (top.object.0 == key.object.0) (top.page.0 == key.page.0)
-    (Raises (local header.size h (place_of low.object.0 low.page.0) past).bytes)
+    (Raises (local header h (place_of low.object.0 low.page.0) past).bytes)
     (λ o p. apart (same_of top.object.0 key.object.0 o) (same_of top.page.0 key.page.0 p)))
     (λ t what why reason to stop n place leads only. none t what place)
     (λ t what object told its place unmet. none t what place)

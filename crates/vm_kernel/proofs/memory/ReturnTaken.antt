@@ -107,7 +107,7 @@ rests_taken header h k ids past object control page dirty bytes f fs laundry res
             regions = was.regions;
             entries = was.entries;
             pages =
-                pages_same k.memory.frames fs k.memory.resident k.memory.objects (λ o p. known_local header o p (local header.size h (place_of o p) past)) f.0
+                pages_same k.memory.frames fs k.memory.resident k.memory.objects (λ o p. known_local header o p (local header h (place_of o p) past)) f.0
                 was.pages releases;
             uses = was.uses;
             controls = was.controls;
@@ -119,7 +119,7 @@ rests_taken header h k ids past object control page dirty bytes f fs laundry res
                 rw (own_host h) (laundry_less k.memory.frames fs k.memory.resident k.laundry laundry (returns_out h past) f was.laundry held room washed.claimed
                 releases);
             frames =
-                rw (own_host h) (frames_less (slice_get (reverse header.frames.items) h) k.memory.frames fs f.0 (frames_held header.size h past)
+                rw (own_host h) (frames_less (slice_get (reverse header.frames.items) h) k.memory.frames fs f.0 (frames_held header h past)
                 (frames_wired h past) was.frames releases);
           };
       used = rests.used;

@@ -14,6 +14,7 @@ use Rattle.vm_fault.specs.Walks.{ChainsFit}
 use Rattle.vm_model.specs.declared.event.Event.TheVariants as event
 use Rattle.vm_parts.specs.Fits.{Fit}
 use Rattle.vm_shadow.specs.Chains.{ObjectsBelow, ShadowsRegion}
+use Rattle.vm_model.specs.Homes.{first_of, region_for}
 use Rattle.vm_model.specs.Named.{named}
 use Rattle.vm_legal.proofs.Served.{later_paged as paged_temporary}
 use Rattle.vm_state.proofs.Declared.{kind_new, kinds_put, kinds_shadowed, marked_temporary}

@@ -104,7 +104,7 @@ pub record Changed (header : Header) (h : ℕ) (past : List Event) (k : Parts) (
     pub entries : HasEntries header.size maps chains lost
     pub kinds : HasKinds header k.memory.objects chains
     pub homes : KnowsHomes header h chains past
-    pub pages : HasPages k.memory.frames k.memory.resident k.memory.objects (λ o p. known_local header o p (local header.size h (place_of o p) past))
+    pub pages : HasPages k.memory.frames k.memory.resident k.memory.objects (λ o p. known_local header o p (local header h (place_of o p) past))
     pub used : AllUsed header maps chains k.memory.resident k.waits.rows (λ t. next_page t past) (λ t. copy_target t past)
     pub referred : AllReferred chains k.memory.objects k.memory.resident
     pub waits : HasWaiters maps chains k.memory.resident k.memory.objects k.waits.rows (is_woken woken.Nobody) (λ t. waiting t past) (StaysAway header h past)

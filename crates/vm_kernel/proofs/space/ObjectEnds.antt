@@ -121,7 +121,7 @@ unsent header h past who k ids rest key row events e found =
 
 -- none of its pages in front is here
 none_in_front : {header : Header} {h : ℕ} {k : Parts} {ids : Ids} {rest : List Entry} {past : List Event} → Matches header h k ids rest past → (o p : ℕ)
-    → ((q : ℕ) → q < p → row_at k.memory.resident o q ≡ None) → (q : ℕ) → q < p → (local header.size h (place_of o q) past).here ≡ false
+    → ((q : ℕ) → q < p → row_at k.memory.resident o q ≡ None) → (q : ℕ) → q < p → (local header h (place_of o q) past).here ≡ false
 none_in_front {k = k} m o p first q low =
     ap (λ z. z.here) (m.pages.shown o q ∙ ap (λ z. local_of_row k.memory.frames z (absent_at k.memory.objects o q)) (first q low))
 
@@ -201,14 +201,14 @@ ends_lost header h outside doing past who k ids rest key row memory events e fir
     gone : Event
     gone = event.Dropped (host_id h) key.object key.page
 
-    is : known_local header o p (local header.size h (place_of o p) (events ++ past)) ≡ local_of_row k.memory.frames (Some row) (absent_at k.memory.objects o p)
+    is : known_local header o p (local header h (place_of o p) (events ++ past)) ≡ local_of_row k.memory.frames (Some row) (absent_at k.memory.objects o p)
     is = m.pages.shown o p ∙ ap (λ z. local_of_row k.memory.frames z (absent_at k.memory.objects o p)) c.found
 
-    seen : IsSeen (known_local header o p (local header.size h (place_of o p) (events ++ past))) row (page_in k.memory.frames row.frame.0)
+    seen : IsSeen (known_local header o p (local header h (place_of o p) (events ++ past))) row (page_in k.memory.frames row.frame.0)
     seen =
-        seen_here k.memory.frames row (absent_at k.memory.objects o p) (known_local header o p (local header.size h (place_of o p) (events ++ past))) is is_here
+        seen_here k.memory.frames row (absent_at k.memory.objects o p) (known_local header o p (local header h (place_of o p) (events ++ past))) is is_here
 
-    why : DropCause header doing h o p (local header.size h (place_of o p) (events ++ past)) (events ++ past)
+    why : DropCause header doing h o p (local header h (place_of o p) (events ++ past)) (events ++ past)
     why = elim (kind_cases header o) [
       | inl declared ↦ Ended (seen.dirty ∙ (or_parts row.dirty row.precious (clean declared)).0)
           (seen.precious ∙ (or_parts row.dirty row.precious (clean declared)).1) declared
@@ -216,8 +216,8 @@ ends_lost header h outside doing past who k ids rest key row memory events e fir
       | inr temporary ↦ Unreached temporary (unreached header h k ids rest (events ++ past) o e.row m e.used.copies e.known e.none temporary)
     ]
 
-    turn : (cause : DropCause header doing h o p (local header.size h (place_of o p) (events ++ past)) (events ++ past))
-        → DropsInTurn header doing h o p (local header.size h (place_of o p) (events ++ past)) (events ++ past) cause
+    turn : (cause : DropCause header doing h o p (local header h (place_of o p) (events ++ past)) (events ++ past))
+        → DropsInTurn header doing h o p (local header h (place_of o p) (events ++ past)) (events ++ past) cause
     turn (Unreached temporary unreached) = none_in_front m o p first
     turn (Ended clean plain declared unheld) = none_in_front m o p first
     turn other = tt
@@ -232,19 +232,19 @@ ends_lost header h outside doing past who k ids rest key row memory events e fir
     ]
 
     pages2 : HasPages memory.frames memory.resident k.memory.objects (λ o2 p2. known_local header o2 p2
-        (local header.size h (place_of o2 p2) (event.Dropped (host_id h) key.object key.page ∷ (events ++ past))))
+        (local header h (place_of o2 p2) (event.Dropped (host_id h) key.object key.page ∷ (events ++ past))))
     pages2 =
-        rw (own_host h) (known_on header header.size key Drops (λ o2 p2. local header.size h (place_of o2 p2) (events ++ past)) tt
+        rw (own_host h) (known_on header header.size key Drops (λ o2 p2. local header h (place_of o2 p2) (events ++ past)) tt
         (pages_moved header.size Drops key row.frame _ _ _ _ _ k.memory memory k.memory.objects
-        (λ o2 p2. known_local header o2 p2 (local header.size h (place_of o2 p2) (events ++ past))) m.fits.parts m.pages c
+        (λ o2 p2. known_local header o2 p2 (local header h (place_of o2 p2) (events ++ past))) m.fits.parts m.pages c
         (ap (λ z. record away { asked = not z; absent = absent_at k.memory.objects o p }) is_here) (λ o2 p2 apart. refl)))
 
     frames2 : HasFrames (slice_get (reverse header.frames.items) h) memory.frames
-        (frames_held header.size h (event.Dropped (host_id h) key.object key.page ∷ (events ++ past)))
+        (frames_held header h (event.Dropped (host_id h) key.object key.page ∷ (events ++ past)))
         (frames_wired h (event.Dropped (host_id h) key.object key.page ∷ (events ++ past)))
     frames2 =
-        rw (own_host h) (frames_changed (slice_get (reverse header.frames.items) h) key row.frame _ _ _ _ _ k.memory memory (frames_held header.size h moment)
-        (frames_held header.size h moment - 1) (frames_wired h moment) m.frames c (λ held. let less = c.claims in omega arith))
+        rw (own_host h) (frames_changed (slice_get (reverse header.frames.items) h) key row.frame _ _ _ _ _ k.memory memory (frames_held header h moment)
+        (frames_held header h moment - 1) (frames_wired h moment) m.frames c (λ held. let less = c.claims in omega arith))
 
     waits2 : HasWaiters k.maps k.chains memory.resident k.memory.objects k.waits.rows (is_woken who) (λ t. waiting t (events ++ past))
         (StaysAway header h (event.Dropped (host_id h) key.object key.page ∷ (events ++ past)))
@@ -368,7 +368,7 @@ ends_returned header h outside doing past who k ids rest key known row memory la
         files = files_same header h k.memory.objects memory.objects (λ o2. home_of o2 moment) goes.objects m.files;
         entries = m.entries;
         pages =
-            rw (own_host h) (pages_known header header.size effect_at (λ o2 p2. local header.size h (place_of o2 p2) moment)
+            rw (own_host h) (pages_known header header.size effect_at (λ o2 p2. local header h (place_of o2 p2) moment)
             (λ o2 p2. other_nested (o == o2) (p == p2) (Returns false) tt) pages2);
         uses = m.uses;
         controls =
@@ -433,12 +433,12 @@ ends_returned header h outside doing past who k ids rest key known row memory la
     put : PutsObject o (Some known) k.memory.objects memory.objects
     put = put_same o known k.memory.objects memory.objects goes.objects goes.found
 
-    seen : IsSeen (known_local header o p (local header.size h (place_of o p) (events ++ past))) row (page_in k.memory.frames row.frame.0)
-    seen = seen_here k.memory.frames row (absent_at k.memory.objects o p) (known_local header o p (local header.size h (place_of o p) (events ++ past)))
+    seen : IsSeen (known_local header o p (local header h (place_of o p) (events ++ past))) row (page_in k.memory.frames row.frame.0)
+    seen = seen_here k.memory.frames row (absent_at k.memory.objects o p) (known_local header o p (local header h (place_of o p) (events ++ past)))
         (m.pages.shown o p ∙ ap (λ z. local_of_row k.memory.frames z (absent_at k.memory.objects o p)) c.found) goes.here
 
-    due : ((local header.size h (place_of o p) (events ++ past)).dirty || (local header.size h (place_of o p) (events ++ past)).precious) ≡ true
-    due = ap (λ z. z || (local header.size h (place_of o p) (events ++ past)).precious) seen.dirty ∙ (ap (λ z. row.dirty || z) seen.precious ∙ goes.wanted)
+    due : ((local header h (place_of o p) (events ++ past)).dirty || (local header h (place_of o p) (events ++ past)).precious) ≡ true
+    due = ap (λ z. z || (local header h (place_of o p) (events ++ past)).precious) seen.dirty ∙ (ap (λ z. row.dirty || z) seen.precious ∙ goes.wanted)
 
     why : ReturnCause header doing h o p false (events ++ past)
     why = Ended refl goes.declared (unheld header h k ids rest (events ++ past) o e.row m e.known e.none goes.declared)
@@ -494,20 +494,20 @@ ends_returned header h outside doing past who k ids rest key known row memory la
     effect_at o2 p2 = if o == o2 then (if p == p2 then Returns false else Elsewhere) else Elsewhere
 
     pages2 : HasPages memory.frames memory.resident memory.objects (λ o2 p2. local_after header.size (effect_at o2 p2)
-        (known_local header o2 p2 (local header.size h (place_of o2 p2) (events ++ past))))
+        (known_local header o2 p2 (local header h (place_of o2 p2) (events ++ past))))
     pages2 =
-        let local_at = λ (o2 p2 : ℕ). known_local header o2 p2 (local header.size h (place_of o2 p2) (events ++ past)) in
+        let local_at = λ (o2 p2 : ℕ). known_local header o2 p2 (local header h (place_of o2 p2) (events ++ past)) in
         let moved = pages_moved header.size (Returns false) key row.frame _ _ _ _ _ k.memory memory memory.objects local_at m.fits.parts m.pages c
         (ap (λ z. record away { asked = not z }) goes.here ∙ ap (λ z. record away { absent = z }) (sym (marks.at o p ∙ m.kinds.present o p goes.declared)))
         (λ o2 p2 apart. marks.at o2 p2) in
         record { shown = λ o2 p2. ap (λ e. local_after header.size e (local_at o2 p2)) (nested (o == o2) (p == p2) (Returns false)) ∙ moved.shown o2 p2 }
 
     frames2 : HasFrames (slice_get (reverse header.frames.items) h) memory.frames
-        (frames_held header.size h (going_back h key known row (page_in k.memory.frames row.frame.0) ∷ (events ++ past)))
+        (frames_held header h (going_back h key known row (page_in k.memory.frames row.frame.0) ∷ (events ++ past)))
         (frames_wired h (going_back h key known row (page_in k.memory.frames row.frame.0) ∷ (events ++ past)))
     frames2 =
-        frames_changed (slice_get (reverse header.frames.items) h) key row.frame _ _ _ _ _ k.memory memory (frames_held header.size h moment)
-        (frames_held header.size h moment) (frames_wired h moment) m.frames c (λ held. let same = c.claims in omega arith)
+        frames_changed (slice_get (reverse header.frames.items) h) key row.frame _ _ _ _ _ k.memory memory (frames_held header h moment)
+        (frames_held header h moment) (frames_wired h moment) m.frames c (λ held. let same = c.claims in omega arith)
 
 -- its control ends
 
@@ -639,11 +639,11 @@ ends_told header h outside doing past who k ids rest object events row objects s
         entries = m.entries;
         pages = rw (own_host h)
             (pages_known header header.size (λ o2 p. if o == o2 then (if is_control row.control (live_control h o2 moment) then EndsControl else Elsewhere) else
-            Elsewhere) (λ o2 p. local header.size h (place_of o2 p) moment)
+            Elsewhere) (λ o2 p. local header h (place_of o2 p) moment)
             (λ o2 p. other_if (o == o2) (if is_control row.control (live_control h o2 moment) then EndsControl else Elsewhere)
             (other_if (is_control row.control (live_control h o2 moment)) EndsControl tt))
             (pages_quiet header.size row.control o k.memory.frames k.memory.resident k.memory.objects objects
-            (λ o2 p. known_local header o2 p (local header.size h (place_of o2 p) moment)) (λ o2. live_control h o2 moment) m.pages alive none marks));
+            (λ o2 p. known_local header o2 p (local header h (place_of o2 p) moment)) (λ o2. live_control h o2 moment) m.pages alive none marks));
         uses = m.uses;
         controls =
             rw (own_host h) (controls_quiet row.control o row k.memory.objects objects (λ o2. last_control h o2 moment)
@@ -713,7 +713,7 @@ ends_told header h outside doing past who k ids rest object events row objects s
     alive : live_control h object.0 (events ++ past) ≡ Some row.control
     alive = m.controls.live object.0 ∙ (ap live_in found ∙ ap (λ b. if b then Some row.control else None) live)
 
-    bare : (p : ℕ) → known_local header object.0 p (local header.size h (place_of object.0 p) (events ++ past)) ≡ local_of_row k.memory.frames None
+    bare : (p : ℕ) → known_local header object.0 p (local header h (place_of object.0 p) (events ++ past)) ≡ local_of_row k.memory.frames None
         (absent_at k.memory.objects object.0 p)
     bare p = m.pages.shown object.0 p ∙ ap (λ z. local_of_row k.memory.frames z (absent_at k.memory.objects object.0 p)) (none p)
 

@@ -19,6 +19,7 @@ use Rattle.std.proofs.Common.{nat_lt, not}
 use Rattle.vm_base.specs.declared.code.Code.TheVariants as code
 use Rattle.vm_model.specs.declared.event.Event.TheVariants as event
 use Rattle.vm_model.specs.declared.command.Command.TheVariants as command
+use Rattle.vm_model.specs.Homes.{copying_host, home_in}
 use Rattle.vm_model.specs.Regions as R
 use Rattle.vm_kernel.proofs.space.EntriesCounted.{by_none, most_is, none_on, on_entered, one_on}
 use Rattle.vm_kernel.proofs.steps.EventsGrow.{licensed, suffices}
@@ -32,7 +33,6 @@ use Rattle.vm_state.proofs.Declared.{kind_new, kinds_put, kinds_region}
 use Rattle.vm_state.specs.Stands.{HasKinds}
 use Rattle.vm_kernel.proofs.space.TaskTables.{Keeps, entries_changed, inside_kept, tasks_entered}
 use Rattle.vm_abroad.proofs.Home.{home_plain, named_objects, named_regions, objects_stay, region_made}
-use Rattle.vm_abroad.specs.Home.{copying_host, home_in}
 use Rattle.vm_base.specs.Limits.{most_objects}
 use Rattle.vm_state.proofs.Bare.{next_bare}
 use Rattle.vm_state.proofs.Files.{files_entered, files_temporary, no_file}
@@ -469,7 +469,7 @@ rests_range header h outside task address bytes past k k2 ids maps lined rests m
     let object : ObjectId = record { 0 = ids.next_object } in
     let row = whole_entry address bytes (record { 0 = n }) in
     let none = region_free header h k ids past rests in
-    let local_at = λ (o p : ℕ). known_local header o p (local header.size h (place_of o p) past) in
+    let local_at = λ (o p : ℕ). known_local header o p (local header h (place_of o p) past) in
     let unknown = object_free header h k ids past rests in
     record {
       matches =

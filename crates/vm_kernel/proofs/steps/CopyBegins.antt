@@ -13,7 +13,6 @@ use Rattle.std.proofs.Math.Nat.{mul-lt-mul_of_pos_right}
 use Rattle.std.proofs.lemmas.Bool.{or_parts}
 use Rattle.std.specs.Prelude.{IsSome}
 use Rattle.vm_abroad.proofs.Home.{home_made, objects_stay, region_made}
-use Rattle.vm_abroad.specs.Home.{first_of, home_in}
 use Rattle.vm_base.specs.Limits.{most_objects, most_regions}
 use Rattle.vm_base.specs.Pages.{page_positive}
 use Rattle.vm_base.specs.declared.ids.Inherit.TheVariants.{Copy}
@@ -41,6 +40,7 @@ use Rattle.vm_kernel.specs.Sweeping.{PutsEntries}
 use Rattle.vm_legal.proofs.Heads.{to_itself}
 use Rattle.vm_legal.specs.Follows.{copy_head}
 use Rattle.vm_legal.specs.Outside.{is_file, is_wild}
+use Rattle.vm_model.specs.Homes.{first_of, home_in}
 use Rattle.vm_model.specs.Waiting.{Copying}
 use Rattle.vm_model.specs.declared.command.Command.TheVariants as command
 use Rattle.vm_model.specs.declared.event.Event.TheVariants as event
@@ -591,7 +591,7 @@ module _ (header : Header) (h : ℕ) (outside : Outside) (task : TaskId) (addres
         shared = m.shared;
         pages =
             pages_marked k.memory.frames k.memory.resident k.memory.objects k2.memory.objects
-            (λ o p. known_local header o p (local header.size h (place_of o p) past)) m.pages made.marks;
+            (λ o p. known_local header o p (local header h (place_of o p) past)) m.pages made.marks;
         uses = uses_now;
         controls =
             controls_made k.memory.objects k2.memory.objects (λ o. last_control h o past) (λ o. live_control h o past) (λ o. is_ready h o past) ids.next_object

@@ -90,15 +90,15 @@ matches_copied : (header : Header) (h : ℕ) (k : Parts) (ids : Ids) (past : Lis
 matches_copied header h k ids past task low target next row frame memory m lives found here c plan =
     let top = copied_key target next in
     let e : Event = event.CopiedPage task (record { 0 = next }) low.object low.page target in
-    let lower : Local = local header.size h (place_of low.object.0 low.page.0) past in
+    let lower : Local = local header h (place_of low.object.0 low.page.0) past in
     let lacked = absent_at k.memory.objects low.object.0 low.page.0 in
     let now : PageRow = record (clean_row frame unlocked false) { dirty = true } in
     let seen : known_local header low.object.0 low.page.0 lower ≡ shown_as row true true (page_in k.memory.frames row.frame.0) lacked =
     m.pages.shown low.object.0 low.page.0 ∙ (ap (λ z. local_of_row k.memory.frames z lacked) found ∙ shown_here k.memory.frames row lacked here) in
     let same : lower.bytes ≡ page_in memory.frames frame.0 = ap (λ (z : Local). z.bytes) seen ∙ sym (bytes_now top frame _ _ _ _ _ k.memory memory c) in
-    let pages2 = known_on header header.size top (Raises lower.bytes) (λ o p. local header.size h (place_of o p) past) tt
+    let pages2 = known_on header header.size top (Raises lower.bytes) (λ o p. local header h (place_of o p) past) tt
     (pages_moved header.size (Raises lower.bytes) top frame _ _ _ _ _ k.memory memory k.memory.objects
-    (λ o p. known_local header o p (local header.size h (place_of o p) past)) m.fits.parts m.pages c
+    (λ o p. known_local header o p (local header h (place_of o p) past)) m.fits.parts m.pages c
     (ap (λ z. shown_as now true true z (absent_at k.memory.objects top.object.0 top.page.0)) same) (λ o p apart. refl)) in
     record {
       ranged = m.ranged;
@@ -122,7 +122,7 @@ matches_copied header h k ids past task low target next row frame memory m lives
       laundry = laundry_changed top frame _ _ _ _ _ k.memory memory k.laundry (returns_out h past) m.laundry c;
       frames =
           rw (lives, own_host h) (frames_changed (slice_get (reverse header.frames.items) h) top frame _ _ _ _ _ k.memory memory
-          (frames_held header.size h past) (frames_held header.size h past + 1) (frames_wired h past) m.frames c (λ held. let more = c.claims in omega arith));
+          (frames_held header h past) (frames_held header h past + 1) (frames_wired h past) m.frames c (λ held. let more = c.claims in omega arith));
     }
 
 -- of the target's pages those behind it have no row still

@@ -10,14 +10,14 @@ use Rattle.vm_legal.proofs.Owing.{behind_none}
 use Rattle.vm_kernel.proofs.abroad.OwnEvents.{mine_of}
 
 pub suffices : (header : Header) (h : ℕ) (fs : FrameTable) (past : List Event)
-    → HasFrames (slice_get (reverse header.frames.items) h) fs (frames_held header.size h past) (frames_wired h past) → Suffice header h past
+    → HasFrames (slice_get (reverse header.frames.items) h) fs (frames_held header h past) (frames_wired h past) → Suffice header h past
 suffices header h fs past has =
-    subst (λ (z : Option ℕ). IfSome z (λ frames. frames_used header.size h past ≤ frames)) (sym has.total) (omega (arith, has.held, has.wired, has.fits))
+    subst (λ (z : Option ℕ). IfSome z (λ frames. frames_used header h past ≤ frames)) (sym has.total) (omega (arith, has.held, has.wired, has.fits))
 
 -- the frames that a history leaves free are those of the kernel
 pub free_is : (header : Header) (h : ℕ) (fs : FrameTable) (past : List Event)
-    → HasFrames (slice_get (reverse header.frames.items) h) fs (frames_held header.size h past) (frames_wired h past) → frames_free header h past ≡ free fs
-free_is header h fs past has = ap (λ z. unwrap_or z 0 - frames_used header.size h past) has.total ∙ omega (arith, has.held, has.wired)
+    → HasFrames (slice_get (reverse header.frames.items) h) fs (frames_held header h past) (frames_wired h past) → frames_free header h past ≡ free fs
+free_is header h fs past has = ap (λ z. unwrap_or z 0 - frames_used header h past) has.total ∙ omega (arith, has.held, has.wired)
 
 -- nothing is owed in front
 pub licensed : (header : Header) (outside : Outside) (doing : Command) (e : Event) (past : List Event) → owed past ≡ None
@@ -135,22 +135,22 @@ grows_goes header h outside doing past old new grows goes =
     })
 
 -- a command's step took no message
-pub record IsPlainStep (size : ℕ) (past : List Event) : Type 0 where
+pub record IsPlainStep (header : Header) (past : List Event) : Type 0 where
   pub taken : taken_letter past ≡ None
-  pub error : error_taken size past ≡ None
-  pub absence : absence_taken size past ≡ None
+  pub error : error_taken header past ≡ None
+  pub absence : absence_taken header past ≡ None
 
-pub plain_step : (size : ℕ) (past events : List Event) → IsLined past → AllInner events → IsPlainStep size (events ++ past)
-plain_step size past events lined inner = record {
+pub plain_step : (header : Header) (past events : List Event) → IsLined past → AllInner events → IsPlainStep header (events ++ past)
+plain_step header past events lined inner = record {
   taken = taken_more events past inner ∙ ap taken_letter lined.is;
-  error = error_more size events past inner ∙ ap (error_taken size) lined.is;
-  absence = absence_more size events past inner ∙ ap (absence_taken size) lined.is;
+  error = error_more header events past inner ∙ ap (error_taken header) lined.is;
+  absence = absence_more header events past inner ∙ ap (absence_taken header) lined.is;
 }
 
 -- such a step owes nothing
 pub paid_of : (header : Header) (past events : List Event) → IsLined past → AllInner events → owed (events ++ past) ≡ None → IsPaid header (events ++ past)
 paid_of header past events lined inner none =
-    let plain = plain_step header.size past events lined inner in
+    let plain = plain_step header past events lined inner in
     record {
       none_owed = none;
       init = λ host object control size paged is. none_of _ _ plain.taken is;

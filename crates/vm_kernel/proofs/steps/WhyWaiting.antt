@@ -60,25 +60,25 @@ waits_there header h k ids past task object page w on.Frame rests (inr short) fo
 -- the step of an error
 
 -- an error that counts is for a page that this host has asked for
-error_asked : (h : ℕ) (size : ℕ) (object : ObjectId) (control : ℕ) (m : Message) (past : List Event) (host o p : ℕ)
-    → error_taken size (event.Taken (Down (host_id h) object control) m ∷ past) ≡ Some (record { host = host; object = o; page = p })
-    → (host ≡ h) × ((local size h (place_of o p) past).asked ≡ true)
-error_asked h size object control (message.Error page reason) past host o p is =
-    go (is_control control (live_control h object.0 past)) (local size h (place_of object.0 page.0) past).asked refl is
+error_asked : (h : ℕ) (header : Header) (object : ObjectId) (control : ℕ) (m : Message) (past : List Event) (host o p : ℕ)
+    → error_taken header (event.Taken (Down (host_id h) object control) m ∷ past) ≡ Some (record { host = host; object = o; page = p })
+    → (host ≡ h) × ((local header h (place_of o p) past).asked ≡ true)
+error_asked h header object control (message.Error page reason) past host o p is =
+    go (is_control control (live_control h object.0 past)) (local header h (place_of object.0 page.0) past).asked refl is
   where
-    go : (a b : Bool) → (local size h (place_of object.0 page.0) past).asked ≡ b
+    go : (a b : Bool) → (local header h (place_of object.0 page.0) past).asked ≡ b
         → if◌then◌else◌ {A = Option Asked} (a && b) (Some (record { host = h; object = object.0; page = page.0 })) None ≡ Some
-        (record { host = host; object = o; page = p }) → (host ≡ h) × ((local size h (place_of o p) past).asked ≡ true)
+        (record { host = host; object = o; page = p }) → (host ≡ h) × ((local header h (place_of o p) past).asked ≡ true)
     go true true asked same =
         let it = some_is (record { host = h; object = object.0; page = page.0 }) (record { host = host; object = o; page = p }) same in
-        (sym (ap (λ (z : Asked). z.host) it), subst (λ (z : Asked). (local size h (place_of z.object z.page) past).asked ≡ true) it asked)
+        (sym (ap (λ (z : Asked). z.host) it), subst (λ (z : Asked). (local header h (place_of z.object z.page) past).asked ≡ true) it asked)
     go true false asked none = absurd (cc)
     go false b asked none = absurd (cc)
-error_asked h size object control other past host o p is = absurd (let bad : None ≡ Some (record { host = host; object = o; page = p }) = is in cc)
+error_asked h header object control other past host o p is = absurd (let bad : None ≡ Some (record { host = host; object = o; page = p }) = is in cc)
 
 -- a page that is asked has a row, and its pager is ready
 asked_ready : (header : Header) (h : ℕ) (k : Parts) (ids : Ids) (past : List Event) (o p : ℕ) → Rests header h k ids past
-    → (local header.size h (place_of o p) past).asked ≡ true → ready_in (object_at k.memory.objects o) ≡ true
+    → (local header h (place_of o p) past).asked ≡ true → ready_in (object_at k.memory.objects o) ≡ true
 asked_ready header h k ids past o p rests asked =
     by (row_at k.memory.resident o p) refl (sym (ap (λ (z : Local). z.asked) (rests.matches.pages.shown o p)) ∙ asked)
   where
@@ -97,8 +97,8 @@ ends_waiters header h outside doing k ids past front object control m events res
     let inner : AllInner events = subst AllInner (sym now) goes.inner in
     let first : front ++ past ≡ event.Taken (Down (host_id h) object control) m ∷ past = ap (λ z. z ++ past) is in
     let before : before_step (events ++ (front ++ past)) ≡ past = before_more events (front ++ past) inner ∙ ap before_step first in
-    let asked = error_asked h header.size object control m past host o p (sym (ap (error_taken header.size) first)
-    ∙ (sym (error_more header.size events (front ++ past) inner) ∙ error)) in
+    let asked = error_asked h header object control m past host o p (sym (ap (error_taken header) first)
+    ∙ (sym (error_more header events (front ++ past) inner) ∙ error)) in
     let home : host ≡ h = asked.0 in
     let ready = asked_ready header h k ids past o p rests asked.1 in
     let stops_here : WaitsAt header h task o p past = subst (λ (z : ℕ). WaitsAt header z task o p past) home
