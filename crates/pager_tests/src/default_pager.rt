@@ -1,6 +1,6 @@
 // A page that is returned is supplied, over areas in memory.
 ghost use Rattle.std.specs.Prelude.{◌≡◌, IfOk};
-ghost use Rattle.pg_default.specs.Answers.{IsToPager, ReturnsWhole};
+ghost use Rattle.pg_answers.specs.Answers.{IsToPager, ReturnsWhole};
 
 use crate::pages::page;
 use crate::shows::{leave, shows};

@@ -1,6 +1,6 @@
 // Messages about a file over areas in memory.
 ghost use Rattle.std.specs.Prelude.{◌≡◌, IfOk};
-ghost use Rattle.pg_file.specs.Answers.{IsToPager, ReturnsWhole};
+ghost use Rattle.pg_answers.specs.Answers.{IsToPager, ReturnsWhole};
 
 use crate::shows::{leave, shows};
 use pg_file::FilePager;

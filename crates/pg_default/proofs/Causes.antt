@@ -3,6 +3,7 @@ use Rattle.std.proofs.Common.{ℕ, ◌≡◌, ◌≤◌, nat_lt, Bool, true, fal
 use Rattle.std.proofs.Common.{inr}
 use Rattle.std.proofs.lemmas.Bool.{false≢true}
 use Rattle.std.proofs.lemmas.Bool.Decides.{nat_tests}
+use Rattle.pg_answers.specs.Answers.{error, sent_to, supply}
 use Rattle.pg_slots.specs.Contents.{Kept, Lost, Stored}
 use Rattle.pg_slots.specs.Slots.{HasNoSlot, PutEffects, SlotTable, held_at, held_slot as slot_held}
 use Rattle.pg_slots.specs.declared.answers.Put.{Put as PutAnswer}
@@ -24,7 +25,7 @@ use Rattle.vm_legal.specs.Licences.{MaySendDown, PagerSends, pager_has, tells}
 use Rattle.vm_legal.specs.InTurn.{AllInTurn}
 use Rattle.vm_legal.specs.Outside.{Outside, is_file, kind_of, start_page}
 use Rattle.vm_legal.specs.Pagers.{is_lost, last_return, newer, slot_at as slot_of_page, slot_of}
-use Rattle.pg_default.specs.Answers.{PagerAnswer, RequestAnswer, SuppliesStored, became, device_failed, error, sent_to, supply, told_of}
+use Rattle.pg_default.specs.Answers.{PagerAnswer, RequestAnswer, SuppliesStored, became, device_failed, told_of}
 use Rattle.pg_default.specs.Stands.{IsHeldOf, PagerServes, PagerStands, content_of, is_ended, stored_of, taking}
 use Rattle.pg_default.proofs.Rows.{itself}
 use Rattle.pg_default.proofs.Facts.{own_slots, same_taken}

@@ -2,6 +2,7 @@
 use Rattle.std.proofs.Common.{ℕ, ◌≡◌, ◌==◌, Bool, true, false, List, [], ◌∷◌, ◌++◌, Option, Some, None, refl, sym, ◌∙◌, ap, subst, arith, inl, inr}
 use Rattle.std.proofs.lemmas.Bool.{false≢true}
 use Rattle.std.proofs.lemmas.Bool.Decides.{nat_tests}
+use Rattle.pg_answers.specs.Answers.{error, sent_to}
 use Rattle.pg_slots.specs.Slots.{HasNoSlot, SlotTable, held_at}
 use Rattle.pg_slots.specs.declared.answers.Put.{Put as PutAnswer}
 use Rattle.pg_slots.specs.declared.answers.Put.TheVariants as put
@@ -16,7 +17,7 @@ use Rattle.vm_model.specs.declared.script.Header.{Header}
 use Rattle.vm_legal.proofs.Answering.{asks, nothing_owed, opens, own_test, ready_paid, request_paid, return_paid, returns}
 use Rattle.vm_legal.specs.Debts.{IsPaid}
 use Rattle.vm_legal.specs.Pagers.{LacksSlot}
-use Rattle.pg_default.specs.Answers.{PagerAnswer, RequestAnswer, became, error, sent_to, told_of}
+use Rattle.pg_default.specs.Answers.{PagerAnswer, RequestAnswer, became, told_of}
 use Rattle.pg_default.specs.Stands.{PagerServes, PagerStands, taking}
 use Rattle.pg_default.proofs.Standing.{is_full}
 

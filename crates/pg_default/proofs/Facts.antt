@@ -24,11 +24,15 @@ own_slots header host o m past temporary = rw (own_host header host o temporary)
 pub own_away : (host o q : ℕ) (past : List Event) → ((not (host == host) && o == q) || is_heard_elsewhere host q past) ≡ is_heard_elsewhere host q past
 own_away host o q past = rw (itself host) refl
 
+-- pagers of other hosts have heard of the same objects
+abbrev pub HearsSame : ℕ → List Event → List Event → Type 0
+HearsSame host past now = (q : ℕ) → is_heard_elsewhere host q now ≡ is_heard_elsewhere host q past
+
 -- nothing of this is other than before
 pub record Same (header : Header) (host : ℕ) (past now : List Event) : Type 0 where
   pub rows : slots header host now ≡ slots header host past
   pub ended : (q : ℕ) → is_ended host q now ≡ is_ended host q past
-  pub away : (q : ℕ) → is_heard_elsewhere host q now ≡ is_heard_elsewhere host q past
+  pub away : HearsSame host past now
   pub last : (q r : ℕ) → last_return host q r now ≡ last_return host q r past
   pub lost : (q r : ℕ) → is_lost q r now ≡ is_lost q r past
 
@@ -69,7 +73,7 @@ same_taken header host o (message.Destroy reason) past quiet = elim quiet [ ]
 pub record Put (header : Header) (host o p : ℕ) (bytes : List ℕ) (lost : Bool) (past now : List Event) : Type 0 where
   pub rows : slots header host now ≡ slotted header.slots o p (slot_of o p (slots header host past)) (slots header host past)
   pub ended : (q : ℕ) → is_ended host q now ≡ is_ended host q past
-  pub away : (q : ℕ) → is_heard_elsewhere host q now ≡ is_heard_elsewhere host q past
+  pub away : HearsSame host past now
   pub last : (q r : ℕ) → last_return host q r now ≡ (if o == q && p == r then Some bytes else last_return host q r past)
   pub gone : (q r : ℕ) → is_lost q r now ≡ (if o == q && p == r then lost else is_lost q r past)
 

@@ -5,6 +5,7 @@ use Rattle.std.proofs.lemmas.Bool.{false≢true}
 use Rattle.std.specs.Prelude.{MatchOption}
 use Rattle.std.proofs.lemmas.Bool.Decides.{nat_tests}
 use Rattle.std.proofs.lemmas.Option.{none-some}
+use Rattle.pg_answers.specs.Answers.{sent_to}
 use Rattle.pg_slots.specs.Slots.{DropsHeld, GoesTo, HasNoSlot, IsLowestFree, IsSlotTaken, PutEffects, PutsHeld, SlotTable, SlotsAreFull, held_at}
 use Rattle.pg_slots.specs.Slots.{held_slot as slot_held, slot_in_table}
 use Rattle.pg_slots.specs.declared.answers.Put.{Put as PutAnswer}
@@ -21,7 +22,7 @@ use Rattle.vm_model.specs.declared.message.Message.TheVariants as message
 use Rattle.vm_model.specs.declared.script.Header.{Header}
 use Rattle.vm_model.specs.Named.{named}
 use Rattle.vm_legal.specs.Pagers.{Slotted, first_free, is_lost, is_taken, last_return, slot_of, slots, slotted}
-use Rattle.pg_default.specs.Answers.{PagerAnswer, RequestAnswer, became, device_failed, sent_to, told_of}
+use Rattle.pg_default.specs.Answers.{PagerAnswer, RequestAnswer, became, device_failed, told_of}
 use Rattle.pg_default.specs.Stands.{IsHeldOf, PagerServes, PagerStands, is_ended, is_heard_elsewhere, taking}
 use Rattle.pg_default.proofs.Rows.{first_is, full_is, full_of, itself, of_taken, once_slots, slot_other, slot_without, taken_of}
 use Rattle.pg_default.proofs.Facts.{IsQuiet, Put, Same, TellsLost, own_away, own_slots, put_kept, put_lost, same_taken}

@@ -1,5 +1,6 @@
 -- What the default pager answers to each message, and what it leaves.
-use Rattle.std.specs.Prelude.{ℕ, ◌≡◌, ◌≤◌, ◌⊎◌, ◌↔◌, List, [], ◌∷◌, length, false, Option, Some, None, IfOk, OnErr, Result, Ok, Err}
+use Rattle.std.specs.Prelude.{ℕ, ◌≡◌, ◌⊎◌, ◌↔◌, List, [], ◌∷◌, length, false, Option, Some, None, Result, Ok, Err}
+use Rattle.pg_answers.specs.Answers.{error, sent_to, supply}
 use Rattle.pg_slots.specs.Contents.{Content, Kept, PutTold, after_put, content_without, same_content}
 use Rattle.pg_slots.specs.Slots.{DropsHeld, HasNoSlot, PutEffects, SlotTable, held_at, slot_in_table}
 use Rattle.pg_slots.specs.declared.answers.Put.{Put}
@@ -15,43 +16,13 @@ use Rattle.vm_model.specs.declared.event.Event.{Event}
 use Rattle.vm_model.specs.declared.event.Event.TheVariants as event
 use Rattle.vm_model.specs.declared.event.Way.{Way}
 use Rattle.vm_model.specs.declared.event.Way.TheVariants.{Read, Write}
-use Rattle.vm_model.specs.declared.message.Channel.TheVariants.{Down}
 use Rattle.vm_model.specs.declared.message.Message.{Message}
 use Rattle.vm_model.specs.declared.message.Message.TheVariants as message
 use Rattle.vm_outside.specs.Areas.{SameAreas, Told}
-use Rattle.vm_outside.specs.Causes.{CountRises}
-
--- a message from a kernel to a pager
-abbrev pub IsToPager : Message → Type 0
-IsToPager (message.Init control size) = Unit {0}
-IsToPager (message.Create control size) = Unit {0}
-IsToPager (message.Request control page access) = Unit {0}
-IsToPager (message.Unlock control page access) = Unit {0}
-IsToPager (message.Return control page dirty keep bytes) = Unit {0}
-IsToPager (message.Completed control page count) = Unit {0}
-IsToPager (message.Terminate control) = Unit {0}
-IsToPager (message.Changed control cache strategy) = Unit {0}
-IsToPager m = ⊥
-
--- a page that is returned has so many bytes
-abbrev pub ReturnsWhole : ℕ → Message → Type 0
-ReturnsWhole size (message.Return control page dirty keep bytes) = length bytes ≡ size
-ReturnsWhole size m = Unit {0}
-
--- a message is sent to a control of a host
-abbrev pub sent_to : ℕ → ObjectId → ℕ → Message → Event
-sent_to host object control m = event.Sent (Down (record { 0 = host }) object control) m
 
 -- the paging device failed at a page
 abbrev pub device_failed : Way → ObjectId → PageNo → Event
 device_failed way object page = event.DeviceFailed Paging way object page
-
-abbrev pub supply : PageNo → List ℕ → Message
-supply page bytes = message.Supply page 0 false bytes
-
--- KERN_MEMORY_ERROR: the page is lost, or can't be read
-abbrev pub error : PageNo → Message
-error page = message.Error page 10
 
 -- the bytes of a page are supplied
 abbrev pub Supplied : ℕ → ℕ → ObjectId → ℕ → PageNo → List Event → Type 0
@@ -140,36 +111,3 @@ LeavesBacking (message.Return control page dirty keep bytes) object slots before
     became events.items ≡ put.NoSlot → after ≡ before
 LeavesBacking (message.Return control page dirty keep bytes) object slots before after (Err e) = Unit {0}
 LeavesBacking m object slots before after result = after ≡ before
-
--- the events tell that the device failed
-abbrev pub TellsFault : List Event → Type 0
-TellsFault [] = ⊥
-TellsFault (event.DeviceFailed who way object page ∷ past) = Unit {0}
-TellsFault (e ∷ past) = TellsFault past
-
--- a device event stands exactly where the count of faults rose, unless that stands at its last value; want of
--- memory leaves the count
-pub record AnswerHasCause (before now : ℕ) (result : Result (Listed Event) NoMemory) : Type 0 where
-  pub later : before ≤ now
-  pub failed : IfOk result (λ events. TellsFault events.items → CountRises before now)
-  pub spared : IfOk result (λ events. (TellsFault events.items → ⊥) → now ≡ before)
-  pub same : OnErr result (now ≡ before)
-
--- the answer to a request of a page
-abbrev pub IsReply : PageNo → Message → Type 0
-IsReply page (message.Supply p lock precious bytes) = p ≡ page
-IsReply page (message.Unavailable p) = p ≡ page
-IsReply page (message.Error p reason) = p ≡ page
-IsReply page m = ⊥
-
--- the last event is the one answer, and behind it stands at most a failed read
-pub record RepliesOnce (host : ℕ) (object : ObjectId) (control : ℕ) (page : PageNo) (events : List Event) : Type 0 where
-  pub reply : Message
-  pub about : IsReply page reply
-  pub faults : List Event
-  pub last : events ≡ sent_to host object control reply ∷ faults
-  pub few : (faults ≡ []) ⊎ (faults ≡ device_failed Read object page ∷ [])
-
-abbrev pub EndsInReply : Message → ℕ → ObjectId → List Event → Type 0
-EndsInReply (message.Request control page access) host object events = RepliesOnce host object control page events
-EndsInReply m host object events = Unit {0}

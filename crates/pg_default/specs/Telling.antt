@@ -1,8 +1,9 @@
 -- The events that tell what the slots gave.
 use Rattle.std.specs.Prelude.{ℕ, List, [], ◌∷◌}
+use Rattle.pg_answers.specs.Answers.{error, sent_to, supply}
 use Rattle.pg_slots.specs.declared.answers.Got.{Got}
 use Rattle.pg_slots.specs.declared.answers.Got.TheVariants as got
-use Rattle.pg_default.specs.Answers.{device_failed, error, sent_to, supply}
+use Rattle.pg_default.specs.Answers.{device_failed}
 use Rattle.vm_base.specs.declared.ids.ObjectId.{ObjectId}
 use Rattle.vm_base.specs.declared.ids.PageNo.{PageNo}
 use Rattle.vm_model.specs.declared.event.Event.{Event}

@@ -1,14 +1,17 @@
 // The default pager of a host.
 ghost use Rattle.std.specs.Prelude.{ℕ, ◌≡◌, ◌<◌, ◌≤◌, [], List, None, IfOk, OnErr, false, length};
-ghost use Rattle.pg_default.specs.Answers.{AnswerHasCause, EndsInReply, IsToPager, LeavesAreas, LeavesBacking, PagerAnswer, ReturnsWhole, SuppliesStored};
+ghost use Rattle.pg_answers.specs.Answers.{AnswerHasCause, EndsInReply, IsToPager, ReturnsWhole};
+ghost use Rattle.pg_default.specs.Answers.{LeavesAreas, LeavesBacking, PagerAnswer, SuppliesStored};
 ghost use Rattle.pg_default.specs.Answers.{after_message};
 ghost use Rattle.pg_default.specs.Calls.{PagerMakes};
 ghost use Rattle.pg_slots.specs.Contents.{CarriesContent, Content, IsAreaTold, SlotsFit};
 ghost use Rattle.pg_slots.specs.Slots.{KeepsShape};
 ghost use Rattle.vm_base.specs.Limits.{most_hosts, most_slots};
+ghost use Rattle.vm_model.specs.declared.event.Device.TheVariants.{Paging};
 ghost use Rattle.vm_outside.specs.Areas.{Told};
 
-use crate::telling::{sent, tell_got, tell_put};
+use crate::telling::{tell_got, tell_put};
+use pg_answers::{ready, sent};
 use pg_slots::Slots;
 use std::alloc::Global;
 use std::marker::Model;
@@ -71,7 +74,7 @@ impl DefaultPager {
         ensures answered { IfOk result (λ events. PagerAnswer message.now object self.old self.new events.items) }
         ensures shape { KeepsShape self.old self.new }
         ensures few { IfOk result (λ events. length events.items ≤ 2) }
-        ensures reply { IfOk result (λ events. EndsInReply message.now self.old.host object events.items) }
+        ensures reply { IfOk result (λ events. EndsInReply Paging message.now self.old.host object events.items) }
         ensures err { OnErr result (self.new ≡ self.old) }
 
         // What the backing tells.
@@ -116,15 +119,5 @@ impl DefaultPager {
             _ => unreachable!(),
         }
         Ok(events)
-    }
-}
-
-// The object is ready, with a copy strategy: 0 none, 3 temporary.
-fn ready(strategy: u32) -> Message
-    ensures { result ≡ Message.Ready false strategy }
-{
-    Message::Ready {
-        cache: false,
-        strategy,
     }
 }

@@ -1,49 +1,12 @@
 // The events that tell what the slots gave.
 ghost use Rattle.std.specs.Prelude.{◌≡◌, ◌≤◌, [], IsOk, OnOk};
-ghost use Rattle.pg_default.specs.Answers.{device_failed, error, sent_to, supply, told_of};
+ghost use Rattle.pg_default.specs.Answers.{device_failed, told_of};
 ghost use Rattle.pg_default.specs.Telling.{get_answer_events};
 
+use pg_answers::{error, sent, supply};
 use pg_slots::{Got, Put};
-use vm_base::{HostId, NoMemory, ObjectId, PageBytes, PageNo};
-use vm_model::{Channel, Device, Event, Events, Message, Way};
-
-// The reason of an error: KERN_MEMORY_ERROR.
-const MEMORY_ERROR: u32 = 10;
-
-/// A message to a control of the host.
-pub fn sent(host: HostId, object: ObjectId, control: u32, message: Message) -> Event
-    ensures { result ≡ sent_to host.0 object control message }
-{
-    Event::Sent {
-        channel: Channel::Down {
-            host,
-            object,
-            control,
-        },
-        message,
-    }
-}
-
-// The bytes of a page, with no access prohibited.
-fn supply(page: PageNo, bytes: PageBytes) -> Message
-    ensures { result ≡ supply page bytes }
-{
-    Message::Supply {
-        page,
-        lock: 0,
-        precious: false,
-        hex: bytes,
-    }
-}
-
-fn error(page: PageNo) -> Message
-    ensures { result ≡ error page }
-{
-    Message::Error {
-        page,
-        reason: MEMORY_ERROR,
-    }
-}
+use vm_base::{HostId, NoMemory, ObjectId, PageNo};
+use vm_model::{Device, Event, Events, Message, Way};
 
 fn device_failed(way: Way, object: ObjectId, page: PageNo) -> Event
     ensures { result ≡ device_failed way object page }

@@ -4,6 +4,7 @@ use Rattle.std.proofs.Common.{sym, ◌∙◌, ap, subst, arith, inl, inr, ⊎_el
 use Rattle.std.proofs.lemmas.Bool.{cases_lt, false≢true}
 use Rattle.std.proofs.lemmas.Bool.Decides.{nat_tests}
 use Rattle.std.specs.Prelude.{unwrap_or}
+use Rattle.pg_answers.specs.Answers.{ReturnsWhole}
 use Rattle.vm_base.specs.Listing.{Listed}
 use Rattle.vm_model.specs.declared.event.Event.{Event}
 use Rattle.vm_model.specs.declared.message.Message.{Message}
@@ -13,7 +14,7 @@ use Rattle.vm_legal.specs.Pagers.{is_lost, last_return, newer}
 use Rattle.vm_outside.specs.Areas.{AfterFault, SameAreas, Told, Torn, WriteTold, read_at, write_at}
 use Rattle.vm_outside.specs.Bytes.{length-write_at, read_at-elsewhere, read_at-torn, read_at-written, torn_whole}
 use Rattle.pg_file.proofs.Dropping.{drop-torn}
-use Rattle.pg_file.specs.Answers.{FileAnswer, LeavesFile, ReturnsWhole, is_stored, told_of, write_answer}
+use Rattle.pg_file.specs.Answers.{FileAnswer, LeavesFile, is_stored, told_of, write_answer}
 use Rattle.pg_file.specs.Files.{FileTable, has_lost}
 use Rattle.pg_file.specs.Stands.{CarriesFile, FileKept, IsOther, PagerServes, taking}
 use Rattle.pg_file.proofs.Facts.{Holds, Leaves, Returned, holds_taken, leaves_all, nothing_new, on_sent, others_leave, requested, returned}

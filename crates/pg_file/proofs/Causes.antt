@@ -5,6 +5,7 @@ use Rattle.std.proofs.lemmas.Bool.{false≢true}
 use Rattle.std.proofs.lemmas.List.{take-replicate}
 use Rattle.std.proofs.Math.ListN.{drop_of_length-le}
 use Rattle.std.specs.Prelude.{unwrap_or}
+use Rattle.pg_answers.specs.Answers.{error, supply}
 use Rattle.vm_base.specs.declared.ids.PageNo.{PageNo}
 use Rattle.vm_model.specs.declared.command.Command.{Command}
 use Rattle.vm_model.specs.declared.event.Event.{Event}
@@ -24,7 +25,7 @@ use Rattle.vm_legal.specs.Steps.{just_begun}
 use Rattle.vm_legal.proofs.Files.{file_paged}
 use Rattle.vm_outside.specs.Areas.{read_at}
 use Rattle.pg_file.specs.declared.pager.KnownControl.{KnownControl}
-use Rattle.pg_file.specs.Answers.{CleanEvents, FileAnswer, RequestAnswer, clean_request, device_failed, error, is_stored, sent_to, supply, told_of}
+use Rattle.pg_file.specs.Answers.{CleanEvents, FileAnswer, RequestAnswer, clean_request, device_failed, is_stored, sent_to, told_of}
 use Rattle.pg_file.specs.Files.{FileTable, LacksPage, has_lost}
 use Rattle.pg_file.specs.Stands.{AnswersKept, IsKnownAs, PagerServes, PagerStands, taking}
 use Rattle.pg_file.proofs.Facts.{holds_taken, sent_about}

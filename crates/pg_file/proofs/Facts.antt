@@ -22,9 +22,13 @@ pub record Holds (object : ℕ) (past now : List Event) : Type 0 where
   pub last : (host p : ℕ) → last_return host object p now ≡ last_return host object p past
   pub lost : (p : ℕ) → is_lost object p now ≡ is_lost object p past
 
+-- on each host the same control is known
+abbrev pub KnowsSame : ℕ → List Event → List Event → Type 0
+KnowsSame object past now = (host : ℕ) → known_control host object now ≡ known_control host object past
+
 -- nor which control is known
 pub record Leaves (object : ℕ) (past now : List Event) : Type 0 where
-  pub known : (host : ℕ) → known_control host object now ≡ known_control host object past
+  pub known : KnowsSame object past now
   pub holds : Holds object past now
 
 pub nothing_new : (object : ℕ) (past : List Event) → Leaves object past past
@@ -82,7 +86,7 @@ known_elsewhere host object h m past apart = rw apart refl
 
 -- one page was returned, and is stored or not
 pub record Returned (object page : ℕ) (host : ℕ) (bytes : List ℕ) (stored : Bool) (past now : List Event) : Type 0 where
-  pub known : (h : ℕ) → known_control h object now ≡ known_control h object past
+  pub known : KnowsSame object past now
   pub last : (p : ℕ) → last_return host object p now ≡ (if page == p then Some bytes else last_return host object p past)
   pub lost : (p : ℕ) → is_lost object p now ≡ (if page == p then not stored else is_lost object p past)
 

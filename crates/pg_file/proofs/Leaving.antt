@@ -1,21 +1,23 @@
 -- What an answer says, and what it leaves.
 use Rattle.std.proofs.Common.{ℕ, ◌≡◌, ◌*◌, Bool, true, false, List, [], ◌∷◌, Ok, refl, sym, ◌∙◌, ap, subst, inl, inr}
+use Rattle.pg_answers.specs.Answers.{AnswerHasCause, RepliesOnce, TellsFault, error, supply}
 use Rattle.vm_base.specs.Listing.{Listed}
 use Rattle.vm_base.specs.declared.ids.PageNo.{PageNo}
+use Rattle.vm_model.specs.declared.event.Device.TheVariants.{Files}
 use Rattle.vm_model.specs.declared.event.Event.{Event}
 use Rattle.vm_model.specs.declared.event.Way.TheVariants.{Read}
 use Rattle.vm_model.specs.declared.message.Message.TheVariants.{Unavailable}
 use Rattle.vm_outside.specs.Areas.{SameAreas, Told, WriteTold}
 use Rattle.pg_file.specs.declared.found.Found.{Found}
 use Rattle.pg_file.specs.declared.found.Found.TheVariants.{Page, Absent, Lost, Failed}
-use Rattle.pg_file.specs.Answers.{AnswerHasCause, RepliesOnce, TellsFault, device_failed, error, is_stored, supply, told_of, write_answer}
+use Rattle.pg_file.specs.Answers.{device_failed, is_stored, told_of, write_answer}
 use Rattle.pg_file.specs.Finding.{FindHasCause, StoreHasCause, find_events}
 
 pub same_areas : (areas : List ℕ → Told) → SameAreas areas areas
 same_areas areas = λ name was told. told
 
 pub replies : (found : Found) (host object control : ℕ) (page : PageNo) (events : List Event) → events ≡ find_events found host object control page
-    → RepliesOnce host object control page events
+    → RepliesOnce Files host (record { 0 = object }) control page events
 replies (Page bytes) host object control page events is = record { reply = supply page bytes; about = refl; faults = []; last = is; few = inl refl }
 replies Absent host object control page events is = record { reply = Unavailable page; about = refl; faults = []; last = is; few = inl refl }
 replies Lost host object control page events is = record { reply = error page; about = refl; faults = []; last = is; few = inl refl }

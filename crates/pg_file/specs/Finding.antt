@@ -1,5 +1,6 @@
 -- What is found of a page in a file, and what is kept of the pages that were lost.
 use Rattle.std.specs.Prelude.{ℕ, ◌≡◌, ◌≢◌, ◌≤◌, ◌*◌, ◌==◌, Bool, true, false, List, [], ◌∷◌, length, Option, unwrap_or, Result, Ok, if◌then◌else◌}
+use Rattle.pg_answers.specs.Answers.{error, supply}
 use Rattle.vm_base.specs.declared.failure.NoMemory.{NoMemory}
 use Rattle.vm_base.specs.declared.ids.PageNo.{PageNo}
 use Rattle.vm_model.specs.declared.event.Event.{Event}
@@ -9,7 +10,7 @@ use Rattle.vm_outside.specs.Areas.{read_at}
 use Rattle.vm_outside.specs.Causes.{CountRises}
 use Rattle.pg_file.specs.declared.found.Found.{Found}
 use Rattle.pg_file.specs.declared.found.Found.TheVariants as found
-use Rattle.pg_file.specs.Answers.{device_failed, error, sent_to, supply}
+use Rattle.pg_file.specs.Answers.{device_failed, sent_to}
 use Rattle.pg_file.specs.Files.{HasPage, LacksPage, is_among}
 
 -- the pages that were lost, and how many more there is room for

@@ -1,5 +1,6 @@
 -- When a file's pager stands for a history, and what that history says of its file.
 use Rattle.std.specs.Prelude.{ℕ, ◌≡◌, ◌≢◌, ◌≤◌, ◌*◌, true, false, List, [], ◌∷◌, drop, length, Option, Some, None, unwrap_or}
+use Rattle.pg_answers.specs.Answers.{ReturnsWhole}
 use Rattle.vm_model.specs.declared.event.Event.{Event}
 use Rattle.vm_model.specs.declared.event.Event.TheVariants as event
 use Rattle.vm_model.specs.declared.message.Channel.TheVariants.{Up}
@@ -12,7 +13,7 @@ use Rattle.vm_legal.specs.Outside.{Outside, Told as FilesTold, is_file}
 use Rattle.vm_legal.specs.Pagers.{is_lost, known_control, last_return, newer}
 use Rattle.vm_outside.specs.Areas.{Told, read_at}
 use Rattle.pg_file.specs.declared.pager.KnownControl.{KnownControl}
-use Rattle.pg_file.specs.Answers.{FileAnswer, ReturnsWhole, TellsPage}
+use Rattle.pg_file.specs.Answers.{FileAnswer, TellsPage}
 use Rattle.pg_file.specs.Files.{FileTable, has_lost}
 
 abbrev pub name_kept : Option Declared → List ℕ

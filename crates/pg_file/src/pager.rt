@@ -1,16 +1,18 @@
 // The pager of a file.
 ghost use Rattle.std.specs.Prelude.{ℕ, ◌≡◌, ◌≤◌, ◌*◌, [], List, None, Some, IfOk, OnErr, length, not};
 ghost use Rattle.std.specs.declared.option.Option.{Option};
-ghost use Rattle.pg_file.specs.Answers.{AnswerHasCause, CleanEvents, EndsInReply, FileAnswer, IsToPager, LeavesBacking, LeavesFile, ReturnsWhole, TellsPage};
-ghost use Rattle.pg_file.specs.Answers.{write_answer};
+ghost use Rattle.pg_answers.specs.Answers.{AnswerHasCause, EndsInReply, IsToPager, ReturnsWhole};
+ghost use Rattle.pg_file.specs.Answers.{CleanEvents, FileAnswer, LeavesBacking, LeavesFile, TellsPage, write_answer};
 ghost use Rattle.pg_file.specs.Calls.{FileMakes, FindMakes, StoreMakes};
 ghost use Rattle.pg_file.specs.Files.{KeepsShape, MarksPage, has_lost, without_known};
 ghost use Rattle.pg_file.specs.Finding.{FindHasCause, IsFoundAs, IsFoundIn, IsWholePage, StoreHasCause};
+ghost use Rattle.vm_model.specs.declared.event.Device.TheVariants.{Files};
 ghost use Rattle.vm_outside.specs.Areas.{SameAreas, WriteTold};
 
 use crate::found::{Found, find, place};
 use crate::lost::Lost;
-use crate::telling::{clean_request, ready, sent, tell_found, tell_stored};
+use crate::telling::{clean_request, tell_found, tell_stored};
+use pg_answers::{ready, sent};
 use std::alloc::Global;
 use std::marker::Model;
 use vm_base::{HostId, Listing, NoMemory, ObjectId, PageBytes, PageNo, PageSize, WriteStop};
@@ -89,7 +91,7 @@ impl FilePager {
         ensures answered { IfOk result (λ events. FileAnswer message.now host.0 self.old self.new events.items) }
         ensures shape { KeepsShape self.old self.new }
         ensures few { IfOk result (λ events. length events.items ≤ 2) }
-        ensures reply { IfOk result (λ events. EndsInReply message.now host.0 self.old.object events.items) }
+        ensures reply { IfOk result (λ events. EndsInReply Files message.now host.0 (record { 0 = self.old.object }) events.items) }
         ensures err { OnErr result (self.new ≡ self.old) }
 
         // What the backing tells.

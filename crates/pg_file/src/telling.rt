@@ -1,44 +1,18 @@
 // The events that tell what became of a message.
 ghost use Rattle.std.specs.Prelude.{◌≡◌, ◌≤◌, [], false, IsOk, OnOk};
-ghost use Rattle.pg_file.specs.Answers.{clean_request, device_failed, error, sent_to, supply, told_of};
+ghost use Rattle.pg_file.specs.Answers.{clean_request, device_failed, told_of};
 ghost use Rattle.pg_file.specs.Finding.{find_events};
 
 use crate::found::Found;
-use vm_base::{HostId, NoMemory, ObjectId, PageBytes, PageNo};
-use vm_model::{Channel, Device, Event, Events, Message, Way};
-
-// The reason of an error: KERN_MEMORY_ERROR.
-const MEMORY_ERROR: u32 = 10;
+use pg_answers::{error, sent, supply};
+use vm_base::{HostId, NoMemory, ObjectId, PageNo};
+use vm_model::{Device, Event, Events, Message, Way};
 
 // A lock_request wants all changed and precious pages back: MEMORY_OBJECT_RETURN_ALL.
 const RETURN_ALL: u32 = 2;
 
 // A lock_request leaves the locks as they are: VM_PROT_NO_CHANGE.
 const NO_CHANGE: u32 = 8;
-
-/// A message to a control of a host.
-pub fn sent(host: HostId, object: ObjectId, control: u32, message: Message) -> Event
-    ensures { result ≡ sent_to host.0 object.0 control message }
-{
-    Event::Sent {
-        channel: Channel::Down {
-            host,
-            object,
-            control,
-        },
-        message,
-    }
-}
-
-/// The object is ready, with a copy strategy: 0 none, 3 temporary.
-pub fn ready(strategy: u32) -> Message
-    ensures { result ≡ Message.Ready false strategy }
-{
-    Message::Ready {
-        cache: false,
-        strategy,
-    }
-}
 
 /// A lock_request for all changed and precious pages of so many.
 pub fn clean_request(page: PageNo, count: u32, flush: bool) -> Message
@@ -51,27 +25,6 @@ pub fn clean_request(page: PageNo, count: u32, flush: bool) -> Message
         flush,
         lock: NO_CHANGE,
         reply: true,
-    }
-}
-
-// The bytes of a page, with no access prohibited.
-fn supply(page: PageNo, bytes: PageBytes) -> Message
-    ensures { result ≡ supply page bytes }
-{
-    Message::Supply {
-        page,
-        lock: 0,
-        precious: false,
-        hex: bytes,
-    }
-}
-
-fn error(page: PageNo) -> Message
-    ensures { result ≡ error page }
-{
-    Message::Error {
-        page,
-        reason: MEMORY_ERROR,
     }
 }
 

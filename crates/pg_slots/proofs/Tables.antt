@@ -1,6 +1,6 @@
 -- The rows of an object's pages, as they are read, written and taken out.
 use Rattle.indexmap.specs.IndexMap.{IndexMap, spare}
-use Rattle.std.proofs.Common.{ℕ, ◌≡◌, ◌==◌, Bool, true, false, List, [], ◌∷◌, ◌++◌, map, Option, Some, None, Result, Ok, Err, IsOk, IsSome, OnOk, if◌then◌else◌}
+use Rattle.std.proofs.Common.{ℕ, ◌≡◌, ◌==◌, Bool, true, false, List, [], ◌∷◌, ◌++◌, map, Option, Some, None, IsSome, if◌then◌else◌}
 use Rattle.std.proofs.Common.{refl, ◌∙◌, ap, ⊎_elim, arith}
 use Rattle.std.proofs.lemmas.Bool.{cases_Bool}
 use Rattle.std.proofs.lemmas.Bool.Decides.{nat_tests}
@@ -68,10 +68,6 @@ drops_rows object old new writes = record {
       (λ (apart : (object == o) ≡ false). rw (writes o, apart) refl)
       (cases_Bool (object == o));
 }
-
-pub on_ok : {A E : Type 0} (result : Result A E) (P : Type 0) → OnOk result P → IsOk result → P
-on_ok (Ok done) P told ok = told
-on_ok (Err stop) P told ok = absurd (cc)
 
 pub some_of : {A : Type 0} (o : Option A) (x : A) → o ≡ Some x → IsSome o
 some_of o x is = rw is refl

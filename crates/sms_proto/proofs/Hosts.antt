@@ -10,12 +10,12 @@ use Rattle.vm_model.specs.declared.event.Event.TheVariants as event
 use Rattle.vm_model.specs.Words.{Act, UpWord, DownWord, ActEffect, Opens, SendsUp, TakenUp, SentDown, TakesDown, Drops, Begins, Loads, Stores, StepBegins}
 use Rattle.vm_model.specs.Words.{Nothing, down_word, sent_act_effect, to_others, act_of}
 use Rattle.vm_model.specs.Side.{Side, side, side_after, side_taken_down, is_open_to, side_sent_up}
-use Rattle.vm_model.specs.Waiters.{Waiter, waiters, waiters_after}
+use Rattle.vm_model.specs.Waiters.{waiters, waiters_after}
 use Rattle.vm_model.specs.Server.{Wanting, line, joined, kept, kept_after, trimmed_line}
 use Rattle.vm_model.specs.Channels.{up_queue, down_queue}
 use Rattle.vm_model.specs.PagePart.{world_part, with_control}
 use Rattle.vm_model.specs.Coherence.{StepsDone, begins_step}
-use Rattle.vm_coherence.proofs.Law.{other_effect, other_side}
+use Rattle.vm_coherence.proofs.Law.{other_effect, other_side, others_wait}
 use Rattle.sms_pages.specs.Directory.{Directory}
 use Rattle.sms_pages.specs.Stands.{StandsFor}
 use Rattle.sms_pages.proofs.Facts.{holds_kept, awaits_kept, counted_same}
@@ -85,12 +85,6 @@ idle_others (TakenUp word) s none = ap (λ (n : ℕ). record s { step = n }) (sy
 idle_others (TakesDown control word) s none = ap (λ (n : ℕ). record s { step = n }) (sym none)
 idle_others StepBegins s none = ap (λ (n : ℕ). record s { step = n }) (sym none)
 idle_others e s none = refl
-
-others_wait : (e : ActEffect) (ws : List Waiter) → waiters_after (to_others e) ws ≡ ws
-others_wait (TakenUp word) ws = refl
-others_wait (TakesDown control word) ws = refl
-others_wait StepBegins ws = refl
-others_wait e ws = refl
 
 pub kept_act : (g h : ℕ) (e : ActEffect) (past : List Act) → h ≢ g → (side g past).step ≡ 0 → side g (record { host = h; effect = e } ∷ past) ≡ side g past
 kept_act g h e past apart none = other_side g (record { host = h; effect = e }) past apart ∙ idle_others e (side g past) none

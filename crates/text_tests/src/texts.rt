@@ -271,12 +271,7 @@ fn pages_and_shadows(rt: HostRuntime) -> Result<(), Fail> {
             },
             "shadowed 4 9 3\n",
         ),
-        (
-            Event::Unmarked {
-                region: REGION,
-            },
-            "unmarked 4\n",
-        ),
+        (Event::Unmarked { region: REGION }, "unmarked 4\n"),
     ];
     assert_lines(&rt, rt.alloc(), &table)
 }

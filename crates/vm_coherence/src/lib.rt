@@ -145,11 +145,10 @@ pub fn local_law()
     ensures page { (header : Header) (history : List Event) (h o p : ℕ) → EachEvent (IsFounded header) history
         → SideIsLocal (live_control h o history) (side h (page_part header.size o p history)) (local header h (record { object = o; page = p }) history) }
     ensures one_writer { (header : Header) (history : List Event) (g h o p : ℕ) → EachEvent (IsFounded header) history
-        → ActsLicensed header.size (page_part header.size o p history)
-        → g ≢ h → CanWrite (local header h (record { object = o; page = p }) history) → CanRead (local header g (record { object = o; page = p }) history) → ⊥ }
+        → ActsLicensed header.size (page_part header.size o p history) → g ≢ h
+        → CanWrite (local header h (record { object = o; page = p }) history) → CanRead (local header g (record { object = o; page = p }) history) → ⊥ }
     ensures same_bytes { (header : Header) (history : List Event) (h o p : ℕ) → EachEvent (IsFounded header) history
-        → ActsLicensed header.size (page_part header.size o p history)
-        → (local header h (record { object = o; page = p }) history).here ≡ true
+        → ActsLicensed header.size (page_part header.size o p history) → (local header h (record { object = o; page = p }) history).here ≡ true
         → (local header h (record { object = o; page = p }) history).bytes ≡ current header.size (page_part header.size o p history) }
     ensures asked { (header : Header) (past : List Event) (host : HostId) (object : ObjectId) (control access : ℕ) (page : PageNo)
         → EachEvent (IsFounded header) past

@@ -3,7 +3,8 @@ use Rattle.std.specs.Prelude.{ℕ, zero, suc, ◌+◌, ◌<◌, ◌≤◌, ◌�
 use Rattle.vm_flat.specs.Words.{Requests, Returns, TakesRequest, TakesReturn, Answers, Takes}
 use Rattle.vm_flat.specs.Spot.{Spot}
 use Rattle.vm_flat.proofs.Allowed.{Passed, May, content}
-use Rattle.vm_flat.proofs.Deeds.{Ground, is_file, covered, Deed, Line, Region, Cow, Kept, Shadowed, Unmarked, Zeroed, Raised, Stored, Dropped, Created, Asked, Copied}
+use Rattle.vm_flat.proofs.Deeds.{Ground, is_file, covered, Deed, Line, Region, Cow, Kept, Shadowed, Unmarked, Zeroed, Raised, Stored, Dropped, Created, Asked}
+use Rattle.vm_flat.proofs.Deeds.{Copied}
 use Rattle.vm_flat.proofs.Deeds.{Returned, TookRequest, TookReturn, Answered, Took, Terminated, Elsewhere, Row, row, regions, objects, Link, link, spot}
 use Rattle.vm_flat.proofs.Deeds.{control, flat}
 

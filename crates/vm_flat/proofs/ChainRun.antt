@@ -1,5 +1,5 @@
 -- A run with a chain of three objects: a load finds its page at the bottom.
-use Rattle.std.proofs.Common.{List, [], ◌∷◌, true, refl, arith, inr, inl}
+use Rattle.std.proofs.Common.{List, [], ◌∷◌, ◌≡◌, true, refl, arith, inr, inl}
 use Rattle.vm_base.specs.declared.entry.Entry.{Entry}
 use Rattle.vm_base.specs.declared.ids.Prot.{Prot}
 use Rattle.vm_base.specs.declared.ids.Inherit.TheVariants.{Copy}
@@ -333,6 +333,7 @@ caused_19 = (
       value = 2;
       waits = record { waits = refl; at = record { host = 0; entry = child; lives = refl; found = refl }; left = tt };
       region_is = refl;
+      shared = λ alone. let bad : 0 ≡ 1 = alone.tops 0 (omega arith) refl refl in omega (arith, bad);
     },
   ),
   caused_18,
@@ -437,6 +438,7 @@ caused_28 = (
       value = 3;
       waits = record { waits = refl; at = record { host = 0; entry = grandchild; lives = refl; found = refl }; left = tt };
       region_is = refl;
+      shared = λ alone. let bad : 1 ≡ 2 = alone.tops 1 (omega arith) refl refl in omega (arith, bad);
     },
   ),
   caused_27,

@@ -37,7 +37,8 @@ use Rattle.vm_flat.proofs.Classes.{ground, deed, deeds, down_deed, region_in, pa
 use Rattle.vm_flat.proofs.Entries.{Entries, PrivateUsed, entries_task_made, entries_task_ended, entries_failed, entries_removed, entries_protected}
 use Rattle.vm_flat.proofs.Entries.{entries_inherited, entries_region_made, entries_region_copied, entries_entered}
 use Rattle.vm_flat.proofs.Filling.{Filling, filling_next}
-use Rattle.vm_flat.proofs.Numbers.{NumberedAt, numbered_start, numbered_region_made, numbered_region_copied, numbered_shadowed, numbered_unmarked, later_alike, told_private}
+use Rattle.vm_flat.proofs.Numbers.{NumberedAt, numbered_start, numbered_region_made, numbered_region_copied, numbered_shadowed, numbered_unmarked, later_alike}
+use Rattle.vm_flat.proofs.Numbers.{told_private}
 use Rattle.vm_flat.proofs.Ports.{ups_start, ups_next, numbers_next, asked_next, downs_start, downs_next, locks_start, locks_next, private_there}
 use Rattle.vm_flat.proofs.Holds.{Holds, Homes, Flats, led, tops, walks}
 use Rattle.vm_flat.proofs.Caused.{here_is, bytes_are, cause, change_is, source_made, shadowed_made}

@@ -1,7 +1,8 @@
 -- What each deed leaves.
 use Rattle.std.proofs.Common.{subst, ◌≡◌, ℕ, List, [], ◌∷◌, arith, Bool, true, false, ap, sym, ◌∙◌, zero, suc, refl, if◌then◌else◌, ◌+◌}
 use Rattle.std.proofs.lemmas.Bool.Decides.{nat_tests}
-use Rattle.vm_flat.proofs.Deeds.{Ground, is_file, Deed, Line, Region, Cow, Kept, Shadowed, Unmarked, Zeroed, Raised, Stored, Dropped, Created, Asked, Copied, Returned}
+use Rattle.vm_flat.proofs.Deeds.{Ground, is_file, Deed, Line, Region, Cow, Kept, Shadowed, Unmarked, Zeroed, Raised, Stored, Dropped, Created, Asked, Copied}
+use Rattle.vm_flat.proofs.Deeds.{Returned}
 use Rattle.vm_flat.proofs.Deeds.{TookRequest, TookReturn, Answered, Took, Terminated, Elsewhere}
 use Rattle.vm_flat.proofs.Causes.{Cause, AllCaused}
 use Rattle.vm_flat.specs.Spot.{first_spot}

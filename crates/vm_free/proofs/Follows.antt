@@ -143,14 +143,13 @@ store_follows part past set_up task object page at bytes value goes before follo
     ∙ ap (λ z. (z ++ played part order) ++ done part []) (sym does_store)) in
     (memory, λ t. follows.1 t ∙ ap (λ z. values_in t (z ++ played part order)) (sym does_store))
 
--- a message does nothing where no pager says what a file has
-
 nothing_said : (header : Header) (file : ℕ) (m : Message) → said header false file m ≡ []
 nothing_said header file (message.Supply page lock precious bytes) = refl
 nothing_said header file (message.Unavailable page) = refl
 nothing_said header file other = refl
 
-unsaid : (header : Header) (says : Bool) (file : ℕ) (m : Message) (past : List Operation) → says ≡ false → said header says file m ++ past ≡ past
+-- a message does nothing where no pager says what a file has
+pub unsaid : (header : Header) (says : Bool) (file : ℕ) (m : Message) (past : List Operation) → says ≡ false → said header says file m ++ past ≡ past
 unsaid header says file m past told = ap (λ z. said header z file m ++ past) told ∙ ap (λ z. z ++ past) (nothing_said header file m)
 
 -- every other event does nothing

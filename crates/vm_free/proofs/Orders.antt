@@ -32,7 +32,8 @@ abbrev pub owners : List Numbered → List ℕ
 owners [] = []
 owners (numbered ∷ older) = owner numbered.command ++ owners older
 
-one_owns : (t task : ℕ) (access : Access) (tasks : List ℕ) (accesses : List Access) → occurrences t tasks ≡ length accesses
+-- an access more is one of its task's
+pub one_owns : (t task : ℕ) (access : Access) (tasks : List ℕ) (accesses : List Access) → occurrences t tasks ≡ length accesses
     → occurrences t (task ∷ tasks) ≡ length ((if task == t then access ∷ [] else []) ++ accesses)
 one_owns t task access tasks accesses same = elim (eqb_tells task t) [ inl is ↦ rw is.0 (omega (arith, same)) | inr apart ↦ rw apart.0 (omega (arith, same)) ]
 

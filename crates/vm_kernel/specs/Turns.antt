@@ -63,9 +63,9 @@ pub data IsFront (task : TaskId) : Bool → List Event → Type 0 where
   Unmark : (region : RegionId) → IsFront task false (event.Unmarked region ∷ [])
   Pages : (some : Bool) → (front : List Event) → AreCopied task some front → IsFront task some front
 
--- what a task's access did when it was run, and whether it claimed a frame: no more than make a shadow, take a mark, or copy pages; it found its page and ended; it copied
--- its last page and ended; it asked for the unlock of its page; it claimed one for a page of zeros, or for a copy of its page, with which it ended; or it
--- claimed one for a page that it asked for, on which it waits now, and none of those that were run earlier
+-- what a task's access did when it was run, and whether it claimed a frame: no more than make a shadow, take a mark, or copy pages; it found its page and
+-- ended; it copied its last page and ended; it asked for the unlock of its page; it claimed one for a page of zeros, or for a copy of its page, with which it
+-- ended; or it claimed one for a page that it asked for, on which it waits now, and none of those that were run earlier
 pub data Did (rows : List Waiting) (earlier : ℕ → Type 0) (task : TaskId) : Bool → List Event → Type 0 where
   Nothing : (claims : Bool) → (front : List Event) → IsFront task claims front → Did rows earlier task claims front
   Found : (front : List Event) → IsFront task false front → (end : Event) → IsEnd task.0 end → Did rows earlier task false (end ∷ front)
@@ -152,8 +152,8 @@ pub record RunsNobody (old new : List TaskId) (before after : List Event) : Type
   pub told : after ≡ more ++ before
   pub none : EachOf RunsNone more
 
--- an access was run once: it claims no frame where it may not; if it wants one still, no more than a shadow was made, a mark taken, or pages copied; it is not to be run
--- again; and only its own row has changed
+-- an access was run once: it claims no frame where it may not; if it wants one still, no more than a shadow was made, a mark taken, or pages copied; it is not
+-- to be run again; and only its own row has changed
 pub record RunsOnce (was : Waiting) (may_claim wants : Bool) (old new : WaitTable) (before after : List Event) : Type 0 where
   pub more : List Event
   pub told : after ≡ more ++ before

@@ -10,16 +10,15 @@ use Rattle.vm_model.specs.Waiting.{Access, Loading, Storing, waiting}
 use Rattle.vm_model.specs.declared.event.Event.{Event}
 use Rattle.vm_model.specs.declared.event.Event.TheVariants as event
 use Rattle.vm_model.specs.declared.message.Channel.TheVariants.{Down}
-use Rattle.vm_model.specs.declared.message.Message.{Message}
-use Rattle.vm_model.specs.declared.message.Message.TheVariants as message
 use Rattle.vm_model.specs.declared.script.Declared.{Declared}
 use Rattle.vm_model.specs.declared.script.Header.{Header}
 use Rattle.vm_legal.specs.Flat.{made_over}
 use Rattle.vm_legal.specs.Outside.{FilesAtStart, Outside, Told, are_untold, is_file, is_file_kept, is_flat, is_said, is_shared_kind, kind_in, start_in}
 use Rattle.vm_legal.specs.Outside.{start_page, zeros}
 use Rattle.vm_order.specs.OneMemory.{EndsAccess, IsOneAtATime, IsOneMemory, LoadsRead}
-use Rattle.vm_order.specs.Operations.{Copy, CopyPage, Load, Make, Operation, Say, Store, load_ends, memory, operations, page_copied, said, store_ends}
+use Rattle.vm_order.specs.Operations.{Copy, CopyPage, Load, Make, Operation, Say, Store, load_ends, memory, operations, page_copied, store_ends}
 use Rattle.vm_outside.specs.Areas.{read_at}
+use Rattle.vm_free.proofs.Follows.{unsaid}
 use Rattle.vm_lens.specs.Exploring.{IsFresh, fresh}
 
 -- all that memory depends on is the same
@@ -30,14 +29,6 @@ record AreAlike (a b : Header) (there here : Outside) : Type 0 where
   pub start : (region page : ℕ) → start_page a there region page ≡ start_page b here region page
   pub unsaid : (object : ℕ) → is_said a there object ≡ false
   pub unsaid_too : (object : ℕ) → is_said b here object ≡ false
-
-nothing_said : (header : Header) (file : ℕ) (m : Message) → said header false file m ≡ []
-nothing_said header file (message.Supply page lock precious bytes) = refl
-nothing_said header file (message.Unavailable page) = refl
-nothing_said header file other = refl
-
-unsaid : (header : Header) (says : Bool) (file : ℕ) (m : Message) (past : List Operation) → says ≡ false → said header says file m ++ past ≡ past
-unsaid header says file m past told = ap (λ z. said header z file m ++ past) told ∙ ap (λ z. z ++ past) (nothing_said header file m)
 
 operations_alike : (a b : Header) (there here : Outside) → AreAlike a b there here → (history : List Event)
     → operations a there history ≡ operations b here history

@@ -1,11 +1,10 @@
 -- Where each declared object is a file or a shared one, all memory is flat.
-use Rattle.std.proofs.Common.{Bool, List, None, Option, Some, ap, arith, false, inl, inr, refl, reverse, subst, sym, true, ℕ, [], ◌<◌, ◌∙◌, ◌∷◌, ◌≡◌}
+use Rattle.std.proofs.Common.{Bool, List, None, Option, Some, ap, arith, false, inl, inr, refl, reverse, subst, sym, true, ℕ, ◌<◌, ◌∙◌, ◌≡◌}
 use Rattle.std.specs.Prelude.{if◌then◌else◌, ◌&&◌, ◌||◌, ◌≢◌, nat_lt, not}
-use Rattle.std.specs.List.{All}
-use Rattle.std.proofs.lemmas.List.{length-reverse, reverse-append}
-use Rattle.std.proofs.lemmas.List.Elements.{All-append, All-cons, All-head, All-nil, All-tail}
+use Rattle.std.proofs.lemmas.List.{length-reverse}
 use Rattle.std.proofs.lemmas.Bool.Decides.{nat_tests}
 use Rattle.std.proofs.lemmas.Option.{slice_get_cases}
+use Rattle.vm_base.proofs.Lists.{all_reversed}
 use Rattle.vm_base.specs.declared.ids.ObjectKind.{ObjectKind}
 use Rattle.vm_base.specs.declared.ids.ObjectKind.TheVariants.{Temp, File, Shared, Wild}
 use Rattle.vm_model.specs.Named.{declared, named}
@@ -16,12 +15,6 @@ use Rattle.vm_legal.specs.Outside.{is_file_kept, is_file_kind, is_shared_kind, i
 use Rattle.vm_free.specs.Outcomes.{AllFlat, NothingIsSaid}
 use Rattle.vm_text.specs.Script.{DeclaresNoTemporary}
 use Rattle.vm_lens.specs.Exploring.{fresh}
-
-all_reversed : {A : Type 0} (P : A → Type 0) (xs : List A) → All P xs → All P (reverse xs)
-all_reversed P [] all = All-nil P
-all_reversed P (x ∷ xs) all =
-    subst (All P) (sym (reverse-append (x ∷ []) xs)) (All-append P (reverse xs) (x ∷ []) (all_reversed P xs (All-tail P x xs all))
-    (All-cons P x [] (All-head P x xs all) (All-nil P)))
 
 kept_kind : (kind : ObjectKind) → kind ≢ Temp → is_wild_kind kind ≡ false → (is_file_kind kind || is_shared_kind kind) ≡ true
 kept_kind Temp made tame = absurd (made refl)

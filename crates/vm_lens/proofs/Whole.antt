@@ -1,9 +1,7 @@
 -- Each order was shown, so all outcomes were.
-use Rattle.std.proofs.Common.{Any, List, ap, arith, inl, inr, length, map, refl, reverse, subst, sym, ℕ, [], ◌++◌, ◌==◌, ◌∙◌, ◌∷◌, ◌≡◌}
-use Rattle.std.specs.Prelude.{if◌then◌else◌}
+use Rattle.std.proofs.Common.{Any, List, ap, arith, length, map, refl, reverse, subst, sym, ℕ, [], ◌++◌, ◌∙◌, ◌∷◌, ◌≡◌}
 use Rattle.std.specs.Global.{Vec}
 use Rattle.std.specs.List.{All}
-use Rattle.std.proofs.lemmas.Bool.Decides.{eqb_tells}
 use Rattle.std.proofs.lemmas.List.{get_or-map, length-map, reverse-append, reverse-reverse}
 use Rattle.vm_legal.specs.Outside.{Outside}
 use Rattle.vm_model.specs.declared.command.Command.{Command}
@@ -11,11 +9,11 @@ use Rattle.vm_model.specs.declared.command.Command.TheVariants as command
 use Rattle.vm_model.specs.declared.command.Numbered.{Numbered}
 use Rattle.vm_model.specs.declared.event.Event.{Event}
 use Rattle.vm_model.specs.declared.script.Header.{Header}
-use Rattle.vm_model.specs.Waiting.{Access, Loading, Storing}
+use Rattle.vm_model.specs.Waiting.{Loading, Storing}
 use Rattle.vm_free.specs.Free.{accesses_of, made_to_begin}
 use Rattle.vm_free.specs.Orders.{occurrences}
 use Rattle.vm_free.specs.Outcomes.{AllShown, AreShown, Values}
-use Rattle.vm_free.proofs.Orders.{occurrences-append, occurrences-reverse}
+use Rattle.vm_free.proofs.Orders.{occurrences-append, occurrences-reverse, one_owns}
 use Rattle.vm_explore.specs.Levels.{IsOrderOf}
 use Rattle.vm_explore.specs.Tables.{Line}
 use Rattle.vm_litmus.specs.Parts.{accesses_in, tasks_of}
@@ -34,16 +32,12 @@ tasks_turned t (x ∷ xs) =
     ∙ (ap (occurrences t) (tasks_append (reverse xs) (x ∷ []))
     ∙ omega (arith, occurrences-append t (tasks_of (reverse xs)) (x.task ∷ []), tasks_turned t xs))
 
-one_counts : (t task : ℕ) (access : Access) (tasks : List ℕ) (accesses : List Access) → occurrences t tasks ≡ length accesses
-    → occurrences t (task ∷ tasks) ≡ length ((if task == t then access ∷ [] else []) ++ accesses)
-one_counts t task access tasks accesses same = elim (eqb_tells task t) [ inl is ↦ rw is.0 (omega (arith, same)) | inr apart ↦ rw apart.0 (omega (arith, same)) ]
-
 each_counts : (t line : ℕ) (c : Command) (older : List Numbered) → occurrences t (tasks_of (accesses_in older)) ≡ length (accesses_of t older)
     → occurrences t (tasks_of (accesses_in (record { line = line; command = c } ∷ older))) ≡ length (made_to_begin t c ++ accesses_of t older)
 each_counts t line (command.Load task address bytes) older same =
-    one_counts t task.0 (Loading address bytes) (tasks_of (accesses_in older)) (accesses_of t older) same
+    one_owns t task.0 (Loading address bytes) (tasks_of (accesses_in older)) (accesses_of t older) same
 each_counts t line (command.Store task address bytes value) older same =
-    one_counts t task.0 (Storing address bytes value) (tasks_of (accesses_in older)) (accesses_of t older) same
+    one_owns t task.0 (Storing address bytes value) (tasks_of (accesses_in older)) (accesses_of t older) same
 each_counts t line other older same = same
 
 -- each task stands among the tasks of the accesses as often as it has accesses

@@ -6,7 +6,8 @@ use Rattle.std.proofs.lemmas.List.{reverse-append}
 use Rattle.std.proofs.lemmas.List.Elements.{All-nil, All-cons, All-same}
 use Rattle.vm_model.specs.declared.command.Numbered.{Numbered}
 use Rattle.vm_seen.specs.Behind.{later_of, oldest_items}
-use Rattle.vm_seen.proofs.Behind.{oldest_step, later_none, later_step}
+use Rattle.vm_base.proofs.Lists.{oldest_step}
+use Rattle.vm_seen.proofs.Behind.{later_none, later_step}
 use Rattle.vm_litmus.specs.Parts.{IsSettled, access_of, accesses_in, is_settle, last_line}
 use Rattle.vm_litmus.specs.declared.parts.FreeAccess.{FreeAccess}
 

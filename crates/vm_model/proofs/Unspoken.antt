@@ -1,7 +1,7 @@
 -- Of which events the definitions say nothing. An event that is new in a kind is named once more here, and then each definition that speaks of its kind has to
 -- say below whether it speaks of the event.
 use Rattle.std.proofs.Common.{◌≡◌, ◌≢◌, ◌==◌, ◌&&◌, ℕ, Bool, true, false, List, refl, sym, ◌∙◌, eq-eqb}
-use Rattle.std.specs.Prelude.{if◌then◌else◌}
+use Rattle.std.proofs.lemmas.Bool.{cond-true}
 use Rattle.vm_base.specs.declared.code.Code.{Code}
 use Rattle.vm_base.specs.declared.ids.HostId.{HostId}
 use Rattle.vm_base.specs.declared.ids.Inherit.{Inherit}
@@ -311,25 +311,21 @@ record IsSomewhere (header : Header) (others : Place → Local) (past : List Eve
 same_spot : (h o p : ℕ) → (h == h && (o == o && p == p)) ≡ true
 same_spot h o p = rw (eq-eqb h h refl) (rw (eq-eqb o o refl) (eq-eqb p p refl))
 
-if_there : {A : Type 0} (b : Bool) (a c : A) → b ≡ true → (if b then a else c) ≡ a
-if_there true a c is = refl
-if_there false a c is = absurd (cc)
-
 effect_of_pages : (header : Header) (others : Place → Local) (past : List Event) (e : Event) → about e ≡ Pages → IsSomewhere header others past e
 effect_of_pages header others past =
     of_pages (IsSomewhere header others past)
     (λ host object page. record {
       host = host.0;
       place = record { object = object.0; page = page.0 };
-      there = λ is. absurd (let bad : Drops ≡ Elsewhere = sym (if_there _ Drops Elsewhere (same_spot host.0 object.0 page.0)) ∙ is in cc);
+      there = λ is. absurd (let bad : Drops ≡ Elsewhere = sym (cond-true _ Drops Elsewhere (same_spot host.0 object.0 page.0)) ∙ is in cc);
     })
     (λ host object page. record {
       host = host.0;
       place = record { object = object.0; page = page.0 };
-      there = λ is. absurd (let bad : Zeroes ≡ Elsewhere = sym (if_there _ Zeroes Elsewhere (same_spot host.0 object.0 page.0)) ∙ is in cc);
+      there = λ is. absurd (let bad : Zeroes ≡ Elsewhere = sym (cond-true _ Zeroes Elsewhere (same_spot host.0 object.0 page.0)) ∙ is in cc);
     })
     (λ host lower lower_page upper upper_page. record {
       host = host.0;
       place = record { object = upper.0; page = upper_page.0 };
-      there = λ is. absurd (let bad : Raises _ ≡ Elsewhere = sym (if_there _ (Raises _) Elsewhere (same_spot host.0 upper.0 upper_page.0)) ∙ is in cc);
+      there = λ is. absurd (let bad : Raises _ ≡ Elsewhere = sym (cond-true _ (Raises _) Elsewhere (same_spot host.0 upper.0 upper_page.0)) ∙ is in cc);
     })

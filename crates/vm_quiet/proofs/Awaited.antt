@@ -2,6 +2,7 @@
 use Rattle.std.proofs.Common.{inl, inr, ℕ, ◌≡◌, ◌∙◌, List, [], ◌∷◌, Bool, true, false, refl, sym, ap, subst, arith, Option, Some, None, if◌then◌else◌}
 use Rattle.std.proofs.lemmas.Bool.Decides.{nat_tests}
 use Rattle.std.specs.Prelude.{◌==◌, ◌&&◌, ◌||◌, ◌⊎◌}
+use Rattle.std.proofs.lemmas.Bool.{cond-false}
 use Rattle.vm_base.specs.Pages.{little_endian_bytes}
 use Rattle.vm_base.specs.declared.ids.HostId.{HostId}
 use Rattle.vm_base.specs.declared.ids.ObjectId.{ObjectId}
@@ -30,7 +31,7 @@ use Rattle.vm_legal.specs.Outside.{Outside, is_wild, is_wild_kind, kind_of}
 use Rattle.vm_legal.specs.Steps.{answers, is_answer, is_ready_message as says_ready, readies, since, taken_letter}
 use Rattle.vm_legal.specs.Walks.{page_on}
 use Rattle.vm_quiet.specs.Carried.{is_request, opens}
-use Rattle.vm_quiet.proofs.Letters.{else_same, never}
+use Rattle.vm_quiet.proofs.Letters.{never}
 use Rattle.vm_quiet.proofs.Sane.{at_place, left, right, control_of}
 use Rattle.vm_quiet.proofs.Ways.{IsDone, OnTheWay, same_taken, some_last, way_line, way_sent, way_taken}
 
@@ -90,7 +91,7 @@ up_asks header host at object (message.Init control size) past c all o p ours = 
         → Asking host o p (event.Sent (Up at object) (message.Init control size) ∷ past)
     by true own is = never is
     by false own is =
-        asking_sent host o p at object (message.Init control size) past (else_same (at.0 == host && object.0 == o) (Some control) (live_control host o past)
+        asking_sent host o p at object (message.Init control size) past (cond-false (at.0 == host && object.0 == o) (Some control) (live_control host o past)
         own)
         (all o p ours is)
 up_asks header host at object (message.Create control size) past c all o p ours = by (at.0 == host && object.0 == o) refl
@@ -100,7 +101,7 @@ up_asks header host at object (message.Create control size) past c all o p ours 
         → Asking host o p (event.Sent (Up at object) (message.Create control size) ∷ past)
     by true own is = never is
     by false own is =
-        asking_sent host o p at object (message.Create control size) past (else_same (at.0 == host && object.0 == o) (Some control) (live_control host o past)
+        asking_sent host o p at object (message.Create control size) past (cond-false (at.0 == host && object.0 == o) (Some control) (live_control host o past)
         own)
         (all o p ours is)
 up_asks header host at object (message.Terminate control) past c all o p ours =
@@ -114,7 +115,7 @@ up_asks header host at object (message.Terminate control) past c all o p ours =
         never (sym live ∙ control_of (live_control host o past) control (at_place (λ h k. live_control h k past ≡ Some control) at.0 object.0 host o own
         c.1.live))
     by false t own live is =
-        asking_sent host o p at object (message.Terminate control) past (else_same (at.0 == host && object.0 == o)
+        asking_sent host o p at object (message.Terminate control) past (cond-false (at.0 == host && object.0 == o)
         (without_control control (live_control host o past)) (live_control host o past) own) (all o p ours is)
 up_asks header host at object (message.Request control page access) past c all o p ours =
     by (at.0 == host && object.0 == o) (page.0 == p) (is_control control (live_control host o past)) refl refl

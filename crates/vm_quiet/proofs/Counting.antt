@@ -2,6 +2,7 @@
 use Rattle.std.proofs.Common.{ℕ, ◌≡◌, ◌∙◌, List, [], ◌∷◌, Bool, true, false, refl, sym, ap, subst, arith, Option, Some, None, if◌then◌else◌}
 use Rattle.std.proofs.lemmas.Bool.Decides.{nat_tests}
 use Rattle.std.specs.Prelude.{◌==◌, ◌&&◌, ◌||◌, ◌+◌, ◌-◌, ◌<◌, not, is_some}
+use Rattle.std.proofs.lemmas.Bool.{cond-false}
 use Rattle.vm_base.specs.Pages.{little_endian_bytes}
 use Rattle.vm_base.specs.declared.ids.HostId.{HostId}
 use Rattle.vm_base.specs.declared.ids.ObjectId.{ObjectId}
@@ -26,7 +27,7 @@ use Rattle.vm_legal.specs.Outside.{Outside}
 use Rattle.vm_legal.specs.Walks.{page_on}
 use Rattle.vm_model.proofs.Ports.{same_control}
 use Rattle.vm_quiet.specs.Places.{FramesAreCounted, has_frame}
-use Rattle.vm_quiet.proofs.Letters.{else_same, never, some_out}
+use Rattle.vm_quiet.proofs.Letters.{never, some_out}
 use Rattle.vm_quiet.proofs.Places.{Held, one_if, held_none, held_same, held_more, held_less, held_some, test_there}
 use Rattle.vm_quiet.proofs.Sane.{Base, IsVacant, base_of, not_true, there, at_place, vacant_zeroed, vacant_raised, vacant_copied, left, right, control_of}
 
@@ -262,8 +263,8 @@ and_false false = refl
 same_end : (u a ob pg live live' asked asked' : Bool) → ((ob && pg) ≡ true → live ≡ live') → ((ob && pg) ≡ true → asked ≡ asked')
     → (if a && (ob && live) then (if pg then (if asked then false else u) else u) else u) ≡ (if (a && (live' && asked')) && (ob && pg) then false else u)
 same_end u false ob pg live live' asked asked' e f = refl
-same_end u true false pg live live' asked asked' e f = sym (else_same ((live' && asked') && false) false u (and_false (live' && asked')))
-same_end u true true false live live' asked asked' e f = by live ∙ sym (else_same ((live' && asked') && false) false u (and_false (live' && asked')))
+same_end u true false pg live live' asked asked' e f = sym (cond-false ((live' && asked') && false) false u (and_false (live' && asked')))
+same_end u true true false live live' asked asked' e f = by live ∙ sym (cond-false ((live' && asked') && false) false u (and_false (live' && asked')))
   where
     by : (b : Bool) → (if b then u else u) ≡ u
     by true = refl

@@ -28,13 +28,6 @@ same_channel (Down h o k) (Down host object control) is =
 same_channel (Up h o) (Down host object control) is = never is
 same_channel (Down h o k) (Up host object) is = never is
 
--- what the choice is where the test is false, and where it is true
-pub else_same : {A : Type 0} (b : Bool) (x y : A) → b ≡ false → (if b then x else y) ≡ y
-else_same b x y is = rw is refl
-
-pub then_same : {A : Type 0} (b : Bool) (x y : A) → b ≡ true → (if b then x else y) ≡ x
-then_same b x y is = rw is refl
-
 messages_end : (c : Channel) (ls : List Letter) (l : Letter)
     → messages_on c (ls ++ l ∷ []) ≡ (if is_channel c l.channel then messages_on c ls ++ l.message ∷ [] else messages_on c ls)
 messages_end c [] l = refl

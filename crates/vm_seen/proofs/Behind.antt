@@ -1,28 +1,16 @@
 -- The oldest part of a list grows by one item at a time, and so does what stands behind its first items.
-use Rattle.std.proofs.Common.{◌≡◌, ℕ, suc, ◌+◌, ◌-◌, ◌<◌, ◌≤◌, List, [], ◌∷◌, ◌++◌, length, drop, take, get_or, reverse, ap, sym, ◌∙◌, arith}
+use Rattle.std.proofs.Common.{◌≡◌, ℕ, suc, ◌+◌, ◌-◌, ◌≤◌, List, [], ◌∷◌, ◌++◌, length, take, reverse, ap, sym, ◌∙◌, arith}
 use Rattle.std.proofs.Common.{slice_get, Some, length-drop}
-use Rattle.std.proofs.Math.Seq.{drop-cons, take-append-add}
-use Rattle.std.proofs.lemmas.List.{get_or-reverse, length-reverse, take-append-drop, length-take-le}
-use Rattle.std.proofs.lemmas.Option.{slice_get_within, get_or_from_slice_get}
+use Rattle.std.proofs.Math.Seq.{take-append-add}
+use Rattle.std.proofs.lemmas.List.{length-reverse, take-append-drop, length-take-le}
+use Rattle.std.proofs.lemmas.Option.{slice_get_within}
+use Rattle.vm_base.proofs.Lists.{oldest_step}
 use Rattle.vm_seen.specs.Behind.{later_of, oldest_items}
-
-pub oldest_step : {A : Type 0} (h : List A) (i : ℕ) (e : A) → slice_get (reverse h) i ≡ Some e → oldest_items (i + 1) h ≡ e ∷ oldest_items i h
-oldest_step h i e found =
-    let inside = slice_get_within (reverse h) i e found in
-    let below : i < length h = omega (arith, length-reverse h) in
-    let here : get_or (reverse h) i e ≡ e = get_or_from_slice_get (reverse h) i e e found in
-    let there : get_or h (length h - 1 - i) e ≡ e = sym (get_or-reverse h i e below) ∙ here in
-    let one : length h - (i + 1) ≡ length h - 1 - i = omega arith in
-    let two : suc (length h - 1 - i) ≡ length h - i = omega arith in
-    ap (λ z. drop z h) one ∙ drop-cons h (length h - 1 - i) e (omega arith) ∙ ap (λ z. z ∷ drop (suc (length h - 1 - i)) h) there ∙ ap (λ z. e ∷ drop z h) two
 
 -- one item more of two lists, if it is the same
 pub same_step : {A : Type 0} (h s : List A) (i : ℕ) (x y : A) → slice_get (reverse h) i ≡ Some x → slice_get (reverse s) i ≡ Some y → x ≡ y
     → oldest_items i h ≡ oldest_items i s → oldest_items (i + 1) h ≡ oldest_items (i + 1) s
 same_step h s i x y one two is same = oldest_step h i x one ∙ (ap (λ z. z ∷ oldest_items i h) is ∙ (ap (λ z. y ∷ z) same ∙ sym (oldest_step s i y two)))
-
-pub oldest_all : {A : Type 0} (h : List A) (i : ℕ) → length h ≤ i → oldest_items i h ≡ h
-oldest_all h i all = let none : length h - i ≡ 0 = omega arith in ap (λ z. drop z h) none
 
 pub length_oldest : {A : Type 0} (h : List A) (i : ℕ) → i ≤ length h → length (oldest_items i h) ≡ i
 length_oldest h i within = omega (arith, length-drop (length h - i) h)

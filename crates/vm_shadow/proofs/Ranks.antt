@@ -7,6 +7,7 @@ use Rattle.std.proofs.lemmas.Map.Keys.{IsDistinct-cons}
 use Rattle.std.proofs.lemmas.Map.Steps.{length-le_from_distinct_below, length-le_from_keys}
 use Rattle.std.specs.List.{AllByRecursion, IsDistinct, list_any}
 use Rattle.std.specs.Map.{lookup}
+use Rattle.std.proofs.lemmas.Bool.{cond-false, cond-true, eq-eqb, ne_eqb}
 use native.Mathlib.Decide.{ℕ_discrete}
 use Rattle.vm_base.specs.declared.ids.ObjectId.{ObjectId}
 use Rattle.vm_shadow.specs.Chains.{ChainTable, IsRanked, ObjectsBelow, height, height_within, shadow_at}
@@ -37,12 +38,6 @@ pub ranked_dropped : (old new : ChainTable) (object : ℕ) → ((o : ℕ) → sh
     → IsRanked new
 ranked_dropped old new object at = ranked_fewer old new (dropped_was old new object at)
 
-if_same : {A : Type 0} (a o : ℕ) (x y : A) → a ≡ o → (if a == o then x else y) ≡ x
-if_same a o x y e = let test : (a == o) ≡ true = grind (arith, nat_tests) in subst (λ (b : Bool). (if b then x else y) ≡ x) (sym test) refl
-
-pub if_other : {A : Type 0} (a o : ℕ) (x y : A) → a ≢ o → (if a == o then x else y) ≡ y
-if_other a o x y e = let test : (a == o) ≡ false = grind (arith, nat_tests) in subst (λ (b : Bool). (if b then x else y) ≡ y) (sym test) refl
-
 one_row : (x : Option ShadowRow) (a b : ShadowRow) → x ≡ Some a → x ≡ Some b → a ≡ b
 one_row x a b one other = let both : Some a ≡ Some b = sym one ∙ other in cc
 
@@ -54,15 +49,16 @@ ranked_over old new object row at other unders r =
       rank = rank;
       under = λ o s is. elim (ℕ_discrete object o) [
         | yes e ↦
-            let same : s ≡ row = one_row (shadow_at new o) s row is (at o ∙ if_same object o (Some row) (shadow_at old o) e) in
-            let high : rank o ≡ r.rank row.under.0 + 1 = if_same object o (r.rank row.under.0 + 1) (r.rank o) e in
+            let same : s ≡ row = one_row (shadow_at new o) s row is (at o ∙ cond-true (object == o) (Some row) (shadow_at old o) (eq-eqb object o e)) in
+            let high : rank o ≡ r.rank row.under.0 + 1 = cond-true (object == o) (r.rank row.under.0 + 1) (r.rank o) (eq-eqb object o e) in
             let low : rank s.under.0 ≡ r.rank row.under.0 = ap (λ (z : ShadowRow). rank z.under.0) same
-            ∙ if_other object row.under.0 (r.rank row.under.0 + 1) (r.rank row.under.0) (λ f. other (sym f)) in
+            ∙ cond-false (object == row.under.0) (r.rank row.under.0 + 1) (r.rank row.under.0) (ne_eqb object row.under.0 (λ f. other (sym f))) in
             omega (arith, high, low)
         | no apart ↦
-            let was : shadow_at old o ≡ Some s = sym (at o ∙ if_other object o (Some row) (shadow_at old o) apart) ∙ is in
-            let high : rank o ≡ r.rank o = if_other object o (r.rank row.under.0 + 1) (r.rank o) apart in
-            let low : rank s.under.0 ≡ r.rank s.under.0 = if_other object s.under.0 (r.rank row.under.0 + 1) (r.rank s.under.0) (λ f. unders o s was (sym f)) in
+            let was : shadow_at old o ≡ Some s = sym (at o ∙ cond-false (object == o) (Some row) (shadow_at old o) (ne_eqb object o apart)) ∙ is in
+            let high : rank o ≡ r.rank o = cond-false (object == o) (r.rank row.under.0 + 1) (r.rank o) (ne_eqb object o apart) in
+            let low : rank s.under.0 ≡ r.rank s.under.0 = cond-false (object == s.under.0) (r.rank row.under.0 + 1) (r.rank s.under.0)
+            (ne_eqb object s.under.0 (λ f. unders o s was (sym f))) in
             omega (arith, high, low, r.under o s was)
       ];
     }
@@ -299,17 +295,17 @@ few_over old new next row below less at ranked n o = height_few new ranked (next
     shadows q s is = elim (ℕ_discrete next q) [
       | yes same ↦ omega (arith, same)
       | no apart ↦
-          let was = below.shadows q s (sym (at q ∙ if_other next q (Some row) (shadow_at old q) apart) ∙ is) in
+          let was = below.shadows q s (sym (at q ∙ cond-false (next == q) (Some row) (shadow_at old q) (ne_eqb next q apart)) ∙ is) in
           omega (arith, was)
     ]
 
     unders : (q : ℕ) (s : ShadowRow) → shadow_at new q ≡ Some s → s.under.0 < next + 1
     unders q s is = elim (ℕ_discrete next q) [
       | yes same ↦
-          let its : s ≡ row = one_row (shadow_at new q) s row is (at q ∙ if_same next q (Some row) (shadow_at old q) same) in
+          let its : s ≡ row = one_row (shadow_at new q) s row is (at q ∙ cond-true (next == q) (Some row) (shadow_at old q) (eq-eqb next q same)) in
           let number = ap (λ (z : ShadowRow). z.under.0) its in
           omega (arith, number, less)
       | no apart ↦
-          let was = below.unders q s (sym (at q ∙ if_other next q (Some row) (shadow_at old q) apart) ∙ is) in
+          let was = below.unders q s (sym (at q ∙ cond-false (next == q) (Some row) (shadow_at old q) (ne_eqb next q apart)) ∙ is) in
           omega (arith, was)
     ]

@@ -3,8 +3,9 @@ use Rattle.std.proofs.Common.{◌≡◌, ◌≢◌, ◌∙◌, sym, ap, subst, �
 use Rattle.std.proofs.Common.{arith, refl}
 use Rattle.std.proofs.lemmas.Bool.Decides.{nat_tests}
 use Rattle.std.specs.Map.{lookup}
+use Rattle.std.proofs.lemmas.Bool.{cond-false, ne_eqb}
 use Rattle.vm_base.specs.declared.ids.ObjectId.{ObjectId}
-use Rattle.vm_shadow.proofs.Ranks.{dropped_was, height_fewer, height_merged, if_other, ranked_dropped, ranked_merged, ranked_same, twice}
+use Rattle.vm_shadow.proofs.Ranks.{dropped_was, height_fewer, height_merged, ranked_dropped, ranked_merged, ranked_same, twice}
 use Rattle.vm_shadow.specs.Chains.{ChainTable, CopiesRegion, IsDeep, IsRanked, MergesShadow, Over, PutsRegion, RegionsBelow, copy_of, region_at, shadow_at}
 use Rattle.vm_shadow.specs.Kept.{AreKept, count_marked}
 use Rattle.vm_shadow.specs.declared.region_row.RegionRow.{RegionRow}
@@ -100,7 +101,7 @@ shadow_stays old mid upper lower r over taken = by (shadow_at old upper) refl ov
     by (Some row) is under =
         let less = r.under upper row is in
         let apart : lower.0 ≢ upper = λ same. let rank = ap r.rank (ap (λ (z : ObjectId). z.0) under ∙ same) in omega (arith, less, rank) in
-        let left : mid upper ≡ Some row = taken upper ∙ (if_other lower.0 upper None (shadow_at old upper) apart ∙ is) in
+        let left : mid upper ≡ Some row = taken upper ∙ (cond-false (lower.0 == upper) None (shadow_at old upper) (ne_eqb lower.0 upper apart) ∙ is) in
         rw left refl
 
 -- an object at the bottom is merged into its shadow, under which nothing stands then

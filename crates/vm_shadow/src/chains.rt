@@ -3,7 +3,8 @@ ghost use Rattle.std.specs.List.{count_by};
 ghost use Rattle.std.specs.Option.{option_map};
 ghost use Rattle.std.specs.Prelude.{ℕ, ◌≡◌, ◌+◌, ◌-◌, ◌==◌, ◌<◌, ◌≤◌, ◌^◌, min, Some, None, false, true, if◌then◌else◌, IfOk, IfSome, IsOk, IsSome, IsSomeAnd};
 ghost use Rattle.std.specs.Prelude.{OnErr, OnOk};
-ghost use Rattle.vm_shadow.specs.Chains.{CopiesRegion, DropsShadow, IsDeep, IsOnlyTop, IsRanked, ObjectsBelow, PutsRegion, RegionsBelow, SameChains, ShadowsRegion};
+ghost use Rattle.vm_shadow.specs.Chains.{CopiesRegion, DropsShadow, IsDeep, IsOnlyTop, IsRanked, ObjectsBelow, PutsRegion, RegionsBelow, SameChains};
+ghost use Rattle.vm_shadow.specs.Chains.{ShadowsRegion};
 ghost use Rattle.vm_shadow.specs.Chains.{MergesShadow, height, place_under, references_in, region_at, shadow_at};
 
 use crate::{Ids, RegionRow, ShadowRow};

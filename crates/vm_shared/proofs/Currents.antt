@@ -1,5 +1,5 @@
 -- What is read of a shared page is the flat map's page: by a slow copy, and by a load.
-use Rattle.std.proofs.Common.{ℕ, ◌≡◌, ◌+◌, ◌*◌, ◌<◌, List, [], ◌∷◌, Bool, true, false, Option, Some, None, if◌then◌else◌, refl, sym, ap, subst, ◌∙◌, arith}
+use Rattle.std.proofs.Common.{ℕ, ◌≡◌, ◌+◌, ◌*◌, ◌<◌, List, [], ◌∷◌, Bool, true, false, Option, Some, refl, sym, ap, subst, ◌∙◌, arith}
 use Rattle.std.proofs.lemmas.Bool.Decides.{nat_tests}
 use Rattle.std.specs.Prelude.{◌≢◌, ◌==◌, ◌&&◌, ◌||◌, not, nat_lt}
 use Rattle.vm_base.specs.declared.entry.Entry.{Entry}
@@ -9,7 +9,6 @@ use Rattle.vm_base.specs.Entries.{entry_at, page_at}
 use Rattle.vm_model.specs.Bytes.{number_at}
 use Rattle.vm_model.specs.declared.event.Event.{Event}
 use Rattle.vm_model.specs.declared.event.Event.TheVariants as event
-use Rattle.vm_model.specs.declared.script.Declared.{Declared}
 use Rattle.vm_model.specs.declared.script.Header.{Header}
 use Rattle.vm_model.specs.Local.{is_on}
 use Rattle.vm_model.specs.Moments.{EachEvent}
@@ -22,9 +21,10 @@ use Rattle.vm_legal.specs.Flat.{flat_page}
 use Rattle.vm_legal.specs.Licences as L
 use Rattle.vm_legal.specs.Licences.{HasCause}
 use Rattle.vm_legal.specs.Living.{lives_on}
-use Rattle.vm_legal.specs.Outside.{NoneIsTemporary, Outside, is_file, is_file_kept, is_file_kind, is_private, is_shared, is_shared_kind, is_wild, is_wild_kind}
-use Rattle.vm_legal.specs.Outside.{kind_in, kind_of}
+use Rattle.vm_legal.specs.Outside.{NoneIsTemporary, Outside, is_file, is_file_kind, is_private, is_shared, is_shared_kind, is_wild, is_wild_kind}
+use Rattle.vm_legal.specs.Outside.{kind_of}
 use Rattle.vm_legal.specs.Walks.{page_on}
+use Rattle.vm_legal.proofs.Files.{file_kind}
 use Rattle.vm_flat.proofs.Loads.{answers}
 use Rattle.vm_shared.proofs.Declared.{comes_from_declared, declared_top_own, shared_declared}
 use Rattle.vm_shared.proofs.Flat.{current_is_flat}
@@ -39,11 +39,6 @@ shared_kind File made tame plain = absurd (let bad : true ≡ false = plain in c
 shared_kind Shared made tame plain = refl
 shared_kind Wild made tame plain = absurd (let bad : true ≡ false = tame in cc)
 
-file_kind : (below : Bool) (row : Option Declared) → is_file_kind (if below then kind_in row else Temp) ≡ (below && is_file_kept row)
-file_kind true None = refl
-file_kind true (Some object) = refl
-file_kind false row = refl
-
 neither : (a b : Bool) → (a || b) ≡ false → b ≡ false
 neither true b is = absurd (let bad : true ≡ false = is in cc)
 neither false b is = is
@@ -52,7 +47,7 @@ neither false b is = is
 is_shared_one : (header : Header) (outside : Outside) (o : ℕ) → NoneIsTemporary header → o < named header → is_wild header o ≡ false
     → is_private header outside o ≡ false → is_shared header o ≡ true
 is_shared_one header outside o kinds small tame others =
-    shared_kind (kind_of header o) (kinds o small) tame (file_kind (nat_lt o (named header)) (declared header o)
+    shared_kind (kind_of header o) (kinds o small) tame (file_kind header o
     ∙ neither (not (nat_lt o (named header)) && outside.paging) (is_file header o) others)
 
 -- hosts

@@ -1,7 +1,7 @@
 -- The flat map of a shared object's region is what the stores of the page's part leave.
 use Rattle.std.proofs.Common.{ℕ, ◌≡◌, ◌≢◌, ◌+◌, ◌%◌, ◌<◌, ◌≤◌, List, [], ◌∷◌, replicate, Bool, true, false, Option, Some, None, if◌then◌else◌, refl, sym, ap}
 use Rattle.std.proofs.Common.{◌∙◌, arith, ⊎_elim}
-use Rattle.std.proofs.lemmas.Bool.{cases_lt}
+use Rattle.std.proofs.lemmas.Bool.{cases_lt, cond-false}
 use Rattle.std.proofs.lemmas.Bool.Decides.{nat_tests}
 use Rattle.std.specs.Prelude.{◌==◌, ◌&&◌}
 use Rattle.vm_base.specs.Entries.{page_at}
@@ -29,7 +29,6 @@ use Rattle.vm_legal.specs.Walks.{IsTop}
 use Rattle.vm_legal.proofs.Unshared.{file_unshared}
 use Rattle.vm_flat.proofs.Caused.{change_is}
 use Rattle.vm_flat.proofs.Numbers.{NumberedAt}
-use Rattle.vm_quiet.proofs.Letters.{else_same}
 use Rattle.vm_shared.proofs.Declared.{declared_top_own, overs_later, shared_declared}
 use Rattle.vm_shared.proofs.Numbering.{Numbering, at_made, numbering}
 
@@ -124,9 +123,9 @@ unsaid header outside o p object at shared = by (o == object) refl
 answer_kept : (header : Header) (outside : Outside) (o p object : ℕ) (m : Message) (was : List ℕ) → is_shared header o ≡ true
     → bytes_after_answer header (is_said header outside object) o p object m was ≡ was
 answer_kept header outside o p object (message.Supply at lock precious bytes) was shared =
-    else_same (is_said header outside object && (o == object && p == at.0)) bytes was (unsaid header outside o p object at.0 shared)
+    cond-false (is_said header outside object && (o == object && p == at.0)) bytes was (unsaid header outside o p object at.0 shared)
 answer_kept header outside o p object (message.Unavailable at) was shared =
-    else_same (is_said header outside object && (o == object && p == at.0)) (zeros header) was (unsaid header outside o p object at.0 shared)
+    cond-false (is_said header outside object && (o == object && p == at.0)) (zeros header) was (unsaid header outside o p object at.0 shared)
 answer_kept header outside o p object other was shared = refl
 
 not_over : (header : Header) (o : ℕ) (x : Option ℕ) → o < named header → ((region : ℕ) → x ≡ Some region → named header ≤ region) → is_number o x ≡ false
@@ -180,21 +179,21 @@ flat_next header outside o p (event.RegionMade made object pages) past caused ca
     let first = k.numbered.later_regions in
     let small = shared_declared header o shared in
     let number = cause.1.0 in
-    else_same (o == made.0) (zeros header) (flat_page header outside o p past) (unlike o made.0 (λ is. omega (arith, is, number, first, small))) ∙ same
+    cond-false (o == made.0) (zeros header) (flat_page header outside o p past) (unlike o made.0 (λ is. omega (arith, is, number, first, small))) ∙ same
 flat_next header outside o p (event.RegionCopied made source offset pages) past caused cause shared same =
     let k = numbering header outside past caused in
     let first = k.numbered.later_regions in
     let small = shared_declared header o shared in
     let number = cause.1.next in
-    else_same (o == made.0) (flat_page header outside source.0 (offset + p) past) (flat_page header outside o p past)
+    cond-false (o == made.0) (flat_page header outside source.0 (offset + p) past) (flat_page header outside o p past)
     (unlike o made.0 (λ is. omega (arith, is, number, first, small))) ∙ same
 flat_next header outside o p (event.Stored task object page at size value) past caused cause shared same =
     stored header o p task.0 object.0 page.0 at size value (flat_page header outside o p past) (current header.size (page_part header.size o p past)) past
     (numbering header outside past caused) (shared_declared header o shared) cause.1 same
 flat_next header outside o p (event.CopiedPage task index object object_page target) past caused cause shared same =
     let none = not_over header o (made_over target.0 past) (shared_declared header o shared) (overs_later header outside past caused target.0) in
-    else_same (is_number o (made_over target.0 past) && p == index.0) (flat_page header outside object.0 object_page.0 past) (flat_page header outside o p past)
-    (both_false (is_number o (made_over target.0 past)) (p == index.0) none)
+    cond-false (is_number o (made_over target.0 past) && p == index.0) (flat_page header outside object.0 object_page.0 past)
+    (flat_page header outside o p past) (both_false (is_number o (made_over target.0 past)) (p == index.0) none)
     ∙ (same ∙ sym (bytes_stay header.size o p (event.CopiedPage task index object object_page target) past tt))
 flat_next header outside o p (event.Sent (Down host object control) m) past caused cause shared same =
     answer_kept header outside o p object.0 m (flat_page header outside o p past) shared
@@ -211,6 +210,6 @@ flat_next header outside o p e past caused cause shared same = same ∙ sym (byt
 pub current_is_flat : (header : Header) (outside : Outside) (past : List Event) → EachEvent (HasCause header outside) past → (o p : ℕ)
     → is_shared header o ≡ true → flat_page header outside o p past ≡ current header.size (page_part header.size o p past)
 current_is_flat header outside [] caused o p shared =
-    else_same (is_file header o) (start_page header outside o p) (zeros header) (shared_no_file header o shared)
+    cond-false (is_file header o) (start_page header outside o p) (zeros header) (shared_no_file header o shared)
 current_is_flat header outside (e ∷ past) caused o p shared =
     flat_next header outside o p e past caused.1 caused.0 shared (current_is_flat header outside past caused.1 o p shared)

@@ -2,6 +2,7 @@
 use Rattle.std.proofs.Common.{ℕ, ◌≡◌, ◌<◌, List, [], ◌∷◌, Bool, true, false, Some, None, if◌then◌else◌, refl, sym, ap, subst, ◌∙◌, arith}
 use Rattle.std.proofs.lemmas.Bool.Decides.{nat_tests}
 use Rattle.std.specs.Prelude.{◌%◌, ◌/◌, ◌==◌, ◌&&◌}
+use Rattle.std.proofs.lemmas.Bool.{cond-false, cond-true}
 use Rattle.vm_base.specs.declared.entry.Entry.{Entry}
 use Rattle.vm_base.specs.Entries.{entered, entry_at, inherited, page_at, protected, removed}
 use Rattle.vm_model.specs.declared.event.Event.{Event}
@@ -15,14 +16,13 @@ use Rattle.vm_model.specs.TaskPlace.{has_page, means_page, task_host}
 use Rattle.vm_model.specs.Tasks.{entries_of, host_of}
 use Rattle.vm_model.specs.Waiters.{Waiter, waiter_of, waiters, waiters_after, without_task}
 use Rattle.vm_model.specs.Waiting.{Access, Copying, Loading, Storing, address_of, next_page, waiting}
-use Rattle.vm_model.specs.Words.{Act, ActEffect, Begins, BeginsCopy, Copies, EndsCopy, Fails, Loads, Nothing, Puts, StepBegins, Stores, TakenUp, TakesDown}
+use Rattle.vm_model.specs.Words.{Act, ActEffect, Begins, BeginsCopy, Copies, EndsCopy, Fails, Loads, Nothing, Puts, Stores}
 use Rattle.vm_model.specs.Words.{act_if, act_of, effect_on, times_meant, to_others}
 use Rattle.vm_legal.specs.Licences as L
 use Rattle.vm_legal.specs.Licences.{HasCause}
 use Rattle.vm_legal.specs.Outside.{Outside, is_shared}
 use Rattle.vm_abroad.specs.Whose.{IsNewTask}
 use Rattle.vm_coherence.proofs.Law.{others_wait}
-use Rattle.vm_quiet.proofs.Letters.{else_same, then_same}
 use Rattle.vm_shared.proofs.Declared.{comes_from_declared, declared_top_own, place_from_declared, shared_declared}
 use Rattle.vm_shared.proofs.Numbering.{IsOwn, numbering}
 use Rattle.vm_shared.proofs.Waiters.{IsPlainAccess, at_address, copies_plain, is_of, itself, none_waits, number_is, same, spares, spares_on, waiter_for}
@@ -71,7 +71,7 @@ none_left task (w ∷ ws) = by (w.task == task) refl (none_left task ws)
     by : (b : Bool) → (w.task == task) ≡ b → waiter_of task (without_task task ws) ≡ None
         → waiter_of task (if b then without_task task ws else w ∷ without_task task ws) ≡ None
     by true is later = later
-    by false is later = else_same (w.task == task) (Some w) (waiter_of task (without_task task ws)) is ∙ later
+    by false is later = cond-false (w.task == task) (Some w) (waiter_of task (without_task task ws)) is ∙ later
 
 -- an access that ends at its place leaves nothing of its task
 ended_only : {A : Type 0} (h on owner task : ℕ) (b : Bool) (e f : ActEffect) (ws : List Waiter) (w : Waiter) → owner ≡ task
@@ -110,7 +110,7 @@ begins_or P h on owner task m store at bytes value ws w mine new old found = by 
         to_others (if b then Begins owner store at bytes value else Nothing)) ws) ≡ Some w → P
     by true true here means found =
         let one : Some (record { task = owner; store = store; at = at; size = bytes; value = value }) ≡ Some w = sym
-        (then_same (owner == task) (Some (record { task = owner; store = store; at = at; size = bytes; value = value })) (waiter_of task ws) mine)
+        (cond-true (owner == task) (Some (record { task = owner; store = store; at = at; size = bytes; value = value })) (waiter_of task ws) mine)
         ∙ found in
         new means here (cc)
     by true false here means found = old found
@@ -167,7 +167,7 @@ entries_none header outside task (event.Inherited owner address bytes inherit �
 entries_none header outside task (e ∷ past) caused none = entries_none header outside task past caused.1 none
 
 host_same : (task : ℕ) (e : Event) (past : List Event) → is_of task e ≡ false → task_host task (e ∷ past) ≡ task_host task past
-host_same task (event.TaskMade made host) past is = else_same (made.0 == task) host.0 (task_host task past) is
+host_same task (event.TaskMade made host) past is = cond-false (made.0 == task) host.0 (task_host task past) is
 host_same task e past is = refl
 
 -- where the address of a waiting access leads
@@ -306,10 +306,10 @@ own_only header outside o p h task w (event.Inherited owner address bytes inheri
     (keeps_on h (record { host = 0; effect = Nothing }) (waiters h (page_part header.size o p past)) tt)) ∙ found))
 own_only header outside o p h task w (event.BegunLoad owner address bytes) past caused cause new small is before found =
     begun_only header.size o p h task owner.0 address bytes 0 false (Loading address bytes) w (event.BegunLoad owner address bytes) past is cause.1
-    (tt, refl, refl) (then_same (owner.0 == task) (Some (Loading address bytes)) (waiting task past) is) refl refl before found
+    (tt, refl, refl) (cond-true (owner.0 == task) (Some (Loading address bytes)) (waiting task past) is) refl refl before found
 own_only header outside o p h task w (event.BegunStore owner address bytes value) past caused cause new small is before found =
     begun_only header.size o p h task owner.0 address bytes value true (Storing address bytes value) w (event.BegunStore owner address bytes value) past is
-    cause.1 (tt, refl, refl) (then_same (owner.0 == task) (Some (Storing address bytes value)) (waiting task past) is) refl refl before found
+    cause.1 (tt, refl, refl) (cond-true (owner.0 == task) (Some (Storing address bytes value)) (waiting task past) is) refl refl before found
 own_only header outside o p h task w (event.BegunCopy owner address bytes to) past caused cause new small is before found =
     idle_owner header.size o p h task owner.0 w past is cause.1
     (before (sym (ap (waiter_of task) (keeps_on h (record {

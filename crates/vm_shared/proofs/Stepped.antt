@@ -3,6 +3,7 @@ use Rattle.std.proofs.Common.{◌≡◌, ℕ, ◌/◌, ◌%◌, ◌<◌, ◌≤�
 use Rattle.std.proofs.Common.{sym, subst, replicate, arith}
 use Rattle.std.proofs.lemmas.Bool.Decides.{nat_tests}
 use Rattle.std.specs.Prelude.{not}
+use Rattle.std.proofs.lemmas.Bool.{cond-false, cond-true}
 use Rattle.vm_base.specs.declared.ids.HostId.{HostId}
 use Rattle.vm_base.specs.declared.ids.ObjectId.{ObjectId}
 use Rattle.vm_model.specs.declared.command.Command.{Command}
@@ -29,7 +30,7 @@ use Rattle.vm_legal.specs.Steps.{completes, since}
 use Rattle.vm_coherence.specs.Locals.{SideIsLocal}
 use Rattle.vm_coherence.proofs.Locals.{reaches_is, side_is_local}
 use Rattle.vm_flat.proofs.Locals.{each_founded}
-use Rattle.vm_quiet.proofs.Letters.{else_same, never, then_same}
+use Rattle.vm_quiet.proofs.Letters.{never}
 use Rattle.vm_quiet.proofs.Sane.{at_place}
 use Rattle.vm_shared.proofs.Declared.{shared_declared}
 use Rattle.vm_shared.proofs.Speakers.{last_grows, numbers_of}
@@ -324,7 +325,7 @@ new_step h o p n control (Some r) done up less = by (is_answered_over h o p (Som
       where
         by_done : (d : Bool) → (control == r.control) ≡ false → (if not d && control == r.control then kind_of r.flush else 0) ≡ 0
         by_done true e = refl
-        by_done false e = else_same (control == r.control) (kind_of r.flush) 0 e
+        by_done false e = cond-false (control == r.control) (kind_of r.flush) 0 e
 
 both : (a b : Bool) → a ≡ true → b ≡ true → (a && b) ≡ true
 both true b one two = two
@@ -367,15 +368,15 @@ sent_init header host object control size past h o p s dead less up was =
     let zero_now : step_in h o p (lock_taken past) ((host.0 == h && (object.0 == o && false)) || since (completes h o) past)
     (if host.0 == h && object.0 == o then Some control else live_control h o past) ≡ 0 =
     ap (λ (l : Option ℕ). step_in h o p (lock_taken past) ((host.0 == h && (object.0 == o && false)) || since (completes h o) past) l)
-    (then_same (host.0 == h && object.0 == o) (Some control) (live_control h o past) is)
+    (cond-true (host.0 == h && object.0 == o) (Some control) (live_control h o past) is)
     ∙ new_step h o p (last_control h o past) control (lock_taken past) ((host.0 == h && (object.0 == o && false)) || since (completes h o) past) up (less is) in
-    record { ready = λ live. sym (then_same (host.0 == h && object.0 == o) false (is_ready h o past) is); step = was.step ∙ zero_then ∙ sym zero_now })
+    record { ready = λ live. sym (cond-true (host.0 == h && object.0 == o) false (is_ready h o past) is); step = was.step ∙ zero_then ∙ sym zero_now })
     (λ none. (
-      else_same (host.0 == h && object.0 == o) false (is_ready h o past) none,
+      cond-false (host.0 == h && object.0 == o) false (is_ready h o past) none,
       ap (λ (d : Bool). step_in h o p (lock_taken past) d (if host.0 == h && object.0 == o then Some control else live_control h o past))
           (uncompleted (host.0 == h) (object.0 == o) (since (completes h o) past))
           ∙ ap (λ (l : Option ℕ). step_in h o p (lock_taken past) (since (completes h o) past) l)
-          (else_same (host.0 == h && object.0 == o) (Some control) (live_control h o past) none),
+          (cond-false (host.0 == h && object.0 == o) (Some control) (live_control h o past) none),
     ))
 
 gone : (control : ℕ) (live : Option ℕ) → live ≡ Some control → without_control control live ≡ None
@@ -398,7 +399,7 @@ sent_terminate header host object control past h o p s lives was =
     let d : Bool = (host.0 == h && (object.0 == o && false)) || since (completes h o) past in
     let zero_now : step_in h o p (lock_taken past) d (if host.0 == h && object.0 == o then without_control control (live_control h o past) else live_control h o
     past) ≡ 0 =
-    ap (λ (l : Option ℕ). step_in h o p (lock_taken past) d l) (then_same (host.0 == h && object.0 == o) (without_control control (live_control h o past))
+    ap (λ (l : Option ℕ). step_in h o p (lock_taken past) d l) (cond-true (host.0 == h && object.0 == o) (without_control control (live_control h o past))
     (live_control h o past) is ∙ gone control (live_control h o past) (lives is)) ∙ dead_step h o p (lock_taken past) d in
     record { ready = λ live. never live; step = sym zero_now })
     (λ none. (
@@ -406,7 +407,7 @@ sent_terminate header host object control past h o p s lives was =
       ap (λ (d : Bool). step_in h o p (lock_taken past) d (if host.0 == h && object.0 == o then without_control control (live_control h o past) else
           live_control h o past)) (uncompleted (host.0 == h) (object.0 == o) (since (completes h o) past))
           ∙ ap (λ (l : Option ℕ). step_in h o p (lock_taken past) (since (completes h o) past) l)
-          (else_same (host.0 == h && object.0 == o) (without_control control (live_control h o past)) (live_control h o past) none),
+          (cond-false (host.0 == h && object.0 == o) (without_control control (live_control h o past)) (live_control h o past) none),
     ))
 
 -- a lock over another page is no step of this one

@@ -3,6 +3,7 @@ use Rattle.std.proofs.Common.{ℕ, zero, suc, ◌≡◌, ◌+◌, ◌-◌, ◌*�
 use Rattle.std.proofs.Common.{None, if◌then◌else◌, refl, sym, ap, subst, ◌∙◌, arith, not}
 use Rattle.std.proofs.lemmas.Bool.Decides.{nat_tests}
 use Rattle.std.specs.Prelude.{◌==◌, ◌&&◌, ◌||◌}
+use Rattle.std.proofs.lemmas.Bool.{cond-false, cond-true}
 use Rattle.vm_base.specs.declared.entry.Entry.{Entry}
 use Rattle.vm_base.specs.declared.ids.ObjectId.{ObjectId}
 use Rattle.vm_base.specs.declared.ids.PageNo.{PageNo}
@@ -31,7 +32,6 @@ use Rattle.vm_legal.specs.Licences as L
 use Rattle.vm_legal.specs.Licences.{HasCause}
 use Rattle.vm_legal.specs.Outside.{Outside, is_shared}
 use Rattle.vm_coherence.proofs.Locals.{host_lives}
-use Rattle.vm_quiet.proofs.Letters.{else_same, then_same}
 use Rattle.vm_shared.proofs.Declared.{declared_top_own, shared_declared}
 use Rattle.vm_shared.proofs.Numbering.{Numbering, at_made, comes_own, numbering, top_own}
 
@@ -177,12 +177,12 @@ left_there task other (w ∷ ws) apart = by (w.task == other) refl (left_there t
     by true is later =
         let owner : w.task ≡ other = number_is w.task other is in
         let none : (w.task == task) ≡ false = ap (λ n. n == task) owner ∙ apart in
-        later ∙ sym (else_same (w.task == task) (Some w) (waiter_of task ws) none)
+        later ∙ sym (cond-false (w.task == task) (Some w) (waiter_of task ws) none)
     by false is later = ap (λ x. if w.task == task then Some w else x) later
 
 pub waiter_stays : (task : ℕ) (e : ActEffect) (ws : List Waiter) → Spares task e → waiter_of task (waiters_after e ws) ≡ waiter_of task ws
 waiter_stays task (Begins other store at size value) ws is =
-    else_same (other == task) (Some (record { task = other; store = store; at = at; size = size; value = value })) (waiter_of task ws) is
+    cond-false (other == task) (Some (record { task = other; store = store; at = at; size = size; value = value })) (waiter_of task ws) is
 waiter_stays task (Loads other value) ws is = left_there task other ws is
 waiter_stays task (Stores other at size value) ws is = left_there task other ws is
 waiter_stays task (Fails other) ws is = left_there task other ws is
@@ -208,7 +208,7 @@ idle : {A : Type 0} (task owner : ℕ) (access : Access) (past : List Event) →
 idle task owner access past is none some = none_waits task access past (ap (λ t. waiting t past) (sym (number_is owner task is)) ∙ none) some
 
 ended : {A : Type 0} (b : Bool) (access : Access) (was : Option Access) → b ≡ true → (if b then None else was) ≡ Some access → A
-ended b access was is some = let bad : None ≡ Some access = sym (then_same b None was is) ∙ some in absurd (cc)
+ended b access was is some = let bad : None ≡ Some access = sym (cond-true b None was is) ∙ some in absurd (cc)
 
 -- the task of a slow copy's page waits with that copy
 pub copies_plain : {A : Type 0} (task : ℕ) (access : Access) (address bytes to : ℕ) (past : List Event) → IsPlainAccess access
@@ -255,7 +255,7 @@ begun size o p h task owner address bytes value store access past mine is none l
         ∙ ap (λ a. Some (waiter_for size task a)) (sym is))
 
 begun_with : (b : Bool) (new access : Access) (was : Option Access) → b ≡ true → (if b then Some new else was) ≡ Some access → access ≡ new
-begun_with b new access was is some = let one : Some new ≡ Some access = sym (then_same b (Some new) was is) ∙ some in cc
+begun_with b new access was is some = let one : Some new ≡ Some access = sym (cond-true b (Some new) was is) ∙ some in cc
 
 own_there : (header : Header) (outside : Outside) (o p h task : ℕ) (access : Access) (e : Event) (past : List Event) → HasCause header outside e past
     → is_of task e ≡ true → IsPlainAccess access → waiting task (e ∷ past) ≡ Some access
@@ -468,7 +468,7 @@ copied_noted header o p h task address bytes to owner index object page target p
     let other : (target.0 == o && index.0 == p) ≡ false = grind (arith, nat_tests) in
     let left = copied_count task owner.0 h (task_host owner.0 past) (target.0 == o && index.0 == p) (object.0 == o && page.0 == p)
     (side (task_host owner.0 past) (page_part header.size object.0 page.0 past)).bytes (readers h (page_part header.size o p past)) on other in
-    let now : next_page task (event.CopiedPage owner index object page target ∷ past) ≡ next_page task past + 1 = then_same (owner.0 == task) (index.0 + 1)
+    let now : next_page task (event.CopiedPage owner index object page target ∷ past) ≡ next_page task past + 1 = cond-true (owner.0 == task) (index.0 + 1)
     (next_page task past) mine ∙ ap (λ n. n + 1) c.next in
     let less = shrinks header.size (λ at. has_page header.size o p at (entry_at at (entries_of header.size task past))) address (bytes / header.size)
     (next_page task past) (count_in task (readers h (page_part header.size o p past)))
@@ -482,7 +482,7 @@ copy_of : (b : Bool) (address bytes to own_address own_bytes own_to : ℕ) (was 
     → (if b then Some (Copying own_address own_bytes own_to) else was) ≡ Some (Copying address bytes to) → (own_address ≡ address) × (own_bytes ≡ bytes)
 copy_of b address bytes to own_address own_bytes own_to was is some =
     let one : Some (Copying own_address own_bytes own_to) ≡ Some (Copying address bytes to) = sym
-    (then_same b (Some (Copying own_address own_bytes own_to)) was is) ∙ some in (ap copy_from one, ap copy_size one)
+    (cond-true b (Some (Copying own_address own_bytes own_to)) was is) ∙ some in (ap copy_from one, ap copy_size one)
 
 begun_plain : {A : Type 0} (b : Bool) (address bytes to : ℕ) (new : Access) (was : Option Access) → IsPlainAccess new → b ≡ true
     → (if b then Some new else was) ≡ Some (Copying address bytes to) → A
@@ -511,7 +511,7 @@ own_noted header outside o p h task address bytes to (event.BegunStore owner fro
     begun_plain (owner.0 == task) address bytes to (Storing from size value) (waiting task past) tt is waits
 own_noted header outside o p h task address bytes to (event.BegunCopy owner from size goal) past k small cause is waits lives was =
     let same = copy_of (owner.0 == task) address bytes to from size goal (waiting task past) is waits in
-    let first : next_page task (event.BegunCopy owner from size goal ∷ past) ≡ 0 = then_same (owner.0 == task) 0 (next_page task past) is in
+    let first : next_page task (event.BegunCopy owner from size goal ∷ past) ≡ 0 = cond-true (owner.0 == task) 0 (next_page task past) is in
     let noted = copy_begun header.size o p h task owner.0 from size past is lives in
     let here : AreNoted header.size o p from size (entries_of header.size task past) (next_page task (event.BegunCopy owner from size goal ∷ past))
     (count_in task (readers h (page_part header.size o p (event.BegunCopy owner from size goal ∷ past)))) =

@@ -1,11 +1,12 @@
 -- All that the proofs of this crate name from below.
+pub use Rattle.pg_answers.specs.Answers.{AnswerHasCause, IsToPager, ReturnsWhole, TellsFault, error, sent_to, supply}
 pub use Rattle.pg_default.proofs.Carrying.{carries}
 pub use Rattle.pg_default.proofs.Causes.{causes}
 pub use Rattle.pg_default.proofs.Debts.{paid}
 pub use Rattle.pg_default.proofs.Others.{empty, others, others_carry}
 pub use Rattle.pg_default.proofs.Standing.{stands, start}
-pub use Rattle.pg_default.specs.Answers.{AnswerHasCause, IsToPager, LeavesAreas, PagerAnswer, RequestAnswer, ReturnsWhole, SuppliesStored, TellsFault}
-pub use Rattle.pg_default.specs.Answers.{after_message, became, device_failed, error, sent_to, supply, told_of}
+pub use Rattle.pg_default.specs.Answers.{LeavesAreas, PagerAnswer, RequestAnswer, SuppliesStored}
+pub use Rattle.pg_default.specs.Answers.{after_message, became, device_failed, told_of}
 pub use Rattle.pg_default.specs.Stands.{IsApart, IsOther, PagerServes, PagerStands, content_of, is_ended, is_heard_elsewhere, taking}
 pub use Rattle.pg_file.specs.Answers.{CleanEvents, FileAnswer, LeavesFile, TellsPage, clean_request}
 pub use Rattle.pg_file.specs.Files.{FileTable, has_lost}

@@ -1,23 +1,13 @@
 -- What a file's pager answers, as events of a step.
-use Rattle.vm_system.proofs.Common.{Bool, EachOf, Event, FileAnswer, FileTable, IsWordUp, List, Message, ObjectId, PageNo, Read, Write, [], false, inl, inr}
+use Rattle.pg_answers.specs.Answers.{TellsFault, error}
+use Rattle.vm_system.proofs.Common.{Bool, EachOf, Event, FileAnswer, FileTable, List, Message, ObjectId, PageNo, Read, Write, [], false, inl, inr}
 use Rattle.vm_system.proofs.Common.{refl, subst, sym, true, ℕ, ◌∷◌, ◌≡◌}
-use Rattle.pg_file.specs.Answers.{IsToPager, RequestAnswer, ReturnsWhole, TellsFault, device_failed, error, is_stored, sent_to, told_of}
+use Rattle.pg_file.specs.Answers.{RequestAnswer, device_failed, is_stored, sent_to, told_of}
 use Rattle.pg_file.specs.Files.{has_lost}
 use Rattle.vm_model.specs.declared.event.Device.TheVariants.{Files}
 use Rattle.vm_model.specs.declared.message.Message.TheVariants as message
 use Rattle.vm_system.proofs.Answering.{Faults, IsReply, no_fault, one_fault}
 use Rattle.vm_system.proofs.Apart.{IsAbout}
-
--- what a kernel says to the pager
-pub word_filed : (size : ℕ) (made : ℕ → Bool) (m : Message) → IsWordUp size made m → IsToPager m × ReturnsWhole size m
-word_filed size made (message.Init control bytes) word = (tt, tt)
-word_filed size made (message.Create control bytes) word = (tt, tt)
-word_filed size made (message.Request control page access) word = (tt, tt)
-word_filed size made (message.Return control page dirty keep bytes) word = (tt, word)
-word_filed size made (message.Unlock control page access) word = (tt, tt)
-word_filed size made (message.Completed control page count) word = (tt, tt)
-word_filed size made (message.Terminate control) word = (tt, tt)
-word_filed size made other word = absurd word
 
 -- an answer is of a pager's events, is about its object, and tells of at most one fault
 pub record IsFiled (object : ObjectId) (events past : List Event) : Type 0 where

@@ -1,10 +1,10 @@
 -- The files hold the flat map: where all was taken, no call of the files has failed, and no control lives.
 use Rattle.std.proofs.lemmas.Option.{same_Some}
-use Rattle.vm_quiet.proofs.Letters.{then_same}
 use Rattle.std.proofs.Common.{ℕ, ◌≡◌, ◌<◌, ◌≤◌, ◌*◌, ◌==◌, ◌&&◌, ◌||◌, not, inl, inr, Bool, true, false, List, [], ◌∷◌, Option, Some, None, refl, sym, ap, ◌∙◌}
 use Rattle.std.proofs.Common.{arith, if◌then◌else◌, length}
 use Rattle.std.proofs.lemmas.Bool.Decides.{nat_tests}
 use Rattle.std.specs.Prelude.{unwrap_or}
+use Rattle.std.proofs.lemmas.Bool.{cond-true}
 use Rattle.vm_model.specs.declared.command.Numbered.{Numbered}
 use Rattle.vm_model.specs.declared.event.Device.TheVariants as device
 use Rattle.vm_model.specs.declared.event.Event.{Event}
@@ -118,7 +118,7 @@ flat_files header outside start areas run h legal current told carry = record {
         let start_is : start_page header outside o p ≡ read_at (unwrap_or was []) (p * header.size) header.size = ap
         (λ (files : FilesAtStart). start_in header files o p) at.told ∙ at.page p in
         let begun : (if is_file header o then Some (start_page header outside o p) else None) ≡ Some
-        (read_at (unwrap_or was []) (p * header.size) header.size) = then_same (is_file header o) (Some (start_page header outside o p)) None file
+        (read_at (unwrap_or was []) (p * header.size) header.size) = cond-true (is_file header o) (Some (start_page header outside o p)) None file
         ∙ ap Some start_is in
         kept.page p fine ∙ ap (λ (x : Option (List ℕ)). newer (last_return host o p h) x) (sym begun)
 

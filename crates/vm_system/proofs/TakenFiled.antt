@@ -1,4 +1,5 @@
 -- A message about a declared object is taken by the pager of its file, which answers.
+use Rattle.pg_answers.specs.Answers.{AnswerHasCause, ReturnsWhole, TellsFault}
 use Rattle.vm_system.proofs.Common.{AllFilesServe, AllInTurn, AnswersKept, Bool, CanTellAll, CarriesFile, ChannelId, DevicesHaveCause}
 use Rattle.vm_system.proofs.Common.{Err, Event, FileAnswer, FileKept, FileTable, FilesAreKept, FilesCarry, Followed, Header, HostId}
 use Rattle.vm_system.proofs.Common.{LeavesFile, List, Listed, MayHave, MayTake, MayTakeFrom, Message, None, ObjectId, Ok, Option}
@@ -13,7 +14,6 @@ use Rattle.pg_file.proofs.Carrying.{carries, others_carry as carries_apart}
 use Rattle.pg_file.proofs.Causes.{causes}
 use Rattle.pg_file.proofs.Debts.{paid}
 use Rattle.pg_file.proofs.Standing.{others as others_file, stands}
-use Rattle.pg_file.specs.Answers.{AnswerHasCause, IsToPager, ReturnsWhole, TellsFault}
 use Rattle.pg_file.specs.Stands.{PagerServes, PagerStands as FileStands}
 use Rattle.vm_base.specs.declared.failure.NoMemory.{NoMemory}
 use Rattle.vm_model.specs.declared.event.Device.TheVariants.{Files, Paging}
@@ -21,7 +21,7 @@ use Rattle.vm_model.specs.declared.event.Event.TheVariants as event
 use Rattle.vm_model.specs.declared.message.Message.TheVariants as message
 use Rattle.vm_system.proofs.Answering.{reply_spares}
 use Rattle.vm_system.proofs.Apart.{set_cases}
-use Rattle.vm_system.proofs.Filed.{IsFiled, filed_of, word_filed}
+use Rattle.vm_system.proofs.Filed.{IsFiled, filed_of}
 use Rattle.vm_system.proofs.Filing.{carry_areas, kept_about, may_back, stands_about}
 use Rattle.vm_legal.proofs.Unshared.{file_unshared}
 use Rattle.vm_system.proofs.Homes.{home_declared}
@@ -29,13 +29,8 @@ use Rattle.vm_system.proofs.Letters.{known_first, letter_first, orderly_taken}
 use Rattle.vm_system.proofs.Makings.{is_open}
 use Rattle.vm_system.proofs.Sayings.{can_file, orderly_filed}
 use Rattle.vm_system.proofs.Taken.{Front, devices_lined, front_carry, front_of}
-use Rattle.vm_system.proofs.Replied.{AnswerKeeps, Replied, answered, going, paged_apart, spares_paging, stands_unshared, took, up_letter}
-use Rattle.vm_system.proofs.TakenUp.{device_cause}
-
-pub up_filed : (given : Step) (line : Option ℕ) (number : ChannelId) (host : HostId) (object : ObjectId) (m : Message) (s : State)
-    → MayTakeFrom given line number (Up host object) s
-    → first (queue (Up host object) given.past) ≡ Some m → IsToPager m × ReturnsWhole given.header.size m
-up_filed given line number host object m s may head = word_filed given.header.size _ m (up_letter given line number host object m s may head).1
+use Rattle.vm_system.proofs.Replied.{AnswerKeeps, Replied, answered, going, paged_apart, spares_paging, stands_unshared, took}
+use Rattle.vm_system.proofs.TakenUp.{device_cause, up_word}
 
 -- the object has a pager
 pub filed_known : (given : Step) (line : Option ℕ) (number : ChannelId) (host : HostId) (object : ObjectId) (s : State)
@@ -101,7 +96,7 @@ filed_reply given line number host object m areas s old new events may file head
     let front = front_of given line number (Up host object) s may in
     let is = stands_filed given line number host object s old may file at in
     let home = home_filed given host object m s front file head in
-    let word = up_filed given line number host object m s may head in
+    let word = up_word given line number host object m s may head in
     let serves : PagerServes header host.0 given.past object.0 m old new events = record {
       own = λ other apart. known_first header host.0 object m given.past front.orderly (file_paged header object.0 file) head other apart;
       whole = subst (λ (z : ℕ). ReturnsWhole z m) (sym is.size_is) word.1;

@@ -4,13 +4,14 @@ use Rattle.std.proofs.Common.{get_or, reverse, slice_set, Option, Some, None, is
 use Rattle.std.proofs.lemmas.Bool.{or_parts, true≢false}
 use Rattle.std.proofs.lemmas.Bool.Decides.{nat_tests}
 use Rattle.std.proofs.lemmas.Grind.{get_or-set_at}
-use Rattle.std.proofs.lemmas.List.{length-replicate, length-reverse, reverse-reverse, get_or-reverse, get_or-set_other}
+use Rattle.std.proofs.lemmas.List.{length-replicate, length-reverse, reverse-reverse, get_or-set_other}
 use Rattle.std.proofs.lemmas.List.Elements.{All-nil, All-cons, All-replicate}
 use Rattle.std.proofs.lemmas.List.Kept.{AllPairs-cons}
 use Rattle.std.proofs.lemmas.Slice.Eq.{bytes_eq-Decides}
 use Rattle.std.specs.List.{All}
 use Rattle.std.specs.Option.{unwrap_or}
 use Rattle.std.specs.Str.{bytes_eq}
+use Rattle.vm_base.proofs.Lists.{all_reversed}
 use Rattle.vm_base.specs.Pages.{IsPageSize}
 use Rattle.vm_base.specs.declared.ids.ObjectKind.{ObjectKind}
 use Rattle.vm_base.specs.declared.ids.ObjectKind.TheVariants as kinds
@@ -253,11 +254,6 @@ none_kept = record {
 whole_kept : (bytes : List ℕ) → Reads WholeKept (script_of bytes)
 whole_kept bytes = untested (nat_lt 1048576 (length bytes)) _ _ λ _. lines_kept (lines_of bytes) 1 nothing_read (omega arith) (omega arith) none_kept
 
-All-reverse : {X : Type 0} (P : X → Type 0) (xs : List X) → All P xs → All P (reverse xs)
-All-reverse P xs all = λ k d less.
-    let within : k < length xs = omega (arith, less, length-reverse xs) in
-    rw (get_or-reverse xs k d within) (all (length xs - 1 - k) d (omega arith))
-
 value_of : {A E : Type 0} {P : A → Type 0} {x : A} → Reads {E = E} P (Ok x) → P x
 value_of (read is) = is
 
@@ -280,7 +276,7 @@ script_kept (Ok script) bytes is =
       hosts = subst (IsBetween 1 8) hosts kept.hosts;
       frames =
           subst (All (IsBetween 2 4096)) (reverse-reverse script.header.frames.items)
-          (All-reverse (IsBetween 2 4096) (reverse script.header.frames.items) kept.frames);
+          (all_reversed (IsBetween 2 4096) (reverse script.header.frames.items) kept.frames);
       objects = kept.objects;
       pages = kept.pages;
       names = kept.names;

@@ -18,7 +18,7 @@ use Rattle.vm_system.proofs.Growth.{devices_grow}
 use Rattle.vm_top.specs.Always.{BackingKept, Counts}
 use Rattle.vm_top.specs.Arming.{BackingLeft, FailuresCounted, armings, is_untouched, last_arming, ran_of}
 use Rattle.vm_top.specs.Top.{BackingEnds}
-use Rattle.vm_top.specs.Running.{Arms, BackingRuns, FaultCounts, Running, counted}
+use Rattle.vm_top.specs.Running.{Arms, BackingRuns, BothCounted, FaultCounts, Running, counted}
 use Rattle.vm_top.proofs.Counting.{untouched_line, untouched_taking}
 
 -- what holds of each backing holds of any
@@ -147,11 +147,12 @@ failures_step who before was now old new grew step told =
       none = stays before was now (devices who new) (devices who old) (devices_grow who old new grew) step.spared told.none;
     }
 
--- of both backings
+-- the failures of each device have their cause in its count of faults
+abbrev pub BothHaveCause : FaultCounts → FaultCounts → List Event → List Event → Type 0
+BothHaveCause was now old new = (who : Device) → DevicesHaveCause who (counted who was) (counted who now) old new
+
 pub failures_of : (start was now : FaultCounts) (old new : List Event) → GrowsWithinLimit old new
-    → ((who : Device) → DevicesHaveCause who (counted who was) (counted who now) old new)
-    → ((who : Device) → FailuresCounted who (counted who start) (counted who was) old) → (who : Device)
-    → FailuresCounted who (counted who start) (counted who now) new
+    → BothHaveCause was now old new → BothCounted start was old → BothCounted start now new
 failures_of start was now old new grew step told who =
     failures_step who (counted who start) (counted who was) (counted who now) old new grew (step who) (told who)
 

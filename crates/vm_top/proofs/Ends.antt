@@ -29,7 +29,7 @@ use Rattle.vm_legal.specs.Legal.{CanonicalSoFar}
 use Rattle.vm_legal.specs.Outside.{Outside}
 use Rattle.vm_top.specs.Top.{IsBad, IsReadFrom, IsBadFrom, NothingRun, IsRunDone, IsEventLimit, IsOutputFault, IsNoMemory, WroteFailed, bad_text}
 use Rattle.vm_top.specs.Writing.{WroteStart}
-use Rattle.vm_top.proofs.Keeping.{file_below}
+use Rattle.vm_legal.proofs.Files.{file_named}
 use Rattle.vm_top.proofs.Closing.{full_so_far, whole_so_far}
 use Rattle.vm_top.proofs.Readings.{no_longer}
 use Rattle.vm_top.proofs.Writings.{start_all}
@@ -153,8 +153,8 @@ runnable script keeps declares = record {
       kinds = declares;
     };
     names =
-        λ one other first second same. named_once script.header name_kept (λ object. refl) keeps.names one other (file_below script.header one first)
-        (file_below script.header other second) same;
+        λ one other first second same. named_once script.header name_kept (λ object. refl) keeps.names one other (file_named script.header one first)
+        (file_named script.header other second) same;
   };
   slots = keeps.slots;
   ranges = keeps.commands;

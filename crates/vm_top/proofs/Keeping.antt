@@ -14,6 +14,7 @@ use Rattle.vm_model.proofs.Names.{each_declared}
 use Rattle.vm_legal.specs.Licences.{tells}
 use Rattle.vm_legal.specs.Outside.{Outside, Told as FilesTold, Untold, are_untold, is_file, is_file_kept, is_file_kind}
 use Rattle.vm_legal.specs.Pagers.{is_lost, last_return, slot_at}
+use Rattle.vm_legal.proofs.Files.{file_named}
 use Rattle.vm_outside.specs.Areas.{Told, read_at}
 use Rattle.pg_file.specs.Stands.{IsStartTold, name_kept, name_of}
 use Rattle.pg_slots.specs.Contents.{IsHeldAs, Kept, area_name}
@@ -22,6 +23,7 @@ use Rattle.pg_slots.specs.declared.slot_row.Held.{Held}
 use Rattle.pg_slots.specs.declared.slot_row.Held.TheVariants as held
 use Rattle.pg_default.specs.Stands.{PagerStands, content_of, is_ended}
 use Rattle.vm_system.specs.Keeping.{FilesAreTold, FilesCarry, PagingHasPages, PagingKeepsPages}
+use Rattle.vm_system.proofs.Starting.{carry_none}
 use Rattle.vm_system.specs.Stands.{AllTold, AreNumbered, PagingIsKept as SystemKept}
 use Rattle.vm_top.specs.Run.{are_told, areas_told, is_told, outside_of, told_of as bytes_told}
 use Rattle.vm_system.specs.declared.state.State.{State}
@@ -116,14 +118,8 @@ kept_none header files areas h none host below =
     by None is some = absurd (let bad : false ≡ true = ap is_some (sym is) ∙ some in cc)
     by (Some was) is some = (was, is, λ o p s bytes slotted. absurd (cc))
 
-pub carried_none : (header : Header) (areas : List ℕ → Told) → FilesCarry header areas areas []
-carried_none header areas = record {
-  kept = λ object was file told. (was, told, λ host may. record { page = λ p fine. refl; least = omega arith; beyond = λ n none. refl });
-  others = λ name was other told. told;
-}
-
 pub files_none : (header : Header) (areas : List ℕ → Told) (h : List Event) → h ≡ [] → FilesCarry header areas areas h
-files_none header areas h none = subst (FilesCarry header areas areas) (sym none) (carried_none header areas)
+files_none header areas h none = subst (FilesCarry header areas areas) (sym none) (carry_none header areas)
 
 -- each declared file tells, where all do
 all_tell : (areas : List ℕ → Told) (objects : List Declared) → are_told areas objects ≡ true → All (λ object. is_told areas object ≡ true) objects
@@ -137,10 +133,6 @@ tells_file : (file some : Bool) → file ≡ true → not file || some ≡ true 
 tells_file true some is told = told
 tells_file false some is told = absurd (let bad : false ≡ true = is in cc)
 
--- a file is declared
-pub file_below : (header : Header) (o : ℕ) → is_file header o ≡ true → o < named header
-file_below header o file = let test = (and_parts (nat_lt o (named header)) (is_file_kept (declared header o)) file).0 in grind (arith, nat_tests)
-
 told_some : (t : Told) → is_some t ≡ true → (was : Option (List ℕ)) × (t ≡ Some was)
 told_some None some = absurd (cc)
 told_some (Some was) some = (was, refl)
@@ -148,7 +140,7 @@ told_some (Some was) some = (was, refl)
 file_told : (header : Header) (areas : List ℕ → Told) (o : ℕ) → are_told areas header.objects.items ≡ true → is_file header o ≡ true → (was : Option (List ℕ))
     × (areas (name_of header o) ≡ Some was)
 file_told header areas o told file =
-    let found = each_declared (λ object. is_told areas object ≡ true) header o (all_tell areas header.objects.items told) (file_below header o file) in
+    let found = each_declared (λ object. is_told areas object ≡ true) header o (all_tell areas header.objects.items told) (file_named header o file) in
     let named_so : name_of header o ≡ found.0.name = ap name_kept found.1 in
     let kept : is_file_kind found.0.kind ≡ true = sym (ap is_file_kept found.1)
     ∙ (and_parts (nat_lt o (named header)) (is_file_kept (declared header o)) file).1 in

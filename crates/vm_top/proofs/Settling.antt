@@ -17,16 +17,16 @@ use Rattle.vm_legal.specs.Outside.{Outside}
 use Rattle.vm_legal.specs.Steps.{before_step, takings}
 use Rattle.vm_legal.specs.Undelivered.{undelivered}
 use Rattle.vm_outside.specs.Arming.{Arming, ArmedLater, KeepsArming}
-use Rattle.vm_system.specs.Steps.{DevicesHaveCause, GrowsWithinLimit, HasMore, IsBelowLimit, KeepsOpen, CanonicalOpen, TakesMore, settles, took_up}
+use Rattle.vm_system.specs.Steps.{GrowsWithinLimit, HasMore, IsBelowLimit, KeepsOpen, CanonicalOpen, TakesMore, settles, took_up}
 use Rattle.vm_top.specs.Arming.{ran_of}
 use Rattle.vm_top.specs.Run.{RanAs, front_of, text_so_far}
-use Rattle.vm_top.specs.Running.{BackingRuns, FaultCounts, IsBetweenCommands, RunStops, RunTaking, Running, Settles, Turned, counted}
+use Rattle.vm_top.specs.Running.{BackingRuns, FaultCounts, IsBetweenCommands, RunStops, RunTaking, Running, Settles, Turned}
 use Rattle.vm_top.specs.Writing.{WroteBeyond, oldest_items}
 use Rattle.vm_top.specs.declared.run.RunEnd.{RunEnd}
 use Rattle.vm_top.specs.declared.run.RunEnd.TheVariants as ends
 use Rattle.vm_top.specs.declared.words.Report.{Report}
 use Rattle.vm_top.specs.declared.words.Report.TheVariants as reports
-use Rattle.vm_top.proofs.Arms.{backing_taking, arms_of, failures_of}
+use Rattle.vm_top.proofs.Arms.{BothHaveCause, backing_taking, arms_of, failures_of}
 use Rattle.vm_top.proofs.Counting.{lines_same}
 use Rattle.vm_top.proofs.Starts.{order_at}
 use Rattle.vm_top.proofs.Turns.{Left, arms_kept, open_so_far, shown_grown}
@@ -49,7 +49,7 @@ pub record Took {F P : Type 0} (given : RunTaking F P) (old new : List Event) (f
   pub below : length old < most_events
   pub files : BackingTook given.running.script.header device.Files new f0 f1
   pub paging : BackingTook given.running.script.header device.Paging new p0 p1
-  pub devices : (who : Device) → DevicesHaveCause who (counted who e0) (counted who e1) old new
+  pub devices : BothHaveCause e0 e1 old new
 
 -- a taking was made
 pub record Held {F P : Type 0} (given : RunTaking F P) (line : ℕ) (run : List Numbered) (old new : List Event) (f1 : Arming F) (p1 : Arming P)
@@ -165,7 +165,7 @@ held_stops report given line run old new now f1 p1 e1 how more front grew step f
 pub take_stops : {F P : Type 0} (report : Report) (given : RunTaking F P) (old new : List Event) (now : Option (List ℕ)) (f0 f1 : Arming F) (p0 p1 : Arming P)
     (e0 e1 : FaultCounts)
     → Settles report given old now f0 p0 e0 → GrowsWithinLimit old new → new ≡ old → KeepsArming f0 f1 → KeepsArming p0 p1
-    → ((who : Device) → DevicesHaveCause who (counted who e0) (counted who e1) old new)
+    → BothHaveCause e0 e1 old new
     → RunStops report given.running new now f1 p1 e1 ends.NoMemory
 take_stops report given old new now f0 f1 p0 p1 e0 e1 settles grew same files paging devices =
     let script = given.running.script in

@@ -99,9 +99,6 @@ drop_whole (x ∷ items) = drop_whole items
 pub oldest_none : {A : Type 0} (items : List A) → oldest_items 0 items ≡ []
 oldest_none items = let whole : length items - 0 ≡ length items = omega arith in ap (λ z. drop z items) whole ∙ drop_whole items
 
-pub oldest_all : {A : Type 0} (items : List A) (n : ℕ) → length items ≤ n → oldest_items n items ≡ items
-oldest_all items n le = let nothing : length items - n ≡ 0 = omega arith in ap (λ z. drop z items) nothing
-
 -- the commands, one after another
 pub range_at : (script : Script) (i : ℕ) (n : Numbered) → IsRunnable script → slice_get (reverse script.commands.items) i ≡ Some n
     → InRange script.header n.command

@@ -22,22 +22,23 @@ use Rattle.vm_legal.specs.Outside.{Outside}
 use Rattle.vm_legal.specs.Steps.{takings}
 use Rattle.vm_legal.proofs.Turns.{legal_of, open_in_turn}
 use Rattle.vm_outside.specs.Arming.{Arming, ArmedLater, KeepsArming}
-use Rattle.vm_system.specs.Steps.{DevicesHaveCause, GrowsWithinLimit, IsNextCanonical, KeepsCanonical, LeavesBacking, CanonicalOpen, IsBelowLimit, arms}
+use Rattle.vm_system.specs.Steps.{GrowsWithinLimit, IsNextCanonical, KeepsCanonical, LeavesBacking, CanonicalOpen, IsBelowLimit, arms}
 use Rattle.vm_system.specs.Steps.{settles}
 use Rattle.vm_system.specs.declared.stop.SystemStop.{SystemStop}
 use Rattle.vm_system.specs.declared.stop.SystemStop.TheVariants as stops
-use Rattle.vm_top.specs.Arming.{BackingLeft, FailuresCounted, ran_of}
+use Rattle.vm_top.specs.Arming.{BackingLeft, ran_of}
 use Rattle.vm_top.specs.Run.{IsPart, IsRunnable, RanAs, front_of, text_so_far}
-use Rattle.vm_top.specs.Running.{Arms, BackingRuns, FaultCounts, IsBetweenCommands, IsNextOf, RunStops, Running, Turned, counted}
+use Rattle.vm_top.specs.Running.{Arms, BackingRuns, BothCounted, FaultCounts, IsBetweenCommands, IsNextOf, RunStops, Running, Turned}
 use Rattle.vm_top.specs.Writing.{WroteBeyond, WroteStart, oldest_items}
 use Rattle.vm_top.specs.declared.run.RunEnd.{RunEnd}
 use Rattle.vm_top.specs.declared.run.RunEnd.TheVariants as ends
 use Rattle.vm_top.specs.declared.words.Report.{Report}
 use Rattle.vm_top.specs.declared.words.Report.TheVariants as reports
-use Rattle.vm_top.proofs.Arms.{arms_of, backing_step, failures_of}
+use Rattle.vm_top.proofs.Arms.{BothHaveCause, arms_of, backing_step, failures_of}
 use Rattle.vm_top.proofs.Counting.{lines_more, takings_none}
-use Rattle.vm_top.proofs.Starts.{legal_start, oldest_all, oldest_none, order_at, order_left, order_next, range_at}
-use Rattle.vm_top.proofs.Writings.{front_start, oldest_step, start_all}
+use Rattle.vm_base.proofs.Lists.{oldest_all, oldest_step}
+use Rattle.vm_top.proofs.Starts.{legal_start, oldest_none, order_at, order_left, order_next, range_at}
+use Rattle.vm_top.proofs.Writings.{front_start, start_all}
 
 -- what a command's step does to a backing
 pub record BackingStep {B : Type 0} (header : Header) (who : Device) (n : Numbered) (new : List Event) (before after : Arming B) : Type 0 where
@@ -52,7 +53,7 @@ pub record Stepped {F P : Type 0} (header : Header) (outside : Outside) (n : Num
   pub front : before_last_line new ≡ old
   pub files : BackingStep header device.Files n new f0 f1
   pub paging : BackingStep header device.Paging n new p0 p1
-  pub devices : (who : Device) → DevicesHaveCause who (counted who e0) (counted who e1) old new
+  pub devices : BothHaveCause e0 e1 old new
 
 -- the command's line is one more
 pub lines_step : (header : Header) (outside : Outside) (n : Numbered) (run : List Numbered) (old new : List Event) → before_last_line new ≡ old
@@ -67,7 +68,7 @@ lines_step header outside n run old new front next = by_group next.so_far
 pub record Left {F P : Type 0} (given : Running F P) (new : List Event) (f1 : Arming F) (p1 : Arming P) (e1 : FaultCounts) : Type 0 where
   pub below : IsBelowLimit new
   pub arms : Arms given new f1 p1
-  pub failed : (who : Device) → FailuresCounted who (counted who given.faults) (counted who e1) new
+  pub failed : BothCounted given.faults e1 new
 
 -- a command's step was made
 pub record Made {F P : Type 0} (given : Running F P) (n : Numbered) (old new : List Event) (f1 : Arming F) (p1 : Arming P) (e1 : FaultCounts) : Type 0 where
@@ -247,7 +248,7 @@ arms_kept given old new f0 f1 p0 p1 same files paging was =
 pub step_stops : {F P : Type 0} (report : Report) (given : Running F P) (old new : List Event) (now : Option (List ℕ)) (f0 f1 : Arming F) (p0 p1 : Arming P)
     (e0 e1 : FaultCounts)
     → IsBetweenCommands report given old now f0 p0 e0 → GrowsWithinLimit old new → new ≡ old → KeepsArming f0 f1 → KeepsArming p0 p1
-    → ((who : Device) → DevicesHaveCause who (counted who e0) (counted who e1) old new)
+    → BothHaveCause e0 e1 old new
     → RunStops report given new now f1 p1 e1 ends.NoMemory
 step_stops report given old new now f0 f1 p0 p1 e0 e1 runs grew same files paging devices = record {
   ran = turn_refused report given old new now runs.legal same runs.keeps.written;

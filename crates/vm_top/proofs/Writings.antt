@@ -1,10 +1,8 @@
 -- What is written grows with the events.
-use Rattle.std.proofs.Common.{◌≡◌, ℕ, suc, ◌+◌, ◌-◌, ◌<◌, List, [], ◌∷◌, ◌++◌, length, drop, take, get_or, reverse, refl, ap, sym, ◌∙◌, append_assoc}
-use Rattle.std.proofs.Common.{append-nil, arith, slice_get, Some, None, Option}
-use Rattle.std.proofs.Math.Seq.{drop-cons, drop-append_seam, take-append-add, take-append_seam}
+use Rattle.std.proofs.Common.{◌≡◌, ℕ, ◌+◌, ◌-◌, List, [], ◌∷◌, ◌++◌, length, drop, take, refl, ap, sym, ◌∙◌, append_assoc}
+use Rattle.std.proofs.Common.{append-nil, arith, Some, None, Option}
+use Rattle.std.proofs.Math.Seq.{drop-append_seam, take-append-add, take-append_seam}
 use Rattle.std.proofs.Common.{length-append}
-use Rattle.std.proofs.lemmas.List.{get_or-reverse, length-reverse}
-use Rattle.std.proofs.lemmas.Option.{slice_get_within, get_or_from_slice_get}
 use Rattle.std.proofs.KnownBytes.{Appends-trans}
 use Rattle.std.specs.Io.KnownBytes.{Appends, Keeps}
 use Rattle.std.specs.Prelude.{Result, Ok, Err, OnOk, IsErrOf}
@@ -14,16 +12,6 @@ use Rattle.vm_outside.specs.Causes.{WriteEffects}
 use Rattle.vm_model.specs.declared.event.Event.{Event}
 use Rattle.vm_model.specs.Text.{text, line_of}
 use Rattle.vm_top.specs.Writing.{oldest_items, WroteBeyond, WroteStart}
-
-pub oldest_step : {A : Type 0} (h : List A) (i : ℕ) (e : A) → slice_get (reverse h) i ≡ Some e → oldest_items (i + 1) h ≡ e ∷ oldest_items i h
-oldest_step h i e found =
-    let inside = slice_get_within (reverse h) i e found in
-    let below : i < length h = omega (arith, length-reverse h) in
-    let here : get_or (reverse h) i e ≡ e = get_or_from_slice_get (reverse h) i e e found in
-    let there : get_or h (length h - 1 - i) e ≡ e = sym (get_or-reverse h i e below) ∙ here in
-    let one : length h - (i + 1) ≡ length h - 1 - i = omega arith in
-    let two : suc (length h - 1 - i) ≡ length h - i = omega arith in
-    ap (λ z. drop z h) one ∙ drop-cons h (length h - 1 - i) e (omega arith) ∙ ap (λ z. z ∷ drop (suc (length h - 1 - i)) h) there ∙ ap (λ z. e ∷ drop z h) two
 
 pub oldest_before : {A : Type 0} (h more old : List A) (from : ℕ) → from ≡ length old → h ≡ more ++ old → oldest_items from h ≡ old
 oldest_before h more old from is_length grown =

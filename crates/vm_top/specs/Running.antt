@@ -29,6 +29,10 @@ abbrev pub counted : Device → FaultCounts → ℕ
 counted device.Files faults = faults.files
 counted device.Paging faults = faults.paging
 
+-- the failures of each device that a history tells are counted
+abbrev pub BothCounted : FaultCounts → FaultCounts → List Event → Type 0
+BothCounted before now history = (who : Device) → FailuresCounted who (counted who before) (counted who now) history
+
 -- what is told to a run: its script, what is told of the outside, and what stood in the sink and in the backings in
 -- front of it
 pub record Running (F P : Type 0) : Type 0 where
@@ -66,7 +70,7 @@ pub record Keeps {F P : Type 0} (report : Report) (given : Running F P) (history
   pub below : IsBelowLimit history
   pub written : Appends given.start now (text_so_far report history)
   pub arms : Arms given history f p
-  pub failed : (who : Device) → FailuresCounted who (counted who given.faults) (counted who faults) history
+  pub failed : BothCounted given.faults faults history
 
 -- what holds between two commands
 pub record IsBetweenCommands {F P : Type 0} (report : Report) (given : Running F P) (history : List Event) (now : Option (List ℕ)) (f : Arming F) (p : Arming P)
@@ -97,4 +101,4 @@ pub record RunStops {F P : Type 0} (report : Report) (given : Running F P) (hist
   pub ran : RanAs report given.script given.outside history how given.start now
   pub below : IsBelowLimit history
   pub arms : Arms given history f p
-  pub failed : (who : Device) → FailuresCounted who (counted who given.faults) (counted who faults) history
+  pub failed : BothCounted given.faults faults history

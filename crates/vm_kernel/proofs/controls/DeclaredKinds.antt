@@ -1,18 +1,12 @@
 -- No declared object is of temporary memory.
 use Rattle.std.proofs.lemmas.Option.{slice_get_cases}
 use Rattle.std.specs.Prelude.{◌≢◌}
-use Rattle.vm_kernel.proofs.Common.{All, All-append, All-cons, All-head, All-nil, All-tail, Declared, Header, IsRanged, List, Temp, [], ap, arith}
-use Rattle.vm_kernel.proofs.Common.{if◌then◌else◌, inl, inr, length-reverse, named, nat_lt, nat_tests, reverse, reverse-append, subst, sym, true, ℕ, ◌<◌, ◌∙◌}
-use Rattle.vm_kernel.proofs.Common.{◌∷◌, ◌≡◌}
+use Rattle.vm_base.proofs.Lists.{all_reversed}
+use Rattle.vm_kernel.proofs.Common.{Declared, Header, IsRanged, Temp, ap, arith}
+use Rattle.vm_kernel.proofs.Common.{if◌then◌else◌, inl, inr, length-reverse, named, nat_lt, nat_tests, reverse, subst, sym, true, ℕ, ◌<◌, ◌∙◌}
+use Rattle.vm_kernel.proofs.Common.{◌≡◌}
 use Rattle.vm_legal.specs.Outside.{kind_in, kind_of}
 use Rattle.vm_model.specs.Named.{declared}
-
--- what holds of each holds of each in the other order
-all_reversed : {A : Type 0} (P : A → Type 0) (xs : List A) → All P xs → All P (reverse xs)
-all_reversed P [] all = All-nil P
-all_reversed P (x ∷ xs) all =
-    subst (All P) (sym (reverse-append (x ∷ []) xs)) (All-append P (reverse xs) (x ∷ []) (all_reversed P xs (All-tail P x xs all))
-    (All-cons P x [] (All-head P x xs all) (All-nil P)))
 
 pub declared_kind : (header : Header) (o : ℕ) → IsRanged header → o < named header → kind_of header o ≢ Temp
 declared_kind header o ranged less is = elim ((slice_get_cases (reverse header.objects.items) o).1) [

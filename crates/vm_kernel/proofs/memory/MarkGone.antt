@@ -1,11 +1,12 @@
 -- What is left of the kernel where a store's region loses its mark.
-use Rattle.vm_kernel.proofs.Common.{ChainTable, Event, Header, HostParts, Ids, List, Matches, ObjectTable, Parts, Region, RegionRow, Some, Works, ap, arith, false}
+use Rattle.vm_kernel.proofs.Common.{ChainTable, Event, Header, HostParts, Ids, List, Matches, ObjectTable, Parts, Region, RegionRow, Some, Works, ap, arith}
+use Rattle.vm_kernel.proofs.Common.{false}
 use Rattle.vm_kernel.proofs.Common.{has_region, in_use, inl, inr, is_some, is_woken, marks_of, named, next_object, next_region, pages_in, refl, region_at}
 use Rattle.vm_kernel.proofs.Common.{region_of, some_is, subst, sym, true, waiting, ℕ, ◌+◌, ◌-◌, ◌<◌, ◌==◌, ◌∙◌, ◌∷◌, ◌≡◌, ◌≤◌, ◌⊎◌}
 use Rattle.vm_kernel.proofs.controls.LockReplied.{replied_behind}
 use Rattle.vm_kernel.proofs.memory.ShadowMade.{KeepsRegions, entries_kept}
 use Rattle.vm_kernel.proofs.space.RegionsFilled.{unmarked_filled}
-use Rattle.vm_kernel.proofs.Common.{Command, Outside}
+use Rattle.vm_kernel.proofs.Common.{Command, Outside, []}
 use Rattle.vm_kernel.proofs.space.RegionHomes.{homes_caused, homes_put}
 use Rattle.vm_legal.specs.Licences.{Unmarks}
 use Rattle.vm_base.specs.declared.ids.RegionId.{RegionId}
@@ -67,7 +68,8 @@ unmarked_with header h outside doing past k ids region row chains works there co
         tasks = m.tasks;
         regions =
             regions_unmarked header past region row k.chains chains k.memory.objects ids (record ids { marks = ids.marks - 1 }) (next_region header past)
-            (next_object header past) (marks_of header past) (marks_of header (e ∷ past)) put there fits refl refl marks_now (omega (arith, one_less)) m.regions;
+            (next_object header past) (marks_of header past) (marks_of header (e ∷ past)) put there fits refl refl marks_now (omega (arith, one_less))
+            m.regions;
         homes =
             homes_put header h k.chains chains region.0 (record row { marked = false }) (e ∷ past) put.at (λ paged. m.homes.0 region.0 row paged there)
             (homes_caused header outside h k.chains e past (doing, cause) m.homes);
@@ -109,7 +111,8 @@ unmarked_with header h outside doing past k ids region row chains works there co
 
     one_less : marks_of header (e ∷ past) + 1 ≡ marks_of header past
     one_less =
-        marked_unmarked header past region (small_region m.regions region.0 row there) (ap (λ (z : Region). z.mark) (m.regions.rows region.0 row there) ∙ marked)
+        marked_unmarked header past region (small_region m.regions region.0 row there)
+        (ap (λ (z : Region). z.mark) (m.regions.rows region.0 row there) ∙ marked)
 
     marks_now : ids.marks - 1 ≡ marks_of header (e ∷ past)
     marks_now = omega (arith, one_less, m.regions.marks)

@@ -1,6 +1,7 @@
 -- What running an access pays for what it tells: each event comes out of what was due, but for three where it ends or waits for a pager.
 use Rattle.vm_kernel.proofs.Common.{Bool, ChainTable, Changes, Event, FrameNo, HostId, HostParts, List, Mapped, None, ObjectId, Option, PageKey, PageRow}
-use Rattle.vm_kernel.proofs.Common.{Queues, RegionId, RegionRow, Some, TaskId, Want, ap, arith, false, frame_count, free, inl, inr, length, length-set, refl, suc, true}
+use Rattle.vm_kernel.proofs.Common.{Queues, RegionId, RegionRow, Some, TaskId, Want, ap, arith, false, frame_count, free, inl, inr, length, length-set, refl}
+use Rattle.vm_kernel.proofs.Common.{suc, true}
 use Rattle.vm_kernel.proofs.Common.{zero, ℕ, ◌&&◌, ◌*◌, ◌+◌, ◌-◌, ◌<◌, ◌==◌, ◌||◌, ◌∙◌, ◌∷◌, ◌≡◌, ◌≤◌}
 use Rattle.vm_fault.specs.Faults.{AfterZeros, AtOnce, Comes, Copied, Ended, FaultState, Faulted, GoesOn, Hits, NothingChanges, Prepares, Raised, References}
 use Rattle.vm_fault.specs.Faults.{Runs, Stops, WritesPage, want_after}

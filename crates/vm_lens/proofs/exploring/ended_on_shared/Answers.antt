@@ -3,7 +3,8 @@ use Rattle.std.specs.List.{All}
 use Rattle.std.proofs.lemmas.List.Elements.{All-cons, All-nil}
 use Rattle.vm_model.specs.declared.event.Event.{Event}
 use Rattle.vm_seen.specs.Behind.{later_of, oldest_items}
-use Rattle.vm_seen.proofs.Behind.{later_none, later_step, oldest_all}
+use Rattle.vm_base.proofs.Lists.{oldest_all}
+use Rattle.vm_seen.proofs.Behind.{later_none, later_step}
 use Rattle.vm_lens.specs.Exploring.{IsOnShared}
 use Rattle.vm_lens.proofs.exploring.ended_on_shared.Goals as goal
 

@@ -5,7 +5,8 @@ use Rattle.vm_seen.specs.Behind.{later_of, oldest_items}
 use Rattle.vm_seen.specs.Begun.{access_of}
 use Rattle.vm_seen.specs.declared.begun.Begun.{Begun}
 use Rattle.vm_seen.proofs.Accesses.{accesses_more, next_access, none_next, of_other_task, of_own_task, only_next}
-use Rattle.vm_seen.proofs.Behind.{later_step, oldest_all}
+use Rattle.vm_base.proofs.Lists.{oldest_all}
+use Rattle.vm_seen.proofs.Behind.{later_step}
 use Rattle.vm_seen.proofs.begun.is_next.Goals as goal
 use Rattle.vm_seen.proofs.begun.is_next.Goals.{in-Some+then-made-begun+else-passed-count, in-Some+else-made-begun, in_default}
 

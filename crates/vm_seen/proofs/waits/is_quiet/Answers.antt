@@ -1,4 +1,4 @@
-use Rattle.vm_seen.proofs.Behind.{oldest_step}
+use Rattle.vm_base.proofs.Lists.{oldest_step}
 use Rattle.vm_seen.proofs.Counts.{count_more, few_more}
 use Rattle.vm_model.specs.Summary.{is_sent, is_taken_event}
 use Rattle.vm_seen.proofs.waits.is_quiet.Goals as goal

@@ -2,7 +2,7 @@ use Rattle.std.proofs.Common.{◌≡◌, sym, ◌∙◌, subst, arith, rules, Li
 use Rattle.vm_model.specs.declared.event.Event.{Event}
 use Rattle.vm_seen.specs.Behind.{oldest_items}
 use Rattle.vm_seen.specs.Waits.{AreWaiting}
-use Rattle.vm_seen.proofs.Behind.{oldest_all, oldest_step}
+use Rattle.vm_base.proofs.Lists.{oldest_all, oldest_step}
 use Rattle.vm_seen.proofs.Waiting.{nobody, somebody}
 use Rattle.vm_seen.proofs.waits.nobody_waits.Goals as goal
 

@@ -1,7 +1,8 @@
 use Rattle.std.proofs.Common.{arith}
 use Rattle.vm_model.specs.Text.{text}
 use Rattle.vm_top.specs.Writing.{oldest_items}
-use Rattle.vm_top.proofs.Writings.{oldest_step, grown_more}
+use Rattle.vm_base.proofs.Lists.{oldest_step}
+use Rattle.vm_top.proofs.Writings.{grown_more}
 use Rattle.vm_top.proofs.render.step_text.Goals as goal
 
 pub loop-i-preserved : goal.loop-i-preserved

@@ -1,7 +1,7 @@
 use Rattle.std.proofs.Common.{◌<◌, false, rules}
 use Rattle.std.specs.BinaryHeap.{heap_capacity, heap_items, heap_len}
 use Rattle.pg_slots.proofs.Free.{Changes, has_room, marks, pushed}
-use Rattle.pg_slots.proofs.Tables.{on_ok}
+use Rattle.vm_base.proofs.Results.{on_ok}
 use Rattle.pg_slots.proofs.free_slots.FreeSlots.give.Goals as goal
 use Rattle.pg_slots.specs.Kept.{IsLowestFirst}
 

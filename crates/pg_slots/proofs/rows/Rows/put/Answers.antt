@@ -1,7 +1,8 @@
 use Rattle.std.proofs.Common.{◌≡◌, ◌<◌, ◌==◌, Some, None, min, rules, arith}
 use Rattle.indexmap.specs.IndexMap.{spare}
 use Rattle.std.specs.Map.{lookup}
-use Rattle.pg_slots.proofs.Tables.{held_seen, on_ok, puts_row, room_seen, some_of, writes_seen}
+use Rattle.vm_base.proofs.Results.{on_ok}
+use Rattle.pg_slots.proofs.Tables.{held_seen, puts_row, room_seen, some_of, writes_seen}
 use Rattle.pg_slots.proofs.rows.Rows.put.Goals as goal
 
 pub returns-in-Some : goal.returns-in-Some

@@ -10,8 +10,8 @@ use Rattle.vm_system.proofs.Roomed.{arming_kept, behind_answers, behind_first, m
 use Rattle.vm_system.proofs.Roomed.{still_alike, still_roomed}
 use Rattle.vm_system.proofs.Taken.{first_told, may_head, may_only, may_port, may_read, may_some, may_there}
 use Rattle.vm_system.proofs.TakenFiled.{answered_filed, can_reply_filed, carried_failed, carried_filed, devices_filed, filed_failed, filed_known, filed_reply}
-use Rattle.vm_system.proofs.TakenFiled.{kept_filed, spares_filed, stands_filed, took_filed, up_filed}
-use Rattle.vm_system.proofs.TakenUp.{front_is, front_length, pager_read, set_same}
+use Rattle.vm_system.proofs.TakenFiled.{kept_filed, spares_filed, stands_filed, took_filed}
+use Rattle.vm_system.proofs.TakenUp.{front_is, front_length, pager_read, set_same, up_word}
 use Rattle.vm_kernel.specs.declared.breadth.Breadth.TheVariants as wide
 use Rattle.vm_system.proofs.state.State.take_filed.Goals as goal
 
@@ -61,7 +61,7 @@ answer-requires-clause-to_pager g c =
     let any = may_roomed given c.args.line c.args.number channel c.args.self.now t c.requires.1.0 r in
     let m = c.sent-message.result.now in
     let at = may_head given c.args.line c.args.number channel c.in-Some.index.now m t any c.in-Some.ensures c.sent-message.ensures in
-    let word = up_filed given c.args.line c.args.number c.args.host c.args.object m t any at in
+    let word = up_word given c.args.line c.args.number c.args.host c.args.object m t any at in
     word.0
 
 pub answer-requires-clause-whole : goal.answer-requires-clause-whole
@@ -76,7 +76,7 @@ answer-requires-clause-whole g c =
     let old = c.index_mut.result.now in
     let found = pager_read t.files.items c.args.object.0 old (filed_known given c.args.line c.args.number c.args.host c.args.object t any c.requires.1.1.0)
     c.index_mut.ensures.value in
-    let word = up_filed given c.args.line c.args.number c.args.host c.args.object m t any at in
+    let word = up_word given c.args.line c.args.number c.args.host c.args.object m t any at in
     rw (stands_filed given c.args.line c.args.number c.args.host c.args.object t old any c.requires.1.1.0 found).size_is word.1
 
 pub returns-in_err-replies-clause-files_kept : goal.returns-in_err-replies-clause-files_kept

@@ -1,5 +1,5 @@
 use Rattle.std.proofs.Common.{arith}
-use Rattle.vm_top.proofs.Writings.{oldest_step}
+use Rattle.vm_base.proofs.Lists.{oldest_step}
 use Rattle.vm_top.specs.Writing.{oldest_items}
 use Rattle.vm_top.proofs.summary.Summary.of.Goals as goal
 
