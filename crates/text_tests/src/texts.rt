@@ -272,6 +272,13 @@ fn pages_and_shadows(rt: HostRuntime) -> Result<(), Fail> {
             "shadowed 4 9 3\n",
         ),
         (Event::Unmarked { region: REGION }, "unmarked 4\n"),
+        (
+            Event::Merged {
+                upper: ObjectId(9),
+                lower: OBJECT,
+            },
+            "merged 9 3\n",
+        ),
     ];
     assert_lines(&rt, rt.alloc(), &table)
 }

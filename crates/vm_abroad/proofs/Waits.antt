@@ -17,10 +17,10 @@ use Rattle.vm_model.specs.Waiting.{Access, address_of, is_store, next_page}
 use Rattle.vm_legal.specs.Accesses.{Comes, Copies, Elsewhere, HasPageLeft, HasPlace, Nowhere, Raises, Waits, WaitsUnlocked, WantsFrame, names, page_of}
 use Rattle.vm_legal.specs.Frames.{frames_free}
 use Rattle.vm_legal.specs.Homes.{is_open, is_used}
-use Rattle.vm_legal.specs.Licences.{IsUnheld}
 use Rattle.vm_legal.specs.Living.{lives_on}
 use Rattle.vm_legal.proofs.Exhausted.{exhausted_still}
-use Rattle.vm_legal.specs.Prompt.{AReady, AnAnswer, AnUnlock, Awaits, EachLeads, HostIsFull, IsExhausted, IsSource, IsSwept, NoneInVain, WaitsForPager}
+use Rattle.vm_legal.specs.Prompt.{AReady, AnAnswer, AnUnlock, Awaits, EachLeads, HostIsFull, IsExhausted, IsSource, NoneInVain, WaitsForPager}
+use Rattle.vm_legal.specs.Swept.{IsSwept, IsUnheld}
 use Rattle.vm_legal.specs.Walks.{Below, IsTop, Reach, Sight, Sinks, Walks, page_on, sight}
 use Rattle.vm_abroad.specs.Same.{SameFacts}
 use Rattle.vm_abroad.specs.Sound.{IsMade, IsRegionOf, Knows, Sound}

@@ -18,7 +18,8 @@ ghost use Rattle.vm_legal.specs.Frames.{frames_after, frames_held, frames_wired,
 ghost use Rattle.vm_legal.specs.Homes.{EntersNext, IsOnlyOfHost, is_home};
 ghost use Rattle.vm_legal.specs.Licences.{HasCause};
 ghost use Rattle.vm_legal.specs.Outside.{Outside};
-ghost use Rattle.vm_legal.specs.Prompt.{EachLeads, HostIsFull, IsSwept, NoneInVain};
+ghost use Rattle.vm_legal.specs.Prompt.{EachLeads, HostIsFull, NoneInVain};
+ghost use Rattle.vm_legal.specs.Swept.{IsSwept};
 ghost use Rattle.vm_legal.specs.Stretches.{EachIn};
 ghost use Rattle.vm_abroad.specs.Own.{own_change, own_effect, own_last, own_live, own_out, own_ready, own_wired};
 ghost use Rattle.vm_abroad.specs.Run as run;

@@ -35,7 +35,8 @@ use Rattle.vm_legal.proofs.Stretched.{inner_both}
 use Rattle.vm_legal.specs.Follows.{Follows, FollowsAnyCut, IsBegun, IsConsequence, IsGroup, IsRun, clean_head, copy_head, fork_head, head, inherits}
 use Rattle.vm_legal.specs.Follows.{inherits_all, map_head, next_behind, opening, say_head, take_head}
 use Rattle.vm_legal.specs.Frames.{frames_wired}
-use Rattle.vm_legal.specs.Licences.{AllLicensed, HasCause, IsUnheld}
+use Rattle.vm_legal.specs.Licences.{AllLicensed, HasCause}
+use Rattle.vm_legal.specs.Swept.{IsUnheld}
 use Rattle.vm_legal.specs.Outside.{Outside}
 use Rattle.vm_legal.specs.Pagers.{Known, known_below}
 use Rattle.vm_legal.specs.Prompt.{Prompt}

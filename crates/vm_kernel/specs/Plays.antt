@@ -13,7 +13,8 @@ use Rattle.vm_model.specs.declared.script.Header.{Header}
 use Rattle.vm_model.specs.Named.{named}
 use Rattle.vm_model.specs.Words.{in_range}
 use Rattle.vm_legal.specs.Accesses.{WaitsUnlocked}
-use Rattle.vm_legal.specs.Licences.{IsUnheld, LockRequest, lock_taken}
+use Rattle.vm_legal.specs.Licences.{LockRequest, lock_taken}
+use Rattle.vm_legal.specs.Swept.{IsUnheld}
 use Rattle.vm_legal.specs.Prompt.{IsSource}
 use Rattle.vm_legal.specs.Walks.{Reach, page_on}
 use Rattle.vm_pageout.specs.Reclaims.{queues_after_search}

@@ -21,7 +21,7 @@ use Rattle.vm_model.specs.declared.message.Message.TheVariants as message
 use Rattle.vm_model.specs.declared.script.Header.{Header}
 use Rattle.vm_model.specs.Channels.{queue}
 use Rattle.vm_model.specs.Controls.{last_control, live_control}
-use Rattle.vm_model.specs.Kinds.{About, about, Accesses, Backings, Beginnings, Entries, Lines, Pages, Regions, Sendings, Shadows, Takings, Tasks, Wirings}
+use Rattle.vm_model.specs.Kinds.{About, about, Accesses, Backings, Beginnings, Entries, Lines, Merges, Pages, Regions, Sendings, Shadows, Takings, Tasks, Wirings}
 use Rattle.vm_model.specs.Regions.{next_region, next_object}
 use Rattle.vm_model.specs.Server.{first}
 use Rattle.vm_model.specs.Named.{named}
@@ -144,6 +144,7 @@ MayFollow Sendings = Unit {0}
 MayFollow Takings = Unit {0}
 MayFollow Pages = Unit {0}
 MayFollow Shadows = Unit {0}
+MayFollow Merges = Unit {0}
 MayFollow Backings = Unit {0}
 
 -- the event is no part of a head, nor a line; an entry is none where it is owed

@@ -1,5 +1,5 @@
 -- The frames of a host that are in use, wired and free.
-use Rattle.std.specs.Prelude.{ℕ, ◌+◌, ◌-◌, ◌≤◌, ◌==◌, ◌&&◌, not, Bool, List, [], ◌∷◌, if◌then◌else◌, IfSome, reverse, slice_get, unwrap_or}
+use Rattle.std.specs.Prelude.{ℕ, zero, suc, ◌+◌, ◌-◌, ◌≤◌, ◌==◌, ◌&&◌, not, Bool, List, [], ◌∷◌, if◌then◌else◌, IfSome, reverse, slice_get, unwrap_or}
 use Rattle.vm_model.specs.declared.event.Event.{Event}
 use Rattle.vm_model.specs.declared.event.Event.TheVariants as event
 use Rattle.vm_model.specs.declared.message.Channel.TheVariants.{Up, Down}
@@ -7,13 +7,16 @@ use Rattle.vm_model.specs.declared.message.Message.{Message}
 use Rattle.vm_model.specs.declared.message.Message.TheVariants as message
 use Rattle.vm_model.specs.declared.script.Header.{Header}
 use Rattle.vm_model.specs.Controls.{is_control, live_control}
-use Rattle.vm_model.specs.Local.{local}
+use Rattle.vm_model.specs.Homes.{object_home}
+use Rattle.vm_model.specs.Local.{is_on, local, moves_up}
+use Rattle.vm_model.specs.Regions.{backing_of, object_pages}
 use Rattle.vm_legal.specs.Living.{lives_on}
 
 -- what an event does to the frames in use
 pub data FrameChange : Type 0 where
   Takes : FrameChange
   Gives : FrameChange
+  GivesSome : (count : ℕ) → FrameChange
   Keeps : FrameChange
 
 abbrev pub change_where : Bool → FrameChange → FrameChange
@@ -35,11 +38,22 @@ taken_down_change asked (message.Unavailable page) = change_where (asked page.0)
 taken_down_change asked (message.Error page reason) = change_where (asked page.0) Gives
 taken_down_change asked other = Keeps
 
+-- how many of the lower's first n pages are here and don't move up where it is merged into the upper
+abbrev pub pages_gone : (ℕ → ℕ → Bool) → ℕ → ℕ → ℕ → ℕ → ℕ → ℕ
+pages_gone here upper lower shift upper_pages zero = 0
+pages_gone here upper lower shift upper_pages (suc n) =
+    if here lower n && not (moves_up here upper shift upper_pages n)
+    then pages_gone here upper lower shift upper_pages n + 1
+    else pages_gone here upper lower shift upper_pages n
+
 abbrev pub change : Header → ℕ → Event → List Event → FrameChange
 change header host (event.Zeroed at object page) past = change_where (at.0 == host) Takes
 change header host (event.Raised at lower lower_page upper upper_page) past = change_where (at.0 == host) Takes
 change header host (event.CopiedPage task page object object_page target) past = change_where (lives_on host task.0 past) Takes
 change header host (event.Dropped at object page) past = change_where (at.0 == host) Gives
+change header host (event.Merged upper lower) past =
+    change_where (is_on host (object_home upper.0 past)) (GivesSome (pages_gone (λ o p. (local header host (record { object = o; page = p }) past).here)
+    upper.0 lower.0 (backing_of header upper.0 past).shift (object_pages header upper.0 past) (object_pages header lower.0 past)))
 change header host (event.Sent (Up at object) m) past = sent_up_change (at.0 == host) m
 change header host (event.Taken (Up at object) m) past = taken_up_change (at.0 == host) m
 change header host (event.Taken (Down at object control) m) past =
@@ -50,6 +64,7 @@ change header host e past = Keeps
 abbrev pub frames_after : FrameChange → ℕ → ℕ
 frames_after Takes held = held + 1
 frames_after Gives held = held - 1
+frames_after (GivesSome count) held = held - count
 frames_after Keeps held = held
 
 -- the frames of pages that are here or asked, and of returns that their pagers did not take yet

@@ -6,6 +6,8 @@ use Rattle.vm_model.specs.declared.message.Channel.TheVariants.{Up, Down}
 use Rattle.vm_model.specs.declared.message.Message.{Message}
 use Rattle.vm_model.specs.declared.message.Message.TheVariants as message
 use Rattle.vm_model.specs.declared.script.Header.{Header}
+use Rattle.vm_model.specs.Homes.{object_home}
+use Rattle.vm_model.specs.Local.{is_on}
 use Rattle.vm_legal.specs.Living.{lives_on}
 use Rattle.vm_legal.specs.Used.{in_use}
 
@@ -19,7 +21,7 @@ abbrev pub gives_frame : Message → Bool
 gives_frame (message.Return control page dirty keep bytes) = not keep
 gives_frame other = false
 
--- The event is the host's: of one of its tasks, of a region in use there, or told by its kernel; and so is the taking of a return that gives
+-- The event is the host's: of one of its tasks, of a region in use or an object that is at home there, or told by its kernel; and so is the taking of a return that gives
 -- it a frame back. A region that is made is nobody's until its entry says whose it is, but that of a slow copy. What a pager says, and what
 -- its device does, is no host's.
 abbrev pub is_home : Header → ℕ → Event → List Event → Bool
@@ -50,6 +52,7 @@ is_home header h (event.Zeroed host object page) past = host.0 == h
 is_home header h (event.Raised host lower lower_page upper upper_page) past = host.0 == h
 is_home header h (event.Shadowed region new old) past = in_use header h region.0 past
 is_home header h (event.Unmarked region) past = in_use header h region.0 past
+is_home header h (event.Merged upper lower) past = is_on h (object_home upper.0 past)
 is_home header h (event.DeviceFailed who way object page) past = false
 is_home header h (event.NoSlot object page) past = false
 is_home header h (event.Wired host count) past = host.0 == h

@@ -9,6 +9,7 @@ pub mod InTurn
 pub mod Legal
 pub mod Licences
 pub mod Living
+pub mod Merges
 pub mod Outside
 pub mod Pagers
 pub mod Prompt
@@ -18,6 +19,7 @@ pub mod Returned
 pub mod Serving
 pub mod Steps
 pub mod Stretches
+pub mod Swept
 pub mod Undelivered
 pub mod Used
 pub mod Walks

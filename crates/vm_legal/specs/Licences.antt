@@ -32,11 +32,13 @@ use Rattle.vm_model.specs.Words.{Supplying, Locking, in_range}
 use Rattle.vm_model.specs.Waiting.{Access, Loading, Storing, Copying, Target, waiting, next_page, copy_target, is_store}
 use Rattle.vm_legal.specs.Accesses.{At, Waits, Comes, HasPlace, is_ready, names, page_of}
 use Rattle.vm_legal.specs.Living.{lives_on, tasks}
+use Rattle.vm_legal.specs.Merges.{Merges}
 use Rattle.vm_legal.specs.Outside.{Outside, is_file, is_said, is_wild, kind_of, start_page, zeros}
 use Rattle.vm_legal.specs.Pagers.{LacksSlot, is_lost, known_control, last_return, newer, slot_at}
 use Rattle.vm_legal.specs.Reclaims.{Reclaims}
 use Rattle.vm_legal.specs.Steps.{Letter, absence_taken, answers, completes, error_taken, fails_reading, gives_page, just_begun, readies, since, taken_letter}
 use Rattle.vm_legal.specs.Steps.{takings}
+use Rattle.vm_legal.specs.Swept.{IsUnheld}
 use Rattle.vm_legal.specs.Undelivered.{oldest_channel}
 use Rattle.vm_legal.specs.Used.{in_use, is_filled}
 use Rattle.vm_legal.specs.Walks.{IsTop, Reach, Sinks, Walks, page_on, sight}
@@ -152,14 +154,6 @@ pub record Asks (header : Header) (host control object page wanted : ℕ) (past 
   pub away : (page_on header host object page past).here ≡ false
   pub unasked : (page_on header host object page past).asked ≡ false
   pub known : is_known_absent header (record { object = object; page = page }) (page_on header host object page past) ≡ false
-
--- no task of the host has an entry on the region
-abbrev pub IsUnmapped : Header → ℕ → ℕ → List Event → Type 0
-IsUnmapped header host region past = (task : ℕ) → lives_on host task past ≡ true → has_entry region (entries_of header.size task past) ≡ false
-
--- nothing holds a declared object on the host
-abbrev pub IsUnheld : Header → ℕ → ℕ → List Event → Type 0
-IsUnheld header host object past = IsUnmapped header host object past
 
 -- a lock_request to a control, for so many pages of its object
 pub record LockRequest : Type 0 where
@@ -579,6 +573,7 @@ Caused header outside why (event.RegionCopied region source offset pages) past =
 Caused header outside why (event.Entered task address bytes region offset prot inherit) past = Enters header task.0 bytes region.0 offset past
 Caused header outside why (event.Shadowed region new old) past = Shadows header region.0 new.0 old.0 past
 Caused header outside why (event.Unmarked region) past = Unmarks header region.0 past
+Caused header outside why (event.Merged upper lower) past = Merges header upper.0 lower.0 past
 Caused header outside why (event.Loaded task object page value) past = Loads header task.0 object.0 page.0 past
 Caused header outside why (event.Stored task object page at bytes value) past = Stores header task.0 object.0 page.0 at bytes value past
 Caused header outside why (event.CopiedPage task page object object_page target) past = CopiesPage header task.0 page.0 object.0 object_page.0 target.0 past

@@ -10,9 +10,9 @@ use Rattle.vm_model.specs.PagePart.{page_part}
 use Rattle.vm_model.specs.Waiting.{Access, is_store, waiting}
 use Rattle.vm_legal.specs.Accesses.{Comes, HasPlace, Waits, WaitsUnlocked, WantsFrame, is_ready, names, page_of}
 use Rattle.vm_legal.specs.Frames.{frames_free, returns_out}
-use Rattle.vm_legal.specs.Licences.{IsUnheld}
 use Rattle.vm_legal.specs.Living.{lives_on}
 use Rattle.vm_legal.specs.Outside.{is_shared}
+use Rattle.vm_legal.specs.Swept.{IsSwept}
 use Rattle.vm_legal.specs.Walks.{Reach, page_on}
 
 -- what an access waits for at a place of its page
@@ -63,13 +63,6 @@ NoneInVain header host past =
 -- whoever waits on the host is somebody: it has a page left, and an entry leads to that
 abbrev pub EachLeads : Header → ℕ → List Event → Type 0
 EachLeads header host past = (task : ℕ) (access : Access) → waiting task past ≡ Some access → lives_on host task past ≡ true → Waits header task access past
-
--- no temporary object to which no region leads has a page or a live control left on the host, and no declared one that nothing holds there
-pub record IsSwept (header : Header) (host : ℕ) (past : List Event) : Type 0 where
-  pub pages : (object page : ℕ) → named header ≤ object → (Reach header host object past → ⊥) → (page_on header host object page past).here ≡ false
-  pub controls : (object : ℕ) → named header ≤ object → (Reach header host object past → ⊥) → live_control host object past ≡ None
-  pub declared_pages : (object page : ℕ) → object < named header → IsUnheld header host object past → (page_on header host object page past).here ≡ false
-  pub declared_controls : (object : ℕ) → object < named header → IsUnheld header host object past → live_control host object past ≡ None
 
 -- what one host is to see to
 pub record PromptAt (header : Header) (host : ℕ) (past : List Event) : Type 0 where

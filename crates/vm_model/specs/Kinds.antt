@@ -23,6 +23,8 @@ pub data About : Type 0 where
   Pages : About
   -- a marked region gets a new object over its top, or loses its mark
   Shadows : About
+  -- an object is merged into its one shadow
+  Merges : About
   -- a backing fails, or has no slot
   Backings : About
   -- frames are wired, or no more
@@ -54,6 +56,7 @@ about (event.Zeroed host object page) = Pages
 about (event.Raised host lower lower_page upper upper_page) = Pages
 about (event.Shadowed region new old) = Shadows
 about (event.Unmarked region) = Shadows
+about (event.Merged upper lower) = Merges
 about (event.DeviceFailed who way object page) = Backings
 about (event.NoSlot object page) = Backings
 about (event.Wired host count) = Wirings

@@ -1,15 +1,17 @@
 -- What a host has of a page of an object: each event is classified once, and moves one record.
-use Rattle.std.specs.Prelude.{ℕ, ◌≡◌, ◌⊎◌, Bool, true, false, ◌&&◌, ◌||◌, List, [], ◌∷◌, replicate, if◌then◌else◌, ◌==◌, not, nat_lt, Option, Some, None}
+use Rattle.std.specs.Prelude.{ℕ, ◌+◌, ◌-◌, ◌≡◌, ◌⊎◌, Bool, true, false, ◌&&◌, ◌||◌, List, [], ◌∷◌, replicate, if◌then◌else◌, ◌==◌, not, nat_lt, Option, Some, None}
 use Rattle.vm_base.specs.Pages.{little_endian_bytes, with_bytes}
 use Rattle.vm_model.specs.declared.message.Channel.TheVariants.{Up, Down}
 use Rattle.vm_model.specs.declared.message.Message.{Message}
 use Rattle.vm_model.specs.declared.message.Message.TheVariants as message
 use Rattle.vm_model.specs.declared.event.Event.{Event}
 use Rattle.vm_model.specs.declared.event.Event.TheVariants.{Stored, CopiedPage, Sent}
-use Rattle.vm_model.specs.declared.event.Event.TheVariants.{Taken, Dropped, Zeroed, Raised}
+use Rattle.vm_model.specs.declared.event.Event.TheVariants.{Taken, Dropped, Zeroed, Raised, Merged}
 use Rattle.vm_model.specs.declared.script.Header.{Header}
 use Rattle.vm_model.specs.Controls.{is_control, live_control}
+use Rattle.vm_model.specs.Homes.{object_home}
 use Rattle.vm_model.specs.Named.{named}
+use Rattle.vm_model.specs.Regions.{backing_of, object_pages}
 use Rattle.vm_model.specs.Tasks.{host_of}
 use Rattle.vm_model.specs.Words.{in_range}
 
@@ -43,6 +45,8 @@ pub data LocalEffect : Type 0 where
   Stores : (at : ℕ) → (bytes : List ℕ) → LocalEffect
   -- it goes
   Drops : LocalEffect
+  -- a page of the object below comes up to it
+  Moves : (page : Local) → LocalEffect
   -- it is returned to the pager, and stays or goes
   Returns : (keep : Bool) → LocalEffect
   -- the live control asks for it
@@ -108,6 +112,23 @@ taken_effect page (message.Attributes cache strategy reply) = Elsewhere
 taken_effect page (message.Destroy reason) = Elsewhere
 taken_effect page (message.Changed control cache strategy) = Elsewhere
 
+-- The page of the lower of two objects that are merged moves up: the upper can have it, and hasn't. The upper's page 0 is over the
+-- lower's page `shift`. Which pages are here comes in as a function.
+abbrev pub moves_up : (ℕ → ℕ → Bool) → ℕ → ℕ → ℕ → ℕ → Bool
+moves_up here upper shift upper_pages page =
+    not (nat_lt page shift) && (nat_lt (page - shift) upper_pages && not (here upper (page - shift)))
+
+-- What a merge of two objects is to a place on their host: a page of the lower that moves up comes to the upper's place, and the lower has none.
+abbrev pub merge_effect : ℕ → ℕ → ℕ → ℕ → ℕ → Place → (Place → Local) → LocalEffect
+merge_effect upper lower shift upper_pages lower_pages place others =
+    if place.object == upper
+    then
+        if nat_lt place.page upper_pages && (nat_lt (shift + place.page) lower_pages
+            && ((others (record { object = lower; page = shift + place.page })).here && not (others place).here))
+        then Moves (others (record { object = lower; page = shift + place.page }))
+        else Elsewhere
+    else if place.object == lower && nat_lt place.page lower_pages then Drops else Elsewhere
+
 -- What an event is to the place on the host. What the host has of the other places comes in as a function.
 abbrev pub effect : Header → ℕ → Place → (Place → Local) → Event → List Event → LocalEffect
 effect header host place others (Zeroed at object page) past =
@@ -121,6 +142,10 @@ effect header host place others (Stored task object page at size value) past =
     if is_on host (host_of task.0 past) && is_place place object.0 page.0 then Stores at (little_endian_bytes size value) else Elsewhere
 effect header host place others (Dropped at object page) past =
     if at.0 == host && is_place place object.0 page.0 then Drops else Elsewhere
+effect header host place others (Merged upper lower) past =
+    if is_on host (object_home upper.0 past)
+    then merge_effect upper.0 lower.0 (backing_of header upper.0 past).shift (object_pages header upper.0 past) (object_pages header lower.0 past) place others
+    else Elsewhere
 effect header host place others (Sent (Up at object) m) past =
     if at.0 == host && object.0 == place.object then sent_effect place.page (live_control host place.object past) m
     else Elsewhere
@@ -141,6 +166,7 @@ local_after size Zeroes was = local_with_page (replicate size 0) 0 false false w
 local_after size (Raises bytes) was = local_with_page bytes 0 true false was
 local_after size (Stores at bytes) was = record was { bytes = with_bytes at bytes was.bytes; dirty = true }
 local_after size Drops was = local_without_page was
+local_after size (Moves page) was = record page { asked = was.asked; absent = was.absent }
 local_after size (Returns true) was = record was { dirty = false; precious = false; absent = false }
 local_after size (Returns false) was = record (local_without_page was) { absent = false }
 local_after size Asks was = record was { asked = true }

@@ -95,8 +95,27 @@ over this region was =
       shift = if this then region.shift else was.shift;
     }
 
+-- an object that its backing object is merged into stands on what that stood on
+abbrev pub joined : Bool → Backing → Backing → Backing
+joined this lower was =
+    record {
+      backed = if this then lower.backed else was.backed;
+      under = if this then lower.under else was.under;
+      shift = if this then lower.shift + was.shift else was.shift;
+    }
+
 abbrev pub backing_of : Header → ℕ → List Event → Backing
 backing_of header object [] = record { backed = false; under = 0; shift = 0 }
 backing_of header object (event.Shadowed region new old ∷ past) =
     over (object == new.0) (region_of header region.0 past) (backing_of header object past)
+backing_of header object (event.Merged upper lower ∷ past) =
+    joined (object == upper.0) (backing_of header lower.0 past) (backing_of header object past)
 backing_of header object (e ∷ past) = backing_of header object past
+
+-- the pages of an object: those of the region that it was made for
+abbrev pub object_pages : Header → ℕ → List Event → ℕ
+object_pages header object [] = declared_pages header object
+object_pages header object (event.RegionMade region new pages ∷ past) = if object == new.0 then pages else object_pages header object past
+object_pages header object (event.Shadowed region new old ∷ past) =
+    if object == new.0 then (region_of header region.0 past).pages else object_pages header object past
+object_pages header object (e ∷ past) = object_pages header object past

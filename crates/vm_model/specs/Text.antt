@@ -133,6 +133,7 @@ line_of (event.Raised host lower lower_page upper upper_page) =
     codes "raised" ++ field host.0 ++ field lower.0 ++ field lower_page.0 ++ field upper.0 ++ field upper_page.0 ++ newline
 line_of (event.Shadowed region new old) = codes "shadowed" ++ field region.0 ++ field new.0 ++ field old.0 ++ newline
 line_of (event.Unmarked region) = codes "unmarked" ++ field region.0 ++ newline
+line_of (event.Merged upper lower) = codes "merged" ++ field upper.0 ++ field lower.0 ++ newline
 line_of (event.DeviceFailed who way object page) =
     codes "device" ++ device_text who ++ way_text way ++ field object.0 ++ field page.0 ++ newline
 line_of (event.NoSlot object page) = codes "noslot" ++ field object.0 ++ field page.0 ++ newline

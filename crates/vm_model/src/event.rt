@@ -174,6 +174,11 @@ pub enum Event {
     Unmarked {
         region: RegionId,
     },
+    /// The object `lower` is merged into `upper`, its one reference: its pages that the upper can have and hasn't move up, and all others go.
+    Merged {
+        upper: ObjectId,
+        lower: ObjectId,
+    },
     /// A backing failed.
     DeviceFailed {
         who: Device,

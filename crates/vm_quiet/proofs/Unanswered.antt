@@ -16,9 +16,10 @@ use Rattle.vm_model.specs.Tasks.{host_of}
 use Rattle.vm_model.specs.Waiting.{Access, Loading, waiting}
 use Rattle.vm_legal.specs.Accesses.{Waits}
 use Rattle.vm_legal.specs.Debts.{IsPaid}
-use Rattle.vm_legal.specs.Licences.{HasCause, IsUnheld, is_paged, lock_taken, owed}
+use Rattle.vm_legal.specs.Licences.{HasCause, is_paged, lock_taken, owed}
 use Rattle.vm_legal.specs.Outside.{NoneIsTemporary, is_shared, is_wild, kind_of}
-use Rattle.vm_legal.specs.Prompt.{AnAnswer, AReady, EachLeads, IsSwept, NoneInVain, Prompt, WaitsForPager}
+use Rattle.vm_legal.specs.Prompt.{AnAnswer, AReady, EachLeads, NoneInVain, Prompt, WaitsForPager}
+use Rattle.vm_legal.specs.Swept.{IsSwept, IsUnheld}
 use Rattle.vm_legal.specs.Steps.{Letter, absence_taken, error_taken, taken_letter}
 use Rattle.vm_legal.specs.Undelivered.{undelivered}
 use Rattle.vm_legal.proofs.Locks.{no_request}

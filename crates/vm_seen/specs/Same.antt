@@ -78,12 +78,13 @@ is_ended (event.Loaded task object page value) = true
 is_ended (event.Stored task object page at size value) = true
 is_ended other = false
 
--- the event is of regions or copied pages
+-- the event is of regions, of objects or of copied pages
 abbrev pub is_of_regions : Event → Bool
 is_of_regions (event.RegionMade region object pages) = true
 is_of_regions (event.RegionCopied region source offset pages) = true
 is_of_regions (event.Shadowed region new old) = true
 is_of_regions (event.Unmarked region) = true
+is_of_regions (event.Merged upper lower) = true
 is_of_regions (event.CopiedPage task page object object_page target) = true
 is_of_regions other = false
 

@@ -184,6 +184,7 @@ fn same_event(a: &Event, b: &Event) -> bool
         Event::RegionCopied { .. } => same_region_event(a, b),
         Event::Shadowed { .. } => same_region_event(a, b),
         Event::Unmarked { .. } => same_region_event(a, b),
+        Event::Merged { .. } => same_region_event(a, b),
         Event::CopiedPage { .. } => same_region_event(a, b),
         Event::Dropped { .. } => same_page_event(a, b),
         Event::Zeroed { .. } => same_page_event(a, b),
@@ -345,7 +346,7 @@ fn same_ended_event(a: &Event, b: &Event) -> bool
     }
 }
 
-// The same for regions, and for pages that are copied.
+// The same for regions, for objects, and for pages that are copied.
 fn same_region_event(a: &Event, b: &Event) -> bool
     ensures same { IsTrue result → a.now ≡ b.now }
     ensures all { is_of_regions a.now ≡ true → a.now ≡ b.now → IsTrue result }
@@ -370,6 +371,9 @@ fn same_region_event(a: &Event, b: &Event) -> bool
             matches!(b, Event::Shadowed { region: r, new: n, old: o } if region == r && new == n && old == o)
         }
         Event::Unmarked { region } => matches!(b, Event::Unmarked { region: r } if region == r),
+        Event::Merged { upper, lower } => {
+            matches!(b, Event::Merged { upper: u, lower: l } if upper == u && lower == l)
+        }
         Event::CopiedPage {
             task,
             page,

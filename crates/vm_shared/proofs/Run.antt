@@ -16,7 +16,8 @@ use Rattle.vm_model.specs.PagePart.{page_part}
 use Rattle.vm_model.specs.Tasks.{entries_of, has_entry}
 use Rattle.vm_model.specs.Waiting.{Loading, Storing}
 use Rattle.vm_legal.specs.Bytes.{OwnBytes}
-use Rattle.vm_legal.specs.Licences.{Ended, HasCause, IsDoneAt, IsUnheld, Wanted}
+use Rattle.vm_legal.specs.Licences.{Ended, HasCause, IsDoneAt, Wanted}
+use Rattle.vm_legal.specs.Swept.{IsUnheld}
 use Rattle.vm_legal.specs.Living.{lives_on}
 use Rattle.vm_legal.specs.Walks.{page_on}
 use Rattle.vm_coherence.specs.Crossing.{host, object, page, task, zeros}

@@ -49,6 +49,7 @@ pub fn put_event(text: &mut Line, event: &Event) -> Result<(), NoMemory>
         | Event::RegionCopied { .. }
         | Event::Shadowed { .. }
         | Event::Unmarked { .. } => region_event(text, event),
+        Event::Merged { upper, lower } => merged(text, *upper, *lower),
         Event::Entered { .. }
         | Event::Removed { .. }
         | Event::Protected { .. }
@@ -528,6 +529,12 @@ fn unmarked(text: &mut Line, region: RegionId) -> Result<(), NoMemory>
     ensures { OnOk result (text.new ≡ text.old ++ line_of (Event.Unmarked region)) }
 {
     text.put_line(b"unmarked", &[u64::from(region.0)])
+}
+
+fn merged(text: &mut Line, upper: ObjectId, lower: ObjectId) -> Result<(), NoMemory>
+    ensures { OnOk result (text.new ≡ text.old ++ line_of (Event.Merged upper lower)) }
+{
+    text.put_line(b"merged", &[u64::from(upper.0), u64::from(lower.0)])
 }
 
 fn device_failed(

@@ -23,9 +23,9 @@ use Rattle.vm_legal.specs.InTurn.{NoneSleeps, AllInTurn, AllRecalled, FollowsInT
 use Rattle.vm_legal.specs.Serving.{HostsServed}
 use Rattle.vm_legal.proofs.Serving.{one_served}
 use Rattle.vm_legal.specs.Legal.{CanonicalFor}
-use Rattle.vm_legal.specs.Licences.{IsUnheld}
 use Rattle.vm_legal.specs.Outside.{is_shared}
-use Rattle.vm_legal.specs.Prompt.{AllServed, AnAnswer, IsSwept, Prompt, PromptAt, WaitsForPager}
+use Rattle.vm_legal.specs.Prompt.{AllServed, AnAnswer, Prompt, PromptAt, WaitsForPager}
+use Rattle.vm_legal.specs.Swept.{IsSwept, IsUnheld}
 use Rattle.vm_legal.specs.Steps.{Letter, answers, error_taken, readies, since}
 use Rattle.vm_legal.specs.Walks.{Reach, page_on}
 use Rattle.vm_legal.proofs.Locks.{no_request}

@@ -15,7 +15,8 @@ use Rattle.vm_legal.specs.InTurn.{AllRecalled, EndsAll, NoneSleeps}
 use Rattle.vm_legal.specs.Legal.{HasOneWriter}
 use Rattle.vm_legal.specs.Licences.{lock_taken, owed}
 use Rattle.vm_legal.specs.Outside.{is_shared}
-use Rattle.vm_legal.specs.Prompt.{AllServed, IsSwept, Prompt, PromptAt}
+use Rattle.vm_legal.specs.Prompt.{AllServed, Prompt, PromptAt}
+use Rattle.vm_legal.specs.Swept.{IsSwept}
 use Rattle.vm_legal.specs.Steps.{Letter, absence_taken, error_taken, taken_letter}
 use Rattle.vm_legal.specs.Walks.{page_on}
 use Rattle.vm_legal.proofs.Locks.{no_request}

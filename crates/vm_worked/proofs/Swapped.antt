@@ -21,7 +21,8 @@ use Rattle.vm_legal.specs.Frames.{FramesSuffice}
 use Rattle.vm_legal.specs.InTurn.{DropsInTurn}
 use Rattle.vm_legal.specs.Legal.{CanonicalFor, LegalFor}
 use Rattle.vm_legal.specs.Licences.{AllLicensed, DropCause, Ended, Flushed, Reclaimed, Unreached}
-use Rattle.vm_legal.specs.Prompt.{AllServed, IsSwept, Prompt}
+use Rattle.vm_legal.specs.Prompt.{AllServed, Prompt}
+use Rattle.vm_legal.specs.Swept.{IsSwept}
 use Rattle.vm_legal.specs.Reclaims.{PagesOut, Starves}
 use Rattle.vm_legal.specs.Used.{in_use}
 use Rattle.vm_legal.specs.Walks.{Reach, page_on}

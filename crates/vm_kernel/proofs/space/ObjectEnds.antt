@@ -13,7 +13,8 @@ use Rattle.vm_kernel.proofs.Common.{slice_get, some_is, subst, sym, true, waitin
 use Rattle.vm_kernel.proofs.Common.{◌∙◌, ◌∷◌, ◌≡◌, ◌≤◌, ◌⊎◌}
 use Rattle.std.proofs.lemmas.Bool.{or_parts}
 use Rattle.vm_kernel.specs.Fits.{ArePlain}
-use Rattle.vm_legal.specs.Licences.{DropCause, Ended, IsUnheld}
+use Rattle.vm_legal.specs.Licences.{DropCause, Ended}
+use Rattle.vm_legal.specs.Swept.{IsUnheld}
 use Rattle.vm_kernel.specs.Plays.{AsUnheld, AsUnreached, Departs, DepartsUnheld}
 use Rattle.vm_model.specs.declared.event.Event.TheVariants as event
 use Rattle.vm_model.specs.declared.message.Message.TheVariants as message

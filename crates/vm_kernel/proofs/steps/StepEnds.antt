@@ -8,7 +8,7 @@ use Rattle.vm_kernel.proofs.Common.{page_on, refl, region_at, row_at, rows_in, s
 use Rattle.vm_kernel.proofs.Common.{◌⊎◌}
 use Rattle.vm_kernel.proofs.space.RegionsFilled.{filled_temporary, row_use}
 use Rattle.std.proofs.Common.{is_some}
-use Rattle.vm_legal.specs.Licences.{IsUnheld}
+use Rattle.vm_legal.specs.Swept.{IsUnheld}
 use Rattle.vm_kernel.proofs.abroad.OthersEvents.{with_entry}
 use Rattle.vm_kernel.proofs.space.EntriesCounted.{by_some}
 use Rattle.vm_state.proofs.Declared.{over_declared}

@@ -1,0 +1,24 @@
+-- What holds an object on a host, and that nothing is left of one that nothing holds.
+use Rattle.std.specs.Prelude.{ℕ, ◌<◌, ◌≤◌, ◌≡◌, List, Bool, true, false, Option, None}
+use Rattle.vm_model.specs.declared.event.Event.{Event}
+use Rattle.vm_model.specs.declared.script.Header.{Header}
+use Rattle.vm_model.specs.Controls.{live_control}
+use Rattle.vm_model.specs.Named.{named}
+use Rattle.vm_model.specs.Tasks.{entries_of, has_entry}
+use Rattle.vm_legal.specs.Living.{lives_on}
+use Rattle.vm_legal.specs.Walks.{Reach, page_on}
+
+-- no task of the host has an entry on the region
+abbrev pub IsUnmapped : Header → ℕ → ℕ → List Event → Type 0
+IsUnmapped header host region past = (task : ℕ) → lives_on host task past ≡ true → has_entry region (entries_of header.size task past) ≡ false
+
+-- nothing holds a declared object on the host
+abbrev pub IsUnheld : Header → ℕ → ℕ → List Event → Type 0
+IsUnheld header host object past = IsUnmapped header host object past
+
+-- no temporary object to which no region leads has a page or a live control left on the host, and no declared one that nothing holds there
+pub record IsSwept (header : Header) (host : ℕ) (past : List Event) : Type 0 where
+  pub pages : (object page : ℕ) → named header ≤ object → (Reach header host object past → ⊥) → (page_on header host object page past).here ≡ false
+  pub controls : (object : ℕ) → named header ≤ object → (Reach header host object past → ⊥) → live_control host object past ≡ None
+  pub declared_pages : (object page : ℕ) → object < named header → IsUnheld header host object past → (page_on header host object page past).here ≡ false
+  pub declared_controls : (object : ℕ) → object < named header → IsUnheld header host object past → live_control host object past ≡ None
