@@ -21,7 +21,7 @@ use Rattle.vm_model.specs.declared.message.Message.TheVariants as message
 use Rattle.vm_model.specs.declared.script.Header.{Header}
 use Rattle.vm_model.specs.Channels.{DownFirst, TakesFirst}
 use Rattle.vm_model.specs.Founded.{IsFounded}
-use Rattle.vm_model.specs.Kinds.{Accesses, Backings, Beginnings, Entries, Lines, Pages, Sendings, Takings, Tasks, about}
+use Rattle.vm_model.specs.Kinds.{Accesses, Backings, Beginnings, Entries, Lines, Merges, Pages, Sendings, Takings, Tasks, about}
 use Rattle.vm_model.specs.Local.{Drops, Elsewhere, Local, Place, Raises, Zeroes, effect}
 use Rattle.vm_model.specs.Summary.{is_stored}
 
@@ -279,17 +279,18 @@ is_founded_of_messages header host object past =
     (λ reason apart other. refl)
     (λ control cache strategy apart other. refl)
 
--- what a host has of a page changes by messages, pages and accesses; of accesses by stores and copied pages
+-- what a host has of a page changes by messages, pages, merges and accesses; of accesses by stores and copied pages
 pub effect_elsewhere : (header : Header) (h : ℕ) (place : Place) (others : Place → Local) (e : Event) → (about e ≡ Sendings → ⊥) → (about e ≡ Takings → ⊥)
-    → (about e ≡ Pages → ⊥) → (about e ≡ Accesses → ⊥) → (past : List Event) → effect header h place others e past ≡ Elsewhere
-effect_elsewhere header h place others (event.Sent channel m) unsent untaken no_page no_access past = absurd (unsent refl)
-effect_elsewhere header h place others (event.Taken channel m) unsent untaken no_page no_access past = absurd (untaken refl)
-effect_elsewhere header h place others (event.Dropped host object page) unsent untaken no_page no_access past = absurd (no_page refl)
-effect_elsewhere header h place others (event.Zeroed host object page) unsent untaken no_page no_access past = absurd (no_page refl)
-effect_elsewhere header h place others (event.Raised host lower lower_page upper upper_page) unsent untaken no_page no_access past = absurd (no_page refl)
-effect_elsewhere header h place others (event.CopiedPage task page object object_page target) unsent untaken no_page no_access past = absurd (no_access refl)
-effect_elsewhere header h place others (event.Stored task object page at size value) unsent untaken no_page no_access past = absurd (no_access refl)
-effect_elsewhere header h place others other unsent untaken no_page no_access past = refl
+    → (about e ≡ Pages → ⊥) → (about e ≡ Accesses → ⊥) → (about e ≡ Merges → ⊥) → (past : List Event) → effect header h place others e past ≡ Elsewhere
+effect_elsewhere header h place others (event.Sent channel m) unsent untaken no_page no_access no_merge past = absurd (unsent refl)
+effect_elsewhere header h place others (event.Taken channel m) unsent untaken no_page no_access no_merge past = absurd (untaken refl)
+effect_elsewhere header h place others (event.Dropped host object page) unsent untaken no_page no_access no_merge past = absurd (no_page refl)
+effect_elsewhere header h place others (event.Zeroed host object page) unsent untaken no_page no_access no_merge past = absurd (no_page refl)
+effect_elsewhere header h place others (event.Raised host lower lower_page upper upper_page) unsent untaken no_page no_access no_merge past = absurd (no_page refl)
+effect_elsewhere header h place others (event.CopiedPage task page object object_page target) unsent untaken no_page no_access no_merge past = absurd (no_access refl)
+effect_elsewhere header h place others (event.Stored task object page at size value) unsent untaken no_page no_access no_merge past = absurd (no_access refl)
+effect_elsewhere header h place others (event.Merged upper lower) unsent untaken no_page no_access no_merge past = absurd (no_merge refl)
+effect_elsewhere header h place others other unsent untaken no_page no_access no_merge past = refl
 
 pub effect_of_accesses : (header : Header) (h : ℕ) (place : Place) (others : Place → Local) (past : List Event) (e : Event) → about e ≡ Accesses
     → is_stored e ≡ false

@@ -123,10 +123,10 @@ abbrev pub merge_effect : ℕ → ℕ → ℕ → ℕ → ℕ → Place → (Pla
 merge_effect upper lower shift upper_pages lower_pages place others =
     if place.object == upper
     then
-        if nat_lt place.page upper_pages && (nat_lt (shift + place.page) lower_pages
-            && ((others (record { object = lower; page = shift + place.page })).here && not (others place).here))
-        then Moves (others (record { object = lower; page = shift + place.page }))
-        else Elsewhere
+    if nat_lt place.page upper_pages && (nat_lt (shift + place.page) lower_pages
+    && ((others (record { object = lower; page = shift + place.page })).here && not (others place).here))
+    then Moves (others (record { object = lower; page = shift + place.page }))
+    else Elsewhere
     else if place.object == lower && nat_lt place.page lower_pages then Drops else Elsewhere
 
 -- What an event is to the place on the host. What the host has of the other places comes in as a function.
