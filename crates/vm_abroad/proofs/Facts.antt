@@ -17,6 +17,7 @@ use Rattle.vm_legal.specs.Walks.{Below}
 use Rattle.vm_abroad.specs.Same.{SameFacts, SameForHost, SamePages, SameTask}
 use Rattle.vm_abroad.specs.Sound.{IsAbroad, IsAmong, IsHeldOn, IsMade, IsRegionOf, Knows, Sound}
 use Rattle.vm_abroad.proofs.Chains.{below_was}
+use Rattle.vm_abroad.proofs.Home.{home_on}
 use Rattle.vm_abroad.proofs.Pages.{pages_abroad}
 use Rattle.vm_abroad.proofs.Regions.{backing_abroad, region_abroad, used_abroad}
 use Rattle.vm_abroad.proofs.Sounds.{objects_rise, regions_rise, sound_next, use_of}
@@ -35,7 +36,8 @@ same_one header outside h e past sound knows abroad = record {
   objects = objects_rise header e past;
   used = used_abroad header outside h e past sound knows abroad;
   region = region_abroad header outside h e past sound abroad;
-  backing = backing_abroad header outside h e past abroad;
+  home = λ o own temporary. home_on h o e past (own temporary);
+  backing = backing_abroad header outside h e past sound abroad;
 }
 
 -- and behind several
@@ -50,7 +52,8 @@ same_none header h past = record {
   objects = omega arith;
   used = λ r temporary. refl;
   region = λ r small own. refl;
-  backing = λ o small. refl;
+  home = λ o own. own;
+  backing = λ o small own. refl;
 }
 
 more_pages : (header : Header) (h : ℕ) (old mid new : List Event) → SamePages header h old mid → SamePages header h mid new → SamePages header h old new
@@ -93,7 +96,8 @@ same_more header h old mid new one two = record {
   used = λ r temporary. two.used r temporary ∙ one.used r temporary;
   region =
       λ r small own. two.region r (let first = one.regions in omega (arith, first, small)) (region_of_host header h r old mid one own) ∙ one.region r small own;
-  backing = λ o small. two.backing o (let first = one.objects in omega (arith, first, small)) ∙ one.backing o small;
+  home = λ o own. two.home o (one.home o own);
+  backing = λ o small own. two.backing o (let first = one.objects in omega (arith, first, small)) (one.home o own) ∙ one.backing o small own;
 }
 
 -- a host's tables say as much as before
@@ -122,16 +126,17 @@ held_same header h r old new same held =
     }
 
 chain_same : (header : Header) (h r : ℕ) (old new : List Event) → Sound header old → SameFacts header h old new → Knows header h old → IsRegionOf header h r new
-    → IsMade header (region_of header r new).top new
+    → IsMade header h (region_of header r new).top new
 chain_same header h r old new sound same knows own n u below =
     let was : IsRegionOf header h r old = λ temporary. sym (same.used r temporary) ∙ own temporary in
     let small = small_region header h r old sound was in
-    let made : IsMade header (region_of header r old).top old = knows.chains r small was in
+    let made : IsMade header h (region_of header r old).top old = knows.chains r small was in
     let top : Below (λ k. backing_of header k new) n (region_of header r old).top u = subst (λ (z : Region). Below (λ k. backing_of header k new) n z.top u)
     (same.region r small was) below in
-    let less = made n u (below_was header old new same.backing n (region_of header r old).top u made top) in
+    let was = made n u (below_was header h old new same.backing n (region_of header r old).top u made top) in
+    let less = was.0 in
     let rise = same.objects in
-    omega (arith, less, rise)
+    (omega (arith, less, rise), same.home u was.1)
 
 pub knows_same : (header : Header) (h : ℕ) (old new : List Event) → Sound header old → SameFacts header h old new → Knows header h old → Knows header h new
 knows_same header h old new sound same knows = record {

@@ -20,6 +20,7 @@ use Rattle.vm_model.specs.Waiting.{Target, begins_copy, copy_target}
 use Rattle.vm_legal.specs.Homes.{begins_here, is_home}
 use Rattle.vm_legal.specs.Licences.{HasCause}
 use Rattle.vm_legal.specs.Living.{lives_on, tasks}
+use Rattle.vm_legal.specs.Merges.{Merges}
 use Rattle.vm_legal.specs.Outside.{Outside, is_file}
 use Rattle.vm_legal.specs.Stretches.{EachIn}
 use Rattle.vm_legal.specs.Used.{in_use, is_held, is_kept, made_here}
@@ -131,6 +132,16 @@ objects_stay o h (e ∷ events) past is = object_stays o h e (events ++ past) (o
 itself : (n : ℕ) → (n == n) ≡ true
 itself n = grind (arith, nat_tests)
 
+pub on_own : (h : ℕ) → is_on h (Some h) ≡ true
+on_own h = itself h
+
+pub on_host : (g : ℕ) (x : Option ℕ) → is_on g x ≡ true → x ≡ Some g
+on_host g None is = absurd (let bad : false ≡ true = is in cc)
+on_host g (Some own) is = let same : own ≡ g = grind (arith, nat_tests) in ap Some same
+
+pub home_on : (h o : ℕ) (e : Event) (past : List Event) → is_on h (object_home o past) ≡ true → is_on h (object_home o (e ∷ past)) ≡ true
+home_on h o e past on = ap (is_on h) (object_stays o h e past (on_host h (object_home o past) on)) ∙ on_own h
+
 -- a new object is made for its region
 pub region_made : (region : RegionId) (object : ObjectId) (pages : ℕ) (past : List Event) → region_for object.0 past ≡ None
     → region_for object.0 (event.RegionMade region object pages ∷ past) ≡ Some region.0
@@ -188,7 +199,7 @@ both : (a b : Bool) → (a && b) ≡ true → (a ≡ true) × (b ≡ true)
 both true b is = (refl, is)
 both false b is = absurd (let bad : false ≡ true = is in cc)
 
-same_some : (g h : ℕ) → Some g ≡ Some h → g ≡ h
+pub same_some : (g h : ℕ) → Some g ≡ Some h → g ≡ h
 same_some g h is = cc
 
 -- the first entry says where, and the others can't say otherwise
@@ -203,13 +214,6 @@ home_first header g h r region here true None x past test used lives home stays 
     let lives_here : here ≡ true = sym (ap (λ b. not b || here) other) ∙ first in
     same_some g h (sym (lives lives_here) ∙ home)
 home_first header g h r region here false was x past test used lives home stays = stays home (both (not (r == region) || here) (in_use header g r past) used).1
-
-pub on_own : (h : ℕ) → is_on h (Some h) ≡ true
-on_own h = itself h
-
-pub on_host : (g : ℕ) (x : Option ℕ) → is_on g x ≡ true → x ≡ Some g
-on_host g None is = absurd (let bad : false ≡ true = is in cc)
-on_host g (Some own) is = let same : own ≡ g = grind (arith, nat_tests) in ap Some same
 
 -- a region that is made now has no home
 new_homeless : (header : Header) (g h r n : ℕ) (b here : Bool) (past : List Event) → (r == n) ≡ b → n ≡ next_region header past → HaveHomes header past
@@ -366,6 +370,12 @@ whole_next header outside (event.Unmarked changed) past cause homes r declared =
     rw other (homes.whole r declared)
 whole_next header outside other past cause homes r declared = homes.whole r declared
 
+-- what stands on nothing is no upper of a pair
+not_upper : (header : Header) (o upper lower : ℕ) (past : List Event) → Merges header upper lower past → (backing_of header o past).backed ≡ false
+    → (o == upper) ≡ false
+not_upper header o upper lower past merges bare = unlike o upper (λ same. absurd (let bad : false ≡ true = sym bare
+    ∙ (ap (λ z. (backing_of header z past).backed) same ∙ merges.pair.backed) in cc))
+
 bare_next : (header : Header) (outside : Outside) (e : Event) (past : List Event) → HasCause header outside e past → HaveHomes header past → (o : ℕ)
     → o < named header → (backing_of header o (e ∷ past)).backed ≡ false
 bare_next header outside (event.Shadowed changed new old) past cause homes o declared =
@@ -373,7 +383,21 @@ bare_next header outside (event.Shadowed changed new old) past cause homes o dec
     let more = named_objects header past in
     let other : (o == new.0) ≡ false = unlike o new.0 (λ same. omega (arith, same, number, more, declared)) in
     rw other (homes.bare o declared)
+bare_next header outside (event.Merged upper lower) past cause homes o declared =
+    rw (not_upper header o upper.0 lower.0 past cause.1 (homes.bare o declared)) (homes.bare o declared)
 bare_next header outside other past cause homes o declared = homes.bare o declared
+
+-- an object that isn't made yet stands on nothing
+unmade_next : (header : Header) (outside : Outside) (e : Event) (past : List Event) → HasCause header outside e past → HaveHomes header past → (o : ℕ)
+    → next_object header (e ∷ past) ≤ o → (backing_of header o (e ∷ past)).backed ≡ false
+unmade_next header outside (event.RegionMade region object pages) past cause homes o high = homes.unmade o (omega (arith, high))
+unmade_next header outside (event.Shadowed changed new old) past cause homes o high =
+    let number = cause.1.next in
+    let other : (o == new.0) ≡ false = unlike o new.0 (λ same. omega (arith, same, number, high)) in
+    rw other (homes.unmade o (omega (arith, high)))
+unmade_next header outside (event.Merged upper lower) past cause homes o high =
+    rw (not_upper header o upper.0 lower.0 past cause.1 (homes.unmade o high)) (homes.unmade o high)
+unmade_next header outside other past cause homes o high = homes.unmade o high
 
 -- a slow copy fills the region that was made for it
 fills_next : (header : Header) (outside : Outside) (e : Event) (past : List Event) → HasCause header outside e past → HaveHomes header past
@@ -406,6 +430,7 @@ homes_next header outside e past cause homes =
       files = files_next header outside e past cause homes;
       whole = whole_next header outside e past cause homes;
       bare = bare_next header outside e past cause homes;
+      unmade = unmade_next header outside e past cause homes;
       fills = fills_next header outside e past cause homes;
     }
 
@@ -418,5 +443,6 @@ homes_start header =
       files = λ r h file home. file;
       whole = λ r declared. refl;
       bare = λ o declared. refl;
+      unmade = λ o high. refl;
       fills = λ task target is. absurd (let bad : None ≡ Some target = is in cc);
     }

@@ -11,6 +11,7 @@ use Rattle.vm_model.specs.declared.message.Message.TheVariants as message
 use Rattle.vm_model.specs.declared.script.Header.{Header}
 use Rattle.vm_model.specs.Controls.{control_after, is_control, last_control, live_after, live_control}
 use Rattle.vm_model.specs.Local.{Local, Place, effect, local, local_after}
+use Rattle.vm_model.specs.Regions.{backing_of, object_pages}
 use Rattle.vm_legal.specs.Accesses.{is_ready}
 use Rattle.vm_legal.specs.Frames.{change, frames_after, frames_held, frames_wired, returns_out, sent_up_change, taken_down_change, taken_up_change}
 use Rattle.vm_legal.specs.Homes.{gives_frame, is_home}
@@ -27,7 +28,7 @@ itself n = grind (arith, nat_tests)
 -- places
 
 pub effect_own : (header : Header) (h : ℕ) (place : Place) (others : Place → Local) (e : Event) (past : List Event) → is_home header h e past ≡ true
-    → effect header h place others e past ≡ own_effect place others (live_control h place.object past) e
+    → effect header h place others e past ≡ own_effect (λ o. backing_of header o past) (λ o. object_pages header o past) place others (live_control h place.object past) e
 effect_own header h place others (event.Zeroed at object page) past is = rw is refl
 effect_own header h place others (event.Raised at lower lower_page upper upper_page) past is = rw is refl
 effect_own header h place others (event.CopiedPage task page object object_page target) past is = rw is refl
@@ -37,10 +38,11 @@ effect_own header h place others (event.Sent (Up at object) m) past is = rw is r
 effect_own header h place others (event.Sent (Down at object control) m) past is = refl
 effect_own header h place others (event.Taken (Up at object) m) past is = refl
 effect_own header h place others (event.Taken (Down at object control) m) past is = rw is refl
+effect_own header h place others (event.Merged upper lower) past is = rw is refl
 effect_own header h place others other past is = refl
 
 pub local_own : (header : Header) (h : ℕ) (e : Event) (past : List Event) → is_home header h e past ≡ true → (place : Place)
-    → local header h place (e ∷ past) ≡ local_after header.size (own_effect place (λ source. local header h source past)
+    → local header h place (e ∷ past) ≡ local_after header.size (own_effect (λ o. backing_of header o past) (λ o. object_pages header o past) place (λ source. local header h source past)
     (live_control h place.object past) e) (local header h place past)
 local_own header h e past is place =
     ap (λ z. local_after header.size z (local header h place past)) (effect_own header h place (λ source. local header h source past) e past is)
@@ -100,7 +102,8 @@ change_taken b own (message.Error page reason) is = rw is refl
 change_taken b own other is = refl
 
 pub change_own : (header : Header) (h : ℕ) (e : Event) (past : List Event) → is_home header h e past ≡ true
-    → change header h e past ≡ own_change (λ o control page. is_control control (live_control h o past) &&
+    → change header h e past ≡ own_change (λ o. backing_of header o past) (λ o. object_pages header o past)
+    (λ o page. (local header h (record { object = o; page = page }) past).here) (λ o control page. is_control control (live_control h o past) &&
     (local header h (record { object = o; page = page }) past).asked) e
 change_own header h (event.Zeroed at object page) past is = rw is refl
 change_own header h (event.Raised at lower lower_page upper upper_page) past is = rw is refl
@@ -112,11 +115,13 @@ change_own header h (event.Taken (Up at object) m) past is = ap (λ z. taken_up_
 change_own header h (event.Taken (Down at object control) m) past is =
     change_taken (at.0 == h) (λ page. is_control control (live_control h object.0 past) &&
     (local header h (record { object = object.0; page = page }) past).asked) m is
+change_own header h (event.Merged upper lower) past is = rw is refl
 change_own header h other past is = refl
 
 pub held_own : (header : Header) (h : ℕ) (e : Event) (past : List Event) → is_home header h e past ≡ true
     → frames_held header h (e ∷ past)
-    ≡ frames_after (own_change (λ o control page. is_control control (live_control h o past) &&
+    ≡ frames_after (own_change (λ o. backing_of header o past) (λ o. object_pages header o past)
+    (λ o page. (local header h (record { object = o; page = page }) past).here) (λ o control page. is_control control (live_control h o past) &&
     (local header h (record { object = o; page = page }) past).asked) e) (frames_held header h past)
 held_own header h e past is = ap (λ z. frames_after z (frames_held header h past)) (change_own header h e past is)
 

@@ -28,6 +28,7 @@ effect_abroad header h place others (event.Sent (Up at object) m) past is = rw i
 effect_abroad header h place others (event.Sent (Down at object control) m) past is = refl
 effect_abroad header h place others (event.Taken (Up at object) m) past is = refl
 effect_abroad header h place others (event.Taken (Down at object control) m) past is = rw is refl
+effect_abroad header h place others (event.Merged upper lower) past is = rw is refl
 effect_abroad header h place others other past is = refl
 
 pub local_abroad : (header : Header) (h : ℕ) (e : Event) (past : List Event) → is_home header h e past ≡ false → (place : Place)
@@ -107,6 +108,7 @@ change_abroad header h (event.Taken (Up at object) m) past is = change_returned 
 change_abroad header h (event.Taken (Down at object control) m) past is =
     change_answered (at.0 == h) (λ page. is_control control (live_control h object.0 past) &&
     (local header h (record { object = object.0; page = page }) past).asked) m is
+change_abroad header h (event.Merged upper lower) past is = rw is refl
 change_abroad header h other past is = refl
 
 pub held_abroad : (header : Header) (h : ℕ) (e : Event) (past : List Event) → is_home header h e past ≡ false

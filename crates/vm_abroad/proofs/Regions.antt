@@ -6,6 +6,7 @@ use Rattle.std.proofs.lemmas.Bool.{cases_lt}
 use Rattle.vm_model.specs.declared.event.Event.{Event}
 use Rattle.vm_model.specs.declared.event.Event.TheVariants as event
 use Rattle.vm_model.specs.declared.script.Header.{Header}
+use Rattle.vm_model.specs.Homes.{object_home}
 use Rattle.vm_model.specs.Local.{is_on}
 use Rattle.vm_model.specs.Named.{named}
 use Rattle.vm_model.specs.Regions.{backing_of, next_object, next_region, region_of}
@@ -16,7 +17,7 @@ use Rattle.vm_legal.specs.Licences.{Enters}
 use Rattle.vm_legal.specs.Living.{lives_on, tasks}
 use Rattle.vm_legal.specs.Outside.{Outside}
 use Rattle.vm_legal.specs.Used.{in_use, is_held, is_kept, made_here}
-use Rattle.vm_abroad.specs.Sound.{IsAbroad, IsAmong, IsHeldOn, IsRegionOf, Knows, Sound}
+use Rattle.vm_abroad.specs.Sound.{IsAbroad, IsAmong, IsHeldOn, IsObjectOf, IsRegionOf, Knows, Sound}
 use Rattle.vm_abroad.proofs.Sounds.{no_shadow, shut_before, shut_of, unlike, use_of, used_of}
 use Rattle.vm_abroad.proofs.Tasks.{task_abroad}
 
@@ -193,10 +194,19 @@ region_abroad header outside h (event.Unmarked changed) past sound abroad r smal
     rw away refl
 region_abroad header outside h other past sound abroad r small own = refl
 
-pub backing_abroad : (header : Header) (outside : Outside) (h : ℕ) (e : Event) (past : List Event) → IsAbroad header outside h e past → (o : ℕ)
-    → o < next_object header past → backing_of header o (e ∷ past) ≡ backing_of header o past
-backing_abroad header outside h (event.Shadowed changed new old) past abroad o small =
+pub backing_abroad : (header : Header) (outside : Outside) (h : ℕ) (e : Event) (past : List Event) → Sound header past → IsAbroad header outside h e past
+    → (o : ℕ) → o < next_object header past → IsObjectOf header h o past → backing_of header o (e ∷ past) ≡ backing_of header o past
+backing_abroad header outside h (event.Shadowed changed new old) past sound abroad o small own =
     let number = abroad.cause.1.next in
     let other : (o == new.0) ≡ false = unlike o new.0 (λ same. omega (arith, same, number, small)) in
     rw other refl
-backing_abroad header outside h other past abroad o small = refl
+backing_abroad header outside h (event.Merged upper lower) past sound abroad o small own =
+    let pair = abroad.cause.1.pair in
+    let other : (o == upper.0) ≡ false = elim (cases_lt o (named header)) [
+      | inl declared ↦ unlike o upper.0 (λ same. absurd (let bad : false ≡ true = sym (sound.bare o declared)
+          ∙ (ap (λ z. (backing_of header z past).backed) same ∙ pair.backed) in cc))
+      | inr temporary ↦ unlike o upper.0 (λ same. absurd (let bad : true ≡ false = sym (own temporary)
+          ∙ (ap (λ z. is_on h (object_home z past)) same ∙ abroad.foreign) in cc))
+    ] in
+    rw other refl
+backing_abroad header outside h other past sound abroad o small own = refl

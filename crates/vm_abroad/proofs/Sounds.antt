@@ -210,6 +210,11 @@ bare_next header outside (event.Shadowed changed new old) past sound cause o dec
     let more = sound.named_objects in
     let other : (o == new.0) ≡ false = unlike o new.0 (λ same. omega (arith, same, number, more, declared)) in
     rw other (sound.bare o declared)
+bare_next header outside (event.Merged upper lower) past sound cause o declared =
+    let pair = cause.1.pair in
+    let other : (o == upper.0) ≡ false = unlike o upper.0 (λ same. absurd (let bad : false ≡ true = sym (sound.bare o declared)
+    ∙ (ap (λ z. (backing_of header z past).backed) same ∙ pair.backed) in cc)) in
+    rw other (sound.bare o declared)
 bare_next header outside other past sound cause o declared = sound.bare o declared
 
 -- numbers rise

@@ -23,7 +23,7 @@ use Rattle.vm_legal.specs.Living.{lives_on}
 use Rattle.vm_legal.specs.Stretches.{EachIn}
 use Rattle.vm_legal.specs.Walks.{Below}
 use Rattle.vm_abroad.specs.Run.{all, bytes, header, host, mapped, object, others, outside, paged_out, past, region, stored, task}
-use Rattle.vm_abroad.specs.Sound.{IsAbroad, IsHeldOn, IsMade, IsRegionOf, Knows, Sound}
+use Rattle.vm_abroad.specs.Sound.{IsAbroad, IsHeldOn, IsMade, IsObjectOf, IsRegionOf, Knows, Sound}
 use Rattle.vm_abroad.proofs.Sounds.{both_left, sound_of, use_of}
 
 abbrev settling : Command
@@ -138,8 +138,8 @@ on_0 n lives = by_first (1 == n) lives
     by_first true lives = absurd (let bad : false ≡ true = lives in cc)
     by_first false lives = by_second (0 == n) refl lives
 
-bare : (n u : ℕ) → Below (λ o. backing_of header o past) n 0 u → u < 1
-bare zero u is = let top : 0 ≡ u = is in omega (arith, top)
+bare : (n u : ℕ) → Below (λ o. backing_of header o past) n 0 u → (u < 1) × IsObjectOf header 0 u past
+bare zero u is = let top : 0 ≡ u = is in (omega (arith, top), subst (λ z. IsObjectOf header 0 z past) top (λ temporary. refl))
 bare (suc n) u is = absurd (let bad : false ≡ true = is.0 in cc)
 
 pub knows : Knows header 0 past
@@ -150,7 +150,7 @@ knows = record {
       ((λ temporary. refl), tt);
   chains =
       λ r small own. let first : 0 ≡ r = (let less : r < 1 = small in omega (arith, less)) in subst
-      (λ (z : ℕ). IsMade header (region_of header z past).top past) first bare;
+      (λ (z : ℕ). IsMade header 0 (region_of header z past).top past) first bare;
 }
 
 -- what host 1 does, and its pager

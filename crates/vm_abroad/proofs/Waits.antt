@@ -60,8 +60,8 @@ module _ (header : Header) (h : ℕ) (old new : List Event) (sound : Sound heade
       → IsTop (region_of header r new) page top top_page
   top_now r page top top_page own is = subst (λ (z : Region). IsTop z page top top_page) (sym (region_now r own)) is
 
-  made_top : (r page top top_page : ℕ) → IsRegionOf header h r old → IsTop (region_of header r old) page top top_page → IsMade header top old
-  made_top r page top top_page own is = subst (λ (z : ℕ). IsMade header z old) is.object (knows.chains r (small_region header h r old sound own) own)
+  made_top : (r page top top_page : ℕ) → IsRegionOf header h r old → IsTop (region_of header r old) page top top_page → IsMade header h top old
+  made_top r page top top_page own is = subst (λ (z : ℕ). IsMade header h z old) is.object (knows.chains r (small_region header h r old sound own) own)
 
   place_now : (r page object object_page : ℕ) → IsRegionOf header h r old → HasPlace header r page object object_page old
       → HasPlace header r page object object_page new
@@ -70,21 +70,21 @@ module _ (header : Header) (h : ℕ) (old new : List Event) (sound : Sound heade
     top_page = is.top_page;
     steps = is.steps;
     is_top = top_now r page is.top is.top_page own is.is_top;
-    leads = leads_is header old new same.backing is.steps is.top is.top_page object object_page (made_top r page is.top is.top_page own is.is_top) is.leads;
+    leads = leads_is header h old new same.backing is.steps is.top is.top_page object object_page (made_top r page is.top is.top_page own is.is_top) is.leads;
   }
 
   walks_now : (r page top top_page n object object_page : ℕ) → IsRegionOf header h r old → IsTop (region_of header r old) page top top_page
       → Walks (λ k q. sight header h k q old) (λ k. backing_of header k old) n top top_page object object_page
       → Walks (λ k q. sight header h k q new) (λ k. backing_of header k new) n top top_page object object_page
   walks_now r page top top_page n object object_page own is_top walks =
-      walks_is header old new same.backing (λ k q. sight header h k q old) (λ k q. sight header h k q new) sight_now n top top_page object object_page
+      walks_is header h old new same.backing (λ k q. sight header h k q old) (λ k q. sight header h k q new) sight_now n top top_page object object_page
       (made_top r page top top_page own is_top) walks
 
   sinks_now : (r page top top_page n : ℕ) → IsRegionOf header h r old → IsTop (region_of header r old) page top top_page
       → Sinks (λ k q. sight header h k q old) (λ k. backing_of header k old) n top top_page
       → Sinks (λ k q. sight header h k q new) (λ k. backing_of header k new) n top top_page
   sinks_now r page top top_page n own is_top sinks =
-      sinks_is header old new same.backing (λ k q. sight header h k q old) (λ k q. sight header h k q new) sight_now n top top_page
+      sinks_is header h old new same.backing (λ k q. sight header h k q old) (λ k q. sight header h k q new) sight_now n top top_page
       (made_top r page top top_page own is_top) sinks
 
   comes_now : (r page object object_page : ℕ) → IsRegionOf header h r old → Comes header h r page object object_page old
@@ -252,7 +252,7 @@ module _ (header : Header) (h : ℕ) (old new : List Event) (sound : Sound heade
           reach.1,
           use_of header h reach.0 new (same.used reach.0 ours ∙ used),
           subst (λ (z : Region). Below (λ o. backing_of header o new) reach.1 z.top object) (sym (region_now reach.0 own))
-              (below_is header old new same.backing reach.1 (region_of header reach.0 old).top object
+              (below_is header h old new same.backing reach.1 (region_of header reach.0 old).top object
               (knows.chains reach.0 (small_region header h reach.0 old sound own) own) reach.3),
         )
   ]

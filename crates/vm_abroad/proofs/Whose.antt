@@ -7,6 +7,7 @@ use Rattle.vm_model.specs.declared.event.Event.{Event}
 use Rattle.vm_model.specs.declared.event.Event.TheVariants as event
 use Rattle.vm_model.specs.declared.message.Channel.TheVariants.{Up, Down}
 use Rattle.vm_model.specs.declared.script.Header.{Header}
+use Rattle.vm_model.specs.Homes.{object_home}
 use Rattle.vm_model.specs.Local.{is_on}
 use Rattle.vm_model.specs.Named.{named}
 use Rattle.vm_legal.specs.Homes.{EntersNext, IsOnlyOfHost, begins_here, gives_frame, is_home}
@@ -16,6 +17,7 @@ use Rattle.vm_legal.specs.Outside.{Outside}
 use Rattle.vm_legal.specs.Stretches.{EachIn}
 use Rattle.vm_abroad.specs.Sound.{IsAbroad, Sound}
 use Rattle.vm_abroad.specs.Whose.{IsNewTask, IsOfHost}
+use Rattle.vm_abroad.proofs.Home.{on_host, same_some}
 use Rattle.vm_abroad.proofs.Sounds.{both_left, one_home, shut_before, used_of}
 
 one_number : (a g h : ℕ) → (a == g) ≡ true → (a == h) ≡ true → h ≡ g
@@ -78,6 +80,8 @@ own_of_home header outside g (event.Unmarked region) past sound cause next new h
       let shut = shut_before region.0 (event.Unmarked region) past next refl in
       sound.apart h g region.0 temporary (used_of header h region.0 past shut there) (used_of header g region.0 past shut home)
 ]
+own_of_home header outside g (event.Merged upper lower) past sound cause next new home h there =
+    same_some h g (sym (on_host h (object_home upper.0 past) there) ∙ on_host g (object_home upper.0 past) home)
 own_of_home header outside g other past sound cause next new home h there = absurd (let bad : false ≡ true = home in cc)
 
 pub foreign_of_own : (header : Header) (g h : ℕ) (e : Event) (past : List Event) → IsOnlyOfHost header g e past → h ≢ g → is_home header h e past ≡ false

@@ -10,7 +10,8 @@ use Rattle.vm_legal.specs.Outside.{is_file}
 use Rattle.vm_legal.specs.Used.{in_use}
 
 -- No region has a home that wasn't made, and no object has a region; and a region that has a home is in use nowhere else. A file's region is in use everywhere
--- until it has a home, and then there. The declared regions and objects are as they were declared, and no slow copy fills one.
+-- until it has a home, and then there. The declared regions and objects are as they were declared, no slow copy fills one, and what isn't made yet
+-- stands on nothing.
 pub record AreHomes (header : Header) (regions_made objects_made : ℕ) (home_from made_for : ℕ → Option ℕ) (used_at : ℕ → ℕ → Bool) (region_from : ℕ → Region)
     (backing_from : ℕ → Backing) (target_from : ℕ → Option Target) : Type 0 where
   pub regions : (r : ℕ) → regions_made ≤ r → home_from r ≡ None
@@ -19,6 +20,7 @@ pub record AreHomes (header : Header) (regions_made objects_made : ℕ) (home_fr
   pub files : (r h : ℕ) → is_file header r ≡ true → (home_from r ≡ None) ⊎ (home_from r ≡ Some h) → used_at h r ≡ true
   pub whole : (r : ℕ) → r < named header → region_from r ≡ record { mark = false; top = r; shift = 0; pages = declared_pages header r }
   pub bare : (o : ℕ) → o < named header → (backing_from o).backed ≡ false
+  pub unmade : (o : ℕ) → objects_made ≤ o → (backing_from o).backed ≡ false
   pub fills : (task : ℕ) (target : Target) → target_from task ≡ Some target → named header ≤ target.region
 
 -- so it is with those of a history

@@ -6,34 +6,39 @@ use Rattle.vm_model.specs.declared.event.Event.TheVariants as event
 use Rattle.vm_model.specs.declared.message.Channel.TheVariants.{Up, Down}
 use Rattle.vm_model.specs.declared.message.Message.TheVariants as message
 use Rattle.vm_model.specs.Controls.{is_control, without_control}
-use Rattle.vm_model.specs.Local.{Drops, Elsewhere, Local, LocalEffect, Place, Raises, Stores, Zeroes, is_place, sent_effect, taken_effect}
-use Rattle.vm_legal.specs.Frames.{FrameChange, Gives, Keeps, Takes, sent_up_change, taken_down_change, taken_up_change}
+use Rattle.vm_model.specs.Local.{Drops, Elsewhere, Local, LocalEffect, Place, Raises, Stores, Zeroes, is_place, merge_effect, sent_effect, taken_effect}
+use Rattle.vm_model.specs.Regions.{Backing}
+use Rattle.vm_legal.specs.Frames.{FrameChange, Gives, GivesSome, Keeps, Takes, pages_gone, sent_up_change, taken_down_change, taken_up_change}
 
--- to a place of the host, with what the host has of the others, and the live control of its object
-abbrev pub own_effect : Place → (Place → Local) → Option ℕ → Event → LocalEffect
-own_effect place others live (event.Zeroed at object page) = if is_place place object.0 page.0 then Zeroes else Elsewhere
-own_effect place others live (event.Raised at lower lower_page upper upper_page) =
+-- to a place of the host, with what the host has of the others, and the live control of its object; what objects stand on, and their pages, come in as functions
+abbrev pub own_effect : (ℕ → Backing) → (ℕ → ℕ) → Place → (Place → Local) → Option ℕ → Event → LocalEffect
+own_effect links lengths place others live (event.Zeroed at object page) = if is_place place object.0 page.0 then Zeroes else Elsewhere
+own_effect links lengths place others live (event.Raised at lower lower_page upper upper_page) =
     if is_place place upper.0 upper_page.0 then Raises (others (record { object = lower.0; page = lower_page.0 })).bytes else Elsewhere
-own_effect place others live (event.CopiedPage task page object object_page target) =
+own_effect links lengths place others live (event.CopiedPage task page object object_page target) =
     if is_place place target.0 page.0 then Raises (others (record { object = object.0; page = object_page.0 })).bytes else Elsewhere
-own_effect place others live (event.Stored task object page at size value) =
+own_effect links lengths place others live (event.Stored task object page at size value) =
     if is_place place object.0 page.0 then Stores at (little_endian_bytes size value) else Elsewhere
-own_effect place others live (event.Dropped at object page) = if is_place place object.0 page.0 then Drops else Elsewhere
-own_effect place others live (event.Sent (Up at object) m) = if object.0 == place.object then sent_effect place.page live m else Elsewhere
-own_effect place others live (event.Taken (Down at object control) m) =
+own_effect links lengths place others live (event.Dropped at object page) = if is_place place object.0 page.0 then Drops else Elsewhere
+own_effect links lengths place others live (event.Sent (Up at object) m) = if object.0 == place.object then sent_effect place.page live m else Elsewhere
+own_effect links lengths place others live (event.Taken (Down at object control) m) =
     if object.0 == place.object && is_control control live then taken_effect place.page m else Elsewhere
-own_effect place others live other = Elsewhere
+own_effect links lengths place others live (event.Merged upper lower) =
+    merge_effect upper.0 lower.0 (links upper.0).shift (lengths upper.0) (lengths lower.0) place others
+own_effect links lengths place others live other = Elsewhere
 
--- to its frames; whether its live control of an object has asked for a page comes in as a function
-abbrev pub own_change : (ℕ → ℕ → ℕ → Bool) → Event → FrameChange
-own_change asked (event.Zeroed at object page) = Takes
-own_change asked (event.Raised at lower lower_page upper upper_page) = Takes
-own_change asked (event.CopiedPage task page object object_page target) = Takes
-own_change asked (event.Dropped at object page) = Gives
-own_change asked (event.Sent (Up at object) m) = sent_up_change true m
-own_change asked (event.Taken (Up at object) m) = taken_up_change true m
-own_change asked (event.Taken (Down at object control) m) = taken_down_change (asked object.0 control) m
-own_change asked other = Keeps
+-- to its frames; which pages are here, and whether its live control of an object has asked for one, come in as functions too
+abbrev pub own_change : (ℕ → Backing) → (ℕ → ℕ) → (ℕ → ℕ → Bool) → (ℕ → ℕ → ℕ → Bool) → Event → FrameChange
+own_change links lengths here asked (event.Zeroed at object page) = Takes
+own_change links lengths here asked (event.Raised at lower lower_page upper upper_page) = Takes
+own_change links lengths here asked (event.CopiedPage task page object object_page target) = Takes
+own_change links lengths here asked (event.Dropped at object page) = Gives
+own_change links lengths here asked (event.Sent (Up at object) m) = sent_up_change true m
+own_change links lengths here asked (event.Taken (Up at object) m) = taken_up_change true m
+own_change links lengths here asked (event.Taken (Down at object control) m) = taken_down_change (asked object.0 control) m
+own_change links lengths here asked (event.Merged upper lower) =
+    GivesSome (pages_gone here upper.0 lower.0 (links upper.0).shift (lengths upper.0) (lengths lower.0))
+own_change links lengths here asked other = Keeps
 
 -- to the live control of an object, the last one, and whether that is ready
 abbrev pub own_live : ℕ → Event → Option ℕ → Option ℕ

@@ -12,7 +12,7 @@ use Rattle.vm_legal.specs.Accesses.{begun_at, is_ready}
 use Rattle.vm_legal.specs.Frames.{frames_held, frames_wired, returns_out}
 use Rattle.vm_legal.specs.Homes.{is_used}
 use Rattle.vm_legal.specs.Living.{lives_on, tasks}
-use Rattle.vm_abroad.specs.Sound.{IsRegionOf, Knows, Sound}
+use Rattle.vm_abroad.specs.Sound.{IsObjectOf, IsRegionOf, Knows, Sound}
 
 -- a task, its entries and its access
 pub record SameTask (size task : ℕ) (old new : List Event) : Type 0 where
@@ -48,7 +48,8 @@ pub record SameFacts (header : Header) (h : ℕ) (old new : List Event) : Type 0
   pub objects : next_object header old ≤ next_object header new
   pub used : (r : ℕ) → named header ≤ r → is_used header h r new ≡ is_used header h r old
   pub region : (r : ℕ) → r < next_region header old → IsRegionOf header h r old → region_of header r new ≡ region_of header r old
-  pub backing : (o : ℕ) → o < next_object header old → backing_of header o new ≡ backing_of header o old
+  pub home : (o : ℕ) → IsObjectOf header h o old → IsObjectOf header h o new
+  pub backing : (o : ℕ) → o < next_object header old → IsObjectOf header h o old → backing_of header o new ≡ backing_of header o old
 
 -- Nothing of it has changed for a host, whose tables say as much as before
 pub record SameForHost (header : Header) (h : ℕ) (old new : List Event) : Type 0 where

@@ -2,6 +2,8 @@
 use Rattle.std.specs.Prelude.{ℕ, ◌<◌, ◌≤◌, ◌≡◌, ◌⊎◌, ◌||◌, Bool, true, false, List, [], ◌∷◌}
 use Rattle.vm_model.specs.declared.event.Event.{Event}
 use Rattle.vm_model.specs.declared.script.Header.{Header}
+use Rattle.vm_model.specs.Homes.{object_home}
+use Rattle.vm_model.specs.Local.{is_on}
 use Rattle.vm_model.specs.Named.{named}
 use Rattle.vm_model.specs.Regions.{backing_of, next_object, next_region, region_of}
 use Rattle.vm_model.specs.Rows.{AllRows}
@@ -44,16 +46,20 @@ pub record IsHeldOn (header : Header) (h r : ℕ) (past : List Event) : Type 0 w
 abbrev pub IsRegionOf : Header → ℕ → ℕ → List Event → Type 0
 IsRegionOf header h r past = named header ≤ r → is_used header h r past ≡ true
 
--- the chain of an object is of objects that were made
-abbrev pub IsMade : Header → ℕ → List Event → Type 0
-IsMade header o past = (n u : ℕ) → Below (λ k. backing_of header k past) n o u → u < next_object header past
+-- an object of the host: a declared one, or one that is at home there
+abbrev pub IsObjectOf : Header → ℕ → ℕ → List Event → Type 0
+IsObjectOf header h o past = named header ≤ o → is_on h (object_home o past) ≡ true
+
+-- the chain of an object is of objects of the host that were made
+abbrev pub IsMade : Header → ℕ → ℕ → List Event → Type 0
+IsMade header h o past = (n u : ℕ) → Below (λ k. backing_of header k past) n o u → (u < next_object header past) × IsObjectOf header h u past
 
 -- What a kernel's tables say of their host: one of its tasks holds each region that is used there, their entries are on regions of the host,
--- and the chains of these are of objects that were made.
+-- and the chains of these are of objects of the host that were made.
 pub record Knows (header : Header) (h : ℕ) (past : List Event) : Type 0 where
   pub held : (r : ℕ) → named header ≤ r → is_used header h r past ≡ true → IsHeldOn header h r past
   pub entries : (task : ℕ) → lives_on h task past ≡ true → AllRows (λ row. IsRegionOf header h row.region.0 past) (entries_of header.size task past)
-  pub chains : (r : ℕ) → r < next_region header past → IsRegionOf header h r past → IsMade header (region_of header r past).top past
+  pub chains : (r : ℕ) → r < next_region header past → IsRegionOf header h r past → IsMade header h (region_of header r past).top past
 
 -- an event that is nothing to the host
 pub record IsAbroad (header : Header) (outside : Outside) (h : ℕ) (e : Event) (past : List Event) : Type 0 where

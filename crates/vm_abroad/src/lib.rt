@@ -12,6 +12,7 @@ ghost use Rattle.vm_model.specs.declared.script.Header.{Header};
 ghost use Rattle.vm_model.specs.Controls.{is_control, last_control, live_control};
 ghost use Rattle.vm_model.specs.Local.{Place, local, local_after};
 ghost use Rattle.vm_model.specs.Moments.{EachEvent};
+ghost use Rattle.vm_model.specs.Regions.{backing_of, object_pages};
 ghost use Rattle.vm_legal.specs.Accesses.{is_ready};
 ghost use Rattle.vm_legal.specs.Follows.{FollowsSoFar};
 ghost use Rattle.vm_legal.specs.Frames.{frames_after, frames_held, frames_wired, returns_out};
@@ -52,7 +53,7 @@ pub fn who_waits_waits_as_before()
 /// What a host's own event does to the host's pages, controls and frames: nothing is asked of numbers of hosts.
 pub fn own_events_move_their_host()
     ensures local { (header : Header) (h : ℕ) (e : Event) (past : List Event) → is_home header h e past ≡ true → (place : Place)
-        → local header h place (e ∷ past) ≡ local_after header.size (own_effect place (λ source. local header h source past)
+        → local header h place (e ∷ past) ≡ local_after header.size (own_effect (λ o. backing_of header o past) (λ o. object_pages header o past) place (λ source. local header h source past)
         (live_control h place.object past) e) (local header h place past) }
     ensures live { (header : Header) (h : ℕ) (e : Event) (past : List Event) → is_home header h e past ≡ true → (o : ℕ)
         → live_control h o (e ∷ past) ≡ own_live o e (live_control h o past) }
@@ -61,7 +62,8 @@ pub fn own_events_move_their_host()
     ensures ready { (header : Header) (h : ℕ) (e : Event) (past : List Event) → is_home header h e past ≡ true → (o : ℕ)
         → is_ready h o (e ∷ past) ≡ own_ready o (live_control h o past) e (is_ready h o past) }
     ensures held { (header : Header) (h : ℕ) (e : Event) (past : List Event) → is_home header h e past ≡ true
-        → frames_held header h (e ∷ past) ≡ frames_after (own_change (λ o control page. is_control control (live_control h o past) &&
+        → frames_held header h (e ∷ past) ≡ frames_after (own_change (λ o. backing_of header o past) (λ o. object_pages header o past)
+        (λ o page. (local header h (record { object = o; page = page }) past).here) (λ o control page. is_control control (live_control h o past) &&
         (local header h (record { object = o; page = page }) past).asked) e) (frames_held header h past) }
     ensures wired { (header : Header) (h : ℕ) (e : Event) (past : List Event)
         → is_home header h e past ≡ true → frames_wired h (e ∷ past) ≡ own_wired e (frames_wired h past) }
