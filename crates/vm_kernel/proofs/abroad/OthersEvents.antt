@@ -19,7 +19,10 @@ use Rattle.vm_model.specs.Local.{is_on}
 use Rattle.vm_model.specs.Waiting.{waiting}
 use Rattle.vm_state.specs.Places.{known_local}
 use Rattle.vm_state.specs.Waiters.{waiting_in}
-use Rattle.vm_abroad.proofs.Home.{homes_abroad, named_objects, objects_stay}
+use Rattle.vm_abroad.proofs.Home.{homes_abroad, named_objects, objects_stay, on_own}
+use Rattle.vm_abroad.specs.Sound.{IsObjectOf}
+use Rattle.vm_objects.specs.Objects.{object_at}
+use Rattle.vm_objects.specs.declared.row.ObjectRow.{ObjectRow}
 use Rattle.vm_model.specs.Regions.{}
 use Rattle.vm_parts.specs.Changes.{one}
 use Rattle.vm_shadow.specs.Chains.{ChainTable, shadow_at}
@@ -114,18 +117,23 @@ held_on header h k ids past rests r temporary used =
           holds = holds_it;
         }
 
--- the chain of a region of the host is of objects that its tables know, or of a declared one, and these were made
+-- an object that its tables know is the host's
+own_object : (header : Header) (h : ℕ) (k : Parts) (ids : Ids) (past : List Event) → Rests header h k ids past → (o : ℕ) (row : ObjectRow)
+    → object_at k.memory.objects o ≡ Some row → IsObjectOf header h o past
+own_object header h k ids past rests o row found temporary = ap (is_on h) (rests.matches.controls.home o row temporary found) ∙ on_own h
+
+-- the chain of a region of the host is of objects that its tables know, or of a declared one, and these were made, for the host
 chain_made : (header : Header) (h : ℕ) (k : Parts) (ids : Ids) (past : List Event) → Rests header h k ids past → (r n u : ℕ) → IsRegionOf header h r past
-    → Below (λ o. backing_of header o past) n (region_of header r past).top u → u < next_object header past
+    → Below (λ o. backing_of header o past) n (region_of header r past).top u → (u < next_object header past) × IsObjectOf header h u past
 chain_made header h k ids past rests r n u own below = elim (kind_cases header r) [
   | inl declared ↦
       let same = declared_chain header past r n u rests.matches.homes.1 declared below in
       let more = named_objects header past in
-      omega (arith, same, declared, more)
+      (omega (arith, same, declared, more), λ temporary. absurd (omega (arith, same, declared, temporary)))
   | inr temporary ↦
       let row = used_there header h k ids [] past r rests.matches rests.used.copies temporary (use_of header h r past (own temporary)) in
       let known = chain_known rests.matches.regions r row.0 row.1 n u below in
-      small_object rests.matches.regions u known.row known.known
+      (small_object rests.matches.regions u known.row known.known, own_object header h k ids past rests u known.row known.known)
 ]
 
 pub knows_of : (header : Header) (h : ℕ) (k : Parts) (ids : Ids) (past : List Event) → Rests header h k ids past → Knows header h past
@@ -209,8 +217,14 @@ module _ (header : Header) (h : ℕ) (k : Parts) (ids next : Ids) (past new : Li
         marks = common.marks;
         few = common.few;
         rows = λ r row found. same.region r (small_region has r row found) (own_region header h k ids past rests r (ap is_some found)) ∙ has.rows r row found;
-        shadows = λ o row found. same.backing o (small_shadow has o row found) ∙ has.shadows o row found;
-        bottoms = λ o referred bare. ap (λ z. z.backed) (same.backing o (small_object has o referred.row referred.known)) ∙ has.bottoms o referred bare;
+        shadows =
+            λ o row found. let known = row_of (object_at k.memory.objects o) (has.unders o row found).0 in
+            same.backing o (small_shadow has o row found) (own_object header h k ids past rests o known.0 known.1) ∙ has.shadows o row found;
+        bottoms =
+            λ o referred bare.
+            ap (λ z. z.backed)
+                (same.backing o (small_object has o referred.row referred.known) (own_object header h k ids past rests o referred.row referred.known))
+            ∙ has.bottoms o referred bare;
         unmade = λ r high. has.unmade r (let rise = same.regions in omega (arith, rise, high));
         unknown = λ o high. has.unknown o (let rise = same.objects in omega (arith, rise, high));
         tops = has.tops;
