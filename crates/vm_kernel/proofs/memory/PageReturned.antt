@@ -50,16 +50,14 @@ calm_if : (b : Bool) (e : LocalEffect) → IsCalm e → IsCalm (if b then e else
 calm_if true e none = none
 calm_if false e none = tt
 
+calm_either : (b : Bool) (e f : LocalEffect) → IsCalm e → IsCalm f → IsCalm (if b then e else f)
+calm_either true e f one other = one
+calm_either false e f one other = other
+
 calm_merged : (upper lower shift upper_pages lower_pages : ℕ) (place : Place) (others : Place → Local)
     → IsCalm (merge_effect upper lower shift upper_pages lower_pages place others)
-calm_merged upper lower shift upper_pages lower_pages place others = by (place.object == upper)
-  where
-    moves : Bool → LocalEffect
-    moves b = if b then Moves (others (record { object = lower; page = shift + place.page })) else Elsewhere
-
-    by : (b : Bool) → IsCalm (if b then moves _ else (if place.object == lower && nat_lt place.page lower_pages then Drops else Elsewhere))
-    by true = calm_if _ (Moves _) tt
-    by false = calm_if _ Drops tt
+calm_merged upper lower shift upper_pages lower_pages place others =
+    calm_either (place.object == upper) _ _ (calm_if _ (Moves _) tt) (calm_if (place.object == lower && nat_lt place.page lower_pages) Drops tt)
 
 calm_taken : (page : ℕ) (m : Message) → IsCalm (taken_effect page m)
 calm_taken page (message.Supply at lock precious bytes) = calm_if _ (TakesPage lock precious bytes) tt
