@@ -22,6 +22,7 @@ pub mod Letters
 pub mod Lives
 pub mod Loads
 pub mod Locals
+pub mod Merges
 pub mod Numbers
 pub mod Opening
 pub mod Pagers
