@@ -1,12 +1,13 @@
 -- All places of an object have its control.
 use Rattle.std.proofs.Common.{◌≡◌, ℕ, List, [], ◌∷◌, Bool, true, false, refl, if◌then◌else◌, ◌∙◌, ap}
-use Rattle.std.specs.Prelude.{◌==◌, ◌&&◌, nat_lt, not, ◌+◌}
-use Rattle.vm_flat.specs.Words.{SpotEffect, Creates, Requests, Returns, TakesRequest, TakesReturn, Answers, Takes, Zeroes, Raises, Stores, Drops, Moves, Ends}
+use Rattle.std.specs.Prelude.{◌==◌, ◌&&◌, ◌+◌}
+use Rattle.vm_flat.specs.Words.{SpotEffect, Creates, Requests, Returns, TakesRequest, TakesReturn, Answers, Takes, Zeroes, Raises, Stores, Drops, Ends}
 use Rattle.vm_flat.specs.Words.{StepEnds, Nothing}
-use Rattle.vm_flat.specs.Spot.{Spot, merged_effect, spot_after}
+use Rattle.vm_flat.specs.Spot.{spot_after}
 use Rattle.vm_flat.proofs.Deeds.{Ground, is_file, Deed, Line, Region, Cow, Kept, Shadowed, Unmarked, Zeroed, Raised, Stored, Dropped, Created, Asked, Copied}
 use Rattle.vm_flat.proofs.Deeds.{Returned}
 use Rattle.vm_flat.proofs.Deeds.{Merged, TookRequest, TookReturn, Answered, Took, Terminated, Elsewhere, spot, control}
+use Rattle.vm_flat.proofs.MergeEffects.{merged_case}
 use Rattle.vm_flat.proofs.Good.{takes_control}
 use Rattle.vm_flat.proofs.World.{each_place}
 use Rattle.vm_flat.proofs.File.{file_is}
@@ -24,19 +25,6 @@ object_is : (z : Ground) (o p n : ℕ) (mine : SpotEffect) (past : List Deed) (b
 object_is z o p n mine past true was is = is
 object_is z o p n mine past false was is = was
 
-merged_control : (z : List ℕ) (s above below : Spot) (own : Bool) (o p upper lower shift upper_pages lower_pages : ℕ)
-    → (spot_after z s (if own then merged_effect o p upper lower shift upper_pages lower_pages above below else Nothing)).control ≡ s.control
-merged_control z s above below false o p upper lower shift upper_pages lower_pages = refl
-merged_control z s above below true o p upper lower shift upper_pages lower_pages =
-    by (o == upper) (nat_lt p upper_pages && (nat_lt (shift + p) lower_pages && (below.here && not above.here))) (o == lower && nat_lt p lower_pages)
-  where
-    by : (a b c : Bool)
-        → (spot_after z s (if a then (if b then Moves below.bytes below.dirty else Nothing) else (if c then Drops else Nothing))).control ≡ s.control
-    by true true c = refl
-    by true false c = refl
-    by false b true = refl
-    by false b false = refl
-
 pub control_is : (z : Ground) (o p : ℕ) (past : List Deed) → (spot z o p past).control ≡ control z o past
 control_is z o p [] = refl
 control_is z o p (Copied own x y l lp a i k q ∷ past) =
@@ -48,8 +36,8 @@ control_is z o p (Kept held ∷ past) = control_is z o p past
 control_is z o p (Shadowed region new ∷ past) = control_is z o p past
 control_is z o p (Unmarked region ∷ past) = control_is z o p past
 control_is z o p (Merged own upper lower shift upper_pages lower_pages ∷ past) =
-    merged_control z.zeros (spot z o p past) (spot z o p past) (spot z lower (shift + p) past) own o p upper lower shift upper_pages lower_pages
-    ∙ control_is z o p past
+    merged_case (λ e. (spot_after z.zeros (spot z o p past) e).control ≡ (spot z o p past).control) own o p upper lower shift upper_pages lower_pages
+    (spot z o p past) (spot z lower (shift + p) past) (λ bytes dirty. refl) refl refl ∙ control_is z o p past
 control_is z o p (Elsewhere ∷ past) = control_is z o p past
 control_is z o p (Zeroed own k q ∷ past) = same z o p own k q Zeroes Nothing past (control_is z k q past) (λ o p. control_is z o p past)
 control_is z o p (Raised own l lp k q ∷ past) =

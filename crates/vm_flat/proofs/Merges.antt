@@ -264,7 +264,7 @@ of_lower o p upper lower shift upper_pages lower_pages s t apart =
     then (if nat_lt p upper_pages && (nat_lt (shift + p) lower_pages && (t.here && not s.here)) then Moves t.bytes t.dirty else Nothing)
     else (if o == lower && nat_lt p lower_pages then Drops else Nothing)) (eq_no o upper apart)
 
-of_other : (o p upper lower shift upper_pages lower_pages : ℕ) (s t : Spot) → o ≢ upper → o ≢ lower
+pub of_other : (o p upper lower shift upper_pages lower_pages : ℕ) (s t : Spot) → o ≢ upper → o ≢ lower
     → merged_effect o p upper lower shift upper_pages lower_pages s t ≡ Nothing
 of_other o p upper lower shift upper_pages lower_pages s t apart too =
     of_lower o p upper lower shift upper_pages lower_pages s t apart
