@@ -106,14 +106,14 @@ pub record TopAlone (z : Ground) (region : ℕ) (past : List Deed) : Type 0 wher
   pub tops : (r : ℕ) → (row z r past).used ≡ true → r ≢ region → (row z r past).top ≢ (row z region past).top
   pub bare : (v : ℕ) → Reach z v past → (link z v past).backed ≡ true → (link z v past).under ≢ (row z region past).top
 
--- the lower of two objects is no region's top, and what is reached and stands on it is the upper alone; neither ever had a control
+-- the lower object is no region's top, and of what is reached the upper alone stands on it; neither ever had a control
 pub record Pair (z : Ground) (upper lower : ℕ) (past : List Deed) : Type 0 where
   pub no_top : (r : ℕ) → (row z r past).used ≡ true → (row z r past).top ≢ lower
   pub sole : (v : ℕ) → Reach z v past → (link z v past).backed ≡ true → (link z v past).under ≡ lower → v ≡ upper
   pub upper_never : control z upper past ≡ 0
   pub lower_never : control z lower past ≡ 0
 
--- on the host of both temporary objects they are a pair, and on others the upper isn't reached
+-- the upper object stands on the lower: where both are at home they are a pair, and elsewhere the upper isn't reached
 pub record Joins (z : Ground) (own : Bool) (upper lower shift upper_pages lower_pages : ℕ) (past : List Deed) : Type 0 where
   pub backed : (link z upper past).backed ≡ true
   pub under : (link z upper past).under ≡ lower

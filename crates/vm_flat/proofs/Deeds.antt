@@ -23,7 +23,7 @@ is_file z o = nat_lt o z.named && z.file o
 abbrev pub covered : Ground → ℕ → Bool
 covered z o = (not (nat_lt o z.named) && z.paging) || (nat_lt o z.named && z.file o)
 
--- `own` says that it happens on the host; on other hosts it changes regions and the flat map alone
+-- `own` says that it happens on the host; on other hosts it changes regions, what stands on what, and the flat map alone
 pub data Deed : Type 0 where
   -- a step begins
   Line : Deed
@@ -34,7 +34,7 @@ pub data Deed : Type 0 where
   Kept : (held : ℕ → Bool) → Deed
   Shadowed : (region : ℕ) → (new : ℕ) → Deed
   Unmarked : (region : ℕ) → Deed
-  -- an object is merged into its one shadow: the pages of both, and the lower's page that the upper's page 0 is over, come with it
+  -- the lower object is merged into the upper, its one shadow, whose page 0 is over the lower's page `shift`
   Merged : (own : Bool) → (upper : ℕ) → (lower : ℕ) → (shift : ℕ) → (upper_pages : ℕ) → (lower_pages : ℕ) → Deed
   Zeroed : (own : Bool) → (object : ℕ) → (page : ℕ) → Deed
   Raised : (own : Bool) → (lower : ℕ) → (lower_page : ℕ) → (upper : ℕ) → (upper_page : ℕ) → Deed

@@ -96,13 +96,29 @@ owned_parts header outside past host row start end is low less high =
 
 owned_prot : (header : Header) (outside : Outside) (past : List Event) (host : ℕ) (prot : Prot) (row : Entry) → OwnedAt header outside past host row
     → AllRows (OwnedAt header outside past host) (record row { prot = prot } ∷ [])
-owned_prot header outside past host prot row is =
-    (record { made = is.made; inside = record { whole = is.inside.whole; each = is.inside.each }; used_here = is.used_here; alone = is.alone; homed = is.homed }, tt)
+owned_prot header outside past host prot row is = (
+  record {
+    made = is.made;
+    inside = record { whole = is.inside.whole; each = is.inside.each };
+    used_here = is.used_here;
+    alone = is.alone;
+    homed = is.homed;
+  },
+  tt,
+)
 
 owned_inherit : (header : Header) (outside : Outside) (past : List Event) (host : ℕ) (inherit : Inherit) (row : Entry) → OwnedAt header outside past host row
     → AllRows (OwnedAt header outside past host) (record row { inherit = inherit } ∷ [])
-owned_inherit header outside past host inherit row is =
-    (record { made = is.made; inside = record { whole = is.inside.whole; each = is.inside.each }; used_here = is.used_here; alone = is.alone; homed = is.homed }, tt)
+owned_inherit header outside past host inherit row is = (
+  record {
+    made = is.made;
+    inside = record { whole = is.inside.whole; each = is.inside.each };
+    used_here = is.used_here;
+    alone = is.alone;
+    homed = is.homed;
+  },
+  tt,
+)
 
 -- where only held regions stay in use
 

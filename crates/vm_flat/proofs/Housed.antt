@@ -1,12 +1,11 @@
--- On which hosts objects are reached: on their home alone, or none has yet an entry on the region that they were made for.
-use Rattle.std.proofs.Common.{◌≡◌, ◌≢◌, ◌≤◌, ◌<◌, ◌+◌, ℕ, zero, suc, Bool, true, false, List, [], ◌∷◌, Option, Some, None, ap, refl, subst, sym, ◌∙◌, arith, inl, inr}
+-- A temporary object is reached on its home alone, but while no task has an entry on the region that it was made for.
+use Rattle.std.proofs.Common.{◌≡◌, ◌≤◌, ◌<◌, ℕ, zero, suc, Bool, true, false, List, [], ◌∷◌, Option, Some, None, ap, refl, subst, sym, ◌∙◌, arith, inl, inr}
 use Rattle.std.proofs.Common.{if◌then◌else◌}
 use Rattle.std.proofs.lemmas.Bool.Decides.{nat_tests}
 use Rattle.std.specs.Prelude.{◌==◌, ◌&&◌, ◌||◌, ◌⊎◌, not}
 use native.Mathlib.Decide.{ℕ_discrete}
 use Rattle.vm_base.specs.declared.ids.Inherit.{Inherit}
 use Rattle.vm_base.specs.declared.ids.ObjectId.{ObjectId}
-use Rattle.vm_base.specs.declared.ids.PageNo.{PageNo}
 use Rattle.vm_base.specs.declared.ids.Prot.{Prot}
 use Rattle.vm_base.specs.declared.ids.RegionId.{RegionId}
 use Rattle.vm_base.specs.declared.ids.TaskId.{TaskId}
@@ -19,7 +18,6 @@ use Rattle.vm_model.specs.Named.{named}
 use Rattle.vm_model.specs.Regions.{Backing, backing_of, joined, next_object, next_region, over, region_of}
 use Rattle.vm_model.specs.Rows.{found_row}
 use Rattle.vm_model.specs.Tasks.{host_of}
-use Rattle.vm_legal.specs.Licences as L
 use Rattle.vm_legal.specs.Living.{lives_on}
 use Rattle.vm_legal.specs.Outside.{Outside}
 use Rattle.vm_legal.specs.Used.{is_kept, made_here}
@@ -27,10 +25,8 @@ use Rattle.vm_legal.specs.Walks.{Below}
 use Rattle.vm_flat.proofs.Classes.{deeds, ground}
 use Rattle.vm_flat.proofs.Deeds as D
 use Rattle.vm_flat.proofs.Entries.{Entries, OwnedAt}
-use Rattle.vm_flat.proofs.Numbers.{NumberedAt}
 use Rattle.vm_flat.proofs.Ports.{Worlds}
 use Rattle.vm_flat.proofs.Regions.{eq_no, eq_yes, if_no, if_yes}
-use Rattle.vm_flat.proofs.Sustained as S
 use Rattle.vm_flat.proofs.Sustained.{Sustained}
 use Rattle.vm_flat.proofs.Ties.{link_is, objects_is, regions_is, row_is}
 use Rattle.vm_flat.proofs.Uses.{in_use}
@@ -46,8 +42,7 @@ pub record Housed (header : Header) (outside : Outside) (past : List Event) : Ty
   pub reached : (g r n u : ℕ) → in_use header outside g r past ≡ true → Below (λ k. backing_of header k past) n (region_of header r past).top u
       → named header ≤ u → IsHoused g r u past
 
--- numbers
-
+-- what is in use, or stands on something, was made
 record Made (header : Header) (outside : Outside) (past : List Event) : Type 0 where
   used : (g r : ℕ) → in_use header outside g r past ≡ true → r < next_region header past
   tops : (r : ℕ) → r < next_region header past → (region_of header r past).top < next_object header past
@@ -74,7 +69,7 @@ made_of header outside past w =
     on_link : (o : ℕ) → (backing_of header o past).backed ≡ true → (D.link (ground header outside) o (deeds header outside 0 past)).backed ≡ true
     on_link o on = ap (λ (x : D.Link). x.backed) (link_is header outside 0 o past) ∙ on
 
--- homes that stay
+-- a home stays
 
 first_stays : (b : Bool) (h : ℕ) (was later : Option ℕ) → was ≡ Some h → (if b then first_of was later else was) ≡ Some h
 first_stays true h was later is = ap (λ z. first_of z later) is
@@ -161,12 +156,15 @@ below_merged : (old : ℕ → Backing) (upper lower n o u : ℕ) → (old upper)
 below_merged old upper lower zero o u on under is = (0, is)
 below_merged old upper lower (suc n) o u on under is = elim (ℕ_discrete o upper) [
   | yes e ↦
-      let mine : joined (o == upper) (old lower) (old o) ≡ joined true (old lower) (old o) = ap (λ (b : Bool). joined b (old lower) (old o)) (eq_yes o upper e) in
+      let mine : joined (o == upper) (old lower) (old o) ≡ joined true (old lower) (old o) = ap (λ (b : Bool). joined b (old lower) (old o))
+      (eq_yes o upper e) in
       let backed : (old lower).backed ≡ true = sym (ap (λ (x : Backing). x.backed) mine) ∙ is.0 in
       let was : (m : ℕ) × Below old m (old lower).under u = below_merged old upper lower n (old lower).under u on under (subst
-      (λ (x : Backing). Below (λ k. joined (k == upper) (old lower) (old k)) n x.under u) mine is.1) in
-      (suc (suc was.0), subst (λ (k : ℕ). Below old (suc (suc was.0)) k u) (sym e)
-          (on, subst (λ (k : ℕ). Below old (suc was.0) k u) (sym under) (backed, was.1)))
+      (λ (x : Backing). Below (λ k. joined (k == upper) (old lower) (old k)) n x.under u) mine is.1) in (
+        suc (suc was.0),
+        subst (λ (k : ℕ). Below old (suc (suc was.0)) k u) (sym e)
+            (on, subst (λ (k : ℕ). Below old (suc was.0) k u) (sym under) (backed, was.1)),
+      )
   | no apart ↦
       let same : joined (o == upper) (old lower) (old o) ≡ old o = ap (λ (b : Bool). joined b (old lower) (old o)) (eq_no o upper apart) in
       let was : (m : ℕ) × Below old m (old o).under u = below_merged old upper lower n (old o).under u on under (subst
@@ -216,7 +214,7 @@ entered_here header outside task region g r past e used =
     by true b one two = two
     by false b one two = absurd (let bad : false ≡ true = one in cc)
 
--- the first host that there was, or the entry's
+-- the home that there was, else the entry's host
 entered_home : (g h : ℕ) (was x : Option ℕ) → x ≡ Some g → first_of was x ≡ Some h → (was ≡ Some h → g ≡ h) → g ≡ h
 entered_home g h None x here home stays = same_some g h (sym here ∙ home)
 entered_home g h (Some f) x here home stays = stays home
@@ -388,8 +386,8 @@ housed_start header outside =
       objects = λ o high. refl;
       stay = λ g h r used home. no_some h home;
       reached = λ g r n u used below above. absurd (
-        let same : r ≡ u = below_bare (λ k. backing_of header k []) n r u (λ on. absurd (let bad : false ≡ true = on in cc)) below in
-        let less : r < named header = grind (arith, nat_tests) in
-        omega (arith, same, less, above)
-      );
+          let same : r ≡ u = below_bare (λ k. backing_of header k []) n r u (λ on. absurd (let bad : false ≡ true = on in cc)) below in
+          let less : r < named header = grind (arith, nat_tests) in
+          omega (arith, same, less, above)
+          );
     }

@@ -1,5 +1,6 @@
 -- A place is what its host has of the page.
-use Rattle.std.proofs.Common.{◌≡◌, ℕ, ◌==◌, ◌&&◌, ◌∙◌, List, [], ◌∷◌, arith, Bool, true, false, Option, Some, None, if◌then◌else◌, refl, ap, subst, sym, replicate, ◌+◌}
+use Rattle.std.proofs.Common.{◌≡◌, ℕ, ◌==◌, ◌&&◌, ◌∙◌, List, [], ◌∷◌, arith, Bool, true, false, Option, Some, None, if◌then◌else◌, refl, ap, subst, sym}
+use Rattle.std.proofs.Common.{replicate, ◌+◌}
 use Rattle.std.specs.Prelude.{not, nat_lt, ◌||◌}
 use native.Mathlib.Decide.{ℕ_discrete}
 use Rattle.std.proofs.lemmas.Bool.Decides.{nat_tests}
@@ -247,7 +248,8 @@ comes_up z size file last live s t page low a b here bytes dirty i =
     there a b c d is = grind arith
 
     by : (m : Bool) → (a && (b && (low.here && not page.here))) ≡ m
-        → SpotIsLocal file last live (spot_after z s (if m then Moves t.bytes t.dirty else Nothing)) (local_after size (if m then L.Moves low else Elsewhere) page)
+        → SpotIsLocal file last live (spot_after z s (if m then Moves t.bytes t.dirty else Nothing))
+        (local_after size (if m then L.Moves low else Elsewhere) page)
     by false is = i
     by true is =
         record {
@@ -460,7 +462,8 @@ spot_is_local header outside (event.CopiedPage task page object object_page targ
 spot_is_local header outside (event.Merged upper lower ∷ past) host o p =
     let q : ℕ = (backing_of header upper.0 past).shift + p in
     let below : SpotIsLocal (is_file header lower.0) (last_control host lower.0 past) (live_control host lower.0 past)
-    (spot header outside host lower.0 q past) (local header host (record { object = lower.0; page = q }) past) = spot_is_local header outside past host lower.0 q
+    (spot header outside host lower.0 q past) (local header host (record { object = lower.0; page = q }) past) =
+    spot_is_local header outside past host lower.0 q
     in merges (zeros header) header.size _ _ _ (spot header outside host o p past) (spot header outside host lower.0 q past)
     (local header host (record { object = o; page = p }) past) (local header host (record { object = lower.0; page = q }) past)
     (is_on host (object_home upper.0 past)) (o == upper.0) (o == lower.0 && nat_lt p (object_pages header lower.0 past))

@@ -1,5 +1,5 @@
 -- What a merge leaves of a place as it was.
-use Rattle.std.proofs.Common.{◌≡◌, ℕ, ◌+◌, List, ◌∷◌, Bool, true, false, arith, refl, ap, sym, ◌∙◌, if◌then◌else◌}
+use Rattle.std.proofs.Common.{◌≡◌, ℕ, ◌+◌, List, ◌∷◌, Bool, true, false, arith, refl, if◌then◌else◌}
 use Rattle.std.proofs.lemmas.Bool.Decides.{nat_tests}
 use Rattle.std.specs.Prelude.{◌==◌, ◌&&◌, nat_lt, not, ◌≢◌}
 use Rattle.vm_base.specs.declared.ids.ObjectId.{ObjectId}
@@ -7,7 +7,7 @@ use Rattle.vm_model.specs.declared.event.Event.{Event}
 use Rattle.vm_model.specs.declared.event.Event.TheVariants as event
 use Rattle.vm_model.specs.declared.script.Header.{Header}
 use Rattle.vm_model.specs.Homes.{object_home}
-use Rattle.vm_model.specs.Local.{Elsewhere, Local, LocalEffect, Place, effect, is_on, merge_effect}
+use Rattle.vm_model.specs.Local.{Elsewhere, Local, Place, effect, is_on, merge_effect}
 use Rattle.vm_model.specs.Regions.{backing_of, object_pages}
 use Rattle.vm_legal.specs.Outside.{Outside, zeros}
 use Rattle.vm_flat.specs.Words.{SpotEffect, Moves, Drops, Nothing}
@@ -41,12 +41,13 @@ merge_keeps part moves drops header outside host o p upper lower past =
     (spot header outside host lower.0 ((backing_of header upper.0 past).shift + p) past)
     (moves (zeros header) (spot header outside host o p past)) (drops (zeros header) (spot header outside host o p past)) refl
 
--- nothing of another object's page
+-- it is nothing to another object's page
 pub merge_apart : (header : Header) (host : ℕ) (place : Place) (others : Place → Local) (upper lower : ObjectId) (past : List Event) → place.object ≢ upper.0
     → place.object ≢ lower.0 → effect header host place others (event.Merged upper lower) past ≡ Elsewhere
 merge_apart header host place others upper lower past apart too = by (is_on host (object_home upper.0 past))
   where
-    rest : merge_effect upper.0 lower.0 (backing_of header upper.0 past).shift (object_pages header upper.0 past) (object_pages header lower.0 past) place others
+    rest : merge_effect upper.0 lower.0 (backing_of header upper.0 past).shift (object_pages header upper.0 past) (object_pages header lower.0 past) place
+        others
         ≡ Elsewhere
     rest =
         let one : (place.object == upper.0) ≡ false = grind (arith, nat_tests) in

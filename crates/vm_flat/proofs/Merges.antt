@@ -1,5 +1,6 @@
--- Objects that are merged.
-use Rattle.std.proofs.Common.{◌≡◌, ℕ, zero, suc, ◌+◌, ◌<◌, ◌≤◌, List, ◌∷◌, arith, Bool, true, false, None, refl, if◌then◌else◌, ◌∙◌, sym, subst, ap, ◌≢◌, inl, inr}
+-- What a merge leaves: each object shows what it showed, and the lower object is reached no more.
+use Rattle.std.proofs.Common.{◌≡◌, ℕ, zero, suc, ◌+◌, ◌<◌, ◌≤◌, List, ◌∷◌, arith, Bool, true, false, None, refl, if◌then◌else◌, ◌∙◌, sym, subst, ap, ◌≢◌, inl}
+use Rattle.std.proofs.Common.{inr}
 use Rattle.std.proofs.lemmas.Bool.Decides.{nat_tests}
 use Rattle.std.specs.Prelude.{◌⊎◌, ◌==◌, ◌&&◌, not, nat_lt}
 use native.Mathlib.Decide.{ℕ_discrete}
@@ -40,7 +41,7 @@ below_foreign rows links upper lower foreign (suc n) v o reach is =
     (reaches_next rows links v reach (subst (λ (x : Link). x.backed ≡ true) same is.0))
     (subst (λ (x : Link). Below (after upper lower links) n x.under o) same is.1)
 
--- and where the lower is reached by the upper alone, it isn't below any more
+-- and so it was where the lower is reached by the upper alone; the lower isn't below any more
 below_own : (rows : ℕ → Row) (links : ℕ → Link) (rank : ℕ → ℕ) (upper lower : ℕ) → ((k : ℕ) → (links k).backed ≡ true → rank (links k).under < rank k)
     → (links upper).backed ≡ true → (links upper).under ≡ lower
     → ((v : ℕ) → Reaches rows links v → (links v).backed ≡ true → (links v).under ≡ lower → v ≡ upper) → (n v o : ℕ) → Reaches rows links v → v ≢ lower
@@ -293,7 +294,8 @@ upper_place : (z : Ground) (upper lower shift upper_pages lower_pages : ℕ) (pa
 upper_place z upper lower shift upper_pages lower_pages past w c p ours =
     subst (λ (x : Link). Good z.zeros (ReachAt z upper p now) (objects z past ≤ upper) (Barren z upper p now) (view z upper p past) x.backed
     (view z x.under (x.shift + p) past) (spot z upper p now)) (sym (link_own (λ k. link z k past) upper upper lower refl))
-    (subst (λ (u : List ℕ). Good z.zeros (ReachAt z upper p now) (objects z past ≤ upper) (Barren z upper p now) (view z upper p past) (link z lower past).backed
+    (subst (λ (u : List ℕ). Good z.zeros (ReachAt z upper p now) (objects z past ≤ upper) (Barren z upper p now) (view z upper p past)
+    (link z lower past).backed
     u (spot z upper p now)) (ap (λ q. view z (link z lower past).under q past) far)
     (subst (λ (e : SpotEffect). Good z.zeros (ReachAt z upper p now) (objects z past ≤ upper) (Barren z upper p now) (view z upper p past)
     (link z lower past).backed (under_view z lower (shift + p) past) (spot_after z.zeros above e))

@@ -125,7 +125,8 @@ link_is header outside host o (event.Shadowed region new old ∷ past) =
     ∙ ap (λ (l : D.Link). over (o == new.0) (as_row (in_use header outside host region.0 past) (region_of header region.0 past)) l)
     (link_is header outside host o past)
 link_is header outside host o (event.Merged upper lower ∷ past) =
-    ap (λ (l : D.Link). D.joined (o == upper.0) l (D.link (ground header outside) o (deeds header outside host past))) (link_is header outside host lower.0 past)
+    ap (λ (l : D.Link). D.joined (o == upper.0) l (D.link (ground header outside) o (deeds header outside host past)))
+    (link_is header outside host lower.0 past)
     ∙ ap (λ (l : D.Link). D.joined (o == upper.0) (as_link (backing_of header lower.0 past)) l) (link_is header outside host o past)
 link_is header outside host o (event.Sent (Up at object) m ∷ past) =
     up_case (λ d. D.link (ground header outside) o (d ∷ deeds header outside host past) ≡ D.link (ground header outside) o (deeds header outside host past))

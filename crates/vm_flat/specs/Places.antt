@@ -63,8 +63,8 @@ effect_of header says host o p (event.Dropped at object page) past spots = at_pl
 effect_of header says host o p (event.Merged upper lower) past spots =
     if is_on host (object_home upper.0 past)
     then
-        merged_effect o p upper.0 lower.0 (backing_of header upper.0 past).shift (object_pages header upper.0 past) (object_pages header lower.0 past) (spots o p)
-        (spots lower.0 ((backing_of header upper.0 past).shift + p))
+    merged_effect o p upper.0 lower.0 (backing_of header upper.0 past).shift (object_pages header upper.0 past) (object_pages header lower.0 past) (spots o p)
+    (spots lower.0 ((backing_of header upper.0 past).shift + p))
     else Nothing
 effect_of header says host o p (event.Sent (Up at object) m) past spots = effect_sent_up o p (at.0 == host) (live_control host object.0 past) object.0 m
 effect_of header says host o p (event.Sent (Down at object control) m) past spots =

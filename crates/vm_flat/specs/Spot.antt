@@ -106,5 +106,5 @@ abbrev pub merged_effect : ℕ → ℕ → ℕ → ℕ → ℕ → ℕ → ℕ �
 merged_effect o p upper lower shift upper_pages lower_pages above below =
     if o == upper
     then
-        if nat_lt p upper_pages && (nat_lt (shift + p) lower_pages && (below.here && not above.here)) then Moves below.bytes below.dirty else Nothing
+    if nat_lt p upper_pages && (nat_lt (shift + p) lower_pages && (below.here && not above.here)) then Moves below.bytes below.dirty else Nothing
     else if o == lower && nat_lt p lower_pages then Drops else Nothing
