@@ -15,7 +15,8 @@ use Rattle.vm_model.specs.declared.command.Command.{Command}
 use Rattle.vm_model.specs.declared.script.Header.{Header}
 use Rattle.vm_model.specs.Controls.{is_control, without_control, last_control, live_control}
 use Rattle.vm_model.specs.Homes.{object_home}
-use Rattle.vm_model.specs.Local.{LocalEffect, Local, Place, Zeroes, Raises, Stores, Drops, Moves, Returns, Asks, Unlocks, TakesPage, TakesNothing, TakesError, TakesLock}
+use Rattle.vm_model.specs.Local.{LocalEffect, Local, Place, Zeroes, Raises, Stores, Drops, Moves, Returns, Asks, Unlocks, TakesPage, TakesNothing, TakesError}
+use Rattle.vm_model.specs.Local.{TakesLock}
 use Rattle.vm_model.specs.Local.{Begins, Ends, Elsewhere, effect, is_on, local, local_after, merge_effect}
 use Rattle.vm_model.specs.Moments.{EachEvent}
 use Rattle.vm_model.specs.Named.{named}
@@ -325,7 +326,8 @@ merged_unasked header host upper lower p past base c on =
       unasked_dead header host lower p past base (base.numbered lower pair.lower_never),
     )
 
-allowed_next : (header : Header) (outside : Outside) (host : ℕ) (e : Event) (past : List Event) → Base header host past → HasCause header outside e past → (o p : ℕ)
+allowed_next : (header : Header) (outside : Outside) (host : ℕ) (e : Event) (past : List Event) → Base header host past → HasCause header outside e past
+    → (o p : ℕ)
     → Allowed (effect header host (record { object = o; page = p }) (λ source. local header host source past) e past) (page_on header host o p past)
     (live_control host o past) (live_control host o (e ∷ past))
 allowed_next header outside host (event.Zeroed at object page) past base c o p =
@@ -444,5 +446,7 @@ base_next header outside host e past base c =
     }
 
 pub base_of : (header : Header) (outside : Outside) (host : ℕ) (history : List Event) → EachEvent (HasCause header outside) history → Base header host history
-base_of header outside host [] c = record { sane = λ o p. record { apart = λ is. refl; living = λ is. never is }; numbered = λ o is. refl; returns = refl; declared = λ r below. record { top = refl; unmarked = refl } }
+base_of header outside host [] c =
+    record { sane = λ o p. record { apart = λ is. refl; living = λ is. never is }; numbered = λ o is. refl; returns = refl;
+    declared = λ r below. record { top = refl; unmarked = refl } }
 base_of header outside host (e ∷ past) c = base_next header outside host e past (base_of header outside host past c.1) c.0

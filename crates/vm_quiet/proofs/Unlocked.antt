@@ -15,7 +15,8 @@ use Rattle.vm_model.specs.declared.script.Header.{Header}
 use Rattle.vm_model.specs.Channels.{queue, down_port}
 use Rattle.vm_model.specs.Controls.{is_control, live_control}
 use Rattle.vm_model.specs.Homes.{object_home}
-use Rattle.vm_model.specs.Local.{LocalEffect, Local, Zeroes, Raises, Stores, Drops, Moves, Returns, Asks, Unlocks, TakesPage, TakesNothing, TakesError, TakesLock}
+use Rattle.vm_model.specs.Local.{LocalEffect, Local, Zeroes, Raises, Stores, Drops, Moves, Returns, Asks, Unlocks, TakesPage, TakesNothing, TakesError}
+use Rattle.vm_model.specs.Local.{TakesLock}
 use Rattle.vm_model.specs.Local.{Begins, Ends, Elsewhere, effect, is_on, local, local_after}
 use Rattle.vm_model.specs.Moments.{EachEvent}
 use Rattle.vm_model.specs.Named.{named}
@@ -180,14 +181,16 @@ temporary_paged header o from = by (nat_lt o (named header)) (late o (named head
 nothing_next : (header : Header) (outside : Outside) (host o : ℕ) (e : Event) (past : List Event) → HasNoLock header host o past
     → ((k q : ℕ) → is_paged header k ≡ true → (page_on header host k q past).lock ≡ 0) → HasCause header outside e past → (p : ℕ)
     → LocksNothing (effect header host (record { object = o; page = p }) (λ source. local header host source past) e past)
-nothing_next header outside host o (event.Zeroed at object page) past h unlocked c p = if_nothing (at.0 == host && (object.0 == o && page.0 == p)) Zeroes (λ is. tt)
+nothing_next header outside host o (event.Zeroed at object page) past h unlocked c p =
+    if_nothing (at.0 == host && (object.0 == o && page.0 == p)) Zeroes (λ is. tt)
 nothing_next header outside host o (event.Raised at lower lower_page upper upper_page) past h unlocked c p =
     if_nothing (at.0 == host && (upper.0 == o && upper_page.0 == p)) (Raises (page_on header host lower.0 lower_page.0 past).bytes) (λ is. tt)
 nothing_next header outside host o (event.CopiedPage task page object object_page target) past h unlocked c p =
     if_nothing (is_on host (host_of task.0 past) && (target.0 == o && page.0 == p)) (Raises (page_on header host object.0 object_page.0 past).bytes) (λ is. tt)
 nothing_next header outside host o (event.Stored task object page at size value) past h unlocked c p =
     if_nothing (is_on host (host_of task.0 past) && (object.0 == o && page.0 == p)) (Stores at (little_endian_bytes size value)) (λ is. tt)
-nothing_next header outside host o (event.Dropped at object page) past h unlocked c p = if_nothing (at.0 == host && (object.0 == o && page.0 == p)) Drops (λ is. tt)
+nothing_next header outside host o (event.Dropped at object page) past h unlocked c p =
+    if_nothing (at.0 == host && (object.0 == o && page.0 == p)) Drops (λ is. tt)
 nothing_next header outside host o (event.Merged upper lower) past h unlocked c p =
     merge_case LocksNothing (is_on host (object_home upper.0 past)) upper.0 lower.0 (backing_of header upper.0 past).shift
     (object_pages header upper.0 past) (object_pages header lower.0 past) o p (λ source. local header host source past)
