@@ -14,7 +14,7 @@ was_returned h o p (event.Sent (Up host object) (message.Return control page dir
 was_returned h o p (e ∷ past) = was_returned h o p past
 
 -- The pagers of temporary memory, whose objects are numbered from a number on, give the host only what it had returned, and lock nothing. Controls are numbered
--- from one, a page is returned to a control, and temporary objects alone are merged.
+-- from one, and a page is returned to a control. Only temporary objects are merged into others.
 abbrev pub OnlyReturned : ℕ → ℕ → List Event → Type 0
 OnlyReturned least h [] = Unit {0}
 OnlyReturned least h (event.Taken (Down host object control) (message.Supply page lock precious bytes) ∷ past) =
