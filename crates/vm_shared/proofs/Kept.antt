@@ -23,8 +23,8 @@ use Rattle.vm_legal.proofs.Unshared.{temporary_unshared}
 use Rattle.vm_legal.specs.Licences.{Bottoms, CopiesPage, Fills, HasCause, LockRequest, Raises as RaisesPage, lock_taken}
 use Rattle.vm_legal.specs.Outside.{Outside, is_shared}
 use Rattle.vm_legal.specs.Walks.{page_on}
-use Rattle.vm_coherence.proofs.Locals.{unmerged_of}
-use Rattle.vm_coherence.specs.Locals.{IsUnmerged, LeavesApart}
+use Rattle.vm_coherence.proofs.Locals.{LeavesApart, unmerged_of}
+use Rattle.vm_coherence.specs.Locals.{IsUnmerged}
 use Rattle.vm_quiet.proofs.Letters.{never}
 use Rattle.vm_quiet.proofs.Sane.{right, at_place}
 use Rattle.vm_shared.proofs.Numbering.{numbering}
@@ -180,7 +180,7 @@ unmerged header outside history caused o shared = unmerged_of o history (each_ap
 -- no page of a shared object moves
 gentle_merged : (upper lower shift upper_pages lower_pages : ℕ) (place : Place) (others : Place → Local) → ((place.object == upper) ≡ true → ⊥)
     → Gentle (merge_effect upper lower shift upper_pages lower_pages place others)
-gentle_merged upper lower shift upper_pages lower_pages place others other = by (place.object == upper) other
+gentle_merged upper lower shift upper_pages lower_pages place others apart = by (place.object == upper) apart
   where
     by : (b : Bool) → (b ≡ true → ⊥)
         → Gentle (if b
@@ -189,8 +189,8 @@ gentle_merged upper lower shift upper_pages lower_pages place others other = by 
         then Moves (others (record { object = lower; page = shift + place.page }))
         else Elsewhere
         else if place.object == lower && nat_lt place.page lower_pages then Drops else Elsewhere)
-    by true no = absurd (no refl)
-    by false no = gentle_if (place.object == lower && nat_lt place.page lower_pages) Drops (λ is. tt)
+    by true other = absurd (other refl)
+    by false other = gentle_if (place.object == lower && nat_lt place.page lower_pages) Drops (λ is. tt)
 
 none_merged : (upper lower shift upper_pages lower_pages : ℕ) (place : Place) (others : Place → Local)
     → BringsNone (merge_effect upper lower shift upper_pages lower_pages place others)
@@ -246,9 +246,8 @@ theirs header a h b o t is shared = its header a h b o (both (a == h) (b == o) t
     both true false c is = is
     both false b c is = is
 
-and_true : (b : Bool) → b ≡ true → (b && true) ≡ true
-and_true true is = refl
-and_true false is = is
+number_is : (a b : ℕ) → (a == b) ≡ true → a ≡ b
+number_is a b is = grind (arith, nat_tests)
 
 pub gentle : (header : Header) (outside : Outside) (e : Event) (past : List Event) → EachEvent (HasCause header outside) past → HasCause header outside e past
     → (h o p : ℕ) → is_shared header o ≡ true
@@ -267,7 +266,7 @@ gentle header outside (event.CopiedPage task page object object_page target) pas
 gentle header outside (event.Merged upper lower) past caused c h o p shared =
     gentle_if (is_on h (object_home upper.0 past)) _ (λ on. gentle_merged upper.0 lower.0 (backing_of header upper.0 past).shift
     (object_pages header upper.0 past) (object_pages header lower.0 past) (record { object = o; page = p }) (λ source. local header h source past)
-    (λ is. (apart_leaves header outside (event.Merged upper lower) past caused c o shared).0 (at_place (λ k q. k ≡ upper.0) o 0 upper.0 0 (and_true (o == upper.0) is) refl)))
+    (λ is. (apart_leaves header outside (event.Merged upper lower) past caused c o shared).0 (number_is o upper.0 is)))
 gentle header outside (event.Stored task object page at size value) past caused c h o p shared =
     gentle_if (is_on h (host_of task.0 past) && (object.0 == o && page.0 == p)) (Stores at (little_endian_bytes size value)) (λ is. tt)
 gentle header outside (event.Dropped at object page) past caused c h o p shared = gentle_if (at.0 == h && (object.0 == o && page.0 == p)) Drops (λ is. tt)
