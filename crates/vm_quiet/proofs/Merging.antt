@@ -9,7 +9,6 @@ use Rattle.vm_model.specs.Named.{named}
 use Rattle.vm_model.specs.Regions.{Backing, backing_of, region_of}
 use Rattle.vm_legal.specs.Frames.{pages_gone}
 use Rattle.vm_legal.specs.Merges.{IsPair}
-use Rattle.vm_legal.specs.Used.{in_use}
 use Rattle.vm_legal.specs.Walks.{Below, Reach}
 use Rattle.vm_quiet.proofs.Letters.{never}
 use Rattle.vm_quiet.proofs.Places.{Held, held_less, held_more, held_same, held_some}
