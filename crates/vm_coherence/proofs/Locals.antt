@@ -377,7 +377,7 @@ part_is_local header (event.CopiedPage task page object object_page target ∷ p
     (part_is_local header past h object.0 object_page.0 (unmerged.0 (target_is (is_on h (host_of task.0 past)) target.0 o (page.0 == p) is)) founded.1)
     (subst (λ (g : ℕ). (local header g (record { object = object.0; page = object_page.0 }) past).here ≡ true)
     (number_is founded.0.0 h (subst (λ (g : Option ℕ). is_on h g ≡ true) founded.0.1
-        (host_is (is_on h (host_of task.0 past)) (target.0 == o && page.0 == p) is)))
+    (host_is (is_on h (host_of task.0 past)) (target.0 == o && page.0 == p) is)))
     founded.0.2))
     (part_is_local header past h o p unmerged.1 founded.1)
 part_is_local header (event.Merged upper lower ∷ past) h o p unmerged founded =

@@ -34,7 +34,7 @@ use Rattle.vm_quiet.specs.Places.{FramesAreCounted, has_frame}
 use Rattle.vm_quiet.proofs.Letters.{never, some_out}
 use Rattle.vm_quiet.proofs.Merging.{gone_same, held_merged, merged_below, pair_apart, place_left}
 use Rattle.vm_quiet.proofs.Places.{Held, one_if, held_none, held_same, held_more, held_less, held_some, test_there}
-use Rattle.vm_quiet.proofs.Sane.{Base, IsVacant, base_of, not_true, there, at_place, vacant_zeroed, vacant_raised, vacant_copied, left, right, control_of}
+use Rattle.vm_quiet.proofs.Sane.{Base, IsVacant, base_of, there, at_place, vacant_zeroed, vacant_raised, vacant_copied, left, right, control_of}
 use Rattle.vm_quiet.proofs.Sane.{merged_pair, merged_unasked, own_number, unasked_dead}
 
 abbrev pub framed : Header → ℕ → List Event → ℕ → ℕ → Bool

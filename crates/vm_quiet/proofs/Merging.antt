@@ -9,7 +9,6 @@ use Rattle.vm_model.specs.Named.{named}
 use Rattle.vm_model.specs.Regions.{Backing, backing_of, region_of}
 use Rattle.vm_legal.specs.Frames.{pages_gone}
 use Rattle.vm_legal.specs.Merges.{IsPair}
-use Rattle.vm_legal.specs.Used.{in_use}
 use Rattle.vm_legal.specs.Walks.{Below, Reach}
 use Rattle.vm_quiet.proofs.Letters.{never}
 use Rattle.vm_quiet.proofs.Places.{Held, held_less, held_more, held_same, held_some}
@@ -55,7 +54,7 @@ none_there U upper lower shift pages k o p none = by (upper == o) (lower == o) r
     low : (t : Bool) → (p == k) ≡ t → (lower == o) ≡ true → (not (nat_lt p (suc k)) && U o p) ≡ (not (nat_lt p k) && U o p)
     low true is here =
         let dead : U o p ≡ false = subst (λ (q : ℕ). U o q ≡ false) (sym (own_number p k is))
-            (subst (λ (x : ℕ). U x k ≡ false) (own_number lower o here) none) in
+        (subst (λ (x : ℕ). U x k ≡ false) (own_number lower o here) none) in
         no_one (not (nat_lt p (suc k))) (not (nat_lt p k)) (U o p) dead
       where
         no_one : (a b c : Bool) → c ≡ false → (a && c) ≡ (b && c)
@@ -207,7 +206,7 @@ stands : (U : ℕ → ℕ → Bool) (upper lower shift pages k : ℕ) → upper 
     → merged_below U upper lower shift pages k lower k ≡ true
 stands U upper lower shift pages k apart there =
     by (upper == lower) (lower == lower) (U lower k) (comes_up U lower shift pages k k) (nat_lt k k) (grind (arith, nat_tests, apart))
-        (grind (arith, nat_tests))
+    (grind (arith, nat_tests))
     there (grind (arith, nat_tests))
   where
     by : (s t u m d : Bool) → s ≡ false → t ≡ true → u ≡ true → d ≡ false → place_left s t u m d ≡ true

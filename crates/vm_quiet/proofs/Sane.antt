@@ -447,6 +447,10 @@ base_next header outside host e past base c =
 
 pub base_of : (header : Header) (outside : Outside) (host : ℕ) (history : List Event) → EachEvent (HasCause header outside) history → Base header host history
 base_of header outside host [] c =
-    record { sane = λ o p. record { apart = λ is. refl; living = λ is. never is }; numbered = λ o is. refl; returns = refl;
-    declared = λ r below. record { top = refl; unmarked = refl } }
+    record {
+      sane = λ o p. record { apart = λ is. refl; living = λ is. never is };
+      numbered = λ o is. refl;
+      returns = refl;
+      declared = λ r below. record { top = refl; unmarked = refl };
+    }
 base_of header outside host (e ∷ past) c = base_next header outside host e past (base_of header outside host past c.1) c.0
