@@ -8,6 +8,7 @@ pub mod Pages
 pub mod Regions
 pub mod Sounds
 pub mod Tasks
+pub mod Thin
 pub mod TwoHosts
 pub mod Waits
 pub mod Whose

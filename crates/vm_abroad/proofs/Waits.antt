@@ -53,7 +53,7 @@ module _ (header : Header) (h : ℕ) (old new : List Event) (sound : Sound heade
         may_have = is_some z && not (is_known_absent header (record { object = o; page = p }) (page_on header h o p old));
       } in seen) (same.pages.live o)
 
-  region_now : (r : ℕ) → IsRegionOf header h r old → region_of header r new ≡ region_of header r old
+  pub region_now : (r : ℕ) → IsRegionOf header h r old → region_of header r new ≡ region_of header r old
   region_now r own = same.region r (small_region header h r old sound own) own
 
   top_now : (r page top top_page : ℕ) → IsRegionOf header h r old → IsTop (region_of header r old) page top top_page
@@ -241,7 +241,7 @@ module _ (header : Header) (h : ℕ) (old new : List Event) (sound : Sound heade
   reach_declared r zero object declared temporary is = omega (arith, is, declared, temporary)
   reach_declared r (suc n) object declared temporary is = let bad : true ≡ false = sym is.0 ∙ sound.bare r declared in absurd (cc)
 
-  reach_now : ((r : ℕ) → is_open r old ≡ false) → (object : ℕ) → named header ≤ object → Reach header h object old → Reach header h object new
+  pub reach_now : ((r : ℕ) → is_open r old ≡ false) → (object : ℕ) → named header ≤ object → Reach header h object old → Reach header h object new
   reach_now shut object temporary reach = elim (cases_lt reach.0 (named header)) [
     | inl declared ↦ absurd (reach_declared reach.0 reach.1 object declared temporary
         (subst (λ (z : ℕ). Below (λ o. backing_of header o old) reach.1 z object) (sound.tops reach.0 declared) reach.3))

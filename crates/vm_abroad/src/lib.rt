@@ -18,6 +18,7 @@ ghost use Rattle.vm_legal.specs.Follows.{FollowsSoFar};
 ghost use Rattle.vm_legal.specs.Frames.{frames_after, frames_held, frames_wired, returns_out};
 ghost use Rattle.vm_legal.specs.Homes.{EntersNext, IsOnlyOfHost, is_home};
 ghost use Rattle.vm_legal.specs.Licences.{HasCause};
+ghost use Rattle.vm_legal.specs.Merges.{IsThin};
 ghost use Rattle.vm_legal.specs.Outside.{Outside};
 ghost use Rattle.vm_legal.specs.Prompt.{EachLeads, HostIsFull, NoneInVain};
 ghost use Rattle.vm_legal.specs.Swept.{IsSwept};
@@ -37,8 +38,8 @@ pub fn others_are_nothing()
 {}
 
 /// Whoever waits on a host waits as before, with an entry that leads to its page, and for the same; its
-/// frames are as short as before, and nothing more is left behind.
-#[tactic(auto, using(crate::proofs::Waits::leads_now, crate::proofs::Waits::swept_now))]
+/// frames are as short as before, nothing more is left behind, and nothing more can be merged.
+#[tactic(auto, using(crate::proofs::Thin::thin_now, crate::proofs::Waits::leads_now, crate::proofs::Waits::swept_now))]
 pub fn who_waits_waits_as_before()
     ensures leads { (header : Header) (h : ℕ) (old new : List Event) → Sound header old → Knows header h old → SameFacts header h old new
         → EachLeads header h old → EachLeads header h new }
@@ -48,6 +49,8 @@ pub fn who_waits_waits_as_before()
         → NoneInVain header h old → NoneInVain header h new }
     ensures swept { (header : Header) (h : ℕ) (old new : List Event) → Sound header old → Knows header h old → SameFacts header h old new → IsShut old
         → IsSwept header h old → IsSwept header h new }
+    ensures thin { (header : Header) (h : ℕ) (old new : List Event) → Sound header old → Knows header h old → SameFacts header h old new → IsShut old
+        → IsShut new → IsThin header h old → IsThin header h new }
 {}
 
 /// What a host's own event does to the host's pages, controls and frames: nothing is asked of numbers of hosts.

@@ -23,6 +23,10 @@ pub record IsPair (header : Header) (host upper lower : ℕ) (past : List Event)
   pub upper_never : last_control host upper past ≡ 0
   pub lower_never : last_control host lower past ≡ 0
 
+-- no object of the host can be merged
+abbrev pub IsThin : Header → ℕ → List Event → Type 0
+IsThin header host past = (upper lower : ℕ) → IsPair header host upper lower past → ⊥
+
 -- a pair of the upper's host becomes one object, when nothing is left there that was to end; no pair of that host has a smaller lower object
 pub record Merges (header : Header) (upper lower : ℕ) (past : List Event) : Type 0 where
   pub host : ℕ

@@ -1,6 +1,8 @@
 pub mod Changing
 pub mod Fitting
 pub mod Lists
+pub mod Merging
 pub mod Numbering
 pub mod Rows
+mod Shifting
 pub mod Starting

@@ -3,3 +3,4 @@ pub mod Controls
 pub mod Fits
 pub mod Listed
 pub mod Locks
+pub mod Merging

@@ -71,6 +71,11 @@ pub record IsOnlyTop (region object : ℕ) (table : ChainTable) : Type 0 where
   pub tops : (r : ℕ) (row : RegionRow) → region_at table r ≡ Some row → row.top.0 ≡ object → r ≡ region
   pub bare : (o : ℕ) (row : ShadowRow) → shadow_at table o ≡ Some row → row.under.0 ≢ object
 
+-- the shadow is the one reference of an object: no region has that as its top, and no other object stands on it
+pub record IsOnlyShadow (shadow object : ℕ) (table : ChainTable) : Type 0 where
+  pub bare : (r : ℕ) (row : RegionRow) → region_at table r ≡ Some row → row.top.0 ≢ object
+  pub shadows : (o : ℕ) (row : ShadowRow) → shadow_at table o ≡ Some row → row.under.0 ≡ object → o ≡ shadow
+
 -- what stands under a shadow once the object under it is merged into it: what stood under that one, by the sum of both shifts
 abbrev pub joined : ShadowRow → Option ShadowRow → Option ShadowRow
 joined up None = None
