@@ -53,8 +53,8 @@ pub record SpaceFacts : Type 0 where
   pub home : ℕ → Option ℕ
   pub made_for : ℕ → Option ℕ
 
-abbrev pub space_of : Header → List Event → SpaceFacts
-space_of header past =
+abbrev pub space_facts : Header → List Event → SpaceFacts
+space_facts header past =
     record {
       host = λ task. host_of task past;
       entries = λ task. entries_of header.size task past;
@@ -78,8 +78,8 @@ pub record ControlFacts : Type 0 where
   pub live : ℕ → Option ℕ
   pub ready : ℕ → Bool
 
-abbrev pub controls_of : ℕ → List Event → ControlFacts
-controls_of h past = record { last = λ o. last_control h o past; live = λ o. live_control h o past; ready = λ o. is_ready h o past }
+abbrev pub control_facts : ℕ → List Event → ControlFacts
+control_facts h past = record { last = λ o. last_control h o past; live = λ o. live_control h o past; ready = λ o. is_ready h o past }
 
 -- its pages and frames
 pub record MemoryFacts : Type 0 where
@@ -88,8 +88,8 @@ pub record MemoryFacts : Type 0 where
   pub wired : ℕ
   pub out : ℕ
 
-abbrev pub memory_of : Header → ℕ → List Event → MemoryFacts
-memory_of header h past =
+abbrev pub memory_facts : Header → ℕ → List Event → MemoryFacts
+memory_facts header h past =
     record {
       seen = λ o p. known_local header o p (local header h (place_of o p) past);
       held = frames_held header h past;
@@ -102,7 +102,7 @@ pub record Setting (header : Header) (h size : ℕ) (host : HostId) (declared : 
   pub ranged : IsRanged header
   pub known : h < length header.frames.items
   pub sized : size ≡ header.size
-  pub named_so : host.0 ≡ h
+  pub numbered : host.0 ≡ h
   pub objects : declared ≡ header.objects.items
 
 -- address spaces, and the regions on the host
@@ -138,7 +138,7 @@ pub record Core (header : Header) (h : ℕ) (k : Parts) (ids : Ids) (gone : List
 
 -- The kernel inside a step, with what goes across the groups: who waits, and what is used. What refers to the objects is not said, nor what the history owes.
 pub record Amidst (header : Header) (h : ℕ) (k : Parts) (ids : Ids) (gone : List Entry) (who : Woken) (past : List Event) : Type 0 where
-  pub core : Core header h k ids gone (space_of header past) (controls_of h past) (memory_of header h past)
+  pub core : Core header h k ids gone (space_facts header past) (control_facts h past) (memory_facts header h past)
   pub used : UsesAll header k past
   pub waits : HasWaits header h k who past
   pub order : HasOrder k past

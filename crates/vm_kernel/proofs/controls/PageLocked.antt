@@ -210,7 +210,12 @@ comes_saved header h outside doing ids k memory key row known past returns m loc
     (laundry_changed key row.frame _ _ _ _ _ k.memory memory k.laundry (returns_out h past) m.runs.core.pages.washed c) in
     let seen = seen_of key m.runs c.found here in
     record {
-      rests = record { runs = after; settled = record { none_owed = refl; shut = λ region. refl }; referred = referred_relocked k key row true memory c objects m.referred };
+      rests =
+          record {
+            runs = after;
+            settled = record { none_owed = refl; shut = λ region. refl };
+            referred = referred_relocked k key row true memory c objects m.referred;
+          };
       follows =
           return_follows key known.control m.runs c.found here (changed_due returns _ _ wanted) (live_at k.memory.objects key.object.0 object live) after
           (Wanted returns false locked (rw (seen.dirty, seen.precious) wanted) refl) tt;

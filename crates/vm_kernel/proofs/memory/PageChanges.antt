@@ -1,5 +1,5 @@
 -- What a kernel stands for once one of its pages has changed, whatever the reason: a page goes, goes back to its pager, or stays with another row.
-use Rattle.vm_kernel.specs.TablesInGroups.{Amidst, ControlFacts, Core, Objects, Pages, SpaceFacts, controls_of, memory_of, space_of}
+use Rattle.vm_kernel.specs.TablesInGroups.{Amidst, ControlFacts, Core, Objects, Pages, SpaceFacts, control_facts, memory_facts, space_facts}
 use Rattle.vm_state.proofs.Passing.{quiet_if}
 use Rattle.vm_kernel.proofs.Common.{AllUsed, BeganInOrder, Bool, ChainTable, Changes, Command, Discards, Drops, Elsewhere, Entry, Event, Fit, FrameNo}
 use Rattle.vm_kernel.proofs.Common.{HasKinds, HasLaundry, HasOrder, HasPages, HasWaits, Header, HostParts, Ids, IfSome, IsOfKind, IsSettled, LaundryList, List}
@@ -37,10 +37,10 @@ use Rattle.vm_model.specs.declared.message.Message.TheVariants as message
 -- the flat record and the groups
 
 pub core_of : {header : Header} {h : ℕ} {k : Parts} {ids : Ids} {gone : List Entry} {past : List Event} → Matches header h k ids gone past
-    → Core header h k ids gone (space_of header past) (controls_of h past) (memory_of header h past)
+    → Core header h k ids gone (space_facts header past) (control_facts h past) (memory_facts header h past)
 core_of m =
     record {
-      setting = record { ranged = m.ranged; known = m.known; sized = m.size; named_so = m.host; objects = m.declared };
+      setting = record { ranged = m.ranged; known = m.known; sized = m.size; numbered = m.host; objects = m.declared };
       fits = m.fits;
       spaces = record { tasks = m.tasks; entries = m.entries; shared = m.shared; uses = m.uses; homes = m.homes };
       objects = record { regions = m.regions; kinds = m.kinds; files = m.files };
@@ -74,7 +74,7 @@ matches_of other a settled replied =
       ranged = c.setting.ranged;
       known = c.setting.known;
       size = c.setting.sized;
-      host = c.setting.named_so;
+      host = c.setting.numbered;
       declared = c.setting.objects;
       fits = c.fits;
       tasks = c.spaces.tasks;
@@ -95,10 +95,10 @@ matches_of other a settled replied =
 
 -- what events leave
 
--- nothing changes of tasks, regions and objects, nor of controls
+-- tasks, regions and objects stay as they were, and so do controls
 pub record Leaves (header : Header) (h : ℕ) (past now : List Event) : Type 0 where
-  pub space : space_of header now ≡ space_of header past
-  pub controls : controls_of h now ≡ controls_of h past
+  pub space : space_facts header now ≡ space_facts header past
+  pub controls : control_facts h now ≡ control_facts h past
 
 pub leaves_all : {header : Header} {h : ℕ} {past : List Event} → Leaves header h past past
 leaves_all = record { space = refl; controls = refl }
@@ -124,7 +124,7 @@ pub record Moved (header : Header) (h : ℕ) (k : Parts) (memory : HostParts) (l
   pub away : KeepsAway k.memory.resident memory.resident
   pub objects : SameObjects k.memory.objects memory.objects
   pub kinds : HasKinds header memory.objects k.chains
-  pub pages : Pages header h memory.frames memory.resident memory.objects laundry (memory_of header h now)
+  pub pages : Pages header h memory.frames memory.resident memory.objects laundry (memory_facts header h now)
   pub waits : HasWaits header h (record k { memory = memory }) who now
 
 pub amidst_moved : {header : Header} {h : ℕ} {k : Parts} {ids : Ids} {gone : List Entry} {who : Woken} {memory : HostParts} {laundry : LaundryList}
@@ -134,8 +134,8 @@ amidst_moved {header = header} {h = h} {k = k} {ids = ids} {gone = gone} {who = 
     moved =
     record {
       core =
-          subst (λ (z : SpaceFacts). Core header h new ids gone z (controls_of h now) (memory_of header h now)) (sym leaves.space)
-          (subst (λ (z : ControlFacts). Core header h new ids gone (space_of header past) z (memory_of header h now)) (sym leaves.controls) core);
+          subst (λ (z : SpaceFacts). Core header h new ids gone z (control_facts h now) (memory_facts header h now)) (sym leaves.space)
+          (subst (λ (z : ControlFacts). Core header h new ids gone (space_facts header past) z (memory_facts header h now)) (sym leaves.controls) core);
       used = used_away k.memory.resident memory.resident
           (subst (λ (z : SpaceFacts). AllUsed header k.maps k.chains k.memory.resident k.waits.rows z.next z.target) (sym leaves.space) a.used) moved.away;
       waits = moved.waits;
@@ -145,7 +145,7 @@ amidst_moved {header = header} {h = h} {k = k} {ids = ids} {gone = gone} {who = 
     new : Parts
     new = record k { memory = memory; laundry = laundry }
 
-    core : Core header h (record k { memory = memory; laundry = laundry }) ids gone (space_of header past) (controls_of h past) (memory_of header h now)
+    core : Core header h new ids gone (space_facts header past) (control_facts h past) (memory_facts header h now)
     core = record {
       setting = a.core.setting;
       fits = moved.fits;
@@ -218,7 +218,7 @@ pub record Rerows (header : Header) (k : Parts) (key : PageKey) (row : PageRow) 
 -- so what the page shows, the returns and the frames are left to be shown
 pub moved_of : {header : Header} {h : ℕ} {k : Parts} {memory : HostParts} {laundry : LaundryList} {who : Woken} {key : PageKey} {row : PageRow}
     {now : Option PageRow} {held : Bool} {lists : Queues} {after : List Event} → Rerows header k key row now held lists memory → PartsFit k.memory k.size
-    → Pages header h memory.frames memory.resident memory.objects laundry (memory_of header h after) → HasWaits header h k who after
+    → Pages header h memory.frames memory.resident memory.objects laundry (memory_facts header h after) → HasWaits header h k who after
     → Moved header h k memory laundry who after
 moved_of {k = k} {memory = memory} {who = who} {key = key} {row = row} {now = now} r fits pages waits =
     let c = r.changes in
@@ -326,7 +326,8 @@ amidst_gone {header = header} {h = h} {k = k} {row = row} {memory = memory} {pas
     (moved_of (lost c here unsent (same_objects objects) (rw objects a.core.objects.kinds) fit size) a.core.fits
     (record {
       shown = pages_after (drops h key ∷ past) Drops tt a c (λ o2 p2. rw (own_host h) refl)
-          (ap (λ z. record away { asked = not z; absent = absent_at k.memory.objects o p }) here ∙ ap (λ z. record away { absent = absent_at z o p }) (sym objects))
+          (ap (λ z. record away { asked = not z; absent = absent_at k.memory.objects o p }) here
+          ∙ ap (λ z. record away { absent = absent_at z o p }) (sym objects))
           (λ o2 p2 apart. ap (λ z. absent_at z o2 p2) objects);
       washed = laundry_changed key row.frame _ _ _ _ _ k.memory memory k.laundry (returns_out h past) a.core.pages.washed c;
       counted =

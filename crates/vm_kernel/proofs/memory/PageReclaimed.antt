@@ -4,7 +4,7 @@ use Rattle.vm_kernel.proofs.Common.{FrameNo, FrameTable, FreesOrReturns, HasCont
 use Rattle.vm_kernel.proofs.Common.{IsReferred, IsReturned, IsSettled, KeepsPages, LaundryList, LegalEvents, List, Matches, None, ObjectRow}
 use Rattle.vm_kernel.proofs.Common.{ObjectTable, Option, Outside, PageKey, PageRow, PagerState, PagesOut, Parts, PutsObject, PutsRow, Queues, Reclaim}
 use Rattle.vm_kernel.proofs.Common.{ReclaimEffects, ResidentTable, Rests, ReturnCause, SameMarks, SameObjects, Some, Starves, Up, [], absent_at, ap}
-use Rattle.vm_kernel.proofs.Common.{arith, away, claimed, controlled, count_again, departures, false, fit_touched, free, has_pager, host_id, if◌then◌else◌}
+use Rattle.vm_kernel.proofs.Common.{arith, claimed, controlled, count_again, departures, false, fit_touched, free, has_pager, host_id, if◌then◌else◌}
 use Rattle.vm_kernel.proofs.Common.{inl, inr, is_claimed, is_queued, is_ready, is_skipped, is_woken, last_control, last_in, live_control, live_in, local}
 use Rattle.vm_kernel.proofs.Common.{local_of_row, looked, named, object_at, object_home, owner_of, page_in, page_key, place_of, queues_after_search, refl}
 use Rattle.vm_kernel.proofs.Common.{returns_out, row_at, row_cases, row_with_control, sends, some_is, subst, sym, told_from, true, ℕ, ◌&&◌, ◌++◌}
@@ -87,7 +87,8 @@ inside : {header : Header} {h : ℕ} {k : Parts} {ids : Ids} {past : List Event}
 inside rests = amidst_of rests.matches rests.used rests.waits rests.order
 
 rests_of : {header : Header} {h : ℕ} {k : Parts} {ids : Ids} {past : List Event} (other : Parts) → Amidst header h k ids [] woken.Nobody past
-    → IsSettled past → IsReplied past → AllReferred k.chains k.memory.objects k.memory.resident → count_again k.waits.rows ≡ 0 → Rests header h (with_tables k other) ids past
+    → IsSettled past → IsReplied past → AllReferred k.chains k.memory.objects k.memory.resident → count_again k.waits.rows ≡ 0
+    → Rests header h (with_tables k other) ids past
 rests_of other a settled replied referred idle =
     record { matches = matches_of other a settled replied; used = a.used; referred = referred; waits = a.waits; order = a.order; idle = idle }
 
@@ -253,7 +254,8 @@ inside_created {header = header} {h = h} {k = k} {past = past} {row = row} key o
         setting = core.setting;
         fits = fits_known found put refl core.fits;
         spaces = core.spaces;
-        objects = objects_known found put marks refl refl (kind_controlled header o state.Without row without (core.objects.kinds.kinds o row found)) core.objects;
+        objects =
+            objects_known found put marks refl refl (kind_controlled header o state.Without row without (core.objects.kinds.kinds o row found)) core.objects;
         controls = controls;
         pages = record {
           shown = pages_marked k.memory.frames k.memory.resident k.memory.objects os
@@ -314,7 +316,10 @@ took_told header h outside doing past ids skip k k2 before after rests beside lo
     let seen = seen_of key (inside rests) page.found is.victim.here in
     let none = unsent skip k.memory.resident o p row locked page.found is.victim.unskipped in
     let kind = m.kinds.kinds o is.object is.known in
-    let objects : SameObjects k.memory.objects k2.memory.objects = record { at = controls_told k.memory.objects k2.memory.objects o is.object is.known same is.objects } in
+    let objects : SameObjects k.memory.objects k2.memory.objects = record {
+      at = controls_told k.memory.objects k2.memory.objects o is.object is.known same
+          is.objects;
+    } in
     let back : Amidst header h (record k { memory = k2.memory; laundry = k2.laundry }) ids [] woken.Nobody (e ∷ moment) =
     amidst_returned key is.object.control (inside_touched (queues_after_search k.memory.queues) (inside rests) keeps refl) is.victim.here none page objects
     is.present beside.fit beside.buffers is.held is.room in
@@ -324,7 +329,8 @@ took_told header h outside doing past ids skip k k2 before after rests beside lo
     subst (λ (z : List Event). Took header h outside doing past ids reclaim.Returned skip k k2 before z) (sym log)
     (record {
       rests =
-          rests_beside beside back (record { none_owed = refl; shut = λ region. refl }) (replied_behind tt m.replied) (referred_returned k k2 rests.referred is.known is.objects is.live
+          rests_beside beside back (record { none_owed = refl; shut = λ region. refl }) (replied_behind tt m.replied)
+          (referred_returned k k2 rests.referred is.known is.objects is.live
           (rests.referred.pages o p row page.found) page.row) rests.idle;
       goes = goes_one header h outside doing past before e m.settled follows;
       gone = record { more = e ∷ []; is = refl; each = (refl, tt) };
@@ -387,7 +393,8 @@ took_first header h outside doing past ids skip k k2 before after rests beside l
     subst (λ (z : List Event). Took header h outside doing past ids reclaim.Returned skip k k2 before z) (sym log)
     (record {
       rests =
-          rests_beside beside back (record { none_owed = refl; shut = λ region. refl }) (replied_behind tt (replied_behind tt m.replied)) (referred_returned k k2 rests.referred is.known is.objects is.live referred
+          rests_beside beside back (record { none_owed = refl; shut = λ region. refl }) (replied_behind tt (replied_behind tt m.replied))
+          (referred_returned k k2 rests.referred is.known is.objects is.live referred
           page.row) rests.idle;
       goes =
           record {
@@ -454,7 +461,8 @@ pub rests_touched : (header : Header) (h : ℕ) (ids : Ids) (k : Parts) (queues 
     → KeepsPages k.memory.queues queues → queues.frames ≡ k.memory.queues.frames
     → Rests header h (record k { memory = record k.memory { queues = queues } }) ids past
 rests_touched header h ids k queues past rests keeps count =
-    rests_of (record k { memory = record k.memory { queues = queues } }) (inside_touched queues (inside rests) keeps count) rests.matches.settled rests.matches.replied
+    rests_of (record k { memory = record k.memory { queues = queues } }) (inside_touched queues (inside rests) keeps count) rests.matches.settled
+    rests.matches.replied
     rests.referred rests.idle
 
 pub reclaimed_touched : (h : ℕ) (answer : Reclaim) (skip : List FrameNo) (k k2 : Parts) (queues : Queues) (before after : List Event)

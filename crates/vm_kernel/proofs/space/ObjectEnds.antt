@@ -571,7 +571,8 @@ inside_dropped header h past who k ids rest o left row known chains objects e le
       };
       waits =
           waits_dropped k.maps k.chains chains k.memory.resident k.memory.objects objects k.waits.rows (is_woken who) (λ t. waiting t past) o under left known
-          e.runs.waits leaves.drops (unreferred_region regions o e.row e.known e.none) (unreferred_shadow regions o e.row e.known e.none) leaves.under leaves.put;
+          e.runs.waits leaves.drops (unreferred_region regions o e.row e.known e.none) (unreferred_shadow regions o e.row e.known e.none) leaves.under
+          leaves.put;
       order = e.runs.order;
     }
 
