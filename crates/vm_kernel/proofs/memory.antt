@@ -5,6 +5,7 @@ pub mod FramesWashed
 pub mod FramesWired
 pub mod MarkGone
 pub mod MayLeave
+pub mod PageChanges
 pub mod PageReclaimed
 pub mod PageReturned
 pub mod PagesKept

@@ -13,5 +13,6 @@ pub mod Rooms
 pub mod Serving
 pub mod Slow
 pub mod Sweeping
+pub mod TablesInGroups
 pub mod Taking
 pub mod Turns

@@ -1,20 +1,20 @@
 -- A lock request is taken: what the kernel stands for, once its rows are as they will be, and those are to be run again that wait for unlocks under it.
-use Rattle.vm_kernel.proofs.Common.{Bool, Elsewhere, Event, Fit, HasPages, HasWaiters, Header, Ids, List, Local, LocalEffect, Mapped, ObjectId, ObjectRow, On}
-use Rattle.vm_kernel.proofs.Common.{Option, PageKey, PageNo, PageRow, Parts, Reason, ResidentTable, Rests, Some, TakesLock, WaitTable, Waiting, Want, absent_at}
-use Rattle.vm_kernel.proofs.Common.{ap, entry, eqb_tells, false, if◌then◌else◌, inl, inr, is_control, is_woken, live_control, local, local_after, local_of_row}
-use Rattle.vm_kernel.proofs.Common.{map, not, object_at, owner_of, page_key, place_of, refl, row_at, subst, sym, true, waiting, ℕ, ◌&&◌, ◌<◌, ◌==◌, ◌||◌, ◌∙◌}
-use Rattle.vm_kernel.proofs.Common.{◌∷◌, ◌≡◌, ◌⊎◌}
+use Rattle.vm_kernel.proofs.Common.{Bool, Elsewhere, Event, Fit, FrameTable, HasLaundry, HasPages, HasWaiters, Header, Ids, LaundryList, List, Local}
+use Rattle.vm_kernel.proofs.Common.{LocalEffect, Mapped, None, ObjectId, ObjectRow, On, Option, PageKey, PageNo, PageRow, Parts, Reason, ResidentTable}
+use Rattle.vm_kernel.proofs.Common.{Rests, Some, TakesLock, WaitTable, Waiting, Want, absent_at, ap, entry, eqb_tells, false, if◌then◌else◌, inl, inr}
+use Rattle.vm_kernel.proofs.Common.{is_control, is_woken, live_control, local, local_after, local_of_row, map, not, object_at, owner_of, page_key, place_of}
+use Rattle.vm_kernel.proofs.Common.{refl, row_at, subst, sym, true, waiting, ℕ, ◌&&◌, ◌<◌, ◌==◌, ◌||◌, ◌∙◌, ◌∷◌, ◌≡◌, ◌⊎◌}
 use Rattle.vm_state.proofs.Filling.{KeepsAway, away_back, fills_waked, used_away, used_waked, uses_refilled}
 use Rattle.vm_waits.specs.Waits.{Waked}
 use Rattle.std.specs.Prelude.{nat_le, nat_lt, option_map, ◌+◌}
 use Rattle.vm_kernel.proofs.controls.AnswerEffects.{on_page}
 use Rattle.vm_kernel.proofs.memory.WhatIsKnown.{other_if, pages_known}
 use Rattle.vm_kernel.proofs.controls.PageLocked.{Mid, asks}
+use Rattle.vm_kernel.proofs.memory.PageChanges.{amidst_moved, core_of, leaves_all}
 use Rattle.vm_kernel.proofs.steps.RowsInOrder.{woken_keeps}
 use Rattle.vm_kernel.proofs.abroad.OwnHost.{own_host}
 use Rattle.vm_kernel.proofs.controls.LockPending.{Ahead, aimed, fit_pended, is_ahead, owner_repaged, pend, pended, pended_behind, pended_frame, pended_here}
-use Rattle.vm_kernel.proofs.controls.LockPending.{retabled}
-use Rattle.vm_kernel.proofs.controls.LockPending.{row_back, row_repaged, shown_pended}
+use Rattle.vm_kernel.proofs.controls.LockPending.{retabled, row_back, row_repaged, shown_pended}
 use Rattle.vm_kernel.specs.Fits.{IsPlainRow}
 use Rattle.vm_kernel.specs.Taking.{is_away, is_unlocked}
 use Rattle.vm_model.specs.Words.{in_range}
@@ -23,12 +23,12 @@ use Rattle.vm_state.proofs.Waking.{waits_woken}
 use Rattle.vm_state.specs.Places.{known_local}
 use Rattle.vm_state.specs.References.{MayLock, is_live_in}
 use Rattle.vm_state.specs.Waiters.{is_awaited}
-use Rattle.vm_supply.specs.declared.woken.Woken.TheVariants as woken
 use Rattle.vm_waits.proofs.Tables.{waked}
-use Rattle.vm_waits.specs.Waits as waits
-use Rattle.vm_waits.specs.declared.waiting.On.TheVariants as on
 use Rattle.vm_state.proofs.Bypassing.{waits_taken}
 use Rattle.vm_kernel.specs.Matches.{host_id}
+use Rattle.vm_supply.specs.declared.woken.Woken.TheVariants as woken
+use Rattle.vm_waits.specs.Waits as waits
+use Rattle.vm_waits.specs.declared.waiting.On.TheVariants as on
 use Rattle.vm_model.specs.declared.message.Message.TheVariants as message
 
 -- the rows of a kernel's pages stand in another table
@@ -41,36 +41,48 @@ pub record SameRows (rs rs2 : ResidentTable) : Type 0 where
 abbrev pub with_rows : Parts → ResidentTable → Parts
 with_rows k rs = record k { memory = record k.memory { resident = rs } }
 
+-- returns hold the frames that no page has
+washed_still : {fs : FrameTable} {rs rs2 : ResidentTable} {laundry : LaundryList} {out : ℕ} → HasLaundry fs rs laundry out
+    → ((f : ℕ) → owner_of rs f ≡ None → owner_of rs2 f ≡ None) → HasLaundry fs rs2 laundry out
+washed_still has still =
+    record {
+      count = has.count;
+      room = has.room;
+      washed = λ i d less. let its = has.washed i d less in record { claimed = its.claimed; unowned = still _ its.unowned };
+      apart = has.apart;
+    }
+
 pub mid_rows : (header : Header) (h : ℕ) (k : Parts) (ids : Ids) (rs2 : ResidentTable) (past : List Event) → Mid header h k ids past
     → SameRows k.memory.resident rs2 → Mid header h (with_rows k rs2) ids past
 mid_rows header h k ids rs2 past m same =
+    let core = m.runs.core in
     record {
-      ranged = m.ranged;
-      known = m.known;
-      size = m.size;
-      host = m.host;
-      declared = m.declared;
-      fits = record { parts = fit; plain = λ o p row found. m.fits.plain o p row (was o p row found); buffers = m.fits.buffers };
-      tasks = m.tasks;
-      regions = m.regions;
-      kinds = m.kinds;
-      homes = m.homes;
-      files = m.files;
-      entries = m.entries;
-      shared = m.shared;
-      pages = record { shown = λ o p. m.pages.shown o p ∙ ap (λ z. local_of_row k.memory.frames z (absent_at k.memory.objects o p)) (sym (same.rows o p)) };
-      uses = m.uses;
-      controls = m.controls;
+      runs = amidst_moved m.runs leaves_all
+          (record {
+            fits = record { parts = fit; plain = λ o p row found. core.fits.plain o p row (was o p row found); buffers = core.fits.buffers };
+            away = λ o p none. same.rows o p ∙ none;
+            objects = record { at = λ o. refl };
+            kinds = core.objects.kinds;
+            pages = record {
+              shown = record {
+                shown = λ o p. core.pages.shown.shown o p
+                    ∙ ap (λ z. local_of_row k.memory.frames z (absent_at k.memory.objects o p)) (sym (same.rows o p));
+              };
+              washed = washed_still core.pages.washed (λ f none. same.owners f ∙ none);
+              counted = core.pages.counted;
+            };
+            waits = record {
+              is = m.runs.waits.is;
+              allowed = m.runs.waits.allowed;
+              sized = m.runs.waits.sized;
+              reasons = λ t w found asleep. reason t w.want w.on (m.runs.waits.reasons t w found asleep);
+              passed = m.runs.waits.passed;
+              aims = m.runs.waits.aims;
+              askers = λ o p row found. m.runs.waits.askers o p row (was o p row found);
+              ready = λ o p row found. m.runs.waits.ready o p row (was o p row found);
+            };
+          });
       settled = m.settled;
-      laundry =
-          record {
-            count = m.laundry.count;
-            room = m.laundry.room;
-            washed = λ i d less. let its = m.laundry.washed i d less in record { claimed = its.claimed; unowned = same.owners _ ∙ its.unowned };
-            apart = m.laundry.apart;
-          };
-      frames = m.frames;
-      used = used_away k.memory.resident rs2 m.used (λ o p none. same.rows o p ∙ none);
       referred =
           record {
             live = m.referred.live;
@@ -78,17 +90,6 @@ mid_rows header h k ids rs2 past m same =
             locks = λ o p row found. m.referred.locks o p row (was o p row found);
             shadows = m.referred.shadows;
           };
-      waits = record {
-        is = m.waits.is;
-        allowed = m.waits.allowed;
-        sized = m.waits.sized;
-        reasons = λ t w found asleep. reason t w.want w.on (m.waits.reasons t w found asleep);
-        passed = m.waits.passed;
-        aims = m.waits.aims;
-        askers = λ o p row found. m.waits.askers o p row (was o p row found);
-        ready = λ o p row found. m.waits.ready o p row (was o p row found);
-      };
-      order = m.order;
     }
   where
     was : (o p : ℕ) (row : PageRow) → row_at rs2 o p ≡ Some row → row_at k.memory.resident o p ≡ Some row
@@ -96,15 +97,15 @@ mid_rows header h k ids rs2 past m same =
 
     fit : Fit (record k.memory { resident = rs2 })
     fit = record {
-      owned = record { at = λ o p row found. same.owners row.frame.0 ∙ m.fits.parts.owned.at o p row (was o p row found) };
-      held = λ o p row found. m.fits.parts.held o p row (was o p row found);
-      listed = λ o p row found. m.fits.parts.listed o p row (was o p row found);
-      unlisted = λ f none. m.fits.parts.unlisted f (sym (same.owners f) ∙ none);
-      unowned = λ f none. same.owners f ∙ m.fits.parts.unowned f none;
-      inside = λ o p row found. m.fits.parts.inside o p row (was o p row found);
-      all_sized = m.fits.parts.all_sized;
-      count = m.fits.parts.count;
-      pages = m.fits.parts.pages;
+      owned = record { at = λ o p row found. same.owners row.frame.0 ∙ m.runs.core.fits.parts.owned.at o p row (was o p row found) };
+      held = λ o p row found. m.runs.core.fits.parts.held o p row (was o p row found);
+      listed = λ o p row found. m.runs.core.fits.parts.listed o p row (was o p row found);
+      unlisted = λ f none. m.runs.core.fits.parts.unlisted f (sym (same.owners f) ∙ none);
+      unowned = λ f none. same.owners f ∙ m.runs.core.fits.parts.unowned f none;
+      inside = λ o p row found. m.runs.core.fits.parts.inside o p row (was o p row found);
+      all_sized = m.runs.core.fits.parts.all_sized;
+      count = m.runs.core.fits.parts.count;
+      pages = m.runs.core.fits.parts.pages;
     }
 
     awaited : (what : Want) (o p : ℕ) → IsAwaitedBy k.memory.resident what o p → IsAwaitedBy rs2 what o p
@@ -328,56 +329,47 @@ pub mid_taken : (header : Header) (h : ℕ) (k : Parts) (ids : Ids) (past : List
     → (lock < 4) ⊎ (lock ≡ 8) → waits2.rows ≡ map (waits.woken (is_unlocked k.memory.resident object.0 page.0 count)) k.waits.rows
     → Mid header h (aiming k (ahead_of object page count flush lock page.0) waits2) ids (asks h object control page count returns flush lock reply ∷ past)
 mid_taken header h k ids past object control page count returns lock flush reply waits2 rests lives known found live few woke =
-    let m = rests.matches in
-    let now = asks h object control page count returns flush lock reply ∷ past in
+    let core = core_of rests.matches in
     let a = ahead_of object page count flush lock page.0 in
+    let waker = is_unlocked k.memory.resident object.0 page.0 count in
     record {
-      ranged = m.ranged;
-      known = m.known;
-      size = m.size;
-      host = m.host;
-      declared = m.declared;
-      fits = record {
-        parts = fit_pended a k.memory m.fits.parts;
-        plain = λ o p row there away_now. plain o p row (row_back (pended a) k.memory.resident o p row there) away_now;
-        buffers = m.fits.buffers;
+      runs = record {
+        core = record {
+          setting = core.setting;
+          fits = record {
+            parts = fit_pended a k.memory core.fits.parts;
+            plain = λ o p row there away_now. plain o p row (row_back (pended a) k.memory.resident o p row there) away_now;
+            buffers = core.fits.buffers;
+          };
+          spaces = record {
+            tasks = core.spaces.tasks;
+            entries = core.spaces.entries;
+            shared = core.spaces.shared;
+            uses = uses_refilled k.waits.rows waits2.rows (fills_waked waker k.waits.rows waits2.rows waked_rows) core.spaces.uses;
+            homes = core.spaces.homes;
+          };
+          objects = core.objects;
+          controls = core.controls;
+          pages = record {
+            shown = pages_taken header h k object control page count returns lock flush reply past core.pages.shown lives few;
+            washed = washed_still core.pages.washed (λ f none. owner_repaged (pended a) k.memory.resident f (pended_frame a) ∙ none);
+            counted = core.pages.counted;
+          };
+        };
+        used = used_waked waker k.waits.rows waits2.rows
+            (used_away k.memory.resident (retabled (pended a) k.memory.resident) rests.used away_back_pended) waked_rows;
+        waits =
+            waits_taken header h (host_id h) object control (message.Lock page count returns flush lock reply) past
+            (waits_waked k.maps k object page count lock flush waits2.rows past rests.waits woke);
+        order = (woken_keeps waker k.waits.rows waits2.rows woke).keeps _ 0 rests.order;
       };
-      tasks = m.tasks;
-      regions = m.regions;
-      kinds = m.kinds;
-      homes = m.homes;
-      files = m.files;
-      entries = m.entries;
-      shared = m.shared;
-      pages = pages_taken header h k object control page count returns lock flush reply past m.pages lives few;
-      uses =
-          uses_refilled k.waits.rows waits2.rows (fills_waked (is_unlocked k.memory.resident object.0 page.0 count) k.waits.rows waits2.rows waked_rows) m.uses;
-      controls = m.controls;
       settled = record { none_owed = refl; shut = λ region. refl };
-      laundry = record {
-        count = m.laundry.count;
-        room = m.laundry.room;
-        washed =
-            λ i d less. let its = m.laundry.washed i d less in record {
-              claimed = its.claimed;
-              unowned = owner_repaged (pended a) k.memory.resident _ (pended_frame a) ∙ its.unowned;
-            };
-        apart = m.laundry.apart;
-      };
-      frames = m.frames;
-      used =
-          used_waked (is_unlocked k.memory.resident object.0 page.0 count) k.waits.rows waits2.rows
-          (used_away k.memory.resident (retabled (pended a) k.memory.resident) rests.used away_back_pended) waked_rows;
       referred = record {
         live = rests.referred.live;
         pages = λ o p row there. let was = row_back (pended a) k.memory.resident o p row there in rests.referred.pages o p was.0 was.1;
         locks = λ o p row there. locks o p row (row_back (pended a) k.memory.resident o p row there);
         shadows = rests.referred.shadows;
       };
-      waits =
-          waits_taken header h (host_id h) object control (message.Lock page count returns flush lock reply) past
-          (waits_waked k.maps k object page count lock flush waits2.rows past rests.waits woke);
-      order = (woken_keeps (is_unlocked k.memory.resident object.0 page.0 count) k.waits.rows waits2.rows woke).keeps _ 0 rests.order;
     }
   where
     its : Ahead

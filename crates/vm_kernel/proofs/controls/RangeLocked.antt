@@ -1,15 +1,15 @@
 -- The pages of a lock request's range obey one after another, and the pager is told.
-use Rattle.vm_kernel.proofs.Common.{AllInner, Bool, CausedInTurn, Command, EachOf, Event, FrameTable, Header, HostParts, Ids, IsInner, LegalEvents, List, Local}
-use Rattle.vm_kernel.proofs.Common.{None, ObjectId, ObjectRow, Option, Outside, PageKey, PageNo, PageRow, Parts, Plays, PutsRow, ResidentTable, RunsNone, Some}
-use Rattle.vm_kernel.proofs.Common.{Still, Then, [], absent_at, ap, append-nil, arith, before_more, false, host_id, if◌then◌else◌, inl, inr, live_in, local}
-use Rattle.vm_kernel.proofs.Common.{local_of_row, nat_lt, nat_tests, not, object_at, page_in, page_on, paging, place_of, refl, row_at, row_cases, row_put}
-use Rattle.vm_kernel.proofs.Common.{since, some_is, subst, suc, sym, true, zero, ℕ, ◌++◌, ◌+◌, ◌<◌, ◌==◌, ◌&&◌, ◌||◌, ◌∙◌, ◌∷◌, ◌≡◌, ◌≤◌, ◌⊎◌, nat_le}
-use Rattle.vm_kernel.proofs.Common.{eqb_tells, Works}
+use Rattle.vm_kernel.proofs.Common.{AllInner, Bool, CausedInTurn, Command, EachOf, Event, FrameTable, Header, HostParts, Ids, IsInner, LegalEvents, List}
+use Rattle.vm_kernel.proofs.Common.{Local, None, ObjectId, ObjectRow, Option, Outside, PageKey, PageNo, PageRow, Parts, Plays, PutsRow, ResidentTable}
+use Rattle.vm_kernel.proofs.Common.{RunsNone, Some, Still, Then, Works, [], absent_at, ap, append-nil, arith, before_more, eqb_tells, false, host_id}
+use Rattle.vm_kernel.proofs.Common.{if◌then◌else◌, inl, inr, live_in, local, local_of_row, nat_le, nat_lt, nat_tests, not, object_at, page_in, page_on, paging}
+use Rattle.vm_kernel.proofs.Common.{place_of, refl, row_at, row_cases, row_put, since, some_is, subst, suc, sym, true, zero, ℕ, ◌&&◌, ◌++◌, ◌+◌, ◌<◌}
+use Rattle.vm_kernel.proofs.Common.{◌==◌, ◌||◌, ◌∙◌, ◌∷◌, ◌≡◌, ◌≤◌, ◌⊎◌}
 use Rattle.std.specs.Prelude.{option_map}
 use Rattle.vm_kernel.proofs.space.ObjectsEnd.{changes_beside}
 use Rattle.vm_kernel.proofs.steps.EventsGrow.{Follows, goes_more, goes_none, suffices}
-use Rattle.vm_kernel.proofs.controls.PageLocked.{ComesTo, Mid, works_mid, comes_dropped, comes_returned, comes_saved, comes_still, completed, drops, gives}
-use Rattle.vm_kernel.proofs.controls.PageLocked.{quiet_completed, rests_moved, StaysPut}
+use Rattle.vm_kernel.proofs.controls.PageLocked.{ComesTo, Mid, StaysPut, comes_dropped, comes_returned, comes_saved, comes_still, completed, works_mid}
+use Rattle.vm_kernel.proofs.memory.PageChanges.{amidst_moved, drops, gives}
 use Rattle.vm_kernel.proofs.memory.MayLeave.{IsSeen, seen_here}
 use Rattle.vm_kernel.proofs.controls.AnswerEffects.{same_effect}
 use Rattle.vm_kernel.proofs.abroad.OwnEvents.{own_named}
@@ -20,25 +20,25 @@ use Rattle.vm_legal.proofs.Paying.{lock_more}
 use Rattle.vm_legal.specs.Debts.{HasLocked, HasObeyed, was_on}
 use Rattle.vm_legal.specs.Licences.{IsLocked, LockRequest, gives_back, lock_taken}
 use Rattle.vm_legal.specs.Steps.{before_step, completes, drops_page, gives_page, returns_page}
-use Rattle.vm_locks.specs.Obeys.{GoesBack, IsAsked, IsDropped, IsSaved, LockState, Next, NoMore, PageObeys, PagesObey, Replies, Silent, IsTold, Stays, act_on}
+use Rattle.vm_locks.specs.Obeys.{GoesBack, IsAsked, IsDropped, IsSaved, IsTold, LockState, Next, NoMore, PageObeys, PagesObey, Replies, Silent, Stays, act_on}
 use Rattle.vm_locks.specs.Obeys.{lock_state}
 use Rattle.vm_base.specs.declared.ids.Lock.{Lock}
-use Rattle.vm_kernel.proofs.controls.LockPending.{Ahead, aimed, changes_pended, frame_pended, is_ahead, owner_repaged, pend, pended, pended_away, pended_behind}
-use Rattle.vm_kernel.proofs.controls.LockPending.{pended_frame, row_repaged}
+use Rattle.vm_kernel.proofs.controls.LockPending.{Ahead, aimed, changes_pended, frame_pended, is_ahead, owner_repaged, pend, pended, pended_away}
+use Rattle.vm_kernel.proofs.controls.LockPending.{pended_behind, pended_frame, row_repaged}
 use Rattle.vm_kernel.proofs.controls.LockRequested.{SameRows, ahead_of, mid_rows}
 use Rattle.vm_locks.specs.Requests.{lock_wanted, returns_numbered}
 use Rattle.vm_locks.specs.declared.request.LockRequest.{LockRequest as Wanted}
-use Rattle.vm_model.specs.declared.event.Event.TheVariants as event
 use Rattle.vm_model.specs.Words.{in_range}
 use Rattle.vm_parts.specs.Changes.{Changes, relocked}
 use Rattle.vm_parts.specs.Locks.{lock_after}
 use Rattle.vm_queues.specs.Queues.{Queues}
-use Rattle.vm_supply.specs.declared.woken.Woken.TheVariants as woken
 use Rattle.vm_state.specs.Places.{known_local}
 use Rattle.vm_tables.specs.Cases.{gives_back as goes_back}
 use Rattle.vm_state.proofs.Bypassing.{waits_quiet}
 use Rattle.vm_state.proofs.Passing.{quiet_if}
 use Rattle.vm_model.specs.Local.{Elsewhere}
+use Rattle.vm_model.specs.declared.event.Event.TheVariants as event
+use Rattle.vm_supply.specs.declared.woken.Woken.TheVariants as woken
 
 -- A lock request that a host took for the live control of an object, of which it knows this. The kernel is that in front of it, but for those that are to be
 -- run again, and the past ends with its taking.
@@ -722,26 +722,29 @@ done_silent r s t all silent =
 completed_rests : (r : Request) (k : Parts) (past : List Event) → Mid r.header r.host k r.ids past
     → Mid r.header r.host k r.ids (completed r.host r.object r.known.control r.page r.count ∷ past)
 completed_rests r k past rests =
-    let m = rests in
-    rests_moved r.header r.host k r.ids k.memory k.laundry past (completed r.host r.object r.known.control r.page r.count ∷ past) rests
-    (quiet_completed r.object r.known.control r.page r.count rests)
-    (record {
-      away = λ o p none. none;
-      fits = m.fits;
-      objects = record { at = λ o. refl };
-      kinds = m.kinds;
-      pages =
-          record {
-            shown = λ o p. ap (known_local r.header o p) (rw (own_host r.host)
-                (same_effect r.header.size (r.object.0 == o) (local r.header r.host (place_of o p) past))) ∙ m.pages.shown o p;
-          };
-      washed = m.laundry;
-      frames = m.frames;
+    let c = rests.runs.core in
+    record {
+      runs = amidst_moved rests.runs (record { space = refl; controls = refl })
+          (record {
+            fits = c.fits;
+            away = λ o p none. none;
+            objects = record { at = λ o. refl };
+            kinds = c.objects.kinds;
+            pages = record {
+              shown = record {
+                shown = λ o p. ap (known_local r.header o p) (rw (own_host r.host)
+                    (same_effect r.header.size (r.object.0 == o) (local r.header r.host (place_of o p) past))) ∙ c.pages.shown.shown o p;
+              };
+              washed = c.pages.washed;
+              counted = c.pages.counted;
+            };
+            waits =
+                waits_quiet r.header r.host (completed r.host r.object r.known.control r.page r.count) past
+                (λ place. quiet_if (r.host == r.host && r.object.0 == place.object.0) Elsewhere Elsewhere tt tt) rests.runs.waits;
+          });
+      settled = record { none_owed = refl; shut = λ region. refl };
       referred = rests.referred;
-      waits =
-          waits_quiet r.header r.host (completed r.host r.object r.known.control r.page r.count) past
-          (λ place. quiet_if (r.host == r.host && r.object.0 == place.object.0) Elsewhere Elsewhere tt tt) rests.waits;
-    })
+    }
 
 completed_cause : (r : Request) (s : LockState) → IsTaken r → AllObeyed r s → r.reply ≡ true
     → CausedInTurn r.header r.outside r.command (completed r.host r.object r.known.control r.page r.count) (s.events ++ r.past)
@@ -749,7 +752,7 @@ completed_cause r s t all wanted =
     let o = all.obeyed in
     let m = mid_all r s all in
     record {
-      live = m.controls.live r.object.0 ∙ (ap live_in o.found ∙ ap (λ b. if b then Some r.known.control else None) t.live);
+      live = m.runs.core.controls.live r.object.0 ∙ (ap live_in o.found ∙ ap (λ b. if b then Some r.known.control else None) t.live);
       returns = r.returns;
       flush = r.flush;
       lock = r.lock;
@@ -757,7 +760,7 @@ completed_cause r s t all wanted =
       once = o.undone;
       done = λ p least below here.
           let row = row_seen r.header r.object.0 p s.parts.frames (row_at s.parts.resident r.object.0 p) (absent_at s.parts.objects r.object.0 p)
-          (page_on r.header r.host r.object.0 p (s.events ++ r.past)) (m.pages.shown r.object.0 p) here in
+          (page_on r.header r.host r.object.0 p (s.events ++ r.past)) (m.runs.core.pages.shown.shown r.object.0 p) here in
           let left = o.left p row.row (record { least = least; below = let end = all.end in omega (arith, end, below); inside = below }) row.is row.here in
           (left.0, gives_seen r.returns _ _ row ∙ left.1);
     }
@@ -774,7 +777,7 @@ done_told r s t all wanted =
       consequence = tt;
       cause = completed_cause r s t all wanted;
       own_bytes = tt;
-      frames = suffices r.header r.host s.parts.frames (e ∷ moment) rests.frames;
+      frames = suffices r.header r.host s.parts.frames (e ∷ moment) rests.runs.core.pages.counted;
       inner = tt;
       said = refl;
       own = own_named r.host;

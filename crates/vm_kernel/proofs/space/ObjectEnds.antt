@@ -1,66 +1,59 @@
 -- An object to which nothing refers: its pages go, its control ends, where one lives, and what stood under it has one reference less.
-use Rattle.vm_kernel.proofs.Common.{AllEntriesInside, Below, Bool, CausedInTurn, ChainTable, Changes, Command, Does, Drops, Elsewhere, EndsObject, Entry, Event}
-use Rattle.vm_kernel.proofs.Common.{Fit, FrameTable, HasControls, HasEntries, HasFrames, HasKinds, HasPages, HasSlow, HasWaiters, HaveHomes, Header, HostParts}
-use Rattle.vm_kernel.proofs.Common.{Ids, Inside, IsAmid, IsInside, IsOfKind, IsWhole, LaundryList, LegalEvents, List, Local, LocalEffect, Mapped}
-use Rattle.vm_kernel.proofs.Common.{Matches, None, ObjectId, ObjectRow, ObjectTable, Option, Outside, PageKey, PageRow, Parts, PutsAbsent, PutsObject, Reach}
-use Rattle.vm_kernel.proofs.Common.{RegionRow, ResidentTable, ReturnCause, Returns, SameMarks, SameObjects, Some, Unreached, Up, UsesAll, Woken, []}
-use Rattle.vm_kernel.proofs.Common.{absent_at, all_tasks, ap, arith, away, backing_of, entries_in, entries_of, eqb_tells, false, fit_objects, frames_held}
-use Rattle.vm_kernel.proofs.Common.{frames_wired, has_entry, has_region, home_of, host_id, if◌then◌else◌, in_use, inl, inr, is_control, is_ready, is_some}
-use Rattle.vm_kernel.proofs.Common.{is_woken, last_control, last_in, length, live_control, live_in, local, local_after, local_of_row, marks_of, named}
-use Rattle.vm_kernel.proofs.Common.{nat_tests, next_object, next_region, not, object_at, one_case, page_in, pages_in, pages_of_row, paging, place_of}
-use Rattle.vm_kernel.proofs.Common.{queues_except, ready_in, refl, region_at, region_of, returns_out, reverse, row_at, row_cases, rows_in, rows_map, same_pages}
-use Rattle.vm_kernel.proofs.Common.{slice_get, some_is, subst, sym, true, waiting, without_control, ℕ, ◌&&◌, ◌++◌, ◌+◌, ◌-◌, ◌<◌, ◌==◌, ◌^◌, ◌||◌}
-use Rattle.vm_kernel.proofs.Common.{◌∙◌, ◌∷◌, ◌≡◌, ◌≤◌, ◌⊎◌}
+use Rattle.vm_kernel.proofs.Common.{AllEntriesInside, Below, Bool, CausedInTurn, ChainTable, Changes, Command, Does, Elsewhere, EndsObject, Entry, Event}
+use Rattle.vm_kernel.proofs.Common.{FrameTable, HasControls, HasEntries, HasPages, HasSlow, HaveHomes, Header, HostParts, Ids, Inside, IsAmid, IsInside}
+use Rattle.vm_kernel.proofs.Common.{IsOfKind, IsSettled, IsWhole, LaundryList, LegalEvents, List, Local, Mapped, Matches, None, ObjectId, ObjectRow}
+use Rattle.vm_kernel.proofs.Common.{ObjectTable, Option, Outside, PageKey, PageRow, Parts, PutsAbsent, PutsObject, Reach, RegionRow, ResidentTable, SameMarks}
+use Rattle.vm_kernel.proofs.Common.{SameObjects, Some, Unreached, Up, Woken, [], absent_at, all_tasks, ap, arith, away, backing_of}
+use Rattle.vm_kernel.proofs.Common.{entries_in, entries_of, eqb_tells, false, has_entry, has_region, host_id, if◌then◌else◌, in_use, inl, inr, is_control}
+use Rattle.vm_kernel.proofs.Common.{is_ready, is_some, is_woken, last_control, last_in, live_control, live_in, local, local_after, local_of_row, named}
+use Rattle.vm_kernel.proofs.Common.{object_at, object_home, one_case, page_in, pages_in, paging, place_of, queues_except, ready_in, refl, region_at, region_of}
+use Rattle.vm_kernel.proofs.Common.{row_at, rows_in, rows_map, some_is, subst, sym, true, waiting, without_control, ℕ, ◌&&◌, ◌++◌, ◌+◌, ◌-◌, ◌<◌, ◌==◌, ◌^◌}
+use Rattle.vm_kernel.proofs.Common.{◌||◌, ◌∙◌, ◌∷◌, ◌≡◌, ◌≤◌, ◌⊎◌}
 use Rattle.std.proofs.lemmas.Bool.{or_parts}
-use Rattle.vm_kernel.specs.Fits.{ArePlain}
 use Rattle.vm_legal.specs.Licences.{DropCause, Ended}
 use Rattle.vm_legal.specs.Swept.{IsUnheld}
 use Rattle.vm_kernel.specs.Plays.{AsUnheld, AsUnreached, Departs, DepartsUnheld}
-use Rattle.vm_model.specs.declared.event.Event.TheVariants as event
-use Rattle.vm_model.specs.declared.message.Message.TheVariants as message
 use Rattle.vm_model.specs.Local.{Ends as EndsControl}
-use Rattle.vm_objects.specs.declared.row.PagerState.TheVariants as state
-use Rattle.vm_parts.proofs.Fitting.{fit_changed}
 use Rattle.vm_parts.specs.Changes.{Discards, Removes}
 use Rattle.vm_shadow.specs.Chains.{DropsShadow, shadow_at}
 use Rattle.vm_shadow.specs.declared.shadow_row.ShadowRow.{ShadowRow}
-use Rattle.vm_kernel.proofs.memory.PartsStillFit.{plain_changed}
 use Rattle.vm_kernel.proofs.space.EntriesCounted.{by_some}
 use Rattle.vm_kernel.proofs.steps.EventsGrow.{goes_one, suffices}
-use Rattle.vm_kernel.proofs.memory.WhatIsKnown.{known_on, nested, other_if, other_nested, pages_known}
-use Rattle.vm_kernel.proofs.memory.MayLeave.{IsSeen, seen_here}
+use Rattle.vm_kernel.proofs.memory.WhatIsKnown.{other_if, pages_known}
+use Rattle.vm_kernel.proofs.memory.MayLeave.{IsSeen}
 use Rattle.vm_kernel.proofs.abroad.OwnEvents.{own_named}
 use Rattle.vm_kernel.proofs.abroad.OwnHost.{own_host}
-use Rattle.vm_kernel.proofs.memory.PagesShown.{frames_changed, itself, laundry_changed, pages_moved}
+use Rattle.vm_kernel.proofs.memory.PagesShown.{itself, pages_marked}
 use Rattle.vm_kernel.proofs.lists.ListsAsTold.{frames_put, here_is, same_paging}
 use Rattle.vm_kernel.proofs.space.RegionRows.{region_row}
-use Rattle.vm_kernel.proofs.memory.PageReturned.{controls_same}
 use Rattle.vm_kernel.proofs.space.RegionEnds.{controls_referred}
-use Rattle.vm_kernel.proofs.memory.FramesWashed.{laundry_returned}
 use Rattle.vm_kernel.proofs.controls.LockReplied.{replied_behind}
-use Rattle.vm_state.proofs.Changing.{regions_controlled}
 use Rattle.vm_abroad.proofs.Regions.{kind_cases}
-use Rattle.vm_state.proofs.Declared.{kind_referred, kinds_dropped, kinds_put, kinds_same, whole_row}
-use Rattle.vm_state.proofs.Files.{files_put, files_same}
+use Rattle.vm_state.proofs.Declared.{kind_referred, kinds_dropped, kinds_put, whole_row}
+use Rattle.vm_state.proofs.Files.{files_put}
 use Rattle.vm_state.proofs.Going.{regions_dropped}
 use Rattle.vm_state.proofs.Knowing.{known_put}
 use Rattle.vm_state.proofs.Places.{told_apart, unsent_apart, waits_dropped}
 use Rattle.vm_state.proofs.Reaching.{chain_declared, temporary_down}
 use Rattle.vm_state.proofs.Referred.{but_dropped, but_gone, but_known, referred_dropped}
 use Rattle.vm_state.proofs.Referring.{unreferred_region, unreferred_shadow}
-use Rattle.vm_state.proofs.Filling.{away_put, copies_kept, filled_there, rows_unmade, used_away}
-use Rattle.vm_state.proofs.Told.{waiters_lost, waits_told}
+use Rattle.vm_state.proofs.Filling.{copies_kept, filled_there, rows_unmade}
+use Rattle.vm_state.proofs.Told.{waits_told}
 use Rattle.vm_state.specs.Filling.{filled_row}
 use Rattle.vm_kernel.proofs.space.RegionsFilled.{dropped_filled}
 use Rattle.vm_state.specs.Places.{known_local}
 use Rattle.vm_state.specs.References.{is_live_in}
 use Rattle.vm_legal.specs.InTurn.{DropsInTurn}
-use Rattle.vm_state.specs.Passed.{IsUnmet, StaysAway}
-use Rattle.vm_kernel.proofs.memory.WalksShown.{shown_at}
 use Rattle.vm_legal.specs.Walks.{page_on}
-use Rattle.vm_state.proofs.Bypassing.{waits_quiet, waits_returned}
+use Rattle.vm_state.proofs.Bypassing.{waits_quiet}
 use Rattle.vm_state.proofs.Passing.{quiet_if}
-use Rattle.vm_state.proofs.Shown.{shows_row}
+use Rattle.vm_kernel.proofs.memory.PageChanges.{amidst_gone, amidst_of, amidst_returned, core_of, drop_follows, drops, fit_lost, fits_known, live_at}
+use Rattle.vm_kernel.proofs.memory.PageChanges.{matches_of, objects_known, return_follows, same_objects, seen_of}
+use Rattle.vm_kernel.specs.TablesInGroups.{Amidst}
+use Rattle.vm_kernel.specs.Matches.{IsReplied}
+use Rattle.vm_model.specs.declared.event.Event.TheVariants as event
+use Rattle.vm_model.specs.declared.message.Message.TheVariants as message
+use Rattle.vm_objects.specs.declared.row.PagerState.TheVariants as state
 
 -- no region that is in use leads to it
 
@@ -110,6 +103,15 @@ unheld header h k ids rest past o row m known none declared task lives = by_test
         (sym (ap (has_entry o) (m.tasks.rows task here)) ∙ is)) in
         absurd (unreferred_region m.regions o row known none o there.0 there.1 (whole_row m.regions m.homes.1 o there.0 declared there.1).top)
 
+-- the kernel in groups, and back
+inside : {header : Header} {h : ℕ} {who : Woken} {k : Parts} {ids : Ids} {rest : List Entry} {object : ℕ} {past : List Event}
+    → EndsObject header h who k ids rest object past → Amidst header h k ids rest who past
+inside e = amidst_of e.runs.matches e.used e.runs.waits e.runs.order
+
+amid_of : {header : Header} {h : ℕ} {who : Woken} {k : Parts} {ids : Ids} {rest : List Entry} {past : List Event} → Amidst header h k ids rest who past
+    → IsSettled past → IsReplied past → IsAmid header h who k ids rest past
+amid_of {k = k} a settled replied = record { matches = matches_of k a settled replied; waits = a.waits; order = a.order }
+
 -- nobody waits for the unlock of a page of it
 unsent : (header : Header) (h : ℕ) (past : List Event) (who : Woken) (k : Parts) (ids : Ids) (rest : List Entry) (key : PageKey) (row : PageRow)
     (events : List Event)
@@ -136,62 +138,18 @@ pub ends_lost : (header : Header) (h : ℕ) (outside : Outside) (doing : Command
     × LegalEvents header h outside doing past events (event.Dropped (host_id h) key.object key.page ∷ events)
 ends_lost header h outside doing past who k ids rest key row memory events e first is_here clean c objects buffers = (
   record {
-    runs = record {
-      matches = record {
-        ranged = m.ranged;
-        declared = m.declared;
-        kinds = rw objects m.kinds;
-        shared = m.shared;
-        known = m.known;
-        size = m.size;
-        host = m.host;
-        fits = record {
-          parts =
-              fit_changed key row.frame (Some row) None false (page_in k.memory.frames row.frame.0) (queues_except row.frame.0 k.memory.queues) k.memory memory
-              m.fits.parts c (λ some. absurd (let bad : false ≡ true = some in cc))
-              (λ some. absurd (let bad : false ≡ true = some in cc)) (m.fits.parts.all_sized row.frame.0 c.inside) refl objects buffers;
-          plain = plain2;
-          buffers = ap (λ z. z.size) buffers ∙ m.fits.buffers;
-        };
-        tasks = m.tasks;
-        regions = rw objects m.regions;
-        homes = m.homes;
-        files = rw objects m.files;
-        entries = m.entries;
-        pages = rw objects pages2;
-        uses = m.uses;
-        controls = rw objects m.controls;
-        settled = record { none_owed = refl; shut = λ region. refl };
-        replied = replied_behind tt m.replied;
-        laundry = laundry_changed key row.frame _ _ _ _ _ k.memory memory k.laundry (returns_out h moment) m.laundry c;
-        frames = frames2;
-      };
-      waits = rw objects waits2;
-      order = e.runs.order;
-    };
-    used = used_away k.memory.resident memory.resident e.used (away_put o p None row k.memory.resident memory.resident c.found c.row);
+    runs = amid_of after (record { none_owed = refl; shut = λ region. refl }) (replied_behind tt m.replied);
+    used = after.used;
     row = e.row;
     known = rw objects e.known;
     none = e.none;
     referred = rw objects (but_gone o o p k.chains k.memory.objects k.memory.resident memory.resident c.row e.referred);
   },
-  goes_one header h outside doing past events gone m.settled (record {
-    consequence = tt;
-    cause = cause;
-    own_bytes = tt;
-    frames = suffices header h memory.frames (gone ∷ moment) frames2;
-    inner = tt;
-    said = tt;
-    own = own_named h;
-    creates = tt;
-  }),
+  goes_one header h outside doing past events (drops h key) m.settled (drop_follows key seen.here after why (turn why)),
 )
   where
     m : Matches header h k ids rest (events ++ past)
     m = e.runs.matches
-
-    moment : List Event
-    moment = events ++ past
 
     o : ℕ
     o = key.object.0
@@ -199,17 +157,16 @@ ends_lost header h outside doing past who k ids rest key row memory events e fir
     p : ℕ
     p = key.page.0
 
-    gone : Event
-    gone = event.Dropped (host_id h) key.object key.page
+    after : Amidst header h (record k { memory = memory }) ids rest who (drops h key ∷ (events ++ past))
+    after =
+        amidst_gone key (inside e) is_here (unsent header h past who k ids rest key row events e c.found) c objects
+        (fit_lost m.fits.parts c (same_objects objects) buffers) (ap (λ z. z.size) buffers)
 
-    is : known_local header o p (local header h (place_of o p) (events ++ past)) ≡ local_of_row k.memory.frames (Some row) (absent_at k.memory.objects o p)
-    is = m.pages.shown o p ∙ ap (λ z. local_of_row k.memory.frames z (absent_at k.memory.objects o p)) c.found
+    seen : IsSeen (known_local header key.object.0 key.page.0 (local header h (place_of key.object.0 key.page.0) (events ++ past))) row
+        (page_in k.memory.frames row.frame.0)
+    seen = seen_of key (inside e) c.found is_here
 
-    seen : IsSeen (known_local header o p (local header h (place_of o p) (events ++ past))) row (page_in k.memory.frames row.frame.0)
-    seen =
-        seen_here k.memory.frames row (absent_at k.memory.objects o p) (known_local header o p (local header h (place_of o p) (events ++ past))) is is_here
-
-    why : DropCause header doing h o p (local header h (place_of o p) (events ++ past)) (events ++ past)
+    why : DropCause header doing h o p (page_on header h o p (events ++ past)) (events ++ past)
     why = elim (kind_cases header o) [
       | inl declared ↦ Ended (seen.dirty ∙ (or_parts row.dirty row.precious (clean declared)).0)
           (seen.precious ∙ (or_parts row.dirty row.precious (clean declared)).1) declared
@@ -217,45 +174,11 @@ ends_lost header h outside doing past who k ids rest key row memory events e fir
       | inr temporary ↦ Unreached temporary (unreached header h k ids rest (events ++ past) o e.row m e.used.copies e.known e.none temporary)
     ]
 
-    turn : (cause : DropCause header doing h o p (local header h (place_of o p) (events ++ past)) (events ++ past))
-        → DropsInTurn header doing h o p (local header h (place_of o p) (events ++ past)) (events ++ past) cause
+    turn : (cause : DropCause header doing h o p (page_on header h o p (events ++ past)) (events ++ past))
+        → DropsInTurn header doing h o p (page_on header h o p (events ++ past)) (events ++ past) cause
     turn (Unreached temporary unreached) = none_in_front m o p first
     turn (Ended clean plain declared unheld) = none_in_front m o p first
     turn other = tt
-
-    cause : CausedInTurn header outside doing (event.Dropped (host_id h) key.object key.page) (events ++ past)
-    cause = (record { here = seen.here; why = why }, turn why)
-
-    plain2 : ArePlain memory.resident
-    plain2 o2 p2 row2 found = elim (row_cases o p None k.memory.resident memory.resident c.row o2 p2) [
-      | inl put ↦ absurd (let bad : None ≡ Some row2 = sym put.is ∙ found in cc)
-      | inr other ↦ λ away. m.fits.plain o2 p2 row2 (sym other.is ∙ found) away
-    ]
-
-    pages2 : HasPages memory.frames memory.resident k.memory.objects (λ o2 p2. known_local header o2 p2
-        (local header h (place_of o2 p2) (event.Dropped (host_id h) key.object key.page ∷ (events ++ past))))
-    pages2 =
-        rw (own_host h) (known_on header header.size key Drops (λ o2 p2. local header h (place_of o2 p2) (events ++ past)) tt
-        (pages_moved header.size Drops key row.frame _ _ _ _ _ k.memory memory k.memory.objects
-        (λ o2 p2. known_local header o2 p2 (local header h (place_of o2 p2) (events ++ past))) m.fits.parts m.pages c
-        (ap (λ z. record away { asked = not z; absent = absent_at k.memory.objects o p }) is_here) (λ o2 p2 apart. refl)))
-
-    frames2 : HasFrames (slice_get (reverse header.frames.items) h) memory.frames
-        (frames_held header h (event.Dropped (host_id h) key.object key.page ∷ (events ++ past)))
-        (frames_wired h (event.Dropped (host_id h) key.object key.page ∷ (events ++ past)))
-    frames2 =
-        rw (own_host h) (frames_changed (slice_get (reverse header.frames.items) h) key row.frame _ _ _ _ _ k.memory memory (frames_held header h moment)
-        (frames_held header h moment - 1) (frames_wired h moment) m.frames c (λ held. let less = c.claims in omega arith))
-
-    waits2 : HasWaiters k.maps k.chains memory.resident k.memory.objects k.waits.rows (is_woken who) (λ t. waiting t (events ++ past))
-        (StaysAway header h (event.Dropped (host_id h) key.object key.page ∷ (events ++ past)))
-        (IsUnmet header h (event.Dropped (host_id h) key.object key.page ∷ (events ++ past)))
-    waits2 =
-        waits_quiet header h (event.Dropped (host_id h) key.object key.page) (events ++ past)
-        (λ place. quiet_if (h == h && (key.object.0 == place.object.0 && key.page.0 == place.page.0)) Drops Elsewhere tt tt)
-        (waiters_lost k.maps k.chains k.memory.resident memory.resident k.memory.objects k.memory.objects k.waits.rows (is_woken who)
-        (λ t. waiting t (events ++ past)) o p row e.runs.waits c.found is_here (unsent header h past who k ids rest key row events e c.found) c.row
-        (λ object told. told) (λ object is. is))
 
 -- and is off the lists
 
@@ -297,22 +220,6 @@ lost_plays header h past who k ids rest key row memory events e is_here c = elim
 abbrev pub going_back : ℕ → PageKey → ObjectRow → PageRow → List ℕ → Event
 going_back h key known row bytes = event.Sent (Up (host_id h) key.object) (message.Return known.control key.page row.dirty false bytes)
 
--- no page of a declared object is known to be missing, so none comes to be known
-marks_kept : (header : Header) (o p : ℕ) (os os2 : ObjectTable) (cs : ChainTable) → HasKinds header os cs → o < named header → PutsAbsent o p false os os2
-    → SameMarks os os2
-marks_kept header o p os os2 cs kinds declared put = record { at = λ x q. put.at x q ∙ by_test x q (o == x) refl }
-  where
-    by_test : (x q : ℕ) (b : Bool) → (o == x) ≡ b → (if b && (p == q) then false else absent_at os x q) ≡ absent_at os x q
-    by_test x q false other = refl
-    by_test x q true same =
-        let is : o ≡ x = grind (arith, nat_tests) in
-        let none = kinds.present x q (omega (arith, is, declared)) in
-        ap (λ z. if p == q then false else z) none ∙ (either (p == q) ∙ sym none)
-      where
-        either : (b : Bool) → (if b then false else false) ≡ false
-        either true = refl
-        either false = refl
-
 -- an object is put where it is
 put_same : (o : ℕ) (row : ObjectRow) (os os2 : ObjectTable) → SameObjects os os2 → object_at os o ≡ Some row → PutsObject o (Some row) os os2
 put_same o row os os2 same found = record {
@@ -346,169 +253,36 @@ pub ends_returned : (header : Header) (h : ℕ) (outside : Outside) (doing : Com
     × LegalEvents header h outside doing past events (going_back h key known row (page_in k.memory.frames row.frame.0) ∷ events)
 ends_returned header h outside doing past who k ids rest key known row memory laundry events e goes = (
   record {
-    runs = record {
-      matches = record {
-        ranged = m.ranged;
-        declared = m.declared;
-        kinds = kinds_same header k.memory.objects memory.objects k.chains goes.objects marks m.kinds;
-        shared = m.shared;
-        known = m.known;
-        size = m.size;
-        host = m.host;
-        fits = record {
-          parts = fit2;
-          plain = plain2;
-          buffers = ap (λ z. z.size) goes.buffers ∙ m.fits.buffers;
-        };
-        tasks = m.tasks;
-        regions =
-            regions_controlled o known known k.chains k.memory.objects memory.objects ids (λ r. region_of header r moment)
-            (λ o2. backing_of header o2 moment) (next_region header moment) (next_object header moment) (marks_of header moment) goes.found put refl refl
-            m.regions;
-        homes = m.homes;
-        files = files_same header h k.memory.objects memory.objects (λ o2. home_of o2 moment) goes.objects m.files;
-        entries = m.entries;
-        pages =
-            rw (own_host h) (pages_known header header.size effect_at (λ o2 p2. local header h (place_of o2 p2) moment)
-            (λ o2 p2. other_nested (o == o2) (p == p2) (Returns false) tt) pages2);
-        uses = m.uses;
-        controls =
-            controls_same k.memory.objects memory.objects (λ o2. last_control h o2 moment) (λ o2. live_control h o2 moment)
-            (λ o2. is_ready h o2 moment) m.controls goes.objects.at;
-        settled = record { none_owed = refl; shut = λ region. refl };
-        replied = replied_behind tt m.replied;
-        laundry = rw (own_host h) (laundry_returned key row _ _ k.memory memory k.laundry laundry (returns_out h moment) m.laundry c goes.held goes.room);
-        frames = frames2;
-      };
-      waits = waits_returned header h (host_id h) key.object known.control key.page row.dirty false (page_in k.memory.frames row.frame.0) moment here_then
-          (waiters_lost k.maps k.chains k.memory.resident memory.resident k.memory.objects memory.objects k.waits.rows (is_woken who) (λ t. waiting t moment) o
-          p row e.runs.waits c.found goes.here (unsent header h past who k ids rest key row events e c.found) c.row
-          (λ object told. record { row = told.row; found = goes.objects.at object ∙ told.found; sent = told.sent })
-          (λ object is. ap ready_in (goes.objects.at object) ∙ is));
-      order = e.runs.order;
-    };
-    used = used_away k.memory.resident memory.resident e.used (away_put o p None row k.memory.resident memory.resident c.found c.row);
+    runs = amid_of after (record { none_owed = refl; shut = λ region. refl }) (replied_behind tt m.replied);
+    used = after.used;
     row = e.row;
     known = goes.objects.at o ∙ e.known;
     none = e.none;
     referred =
-        but_known o known k.chains k.memory.objects memory.objects memory.resident put (λ p2 row2 found is. sym (ap is_live_in goes.found) ∙ is)
-        (but_gone o o p k.chains k.memory.objects k.memory.resident memory.resident c.row e.referred);
+        but_known o known k.chains k.memory.objects memory.objects memory.resident (put_same o known k.memory.objects memory.objects goes.objects goes.found)
+        (λ p2 row2 found is. sym (ap is_live_in goes.found) ∙ is)
+        (but_gone o o key.page.0 k.chains k.memory.objects k.memory.resident memory.resident c.row e.referred);
   },
-  goes_one header h outside doing past events sent m.settled (record {
-    consequence = tt;
-    cause = cause;
-    own_bytes = tt;
-    frames = suffices header h memory.frames (sent ∷ moment) frames2;
-    inner = tt;
-    said = (refl, long);
-    own = own_named h;
-    creates = tt;
-  }),
+  goes_one header h outside doing past events (going_back h key known row (page_in k.memory.frames row.frame.0)) m.settled
+      (return_follows key known.control (inside e) c.found goes.here goes.wanted (live_at k.memory.objects o goes.found goes.live) after
+      (Ended refl goes.declared (unheld header h k ids rest (events ++ past) o e.row m e.known e.none goes.declared))
+      (none_in_front m o key.page.0 goes.first)),
 )
   where
     m : Matches header h k ids rest (events ++ past)
     m = e.runs.matches
 
-    moment : List Event
-    moment = events ++ past
-
     o : ℕ
     o = key.object.0
-
-    p : ℕ
-    p = key.page.0
 
     c : Removes key row k.memory memory
     c = goes.removes
 
-    here_then : (page_on header h o p moment).here ≡ true
-    here_then = (shows_row (shown_at m) o p row c.found goes.here).here
-
-    sent : Event
-    sent = going_back h key known row (page_in k.memory.frames row.frame.0)
-
-    marks : SameMarks k.memory.objects memory.objects
-    marks = marks_kept header o p k.memory.objects memory.objects k.chains m.kinds goes.declared goes.absent
-
-    put : PutsObject o (Some known) k.memory.objects memory.objects
-    put = put_same o known k.memory.objects memory.objects goes.objects goes.found
-
-    seen : IsSeen (known_local header o p (local header h (place_of o p) (events ++ past))) row (page_in k.memory.frames row.frame.0)
-    seen = seen_here k.memory.frames row (absent_at k.memory.objects o p) (known_local header o p (local header h (place_of o p) (events ++ past)))
-        (m.pages.shown o p ∙ ap (λ z. local_of_row k.memory.frames z (absent_at k.memory.objects o p)) c.found) goes.here
-
-    due : ((local header h (place_of o p) (events ++ past)).dirty || (local header h (place_of o p) (events ++ past)).precious) ≡ true
-    due = ap (λ z. z || (local header h (place_of o p) (events ++ past)).precious) seen.dirty ∙ (ap (λ z. row.dirty || z) seen.precious ∙ goes.wanted)
-
-    why : ReturnCause header doing h o p false (events ++ past)
-    why = Ended refl goes.declared (unheld header h k ids rest (events ++ past) o e.row m e.known e.none goes.declared)
-
-    cause : CausedInTurn header outside doing (going_back h key known row (page_in k.memory.frames row.frame.0)) (events ++ past)
-    cause = (
-      record {
-        live = m.controls.live o ∙ (ap live_in goes.found ∙ ap (λ b. if b then Some known.control else None) goes.live);
-        here = seen.here;
-        due = due;
-        same = sym seen.bytes_are;
-        flag = sym seen.dirty;
-        why = why;
-      },
-      none_in_front m o p goes.first,
-    )
-
-    long : length (page_in k.memory.frames row.frame.0) ≡ header.size
-    long = m.fits.parts.all_sized row.frame.0 c.inside ∙ (m.fits.buffers ∙ m.size)
-
-    fit2 : Fit memory
-    fit2 =
-        let kept : HostParts = record memory { objects = k.memory.objects } in
-        let was : Changes key row.frame (Some row) None true (page_in k.memory.frames row.frame.0) (queues_except row.frame.0 k.memory.queues) k.memory kept =
-        record {
-          found = c.found;
-          was_in = c.was_in;
-          inside = c.inside;
-          had = c.had;
-          owned = c.owned;
-          listed = c.listed;
-          row = c.row;
-          now_in = c.now_in;
-          owner = c.owner;
-          frames = c.frames;
-          page = c.page;
-          claim = c.claim;
-          claims = c.claims;
-          left = c.left;
-          queues = c.queues;
-          lists_are = c.lists_are;
-        } in
-        fit_objects kept memory.objects
-        (fit_changed key row.frame (Some row) None true (page_in k.memory.frames row.frame.0) (queues_except row.frame.0 k.memory.queues) k.memory kept
-        m.fits.parts was (λ some. absurd (let bad : false ≡ true = some in cc))
-        (λ some. absurd (let bad : false ≡ true = some in cc)) (m.fits.parts.all_sized row.frame.0 c.inside) refl refl goes.buffers)
-        (λ o2. ap pages_of_row (goes.objects.at o2))
-
-    plain2 : ArePlain memory.resident
-    plain2 = plain_changed key row.frame _ _ _ _ _ k.memory memory m.fits.plain c tt
-
-    effect_at : ℕ → ℕ → LocalEffect
-    effect_at o2 p2 = if o == o2 then (if p == p2 then Returns false else Elsewhere) else Elsewhere
-
-    pages2 : HasPages memory.frames memory.resident memory.objects (λ o2 p2. local_after header.size (effect_at o2 p2)
-        (known_local header o2 p2 (local header h (place_of o2 p2) (events ++ past))))
-    pages2 =
-        let local_at = λ (o2 p2 : ℕ). known_local header o2 p2 (local header h (place_of o2 p2) (events ++ past)) in
-        let moved = pages_moved header.size (Returns false) key row.frame _ _ _ _ _ k.memory memory memory.objects local_at m.fits.parts m.pages c
-        (ap (λ z. record away { asked = not z }) goes.here ∙ ap (λ z. record away { absent = z }) (sym (marks.at o p ∙ m.kinds.present o p goes.declared)))
-        (λ o2 p2 apart. marks.at o2 p2) in
-        record { shown = λ o2 p2. ap (λ e. local_after header.size e (local_at o2 p2)) (nested (o == o2) (p == p2) (Returns false)) ∙ moved.shown o2 p2 }
-
-    frames2 : HasFrames (slice_get (reverse header.frames.items) h) memory.frames
-        (frames_held header h (going_back h key known row (page_in k.memory.frames row.frame.0) ∷ (events ++ past)))
-        (frames_wired h (going_back h key known row (page_in k.memory.frames row.frame.0) ∷ (events ++ past)))
-    frames2 =
-        frames_changed (slice_get (reverse header.frames.items) h) key row.frame _ _ _ _ _ k.memory memory (frames_held header h moment)
-        (frames_held header h moment) (frames_wired h moment) m.frames c (λ held. let same = c.claims in omega arith)
+    after : Amidst header h (record k { memory = memory; laundry = laundry }) ids rest who
+        (going_back h key known row (page_in k.memory.frames row.frame.0) ∷ (events ++ past))
+    after =
+        amidst_returned key known.control (inside e) goes.here (unsent header h past who k ids rest key row events e c.found) c goes.objects goes.absent
+        (fit_lost m.fits.parts c goes.objects goes.buffers) (ap (λ z. z.size) goes.buffers) goes.held goes.room
 
 -- its control ends
 
@@ -615,58 +389,8 @@ pub ends_told : (header : Header) (h : ℕ) (outside : Outside) (doing : Command
     × LegalEvents header h outside doing past events (event.Sent (Up (host_id h) object) (message.Terminate row.control) ∷ events)
 ends_told header h outside doing past who k ids rest object events row objects s none found live put marks = (
   record {
-    runs = record {
-      matches = record {
-        ranged = m.ranged;
-        declared = m.declared;
-        kinds = kinds_put header o (quiet_row row) k.memory.objects objects k.chains put marks quiet m.kinds;
-        shared = m.shared;
-        known = m.known;
-        size = m.size;
-        host = m.host;
-        fits =
-            record {
-              parts = fit_objects k.memory objects m.fits.parts (same_pages k.memory.objects objects o row (quiet_row row) found refl put);
-              plain = m.fits.plain;
-              buffers = m.fits.buffers;
-            };
-        tasks = m.tasks;
-        regions =
-            regions_controlled o row (quiet_row row) k.chains k.memory.objects objects ids (λ r. region_of header r moment)
-            (λ o2. backing_of header o2 moment) (next_region header moment) (next_object header moment) (marks_of header moment) found put refl refl
-            m.regions;
-        homes = m.homes;
-        files = files_put header h o row (quiet_row row) k.memory.objects objects (λ o2. home_of o2 moment) found put m.files;
-        entries = m.entries;
-        pages = rw (own_host h)
-            (pages_known header header.size (λ o2 p. if o == o2 then (if is_control row.control (live_control h o2 moment) then EndsControl else Elsewhere) else
-            Elsewhere) (λ o2 p. local header h (place_of o2 p) moment)
-            (λ o2 p. other_if (o == o2) (if is_control row.control (live_control h o2 moment) then EndsControl else Elsewhere)
-            (other_if (is_control row.control (live_control h o2 moment)) EndsControl tt))
-            (pages_quiet header.size row.control o k.memory.frames k.memory.resident k.memory.objects objects
-            (λ o2 p. known_local header o2 p (local header h (place_of o2 p) moment)) (λ o2. live_control h o2 moment) m.pages alive none marks));
-        uses = m.uses;
-        controls =
-            rw (own_host h) (controls_quiet row.control o row k.memory.objects objects (λ o2. last_control h o2 moment)
-            (λ o2. live_control h o2 moment) (λ o2. is_ready h o2 moment) m.controls found alive put);
-        settled = record { none_owed = refl; shut = λ region. refl };
-        replied = replied_behind tt m.replied;
-        laundry = m.laundry;
-        frames = m.frames;
-      };
-      waits = waits_quiet header h (event.Sent (Up (host_id h) object) (message.Terminate row.control)) moment
-          (λ place. quiet_if (h == h && o == place.object.0) (if is_control row.control (live_control h place.object.0 moment) then EndsControl else Elsewhere)
-          Elsewhere (quiet_if (is_control row.control (live_control h place.object.0 moment)) EndsControl Elsewhere tt tt) tt)
-          (waits_told k.maps k.chains k.memory.resident k.memory.objects objects k.waits.rows (is_woken who) (λ t. waiting t moment) s.runs.waits
-          (told_apart k.maps k.chains k.memory.objects objects o (Some (quiet_row row)) put (unreferred_region m.regions o row found unreferred)
-          (unreferred_shadow m.regions o row found unreferred))
-          (λ o2 p page there is. elim (one_case o o2 (Some (quiet_row row)) (object_at k.memory.objects o2) (object_at objects o2) (put.at o2)) [
-            | inl this ↦ absurd (let bad : None ≡ Some page = sym (subst (λ (z : ℕ). row_at k.memory.resident z p ≡ None) this.0 (none p)) ∙ there in cc)
-            | inr other ↦ ap ready_in other.1 ∙ is
-          ]));
-      order = s.runs.order;
-    };
-    used = s.used;
+    runs = amid_of after (record { none_owed = refl; shut = λ region. refl }) (replied_behind tt m.replied);
+    used = after.used;
     row = quiet_row row;
     known = known_put o (quiet_row row) k.memory.objects objects put;
     none = unreferred;
@@ -718,6 +442,50 @@ ends_told header h outside doing past who k ids rest object events row objects s
         (absent_at k.memory.objects object.0 p)
     bare p = m.pages.shown object.0 p ∙ ap (λ z. local_of_row k.memory.frames z (absent_at k.memory.objects object.0 p)) (none p)
 
+    pages : HasPages k.memory.frames k.memory.resident objects (λ o2 p. known_local header o2 p (local header h (place_of o2 p)
+        (event.Sent (Up (host_id h) object) (message.Terminate row.control) ∷ (events ++ past))))
+    pages = rw (own_host h)
+        (pages_known header header.size (λ o2 p. if o == o2 then (if is_control row.control (live_control h o2 moment) then EndsControl else Elsewhere) else
+        Elsewhere) (λ o2 p. local header h (place_of o2 p) moment)
+        (λ o2 p. other_if (o == o2) (if is_control row.control (live_control h o2 moment) then EndsControl else Elsewhere)
+        (other_if (is_control row.control (live_control h o2 moment)) EndsControl tt))
+        (pages_quiet header.size row.control o k.memory.frames k.memory.resident k.memory.objects objects
+        (λ o2 p. known_local header o2 p (local header h (place_of o2 p) moment)) (λ o2. live_control h o2 moment) m.pages alive none marks))
+
+    controls : HasControls (named header) h objects (λ o2. last_control h o2 (ending ∷ moment)) (λ o2. live_control h o2 (ending ∷ moment))
+        (λ o2. is_ready h o2 (ending ∷ moment)) (λ o2. object_home o2 moment)
+    controls =
+        rw (own_host h) (controls_quiet row.control o row k.memory.objects objects (λ o2. last_control h o2 moment)
+        (λ o2. live_control h o2 moment) (λ o2. is_ready h o2 moment) m.controls found alive put)
+
+    after : Amidst header h (record k { memory = record k.memory { objects = objects } }) ids rest who
+        (event.Sent (Up (host_id h) object) (message.Terminate row.control) ∷ (events ++ past))
+    after =
+        let core = core_of m in
+        record {
+          core = record {
+            setting = core.setting;
+            fits = fits_known found put refl core.fits;
+            spaces = core.spaces;
+            objects = objects_known found put marks refl refl quiet core.objects;
+            controls = controls;
+            pages = record { shown = pages; washed = m.laundry; counted = m.frames };
+          };
+          used = s.used;
+          waits = waits_quiet header h ending moment
+              (λ place. quiet_if (h == h && o == place.object.0) (if is_control row.control (live_control h place.object.0 moment) then EndsControl else
+              Elsewhere)
+              Elsewhere (quiet_if (is_control row.control (live_control h place.object.0 moment)) EndsControl Elsewhere tt tt) tt)
+              (waits_told k.maps k.chains k.memory.resident k.memory.objects objects k.waits.rows (is_woken who) (λ t. waiting t moment) s.runs.waits
+              (told_apart k.maps k.chains k.memory.objects objects o (Some (quiet_row row)) put (unreferred_region m.regions o row found unreferred)
+              (unreferred_shadow m.regions o row found unreferred))
+              (λ o2 p page there is. elim (one_case o o2 (Some (quiet_row row)) (object_at k.memory.objects o2) (object_at objects o2) (put.at o2)) [
+                | inl this ↦ absurd (let bad : None ≡ Some page = sym (subst (λ (z : ℕ). row_at k.memory.resident z p ≡ None) this.0 (none p)) ∙ there in cc)
+                | inr other ↦ ap ready_in other.1 ∙ is
+              ]));
+          order = s.runs.order;
+        }
+
     cause : CausedInTurn header outside doing (event.Sent (Up (host_id h) object) (message.Terminate row.control)) (events ++ past)
     cause = record {
       live = alive;
@@ -761,66 +529,51 @@ pub record LeavesOne (k : Parts) (o left : ℕ) (row : ShadowRow) (known : Objec
   pub put : PutsObject row.under.0 (Some (record known { references = left })) k.memory.objects objects
   pub marks : SameMarks k.memory.objects objects
 
-runs_dropped : (header : Header) (h : ℕ) (past : List Event) (who : Woken) (k : Parts) (ids : Ids) (rest : List Entry) (o left : ℕ) (row : ShadowRow)
-    (known : ObjectRow) (events : List Event) (chains : ChainTable) (objects : ObjectTable)
-    → EndsObject header h who k ids rest o (events ++ past) → LeavesOne k o left row known chains objects
-    → IsAmid header h who (record k { chains = chains; memory = record k.memory { objects = objects } }) ids rest (events ++ past)
-runs_dropped header h past who k ids rest o left row known events chains objects e leaves =
-    let moment = events ++ past in
-    let m : Matches header h k ids rest moment = e.runs.matches in
+inside_dropped : (header : Header) (h : ℕ) (past : List Event) (who : Woken) (k : Parts) (ids : Ids) (rest : List Entry) (o left : ℕ) (row : ShadowRow)
+    (known : ObjectRow) (chains : ChainTable) (objects : ObjectTable)
+    → EndsObject header h who k ids rest o past → LeavesOne k o left row known chains objects
+    → Amidst header h (record k { chains = chains; memory = record k.memory { objects = objects } }) ids rest who past
+inside_dropped header h past who k ids rest o left row known chains objects e leaves =
+    let core = (inside e).core in
     let under = row.under.0 in
+    let regions = core.objects.regions in
     record {
-      matches = record {
-        ranged = m.ranged;
-        declared = m.declared;
-        kinds = kinds_put header under (record known { references = left }) k.memory.objects objects chains leaves.put leaves.marks
-            (kind_referred header under known left (let less = leaves.less in omega (arith, less)) (m.kinds.kinds under known leaves.under))
-            (kinds_dropped header o k.memory.objects k.chains chains leaves.drops m.kinds);
-        shared = m.shared;
-        known = m.known;
-        size = m.size;
-        host = m.host;
-        fits =
-            record {
-              parts = fit_objects k.memory objects m.fits.parts (same_pages k.memory.objects objects under known (record known { references = left })
-                  leaves.under refl leaves.put);
-              plain = m.fits.plain;
-              buffers = m.fits.buffers;
-            };
-        tasks = m.tasks;
-        regions =
-            regions_dropped o left row e.row known k.chains chains k.memory.objects objects ids (λ r. region_of header r moment)
-            (λ o2. backing_of header o2 moment) (next_region header moment) (next_object header moment) (marks_of header moment)
-            leaves.found e.known e.none leaves.drops leaves.under leaves.less leaves.put m.regions;
-        homes = (λ r region paged found. m.homes.0 r region paged (sym (ap (λ f. f r) leaves.drops.regions) ∙ found), m.homes.1);
-        files =
-            files_put header h under known (record known { references = left }) k.memory.objects objects (λ o2. home_of o2 moment) leaves.under leaves.put
-            m.files;
-        entries = entries_kept header.size k.maps k.chains chains rest (λ r. ap (λ f. f r) leaves.drops.regions) m.entries;
-        pages = record { shown = λ o2 p. m.pages.shown o2 p ∙ ap (local_of_row k.memory.frames (row_at k.memory.resident o2 p)) (sym (leaves.marks.at o2 p)) };
-        uses = m.uses;
-        controls = controls_referred under left known k.memory.objects objects _ _ _ leaves.under leaves.put m.controls;
-        settled = m.settled;
-        replied = m.replied;
-        laundry = m.laundry;
-        frames = m.frames;
+      core = record {
+        setting = core.setting;
+        fits = fits_known leaves.under leaves.put refl core.fits;
+        spaces = record {
+          tasks = core.spaces.tasks;
+          entries = entries_kept header.size k.maps k.chains chains rest (λ r. ap (λ f. f r) leaves.drops.regions) core.spaces.entries;
+          shared = core.spaces.shared;
+          uses = core.spaces.uses;
+          homes = (λ r region paged found. core.spaces.homes.0 r region paged (sym (ap (λ f. f r) leaves.drops.regions) ∙ found), core.spaces.homes.1);
+        };
+        objects = record {
+          regions = regions_dropped o left row e.row known k.chains chains k.memory.objects objects ids _ _ _ _ _ leaves.found e.known e.none leaves.drops
+              leaves.under leaves.less leaves.put regions;
+          kinds = kinds_put header under (record known { references = left }) k.memory.objects objects chains leaves.put leaves.marks
+              (kind_referred header under known left (let less = leaves.less in omega (arith, less)) (core.objects.kinds.kinds under known leaves.under))
+              (kinds_dropped header o k.memory.objects k.chains chains leaves.drops core.objects.kinds);
+          files = files_put header h under known (record known { references = left }) k.memory.objects objects _ leaves.under leaves.put core.objects.files;
+        };
+        controls = controls_referred under left known k.memory.objects objects _ _ _ leaves.under leaves.put core.controls;
+        pages = record {
+          shown = pages_marked k.memory.frames k.memory.resident k.memory.objects objects _ core.pages.shown leaves.marks;
+          washed = core.pages.washed;
+          counted = core.pages.counted;
+        };
+      };
+      used = record {
+        regions = λ r row found. e.used.regions r row (sym (ap (λ f. f r) leaves.drops.regions) ∙ found);
+        copies =
+            copies_kept k.maps k.maps k.chains chains k.memory.resident k.memory.resident e.used.copies (λ t w found. record { size = refl; entries = refl })
+            (dropped_filled o k.chains chains leaves.drops) (rows_unmade k.chains k.memory.resident);
       };
       waits =
-          waits_dropped k.maps k.chains chains k.memory.resident k.memory.objects objects k.waits.rows (is_woken who) (λ t. waiting t moment) o under left known
-          e.runs.waits leaves.drops
-          (unreferred_region m.regions o e.row e.known e.none) (unreferred_shadow m.regions o e.row e.known e.none) leaves.under leaves.put;
+          waits_dropped k.maps k.chains chains k.memory.resident k.memory.objects objects k.waits.rows (is_woken who) (λ t. waiting t past) o under left known
+          e.runs.waits leaves.drops (unreferred_region regions o e.row e.known e.none) (unreferred_shadow regions o e.row e.known e.none) leaves.under
+          leaves.put;
       order = e.runs.order;
-    }
-
-used_dropped : (header : Header) (h : ℕ) (past : List Event) (who : Woken) (k : Parts) (ids : Ids) (rest : List Entry) (o : ℕ) (events : List Event)
-    (chains : ChainTable) → EndsObject header h who k ids rest o (events ++ past)
-    → DropsShadow o k.chains chains → UsesAll header (record k { chains = chains }) (events ++ past)
-used_dropped header h past who k ids rest o events chains e drops =
-    record {
-      regions = λ r row found. e.used.regions r row (sym (ap (λ f. f r) drops.regions) ∙ found);
-      copies =
-          copies_kept k.maps k.maps k.chains chains k.memory.resident k.memory.resident e.used.copies (λ t w found. record { size = refl; entries = refl })
-          (dropped_filled o k.chains chains drops) (rows_unmade k.chains k.memory.resident);
     }
 
 -- something else refers to that still
@@ -829,9 +582,10 @@ pub whole_dropped : (header : Header) (h : ℕ) (past : List Event) (who : Woken
     → EndsObject header h who k ids rest o (events ++ past) → LeavesOne k o left row known chains objects → 0 < left
     → IsWhole header h who (record k { chains = chains; memory = record k.memory { objects = objects } }) ids rest (events ++ past)
 whole_dropped header h past who k ids rest o left row known events chains objects e leaves some =
+    let after = inside_dropped header h (events ++ past) who k ids rest o left row known chains objects e leaves in
     record {
-      runs = runs_dropped header h past who k ids rest o left row known events chains objects e leaves;
-      used = used_dropped header h past who k ids rest o events chains e leaves.drops;
+      runs = amid_of after e.runs.matches.settled e.runs.matches.replied;
+      used = after.used;
       referred =
           referred_dropped o row.under.0 (record known { references = left }) k.chains chains k.memory.objects objects k.memory.resident leaves.drops leaves.put
           some (λ is. sym (ap is_live_in leaves.under) ∙ is) leaves.quiet leaves.bare e.referred;
@@ -843,9 +597,10 @@ pub ends_dropped : (header : Header) (h : ℕ) (past : List Event) (who : Woken)
     → EndsObject header h who k ids rest o (events ++ past) → LeavesOne k o 0 row known chains objects
     → EndsObject header h who (record k { chains = chains; memory = record k.memory { objects = objects } }) ids rest row.under.0 (events ++ past)
 ends_dropped header h past who k ids rest o row known events chains objects e leaves =
+    let after = inside_dropped header h (events ++ past) who k ids rest o 0 row known chains objects e leaves in
     record {
-      runs = runs_dropped header h past who k ids rest o 0 row known events chains objects e leaves;
-      used = used_dropped header h past who k ids rest o events chains e leaves.drops;
+      runs = amid_of after e.runs.matches.settled e.runs.matches.replied;
+      used = after.used;
       row = record known { references = 0 };
       known = known_put row.under.0 (record known { references = 0 }) k.memory.objects objects leaves.put;
       none = refl;
