@@ -1,6 +1,7 @@
 pub mod Queues
 pub mod Sound
 pub mod Line
+pub mod Sides
 pub mod Locals
 pub mod Law
 pub mod Orderly

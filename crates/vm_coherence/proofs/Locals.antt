@@ -1,9 +1,9 @@
 -- A page's part at a host says what the host has of the page.
 use Rattle.std.proofs.Common.{◌≡◌, ℕ, zero, suc, ◌==◌, ◌&&◌, ◌/◌, ◌%◌, ◌∙◌, List, [], ◌∷◌, arith, Bool, true, false, Option, Some, None, if◌then◌else◌, refl}
 use Rattle.std.proofs.Common.{ap, sym, subst, replicate}
-use Rattle.std.specs.Prelude.{◌||◌, ◌≢◌, ◌<◌}
+use Rattle.std.specs.Prelude.{◌≢◌, ◌<◌, nat_lt}
 use Rattle.std.proofs.lemmas.Bool.Decides.{nat_tests}
-use Rattle.vm_base.specs.Pages.{little_endian_bytes, with_bytes}
+use Rattle.vm_base.specs.Pages.{little_endian_bytes}
 use Rattle.vm_base.specs.declared.ids.HostId.{HostId}
 use Rattle.vm_base.specs.declared.ids.ObjectId.{ObjectId}
 use Rattle.vm_base.specs.declared.ids.PageNo.{PageNo}
@@ -19,430 +19,19 @@ use Rattle.vm_model.specs.Local as L
 use Rattle.vm_model.specs.Local.{Local, Elsewhere, is_on, local, local_after, taken_effect, CanRead, CanWrite}
 use Rattle.vm_model.specs.Moments.{EachEvent}
 use Rattle.vm_model.specs.PagePart.{page_part}
+use Rattle.vm_model.specs.Regions.{object_pages}
 use Rattle.vm_model.specs.Server.{current}
-use Rattle.vm_model.specs.Side.{Side, side, side_after, is_open_to, side_taken_down, locked, right_of, can_read, can_write}
+use Rattle.vm_model.specs.Side.{Side, side, side_after, is_open_to, side_taken_down, right_of, can_read, can_write}
 use Rattle.vm_model.specs.TaskPlace.{task_host, means_page}
 use Rattle.vm_model.specs.Tasks.{host_of}
 use Rattle.vm_model.specs.PageLicences.{ActsLicensed, Cause}
-use Rattle.vm_model.specs.Words.{Asking, Unlocking, Returning, Doing, Ending, OtherUp, Supplying, Locking, Lacking, Failing, Readying, OtherDown, ActEffect}
+use Rattle.vm_model.specs.Words.{Asking, Unlocking, Returning, Doing, Ending, OtherUp, ActEffect}
 use Rattle.vm_model.specs.Words.{Opens, SendsUp, TakenUp, SentDown, TakesDown, Puts, Drops, Begins, Loads, Stores, Fails, BeginsCopy, Copies, EndsCopy}
 use Rattle.vm_model.specs.Words.{StepBegins, Nothing, Act, in_range, times_meant, up_word, down_word, sent_act_effect, act_if, to_others, effect_on}
-use Rattle.vm_coherence.specs.Locals.{SideIsLocal}
+use Rattle.vm_coherence.specs.Locals.{IsUnmerged, SideIsLocal}
 use Rattle.vm_coherence.proofs.Law.{writer}
 use Rattle.vm_coherence.proofs.Whole.{same_bytes}
-
--- what the tie reads of a side
-pub record Alike (s t : Side) : Type 0 where
-  pub right : t.right ≡ s.right
-  pub lock : t.lock ≡ s.lock
-  pub bytes : t.bytes ≡ s.bytes
-  pub dirty : t.dirty ≡ s.dirty
-  pub precious : t.precious ≡ s.precious
-  pub unlocking : t.unlocking ≡ s.unlocking
-  pub asked : t.asked ≡ s.asked
-  pub absent : t.absent ≡ s.absent
-  pub control : (if t.live then Some t.control else None) ≡ (if s.live then Some s.control else None)
-
-alike : (live : Option ℕ) (s t : Side) (page : Local) → Alike s t → SideIsLocal live s page → SideIsLocal live t page
-alike live s t page a i =
-    record {
-      right = a.right ∙ i.right;
-      lock = λ here. a.lock ∙ i.lock here;
-      bytes = λ here. a.bytes ∙ i.bytes here;
-      dirty = λ here. a.dirty ∙ i.dirty here;
-      precious = λ here. a.precious ∙ i.precious here;
-      unlocking = λ here. a.unlocking ∙ i.unlocking here;
-      asked = a.asked ∙ i.asked;
-      absent = a.absent ∙ i.absent;
-      control = a.control ∙ i.control;
-    }
-
--- what neither sends for the page nor puts, drops, stores or takes any of it
-abbrev pub IsIdle : ActEffect → Type 0
-IsIdle (Opens control ready) = ⊥
-IsIdle (SendsUp control word) = ⊥
-IsIdle (TakesDown control word) = ⊥
-IsIdle (Puts bytes dirty) = ⊥
-IsIdle Drops = ⊥
-IsIdle (Stores task at size value) = ⊥
-IsIdle e = Unit {0}
-
-same : (s t : Side) → t.right ≡ s.right → t.lock ≡ s.lock → t.bytes ≡ s.bytes → t.dirty ≡ s.dirty → t.precious ≡ s.precious → t.unlocking ≡ s.unlocking
-    → t.asked ≡ s.asked → t.absent ≡ s.absent → t.live ≡ s.live → t.control ≡ s.control → Alike s t
-same s t right lock bytes dirty precious unlocking asked absent live control =
-    record {
-      right = right;
-      lock = lock;
-      bytes = bytes;
-      dirty = dirty;
-      precious = precious;
-      unlocking = unlocking;
-      asked = asked;
-      absent = absent;
-      control = ap (λ (b : Bool). if b then Some t.control else None) live ∙ ap (λ (n : ℕ). if s.live then Some n else None) control;
-    }
-
-idle : (e : ActEffect) (s : Side) → IsIdle e → Alike s (side_after s e)
-idle (TakenUp (Asking asker access)) s is = same s _ refl refl refl refl refl refl refl refl refl refl
-idle (TakenUp (Unlocking access)) s is = same s _ refl refl refl refl refl refl refl refl refl refl
-idle (TakenUp (Returning dirty keep bytes)) s is = same s _ refl refl refl refl refl refl refl refl refl refl
-idle (TakenUp (Doing control count)) s is = same s _ refl refl refl refl refl refl refl refl refl refl
-idle (TakenUp (Ending control)) s is = same s _ refl refl refl refl refl refl refl refl refl refl
-idle (TakenUp OtherUp) s is = same s _ refl refl refl refl refl refl refl refl refl refl
-idle (SentDown control (Supplying lock precious bytes)) s is = same s _ refl refl refl refl refl refl refl refl refl refl
-idle (SentDown control (Locking count returns flush lock reply)) s is = same s _ refl refl refl refl refl refl refl refl refl refl
-idle (SentDown control Lacking) s is = same s _ refl refl refl refl refl refl refl refl refl refl
-idle (SentDown control Failing) s is = same s _ refl refl refl refl refl refl refl refl refl refl
-idle (SentDown control Readying) s is = same s _ refl refl refl refl refl refl refl refl refl refl
-idle (SentDown control OtherDown) s is = same s _ refl refl refl refl refl refl refl refl refl refl
-idle (Begins task store at size value) s is = same s _ refl refl refl refl refl refl refl refl refl refl
-idle (Loads task value) s is = same s _ refl refl refl refl refl refl refl refl refl refl
-idle (Fails task) s is = same s _ refl refl refl refl refl refl refl refl refl refl
-idle (BeginsCopy task times) s is = same s _ refl refl refl refl refl refl refl refl refl refl
-idle (Copies task) s is = same s _ refl refl refl refl refl refl refl refl refl refl
-idle (EndsCopy task) s is = same s _ refl refl refl refl refl refl refl refl refl refl
-idle StepBegins s is = same s _ refl refl refl refl refl refl refl refl refl refl
-idle Nothing s is = same s _ refl refl refl refl refl refl refl refl refl refl
-idle (Opens control ready) s is = absurd is
-idle (SendsUp control word) s is = absurd is
-idle (TakesDown control word) s is = absurd is
-idle (Puts bytes dirty) s is = absurd is
-idle Drops s is = absurd is
-idle (Stores task at size value) s is = absurd is
-
-others_idle : (e : ActEffect) → IsIdle (to_others e)
-others_idle (Opens control ready) = tt
-others_idle (SendsUp control word) = tt
-others_idle (TakenUp word) = tt
-others_idle (SentDown control word) = tt
-others_idle (TakesDown control word) = tt
-others_idle (Puts bytes dirty) = tt
-others_idle Drops = tt
-others_idle (Begins task store at size value) = tt
-others_idle (Loads task value) = tt
-others_idle (Stores task at size value) = tt
-others_idle (Fails task) = tt
-others_idle (BeginsCopy task times) = tt
-others_idle (Copies task) = tt
-others_idle (EndsCopy task) = tt
-others_idle StepBegins = tt
-others_idle Nothing = tt
-
-others : (live : Option ℕ) (e : ActEffect) (s : Side) (page : Local) → SideIsLocal live s page → SideIsLocal live (side_after s (to_others e)) page
-others live e s page i = alike live s (side_after s (to_others e)) page (idle (to_others e) s (others_idle e)) i
-
--- each effect moves both alike
-
-puts : (size : ℕ) (live : Option ℕ) (s : Side) (page : Local) (bytes : List ℕ) (dirty : Bool) (e : L.LocalEffect)
-    → local_after size e page ≡ L.local_with_page bytes 0 dirty false page → SideIsLocal live s page
-    → SideIsLocal live (side_after s (Puts bytes dirty)) (local_after size e page)
-puts size live s page bytes dirty e is i =
-    subst (λ (p : Local). SideIsLocal live (side_after s (Puts bytes dirty)) p) (sym is)
-    (record {
-      right = refl;
-      lock = λ here. refl;
-      bytes = λ here. refl;
-      dirty = λ here. refl;
-      precious = λ here. refl;
-      unlocking = λ here. refl;
-      asked = i.asked;
-      absent = i.absent;
-      control = i.control;
-    })
-
--- nothing is said of a page that isn't here
-never : {A : Type 0} → false ≡ true → A
-never e = absurd (let bad : false ≡ true = e in cc)
-
-drops : (size : ℕ) (live : Option ℕ) (s : Side) (page : Local) → SideIsLocal live s page → SideIsLocal live (side_after s Drops) (local_after size L.Drops page)
-drops size live s page i =
-    record {
-      right = refl;
-      lock = λ here. never here;
-      bytes = λ here. never here;
-      dirty = λ here. never here;
-      precious = λ here. never here;
-      unlocking = λ here. never here;
-      asked = i.asked;
-      absent = i.absent;
-      control = i.control;
-    }
-
-stores : (size : ℕ) (live : Option ℕ) (s : Side) (page : Local) (task at n value : ℕ) → SideIsLocal live s page
-    → SideIsLocal live (side_after s (Stores task at n value)) (local_after size (L.Stores at (little_endian_bytes n value)) page)
-stores size live s page task at n value i =
-    record {
-      right = i.right;
-      lock = i.lock;
-      bytes = λ here. ap (with_bytes at (little_endian_bytes n value)) (i.bytes here);
-      dirty = λ here. refl;
-      precious = i.precious;
-      unlocking = i.unlocking;
-      asked = i.asked;
-      absent = i.absent;
-      control = i.control;
-    }
-
--- the host sends
-
-opens : (size : ℕ) (live : Option ℕ) (s : Side) (page : Local) (control : ℕ) (ready : Bool) → SideIsLocal live s page
-    → SideIsLocal (Some control) (side_after s (Opens control ready)) (local_after size L.Begins page)
-opens size live s page control ready i =
-    record {
-      right = i.right;
-      lock = i.lock;
-      bytes = i.bytes;
-      dirty = i.dirty;
-      precious = i.precious;
-      unlocking = i.unlocking;
-      asked = refl;
-      absent = i.absent;
-      control = refl;
-    }
-
-ends : (size : ℕ) (live : Option ℕ) (s : Side) (page : Local) (control told : ℕ) → SideIsLocal live s page
-    → SideIsLocal None (side_after s (SendsUp control (Ending told))) (local_after size L.Ends page)
-ends size live s page control told i =
-    record {
-      right = i.right;
-      lock = i.lock;
-      bytes = i.bytes;
-      dirty = i.dirty;
-      precious = i.precious;
-      unlocking = i.unlocking;
-      asked = refl;
-      absent = i.absent;
-      control = refl;
-    }
-
-asks : (size : ℕ) (live : Option ℕ) (s : Side) (page : Local) (control asker access : ℕ) → SideIsLocal live s page
-    → SideIsLocal live (side_after s (SendsUp control (Asking asker access))) (local_after size L.Asks page)
-asks size live s page control asker access i =
-    record {
-      right = i.right;
-      lock = i.lock;
-      bytes = i.bytes;
-      dirty = i.dirty;
-      precious = i.precious;
-      unlocking = i.unlocking;
-      asked = refl;
-      absent = i.absent;
-      control = i.control;
-    }
-
-unlocks : (size : ℕ) (live : Option ℕ) (s : Side) (page : Local) (control access : ℕ) → SideIsLocal live s page
-    → SideIsLocal live (side_after s (SendsUp control (Unlocking access))) (local_after size L.Unlocks page)
-unlocks size live s page control access i =
-    record {
-      right = i.right;
-      lock = i.lock;
-      bytes = i.bytes;
-      dirty = i.dirty;
-      precious = i.precious;
-      unlocking = λ here. sym here;
-      asked = i.asked;
-      absent = i.absent;
-      control = i.control;
-    }
-
-returns : (size : ℕ) (live : Option ℕ) (s : Side) (page : Local) (control : ℕ) (dirty keep : Bool) (bytes : List ℕ) → SideIsLocal live s page
-    → SideIsLocal live (side_after s (SendsUp control (Returning dirty keep bytes))) (local_after size (L.Returns keep) page)
-returns size live s page control dirty true bytes i =
-    record {
-      right = i.right;
-      lock = i.lock;
-      bytes = i.bytes;
-      dirty = λ here. refl;
-      precious = λ here. refl;
-      unlocking = i.unlocking;
-      asked = i.asked;
-      absent = refl;
-      control = i.control;
-    }
-returns size live s page control dirty false bytes i =
-    record {
-      right = refl;
-      lock = λ here. never here;
-      bytes = λ here. never here;
-      dirty = λ here. never here;
-      precious = λ here. never here;
-      unlocking = λ here. never here;
-      asked = i.asked;
-      absent = refl;
-      control = i.control;
-    }
-
-done : (size : ℕ) (live : Option ℕ) (s : Side) (page : Local) (control told count : ℕ) → SideIsLocal live s page
-    → SideIsLocal live (side_after s (SendsUp control (Doing told count))) page
-done size live s page control told count i =
-    record {
-      right = i.right;
-      lock = i.lock;
-      bytes = i.bytes;
-      dirty = i.dirty;
-      precious = i.precious;
-      unlocking = i.unlocking;
-      asked = i.asked;
-      absent = i.absent;
-      control = i.control;
-    }
-
--- the live control takes
-
-supplied : (size : ℕ) (live : Option ℕ) (s : Side) (page : Local) (lock : ℕ) (precious : Bool) (bytes : List ℕ) (a b : Bool) → s.asked ≡ a → page.asked ≡ b
-    → SideIsLocal live s page → SideIsLocal live (side_taken_down s (Supplying lock precious bytes)) (local_after size (L.TakesPage lock precious bytes) page)
-supplied size live s page lock precious bytes true true e f i =
-    rw (e, f) (record {
-      right = refl;
-      lock = λ here. refl;
-      bytes = λ here. refl;
-      dirty = λ here. refl;
-      precious = λ here. refl;
-      unlocking = λ here. refl;
-      asked = refl;
-      absent = i.absent;
-      control = i.control;
-    })
-supplied size live s page lock precious bytes false false e f i =
-    rw (e, f) (record {
-      right = i.right;
-      lock = i.lock;
-      bytes = i.bytes;
-      dirty = i.dirty;
-      precious = i.precious;
-      unlocking = i.unlocking;
-      asked = refl;
-      absent = i.absent;
-      control = i.control;
-    })
-supplied size live s page lock precious bytes true false e f i = never (sym f ∙ sym i.asked ∙ e)
-supplied size live s page lock precious bytes false true e f i = never (sym e ∙ i.asked ∙ f)
-
-lacks : (size : ℕ) (live : Option ℕ) (s : Side) (page : Local) (a b : Bool) → s.asked ≡ a → page.asked ≡ b → SideIsLocal live s page
-    → SideIsLocal live (side_taken_down s Lacking) (local_after size L.TakesNothing page)
-lacks size live s page true true e f i =
-    rw (e, f) (record {
-      right = i.right;
-      lock = i.lock;
-      bytes = i.bytes;
-      dirty = i.dirty;
-      precious = i.precious;
-      unlocking = i.unlocking;
-      asked = refl;
-      absent = refl;
-      control = i.control;
-    })
-lacks size live s page false false e f i =
-    rw (e, f) (record {
-      right = i.right;
-      lock = i.lock;
-      bytes = i.bytes;
-      dirty = i.dirty;
-      precious = i.precious;
-      unlocking = i.unlocking;
-      asked = refl;
-      absent = i.absent;
-      control = i.control;
-    })
-lacks size live s page true false e f i = never (sym f ∙ sym i.asked ∙ e)
-lacks size live s page false true e f i = never (sym e ∙ i.asked ∙ f)
-
-fails : (size : ℕ) (live : Option ℕ) (s : Side) (page : Local) → SideIsLocal live s page
-    → SideIsLocal live (side_taken_down s Failing) (local_after size L.TakesError page)
-fails size live s page i =
-    record {
-      right = i.right;
-      lock = i.lock;
-      bytes = i.bytes;
-      dirty = i.dirty;
-      precious = i.precious;
-      unlocking = i.unlocking;
-      asked = refl;
-      absent = i.absent;
-      control = i.control;
-    }
-
-locked_right : (flush : Bool) (old lock : ℕ) → locked (right_of old) flush lock ≡ right_of (if flush || lock == 8 then old else lock)
-locked_right true old lock = refl
-locked_right false zero lock = by_eight (lock == 8)
-  where
-    by_eight : (b : Bool) → (if b then 2 else right_of lock) ≡ right_of (if b then 0 else lock)
-    by_eight true = refl
-    by_eight false = refl
-locked_right false (suc old) lock = by_eight (lock == 8)
-  where
-    by_eight : (b : Bool) → (if b then 1 else right_of lock) ≡ right_of (if b then suc old else lock)
-    by_eight true = refl
-    by_eight false = refl
-
-locked_none : (flush : Bool) (lock : ℕ) → locked 0 flush lock ≡ 0
-locked_none true lock = refl
-locked_none false lock = refl
-
-locks : (size : ℕ) (live : Option ℕ) (s : Side) (page : Local) (count returns : ℕ) (flush : Bool) (lock : ℕ) (reply b : Bool) → page.here ≡ b
-    → SideIsLocal live s page → SideIsLocal live (side_taken_down s (Locking count returns flush lock reply)) (local_after size (L.TakesLock lock flush) page)
-locks size live s page count returns flush lock reply true e i =
-    let right : s.right ≡ right_of page.lock = i.right ∙ ap (λ (b : Bool). if b then right_of page.lock else 0) e in
-    subst (λ (p : Local). SideIsLocal live (side_taken_down s (Locking count returns flush lock reply)) p)
-    (sym (ap (λ (b : Bool). if b then record page { lock = if flush || lock == 8 then page.lock else lock; unlocking = false } else page) e))
-    (record {
-      right =
-          ap (λ n. locked n flush lock) right ∙ locked_right flush page.lock lock
-          ∙ sym (ap (λ (b : Bool). if b then right_of (if flush || lock == 8 then page.lock else lock) else 0) e);
-      lock = λ here. ap (λ n. if flush || lock == 8 then n else lock) (i.lock here);
-      bytes = i.bytes;
-      dirty = i.dirty;
-      precious = i.precious;
-      unlocking = λ here. refl;
-      asked = i.asked;
-      absent = i.absent;
-      control = i.control;
-    })
-locks size live s page count returns flush lock reply false e i =
-    let right : s.right ≡ 0 = i.right ∙ ap (λ (b : Bool). if b then right_of page.lock else 0) e in
-    subst (λ (p : Local). SideIsLocal live (side_taken_down s (Locking count returns flush lock reply)) p)
-    (sym (ap (λ (b : Bool). if b then record page { lock = if flush || lock == 8 then page.lock else lock; unlocking = false } else page) e))
-    (record {
-      right = ap (λ n. locked n flush lock) right ∙ locked_none flush lock ∙ sym (ap (λ (b : Bool). if b then right_of page.lock else 0) e);
-      lock = λ here. never (sym e ∙ here);
-      bytes = i.bytes;
-      dirty = i.dirty;
-      precious = i.precious;
-      unlocking = λ here. never (sym e ∙ here);
-      asked = i.asked;
-      absent = i.absent;
-      control = i.control;
-    })
-
--- what the live control takes of a message
-takes : (size p : ℕ) (live : Option ℕ) (s : Side) (page : Local) (m : Message) → SideIsLocal live s page
-    → SideIsLocal live (side_taken_down s (down_word p m)) (local_after size (taken_effect p m) page)
-takes size p live s page (message.Supply at lock precious bytes) i = by_page (at.0 == p)
-  where
-    by_page : (b : Bool) → SideIsLocal live (side_taken_down s (if b then Supplying lock precious bytes else OtherDown))
-        (local_after size (if b then L.TakesPage lock precious bytes else Elsewhere) page)
-    by_page true = supplied size live s page lock precious bytes s.asked page.asked refl refl i
-    by_page false = alike live s _ page (same s _ refl refl refl refl refl refl refl refl refl refl) i
-takes size p live s page (message.Lock at count returns flush lock reply) i = by_page (in_range p at.0 count)
-  where
-    by_page : (b : Bool) → SideIsLocal live (side_taken_down s (if b then Locking count returns flush lock reply else OtherDown))
-        (local_after size (if b then L.TakesLock lock flush else Elsewhere) page)
-    by_page true = locks size live s page count returns flush lock reply page.here refl i
-    by_page false = alike live s _ page (same s _ refl refl refl refl refl refl refl refl refl refl) i
-takes size p live s page (message.Unavailable at) i = by_page (at.0 == p)
-  where
-    by_page : (b : Bool) → SideIsLocal live (side_taken_down s (if b then Lacking else OtherDown))
-        (local_after size (if b then L.TakesNothing else Elsewhere) page)
-    by_page true = lacks size live s page s.asked page.asked refl refl i
-    by_page false = alike live s _ page (same s _ refl refl refl refl refl refl refl refl refl refl) i
-takes size p live s page (message.Error at reason) i = by_page (at.0 == p)
-  where
-    by_page : (b : Bool) → SideIsLocal live (side_taken_down s (if b then Failing else OtherDown))
-        (local_after size (if b then L.TakesError else Elsewhere) page)
-    by_page true = fails size live s page i
-    by_page false = alike live s _ page (same s _ refl refl refl refl refl refl refl refl refl refl) i
-takes size p live s page (message.Ready cache strategy) i = alike live s _ page (same s _ refl refl refl refl refl refl refl refl refl refl) i
-takes size p live s page m i = alike live s _ page (same s _ refl refl refl refl refl refl refl refl refl refl) i
+use Rattle.vm_coherence.proofs.Sides.{alike, IsIdle, same, idle, others, puts, never, drops, stores, opens, ends, asks, unlocks, returns, done, takes}
 
 -- an event of one host and the page
 
@@ -635,10 +224,19 @@ granted at object h o header (message.Terminate control) past is mine its =
     (subst (λ (n : ℕ). live_control at.0 n past ≡ Some control) (number_is object.0 o its) is)
 granted at object h o header m past is mine its = tt
 
--- a side's page is what its host has of it, at every moment
-pub side_is_local : (header : Header) (past : List Event) (h o p : ℕ) → EachEvent (IsFounded header) past
-    → SideIsLocal (live_control h o past) (side h (page_part header.size o p past)) (local header h (record { object = o; page = p }) past)
-side_is_local header [] h o p founded =
+-- What the part leaves of a page on a host: as what the host has of it, but that a page is raised or copied with the bytes of its own part, and a merge
+-- does nothing.
+abbrev part_local : Header → ℕ → ℕ → ℕ → List Event → Local
+part_local header h o p [] = L.away
+part_local header h o p (event.Merged upper lower ∷ past) = part_local header h o p past
+part_local header h o p (e ∷ past) =
+    local_after header.size (L.effect header h (record { object = o; page = p })
+    (λ source. record L.away { bytes = (side h (page_part header.size source.object source.page past)).bytes }) e past) (part_local header h o p past)
+
+-- a side's page is what the part leaves of it, at every moment
+side_is_part : (header : Header) (past : List Event) (h o p : ℕ) → EachEvent (IsFounded header) past
+    → SideIsLocal (live_control h o past) (side h (page_part header.size o p past)) (part_local header h o p past)
+side_is_part header [] h o p founded =
     record {
       right = refl;
       lock = λ here. refl;
@@ -650,92 +248,167 @@ side_is_local header [] h o p founded =
       absent = refl;
       control = refl;
     }
-side_is_local header (event.Sent (Up host object) m ∷ past) h o p founded =
-    sent header.size h o p (live_control h o past) (side h (page_part header.size o p past)) (local header h (record { object = o; page = p }) past) host object
+side_is_part header (event.Sent (Up host object) m ∷ past) h o p founded =
+    sent header.size h o p (live_control h o past) (side h (page_part header.size o p past)) (part_local header h o p past) host object
     m
-    (λ mine its. granted host object h o header m past founded.0 mine its) (side_is_local header past h o p founded.1)
-side_is_local header (event.Sent (Down host object control) m ∷ past) h o p founded =
-    idle_act (live_control h o past) (side h (page_part header.size o p past)) (local header h (record { object = o; page = p }) past) (host.0 == h)
+    (λ mine its. granted host object h o header m past founded.0 mine its) (side_is_part header past h o p founded.1)
+side_is_part header (event.Sent (Down host object control) m ∷ past) h o p founded =
+    idle_act (live_control h o past) (side h (page_part header.size o p past)) (part_local header h o p past) (host.0 == h)
     (if object.0 == o then SentDown control (down_word p m) else Nothing)
-    (idle_if (object.0 == o) (SentDown control (down_word p m)) Nothing tt tt) (side_is_local header past h o p founded.1)
-side_is_local header (event.Taken (Up host object) m ∷ past) h o p founded =
-    idle_act (live_control h o past) (side h (page_part header.size o p past)) (local header h (record { object = o; page = p }) past) (host.0 == h)
+    (idle_if (object.0 == o) (SentDown control (down_word p m)) Nothing tt tt) (side_is_part header past h o p founded.1)
+side_is_part header (event.Taken (Up host object) m ∷ past) h o p founded =
+    idle_act (live_control h o past) (side h (page_part header.size o p past)) (part_local header h o p past) (host.0 == h)
     (if object.0 == o then TakenUp (up_word p m) else StepBegins)
-    (idle_if (object.0 == o) (TakenUp (up_word p m)) StepBegins tt tt) (side_is_local header past h o p founded.1)
-side_is_local header (event.Taken (Down host object control) m ∷ past) h o p founded =
-    took header.size p control (live_control h o past) (side h (page_part header.size o p past)) (local header h (record { object = o; page = p }) past) m
+    (idle_if (object.0 == o) (TakenUp (up_word p m)) StepBegins tt tt) (side_is_part header past h o p founded.1)
+side_is_part header (event.Taken (Down host object control) m ∷ past) h o p founded =
+    took header.size p control (live_control h o past) (side h (page_part header.size o p past)) (part_local header h o p past) m
     (host.0 == h)
-    (object.0 == o) (side_is_local header past h o p founded.1)
-side_is_local header (event.Dropped host object page ∷ past) h o p founded =
+    (object.0 == o) (side_is_part header past h o p founded.1)
+side_is_part header (event.Dropped host object page ∷ past) h o p founded =
     let i : SideIsLocal (live_control h o past) (side h (page_part header.size o p past))
-    (local header h (record { object = o; page = p }) past) = side_is_local header
+    (part_local header h o p past) = side_is_part header
     past h o p founded.1 in
     acted header.size (live_control h o past) _ _ (host.0 == h) (object.0 == o && page.0 == p) Drops L.Drops
     (λ mine its. drops header.size (live_control h o past) _ _ i) i
-side_is_local header (event.Zeroed host object page ∷ past) h o p founded =
+side_is_part header (event.Zeroed host object page ∷ past) h o p founded =
     let i : SideIsLocal (live_control h o past) (side h (page_part header.size o p past))
-    (local header h (record { object = o; page = p }) past) = side_is_local header
+    (part_local header h o p past) = side_is_part header
     past h o p founded.1 in
     acted header.size (live_control h o past) _ _ (host.0 == h) (object.0 == o && page.0 == p) (Puts (replicate header.size 0) false) L.Zeroes
     (λ mine its. puts header.size (live_control h o past) _ _ (replicate header.size 0) false L.Zeroes refl i) i
-side_is_local header (event.Raised host lower lower_page upper upper_page ∷ past) h o p founded =
+side_is_part header (event.Raised host lower lower_page upper upper_page ∷ past) h o p founded =
     let i : SideIsLocal (live_control h o past) (side h (page_part header.size o p past))
-    (local header h (record { object = o; page = p }) past) = side_is_local header
+    (part_local header h o p past) = side_is_part header
     past h o p founded.1 in
-    let source : (side host.0 (page_part header.size lower.0 lower_page.0 past)).bytes ≡ (local header host.0 (record { object = lower.0; page = lower_page.0 })
-    past).bytes = (side_is_local header past host.0 lower.0 lower_page.0 founded.1).bytes founded.0 in
     acted header.size (live_control h o past) _ _ (host.0 == h) (upper.0 == o && upper_page.0 == p)
     (Puts (side host.0 (page_part header.size lower.0 lower_page.0 past)).bytes true)
-    (L.Raises (local header h (record { object = lower.0; page = lower_page.0 }) past).bytes)
-    (λ mine its. raises header.size (live_control h o past) _ _ _ _ (source
-    ∙ ap (λ (g : ℕ). (local header g (record { object = lower.0; page = lower_page.0 }) past).bytes) (number_is host.0 h mine)) i) i
-side_is_local header (event.CopiedPage task page object object_page target ∷ past) h o p founded =
+    (L.Raises (side h (page_part header.size lower.0 lower_page.0 past)).bytes)
+    (λ mine its. raises header.size (live_control h o past) _ _ _ _
+    (ap (λ (g : ℕ). (side g (page_part header.size lower.0 lower_page.0 past)).bytes) (number_is host.0 h mine)) i) i
+side_is_part header (event.CopiedPage task page object object_page target ∷ past) h o p founded =
     let i : SideIsLocal (live_control h o past) (side h (page_part header.size o p past))
-    (local header h (record { object = o; page = p }) past) = side_is_local header
+    (part_local header h o p past) = side_is_part header
     past h o p founded.1 in
-    let g : ℕ = founded.0.0 in
-    let on : task_host task.0 past ≡ g = host_lives task.0 g past founded.0.1 in
-    let source : (side g (page_part header.size object.0 object_page.0 past)).bytes ≡ (local header g (record { object = object.0; page = object_page.0 })
-    past).bytes = (side_is_local header past g object.0 object_page.0 founded.1).bytes founded.0.2 in
     acted_by header.size (live_control h o past) _ _ (task_host task.0 past == h) (is_on h (host_of task.0 past)) (target.0 == o && page.0 == p)
     (Puts (side (task_host task.0 past) (page_part header.size object.0 object_page.0 past)).bytes true)
     (if object.0 == o && object_page.0 == p then Copies task.0 else Nothing)
-    (L.Raises (local header h (record { object = object.0; page = object_page.0 }) past).bytes) (on_host h task.0 g past founded.0.1)
+    (L.Raises (side h (page_part header.size object.0 object_page.0 past)).bytes) (on_host h task.0 founded.0.0 past founded.0.1)
     (idle_if (object.0 == o && object_page.0 == p) _ _ tt tt)
     (λ mine its. raises header.size (live_control h o past) _ _ _ _
-    (ap (λ (k : ℕ). (side k (page_part header.size object.0 object_page.0 past)).bytes) on ∙ source
-    ∙ ap (λ (k : ℕ). (local header k (record { object = object.0; page = object_page.0 }) past).bytes) (sym on ∙ number_is (task_host task.0 past) h mine)) i)
-    i
-side_is_local header (event.Stored task object page at bytes value ∷ past) h o p founded =
+    (ap (λ (k : ℕ). (side k (page_part header.size object.0 object_page.0 past)).bytes) (number_is (task_host task.0 past) h mine)) i) i
+side_is_part header (event.Stored task object page at bytes value ∷ past) h o p founded =
     let i : SideIsLocal (live_control h o past) (side h (page_part header.size o p past))
-    (local header h (record { object = o; page = p }) past) = side_is_local header
+    (part_local header h o p past) = side_is_part header
     past h o p founded.1 in
     acted_by header.size (live_control h o past) _ _ (task_host task.0 past == h) (is_on h (host_of task.0 past)) (object.0 == o && page.0 == p)
     (Stores task.0 at bytes value) Nothing (L.Stores at (little_endian_bytes bytes value)) (on_host h task.0 founded.0.0 past founded.0.1) tt
     (λ mine its. stores header.size (live_control h o past) _ _ task.0 at bytes value i) i
-side_is_local header (event.BegunLoad task address bytes ∷ past) h o p founded =
+side_is_part header (event.BegunLoad task address bytes ∷ past) h o p founded =
     idle_act (live_control h o past) _ _ (task_host task.0 past == h) (if means_page header.size o p task.0 address past then Begins task.0 false
     (address % header.size)
-    bytes 0 else Nothing) (idle_if (means_page header.size o p task.0 address past) _ _ tt tt) (side_is_local header past h o p founded.1)
-side_is_local header (event.BegunStore task address bytes value ∷ past) h o p founded =
+    bytes 0 else Nothing) (idle_if (means_page header.size o p task.0 address past) _ _ tt tt) (side_is_part header past h o p founded.1)
+side_is_part header (event.BegunStore task address bytes value ∷ past) h o p founded =
     idle_act (live_control h o past) _ _ (task_host task.0 past == h) (if means_page header.size o p task.0 address past then Begins task.0 true
     (address % header.size) bytes
-    value else Nothing) (idle_if (means_page header.size o p task.0 address past) _ _ tt tt) (side_is_local header past h o p founded.1)
-side_is_local header (event.Loaded task object page value ∷ past) h o p founded =
+    value else Nothing) (idle_if (means_page header.size o p task.0 address past) _ _ tt tt) (side_is_part header past h o p founded.1)
+side_is_part header (event.Loaded task object page value ∷ past) h o p founded =
     idle_act (live_control h o past) _ _ (task_host task.0 past == h) (if object.0 == o && page.0 == p then Loads task.0 value else Nothing)
-    (idle_if (object.0 == o && page.0 == p) _ _ tt tt) (side_is_local header past h o p founded.1)
-side_is_local header (event.Failed task object page ∷ past) h o p founded =
+    (idle_if (object.0 == o && page.0 == p) _ _ tt tt) (side_is_part header past h o p founded.1)
+side_is_part header (event.Failed task object page ∷ past) h o p founded =
     idle_act (live_control h o past) _ _ (task_host task.0 past == h) (if object.0 == o && page.0 == p then Fails task.0 else EndsCopy task.0)
-    (idle_if (object.0 == o && page.0 == p) _ _ tt tt) (side_is_local header past h o p founded.1)
-side_is_local header (event.BegunCopy task address bytes to ∷ past) h o p founded =
+    (idle_if (object.0 == o && page.0 == p) _ _ tt tt) (side_is_part header past h o p founded.1)
+side_is_part header (event.BegunCopy task address bytes to ∷ past) h o p founded =
     idle_act (live_control h o past) _ _ (task_host task.0 past == h) (BeginsCopy task.0
     (times_meant header.size (λ (at : ℕ). means_page header.size o p task.0 at past) address (bytes / header.size))) tt
-    (side_is_local header past h o p founded.1)
-side_is_local header (event.CopyEnded task ∷ past) h o p founded =
-    idle_act (live_control h o past) _ _ (task_host task.0 past == h) (EndsCopy task.0) tt (side_is_local header past h o p founded.1)
-side_is_local header (event.Line line ∷ past) h o p founded =
-    idle_act (live_control h o past) _ _ (0 == h) StepBegins tt (side_is_local header past h o p founded.1)
-side_is_local header (e ∷ past) h o p founded = idle_act (live_control h o past) _ _ (0 == h) Nothing tt (side_is_local header past h o p founded.1)
+    (side_is_part header past h o p founded.1)
+side_is_part header (event.CopyEnded task ∷ past) h o p founded =
+    idle_act (live_control h o past) _ _ (task_host task.0 past == h) (EndsCopy task.0) tt (side_is_part header past h o p founded.1)
+side_is_part header (event.Line line ∷ past) h o p founded =
+    idle_act (live_control h o past) _ _ (0 == h) StepBegins tt (side_is_part header past h o p founded.1)
+side_is_part header (e ∷ past) h o p founded = idle_act (live_control h o past) _ _ (0 == h) Nothing tt (side_is_part header past h o p founded.1)
+
+-- a page that is put has the bytes that its source has, where that is here
+put_alike : (size : ℕ) (t : Bool) (b c : List ℕ) (was page : Local) → (t ≡ true → b ≡ c) → was ≡ page
+    → local_after size (if t then L.Raises b else Elsewhere) was ≡ local_after size (if t then L.Raises c else Elsewhere) page
+put_alike size true b c was page same is = ap (λ x. local_after size (L.Raises x) was) (same refl) ∙ ap (local_after size (L.Raises c)) is
+put_alike size false b c was page same is = is
+
+source_bytes : (live : Option ℕ) (s : Side) (was page : Local) → SideIsLocal live s was → was ≡ page → page.here ≡ true → s.bytes ≡ page.bytes
+source_bytes live s was page i is here = i.bytes (ap (λ (x : Local). x.here) is ∙ here) ∙ ap (λ (x : Local). x.bytes) is
+
+-- a merge of other objects
+apart_stays : (size : ℕ) (on s t u : Bool) (there page : Local) → s ≡ false → u ≡ false
+    → local_after size (if on then if s then if t then L.Moves there else Elsewhere else if u then L.Drops else Elsewhere else Elsewhere) page ≡ page
+apart_stays size on true t u there page upper lower = never (sym upper)
+apart_stays size on false t true there page upper lower = never (sym lower)
+apart_stays size true false t false there page upper lower = refl
+apart_stays size false false t false there page upper lower = refl
+
+other_place : (o k p pages : ℕ) → o ≢ k → ((o == k) ≡ false) × ((o == k && nat_lt p pages) ≡ false)
+other_place o k p pages apart = (is, ap (λ b. b && nat_lt p pages) is)
+  where
+    is : (o == k) ≡ false
+    is = grind (arith, nat_tests, apart)
+
+host_is : (a b : Bool) → (a && b) ≡ true → a ≡ true
+host_is true b is = refl
+host_is false b is = never is
+
+target_is : (a : Bool) (t o : ℕ) (b : Bool) → (a && (t == o && b)) ≡ true → o ≡ t
+target_is true t o b is = sym (number_is t o (host_is (t == o) b is))
+target_is false t o b is = never is
+
+-- what the part leaves of a page of an object that no merge names is what the host has of it
+part_is_local : (header : Header) (past : List Event) (h o p : ℕ) → IsUnmerged o past → EachEvent (IsFounded header) past
+    → part_local header h o p past ≡ local header h (record { object = o; page = p }) past
+part_is_local header [] h o p unmerged founded = refl
+part_is_local header (event.Raised host lower lower_page upper upper_page ∷ past) h o p unmerged founded =
+    put_alike header.size (host.0 == h && (upper.0 == o && upper_page.0 == p)) (side h (page_part header.size lower.0 lower_page.0 past)).bytes
+    (local header h (record { object = lower.0; page = lower_page.0 }) past).bytes _ _
+    (λ is. source_bytes _ _ _ _ (side_is_part header past h lower.0 lower_page.0 founded.1)
+    (part_is_local header past h lower.0 lower_page.0 (unmerged.0 (target_is (host.0 == h) upper.0 o (upper_page.0 == p) is)) founded.1)
+    (subst (λ (g : ℕ). (local header g (record { object = lower.0; page = lower_page.0 }) past).here ≡ true)
+    (number_is host.0 h (host_is (host.0 == h) (upper.0 == o && upper_page.0 == p) is)) founded.0))
+    (part_is_local header past h o p unmerged.1 founded.1)
+part_is_local header (event.CopiedPage task page object object_page target ∷ past) h o p unmerged founded =
+    put_alike header.size (is_on h (host_of task.0 past) && (target.0 == o && page.0 == p)) (side h (page_part header.size object.0 object_page.0 past)).bytes
+    (local header h (record { object = object.0; page = object_page.0 }) past).bytes _ _
+    (λ is. source_bytes _ _ _ _ (side_is_part header past h object.0 object_page.0 founded.1)
+    (part_is_local header past h object.0 object_page.0 (unmerged.0 (target_is (is_on h (host_of task.0 past)) target.0 o (page.0 == p) is)) founded.1)
+    (subst (λ (g : ℕ). (local header g (record { object = object.0; page = object_page.0 }) past).here ≡ true)
+    (number_is founded.0.0 h (subst (λ (g : Option ℕ). is_on h g ≡ true) founded.0.1
+        (host_is (is_on h (host_of task.0 past)) (target.0 == o && page.0 == p) is)))
+    founded.0.2))
+    (part_is_local header past h o p unmerged.1 founded.1)
+part_is_local header (event.Merged upper lower ∷ past) h o p unmerged founded =
+    part_is_local header past h o p unmerged.2 founded.1
+    ∙ sym (apart_stays header.size _ (o == upper.0) _ (o == lower.0 && nat_lt p (object_pages header lower.0 past)) _ _
+    (other_place o upper.0 p 0 unmerged.0).0 (other_place o lower.0 p (object_pages header lower.0 past) unmerged.1).1)
+part_is_local header (e ∷ past) h o p unmerged founded =
+    ap (local_after header.size (L.effect header h (record { object = o; page = p }) (λ source. local header h source past) e past))
+    (part_is_local header past h o p unmerged founded.1)
+
+-- a side's page is what its host has of it, at every moment
+pub side_is_local : (header : Header) (past : List Event) (h o p : ℕ) → IsUnmerged o past → EachEvent (IsFounded header) past
+    → SideIsLocal (live_control h o past) (side h (page_part header.size o p past)) (local header h (record { object = o; page = p }) past)
+side_is_local header past h o p unmerged founded =
+    subst (SideIsLocal (live_control h o past) (side h (page_part header.size o p past))) (part_is_local header past h o p unmerged founded)
+    (side_is_part header past h o p founded)
+
+-- the event neither merges the object nor brings it a page of another object
+abbrev pub LeavesApart : ℕ → Event → List Event → Type 0
+LeavesApart o (event.Merged upper lower) past = (o ≢ upper.0) × (o ≢ lower.0)
+LeavesApart o (event.Raised at lower lower_page upper upper_page) past = o ≢ upper.0
+LeavesApart o (event.CopiedPage task page object object_page target) past = o ≢ target.0
+LeavesApart o e past = Unit {0}
+
+-- an object to which no page of another comes, and that no merge names
+pub unmerged_of : (o : ℕ) (history : List Event) → EachEvent (LeavesApart o) history → IsUnmerged o history
+unmerged_of o [] each = tt
+unmerged_of o (event.Merged upper lower ∷ past) each = (each.0.0, each.0.1, unmerged_of o past each.1)
+unmerged_of o (event.Raised at lower lower_page upper upper_page ∷ past) each = (λ is. absurd (each.0 is), unmerged_of o past each.1)
+unmerged_of o (event.CopiedPage task page object object_page target ∷ past) each = (λ is. absurd (each.0 is), unmerged_of o past each.1)
+unmerged_of o (e ∷ past) each = unmerged_of o past each.1
 
 -- who can read and write
 
@@ -752,12 +425,12 @@ pub can_write_is : (live : Option ℕ) (s : Side) (page : Local) → SideIsLocal
 can_write_is live s page i can = grind (arith, nat_tests)
 
 -- while a host can write the page, no other can read it
-pub one_writer : (header : Header) (past : List Event) (g h o p : ℕ) → EachEvent (IsFounded header) past
+pub one_writer : (header : Header) (past : List Event) (g h o p : ℕ) → IsUnmerged o past → EachEvent (IsFounded header) past
     → ActsLicensed header.size (page_part header.size o p past) → g ≢ h
     → CanWrite (local header h (record { object = o; page = p }) past) → CanRead (local header g (record { object = o; page = p }) past) → ⊥
-one_writer header past g h o p founded licensed apart write read =
-    let writing : can_write (side h (page_part header.size o p past)) ≡ true = can_write_is _ _ _ (side_is_local header past h o p founded) write in
-    let reading : can_read (side g (page_part header.size o p past)) ≡ true = can_read_is _ _ _ (side_is_local header past g o p founded) read in
+one_writer header past g h o p unmerged founded licensed apart write read =
+    let writing : can_write (side h (page_part header.size o p past)) ≡ true = can_write_is _ _ _ (side_is_local header past h o p unmerged founded) write in
+    let reading : can_read (side g (page_part header.size o p past)) ≡ true = can_read_is _ _ _ (side_is_local header past g o p unmerged founded) read in
     never (sym (writer header.size (page_part header.size o p past) licensed g h apart writing) ∙ reading)
 
 above : (lock : ℕ) → 0 < right_of lock
@@ -765,13 +438,13 @@ above zero = omega arith
 above (suc lock) = omega arith
 
 -- a page that is here has what the stores left
-pub local_bytes : (header : Header) (past : List Event) (h o p : ℕ) → EachEvent (IsFounded header) past
+pub local_bytes : (header : Header) (past : List Event) (h o p : ℕ) → IsUnmerged o past → EachEvent (IsFounded header) past
     → ActsLicensed header.size (page_part header.size o p past)
     → (local header h (record { object = o; page = p }) past).here ≡ true
     → (local header h (record { object = o; page = p }) past).bytes ≡ current header.size (page_part header.size o p past)
-local_bytes header past h o p founded licensed here =
+local_bytes header past h o p unmerged founded licensed here =
     let page : Local = local header h (record { object = o; page = p }) past in
-    let i : SideIsLocal (live_control h o past) (side h (page_part header.size o p past)) page = side_is_local header past h o p founded in
+    let i : SideIsLocal (live_control h o past) (side h (page_part header.size o p past)) page = side_is_local header past h o p unmerged founded in
     let right : (side h (page_part header.size o p past)).right ≡ right_of page.lock = i.right ∙ ap (λ (b : Bool). if b then right_of page.lock else 0) here in
     let some : 0 < (side h (page_part header.size o p past)).right = omega (arith, above page.lock) in
     sym (i.bytes here) ∙ (same_bytes header.size (page_part header.size o p past) licensed h).here some
@@ -803,7 +476,7 @@ asked_live header past host object control access page founded licensed =
     sends_live header.size host.0 control access (page_part header.size object.0 page.0 past) (object.0 == object.0) (page.0 == page.0) (itself object.0)
     (itself page.0)
     licensed.0 in
-    lives _ _ _ control (side_is_local header past host.0 object.0 page.0 founded) s.0 s.1
+    lives _ _ _ control (side_is_part header past host.0 object.0 page.0 founded) s.0 s.1
 
 pub ended_live : (header : Header) (past : List Event) (host : HostId) (object : ObjectId) (control p : ℕ) → EachEvent (IsFounded header) past
     → ActsLicensed header.size (page_part header.size object.0 p (event.Sent (Up host object) (message.Terminate control) ∷ past))
@@ -811,4 +484,4 @@ pub ended_live : (header : Header) (past : List Event) (host : HostId) (object :
 ended_live header past host object control p founded licensed =
     let s : ((side host.0 (page_part header.size object.0 p past)).live ≡ true) × ((side host.0 (page_part header.size object.0 p past)).control ≡ control) =
     ends_live header.size host.0 control (page_part header.size object.0 p past) (object.0 == object.0) (itself object.0) licensed.0 in
-    lives _ _ _ control (side_is_local header past host.0 object.0 p founded) s.0 s.1
+    lives _ _ _ control (side_is_part header past host.0 object.0 p founded) s.0 s.1

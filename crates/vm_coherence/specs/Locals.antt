@@ -1,5 +1,7 @@
 -- What a page's part says of a host is what the host has of the page.
-use Rattle.std.specs.Prelude.{ℕ, ◌≡◌, true, Option, Some, None, if◌then◌else◌}
+use Rattle.std.specs.Prelude.{ℕ, ◌≡◌, ◌≢◌, true, List, [], ◌∷◌, Option, Some, None, if◌then◌else◌}
+use Rattle.vm_model.specs.declared.event.Event.{Event}
+use Rattle.vm_model.specs.declared.event.Event.TheVariants as event
 use Rattle.vm_model.specs.Local.{Local}
 use Rattle.vm_model.specs.Side.{Side, right_of}
 
@@ -18,3 +20,11 @@ pub record SideIsLocal (live : Option ℕ) (s : Side) (page : Local) : Type 0 wh
   pub asked : s.asked ≡ page.asked
   pub absent : s.absent ≡ page.absent
   pub control : (if s.live then Some s.control else None) ≡ live
+
+-- no merge names the object, nor one from which a page was raised or copied to it, up to then
+abbrev pub IsUnmerged : ℕ → List Event → Type 0
+IsUnmerged o [] = Unit {0}
+IsUnmerged o (event.Merged upper lower ∷ past) = (o ≢ upper.0) × (o ≢ lower.0) × IsUnmerged o past
+IsUnmerged o (event.Raised at lower lower_page upper upper_page ∷ past) = (o ≡ upper.0 → IsUnmerged lower.0 past) × IsUnmerged o past
+IsUnmerged o (event.CopiedPage task page object object_page target ∷ past) = (o ≡ target.0 → IsUnmerged object.0 past) × IsUnmerged o past
+IsUnmerged o (e ∷ past) = IsUnmerged o past

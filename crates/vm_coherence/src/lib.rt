@@ -27,7 +27,7 @@ ghost use Rattle.vm_model.specs.PagePart.{page_part, world_part};
 ghost use Rattle.vm_coherence.specs.Carried.{IsCarriedAt};
 ghost use Rattle.vm_coherence.specs.Crossing.{crossing};
 ghost use Rattle.vm_coherence.specs.Idle.{flushed, idle_request};
-ghost use Rattle.vm_coherence.specs.Locals.{SideIsLocal};
+ghost use Rattle.vm_coherence.specs.Locals.{IsUnmerged, SideIsLocal};
 ghost use Rattle.vm_coherence.specs.Remapping.{remapping};
 ghost use Rattle.vm_coherence.specs.SlowCopy.{copying, reclaimed, read_again};
 ghost use Rattle.vm_model.specs.Coherence.{Throughout, OneWriter, SameBytes, EachLoadReads, PageLegal, StepsDone, SomebodyIsAwaited, WaitersHaveAsked, Quiet};
@@ -136,18 +136,18 @@ pub fn channel_law()
 {}
 
 /// What a page's part says of a host is what the host has of the page, at every moment of a history
-/// in which each event is founded: so there is one notion of a host's page, and the law of one shared
-/// page speaks of it: one writer, and bytes that are those of the stores on every host. Where the page
-/// isn't here the part's bytes, lock and marks mean nothing.
+/// in which each event is founded and no merge names the page's object: so there is one notion of a
+/// host's page, and the law of one shared page speaks of it: one writer, and bytes that are those of
+/// the stores on every host. Where the page isn't here the part's bytes, lock and marks mean nothing.
 ///
 /// That a request and the end of a control are the live control's follows from their causes.
 pub fn local_law()
-    ensures page { (header : Header) (history : List Event) (h o p : ℕ) → EachEvent (IsFounded header) history
+    ensures page { (header : Header) (history : List Event) (h o p : ℕ) → IsUnmerged o history → EachEvent (IsFounded header) history
         → SideIsLocal (live_control h o history) (side h (page_part header.size o p history)) (local header h (record { object = o; page = p }) history) }
-    ensures one_writer { (header : Header) (history : List Event) (g h o p : ℕ) → EachEvent (IsFounded header) history
+    ensures one_writer { (header : Header) (history : List Event) (g h o p : ℕ) → IsUnmerged o history → EachEvent (IsFounded header) history
         → ActsLicensed header.size (page_part header.size o p history) → g ≢ h
         → CanWrite (local header h (record { object = o; page = p }) history) → CanRead (local header g (record { object = o; page = p }) history) → ⊥ }
-    ensures same_bytes { (header : Header) (history : List Event) (h o p : ℕ) → EachEvent (IsFounded header) history
+    ensures same_bytes { (header : Header) (history : List Event) (h o p : ℕ) → IsUnmerged o history → EachEvent (IsFounded header) history
         → ActsLicensed header.size (page_part header.size o p history) → (local header h (record { object = o; page = p }) history).here ≡ true
         → (local header h (record { object = o; page = p }) history).bytes ≡ current header.size (page_part header.size o p history) }
     ensures asked { (header : Header) (past : List Event) (host : HostId) (object : ObjectId) (control access : ℕ) (page : PageNo)

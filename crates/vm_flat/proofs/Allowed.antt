@@ -1,7 +1,7 @@
 -- What a place itself must say for an effect, and what it has to show.
 use Rattle.std.specs.Prelude.{ℕ, ◌&&◌, ◌≡◌, List, true, false, if◌then◌else◌, Option, Some, None}
 use Rattle.vm_flat.specs.Words.{Requesting, Returning, SpotDownWord, Supplying, Unavailing, Erring, SpotEffect, Creates, Requests, Returns, TakesRequest}
-use Rattle.vm_flat.specs.Words.{TakesReturn, Answers, Takes, Zeroes, Raises, Stores, Drops, Ends, StepEnds, Nothing}
+use Rattle.vm_flat.specs.Words.{TakesReturn, Answers, Takes, Zeroes, Raises, Stores, Drops, Moves, Ends, StepEnds, Nothing}
 use Rattle.vm_model.specs.Server.{first}
 use Rattle.vm_flat.specs.Spot.{Spot}
 
@@ -31,6 +31,7 @@ May z s Zeroes = (s.here ≡ false) × (s.asked ≡ false)
 May z s (Raises bytes) = (s.here ≡ false) × (s.asked ≡ false) × (s.file ≡ false)
 May z s (Stores at bytes) = s.here ≡ true
 May z s Drops = s.here ≡ true
+May z s (Moves bytes dirty) = (s.here ≡ false) × (s.asked ≡ false) × (s.returned ≡ None) × (dirty ≡ false → bytes ≡ z)
 May z s Ends = (s.control ≡ 1) × (s.here ≡ false) × (s.asked ≡ false)
 May z s StepEnds = Unit {0}
 May z s Nothing = Unit {0}

@@ -26,15 +26,16 @@ use Rattle.vm_legal.specs.Walks.{Sight, sight}
 use Rattle.vm_legal.specs.Walks as W
 use Rattle.vm_flat.specs.Spot.{Spot, spot_after}
 use Rattle.vm_flat.specs.Words.{Requesting, Returning, SpotUpWord, SpotDownWord, Supplying, Unavailing, Erring, SpotEffect, Creates, Requests, Returns}
-use Rattle.vm_flat.specs.Words.{TakesRequest, TakesReturn, Answers, Takes, Zeroes, Raises, Stores, Drops, Ends, StepEnds, Nothing}
+use Rattle.vm_flat.specs.Words.{TakesRequest, TakesReturn, Answers, Takes, Zeroes, Raises, Stores, Drops, Moves, Ends, StepEnds, Nothing}
 use Rattle.vm_flat.proofs.Causes.{Cause, Ours}
 use Rattle.vm_flat.proofs.Classes.{deed, deeds, ground}
 use Rattle.vm_flat.proofs.Deeds.{Ground, Deed, Line, Zeroed, Raised, Stored, Dropped, Created, Asked, Copied, Returned, TookRequest, TookReturn, Answered, Took}
-use Rattle.vm_flat.proofs.Deeds.{Terminated, covered, is_file, spot}
+use Rattle.vm_flat.proofs.Deeds.{Merged, Terminated, covered, is_file, spot}
 use Rattle.vm_flat.proofs.Caused.{cause}
 use Rattle.vm_flat.proofs.File.{file_is}
 use Rattle.vm_flat.proofs.Holds.{Holds, led}
 use Rattle.vm_flat.proofs.Law.{holds}
+use Rattle.vm_flat.proofs.Merges.{of_other}
 use Rattle.vm_flat.proofs.Numbers.{NumberedAt}
 use Rattle.vm_flat.proofs.Queues.{returns}
 use Rattle.vm_flat.proofs.Settled.{pages_declared}
@@ -82,6 +83,7 @@ FileMay z s (TakesReturn bytes) = first s.up ≡ Some (Returning bytes)
 FileMay z s Zeroes = s.void ≡ true
 FileMay z s (Raises bytes) = ⊥
 FileMay z s (Stores at bytes) = s.here ≡ true
+FileMay z s (Moves bytes dirty) = ⊥
 FileMay z s other = Unit {0}
 
 told_void : (tells : Bool) (was : Bool) → was ≡ false → (if tells then false else was) ≡ false
@@ -100,6 +102,7 @@ bare_after z s Zeroes may b = clash s.void b.known may
 bare_after z s (Raises bytes) may b = absurd may
 bare_after z s (Stores at bytes) may b = clash s.here b.away may
 bare_after z s Drops may b = record { away = refl; unasked = b.unasked; known = b.known; none = b.none }
+bare_after z s (Moves bytes dirty) may b = absurd may
 bare_after z s Ends may b = record { away = b.away; unasked = refl; known = b.known; none = b.none }
 bare_after z s StepEnds may b = record { away = b.away; unasked = b.unasked; known = refl; none = b.none }
 bare_after z s Nothing may b = b
@@ -184,6 +187,10 @@ bare_next z o p (Took own object page word) past c i file past_end b =
 bare_next z o p (Terminated own object) past c i file past_end b =
     each_object (After z past) object own Ends Nothing (λ is q f e was. bare_after z.zeros (spot z object q past) Ends tt was) (rest_same z past) o p file
     past_end b
+bare_next z o p (Merged true upper lower shift upper_pages lower_pages) past c i file past_end b =
+    subst (λ (e : SpotEffect). Bare (spot_after z.zeros (spot z o p past) e))
+    (sym (of_other o p upper lower shift upper_pages lower_pages (spot z o p past) (spot z lower (shift + p) past)
+    (λ e. clash (is_file z o) (ap (λ k. is_file z k) e ∙ c.upper_plain) file) (λ e. clash (is_file z o) (ap (λ k. is_file z k) e ∙ c.lower_plain) file))) b
 bare_next z o p d past c i file past_end b = b
 
 bare_start : (z : Ground) (o p : ℕ) → Bare (spot z o p [])

@@ -50,6 +50,7 @@ use Rattle.vm_flat.proofs.Control.{control_is}
 use Rattle.vm_flat.proofs.World.{load}
 use Rattle.vm_flat.proofs.Classes.{ground, deed, deeds, up_deed, taken_up_deed, down_deed, taken_down_deed, region_in, page_in, number_or_zero}
 use Rattle.vm_flat.proofs.Ties.{as_row, as_link, row_is, link_is, spot_is, regions_is, objects_is, control_tie}
+use Rattle.vm_flat.proofs.Joined.{merge_cause}
 use Rattle.vm_flat.proofs.Filling.{FilledAt}
 use Rattle.vm_flat.proofs.Numbers.{marked_later, later_alike, later_told, told_private}
 use Rattle.vm_flat.proofs.Ports.{sound_of, spot_control}
@@ -727,6 +728,7 @@ cause header outside host (event.RegionCopied region source offset pages) past h
     cow_cause header outside host region.0 source.0 offset pages past h c
 cause header outside host (event.Shadowed region new old) past h c current = shadow_cause header outside host region.0 new.0 old.0 past h c
 cause header outside host (event.Unmarked region) past h c current = unmark_cause header outside host region.0 past h c
+cause header outside host (event.Merged upper lower) past h c current = merge_cause header outside host upper.0 lower.0 past h c
 cause header outside host (event.Zeroed at object page) past h c current = zeroed_cause header outside host at object.0 page.0 past h c
 cause header outside host (event.Raised at lower lower_page upper upper_page) past h c current =
     raised_cause header outside host at lower.0 lower_page.0 upper.0 upper_page.0 past h c

@@ -4,7 +4,7 @@ use Rattle.vm_flat.specs.Words.{Requests, Returns, TakesRequest, TakesReturn, An
 use Rattle.vm_flat.specs.Spot.{Spot}
 use Rattle.vm_flat.proofs.Allowed.{Passed, May, content}
 use Rattle.vm_flat.proofs.Deeds.{Ground, is_file, covered, Deed, Line, Region, Cow, Kept, Shadowed, Unmarked, Zeroed, Raised, Stored, Dropped, Created, Asked}
-use Rattle.vm_flat.proofs.Deeds.{Copied}
+use Rattle.vm_flat.proofs.Deeds.{Copied, Merged, pages}
 use Rattle.vm_flat.proofs.Deeds.{Returned, TookRequest, TookReturn, Answered, Took, Terminated, Elsewhere, Row, row, regions, objects, Link, link, spot}
 use Rattle.vm_flat.proofs.Deeds.{control, flat}
 
@@ -106,6 +106,25 @@ pub record TopAlone (z : Ground) (region : ℕ) (past : List Deed) : Type 0 wher
   pub tops : (r : ℕ) → (row z r past).used ≡ true → r ≢ region → (row z r past).top ≢ (row z region past).top
   pub bare : (v : ℕ) → Reach z v past → (link z v past).backed ≡ true → (link z v past).under ≢ (row z region past).top
 
+-- the lower object is no region's top, and of what is reached the upper alone stands on it; neither ever had a control
+pub record Pair (z : Ground) (upper lower : ℕ) (past : List Deed) : Type 0 where
+  pub no_top : (r : ℕ) → (row z r past).used ≡ true → (row z r past).top ≢ lower
+  pub sole : (v : ℕ) → Reach z v past → (link z v past).backed ≡ true → (link z v past).under ≡ lower → v ≡ upper
+  pub upper_never : control z upper past ≡ 0
+  pub lower_never : control z lower past ≡ 0
+
+-- the upper object stands on the lower: where both are at home they are a pair, and elsewhere the upper isn't reached
+pub record Joins (z : Ground) (own : Bool) (upper lower shift upper_pages lower_pages : ℕ) (past : List Deed) : Type 0 where
+  pub backed : (link z upper past).backed ≡ true
+  pub under : (link z upper past).under ≡ lower
+  pub shift_is : (link z upper past).shift ≡ shift
+  pub upper_pages_is : pages z upper past ≡ upper_pages
+  pub lower_pages_is : pages z lower past ≡ lower_pages
+  pub upper_plain : is_file z upper ≡ false
+  pub lower_plain : is_file z lower ≡ false
+  pub pair : own ≡ true → Pair z upper lower past
+  pub foreign : own ≡ false → Reach z upper past → ⊥
+
 abbrev pub Cause : Ground → Deed → List Deed → Type 0
 Cause z Line past = Unit {0}
 Cause z (Region own region object count) past = (region ≡ regions z past) × (object ≡ objects z past) × (own ≡ true → covered z object ≡ true)
@@ -114,6 +133,7 @@ Cause z (Kept held) past = Unit {0}
 Cause z (Shadowed region new) past =
     (new ≡ objects z past) × (region < regions z past) × ((row z region past).mark ≡ true) × (covered z (row z region past).top ≡ covered z new)
 Cause z (Unmarked region) past = (row z region past).used ≡ true → TopAlone z region past
+Cause z (Merged own upper lower shift upper_pages lower_pages) past = Joins z own upper lower shift upper_pages lower_pages past
 Cause z (Zeroed own object page) past = Ours z own object → ((is_file z object ≡ true) × Void (spot z object page past)) ⊎ Bottoms z object page past
 Cause z (Raised own lower lower_page upper upper_page) past = Ours z own upper → Finds z lower lower_page upper upper_page past
 Cause z (Stored own region index object page at bytes) past =

@@ -13,11 +13,14 @@ use Rattle.vm_legal.specs.Outside.{is_file_kept, zeros, is_said, start_page}
 use Rattle.vm_legal.specs.Living.{lives_on}
 use Rattle.vm_legal.specs.Used.{is_kept, made_here}
 use Rattle.vm_model.specs.Controls.{is_control, last_control, live_control}
+use Rattle.vm_model.specs.Homes.{object_home}
+use Rattle.vm_model.specs.Local.{is_on}
+use Rattle.vm_model.specs.Regions.{backing_of, object_pages}
 use Rattle.vm_legal.specs.Flat.{StoreChange, change_of, made_over}
 use Rattle.vm_flat.specs.Words.{SpotDownWord, Supplying, Unavailing, Erring}
 use Rattle.vm_legal.specs.Outside.{Outside}
 use Rattle.vm_flat.proofs.Deeds.{Ground, Deed, Line, Region, Cow, Kept, Shadowed, Unmarked, Zeroed, Raised, Stored, Dropped, Created, Asked, Copied, Returned}
-use Rattle.vm_flat.proofs.Deeds.{TookRequest, TookReturn, Answered, Took, Terminated, Elsewhere}
+use Rattle.vm_flat.proofs.Deeds.{Merged, TookRequest, TookReturn, Answered, Took, Terminated, Elsewhere}
 
 abbrev pub ground : Header → Outside → Ground
 ground header outside =
@@ -77,6 +80,9 @@ deed header outside host (event.TaskEnded task) past = Kept (λ r. is_kept heade
 deed header outside host (event.Failed task object page) past = Kept (λ r. is_kept header r (event.Failed task object page ∷ past))
 deed header outside host (event.Shadowed region new old) past = Shadowed region.0 new.0
 deed header outside host (event.Unmarked region) past = Unmarked region.0
+deed header outside host (event.Merged upper lower) past =
+    Merged (is_on host (object_home upper.0 past)) upper.0 lower.0 (backing_of header upper.0 past).shift (object_pages header upper.0 past)
+    (object_pages header lower.0 past)
 deed header outside host (event.Zeroed at object page) past = Zeroed (at.0 == host) object.0 page.0
 deed header outside host (event.Raised at lower lower_page upper upper_page) past = Raised (at.0 == host) lower.0 lower_page.0 upper.0 upper_page.0
 deed header outside host (event.Stored task object page at size value) past =

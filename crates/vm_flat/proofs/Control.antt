@@ -1,12 +1,13 @@
 -- All places of an object have its control.
 use Rattle.std.proofs.Common.{◌≡◌, ℕ, List, [], ◌∷◌, Bool, true, false, refl, if◌then◌else◌, ◌∙◌, ap}
-use Rattle.std.specs.Prelude.{◌==◌, ◌&&◌}
+use Rattle.std.specs.Prelude.{◌==◌, ◌&&◌, ◌+◌}
 use Rattle.vm_flat.specs.Words.{SpotEffect, Creates, Requests, Returns, TakesRequest, TakesReturn, Answers, Takes, Zeroes, Raises, Stores, Drops, Ends}
 use Rattle.vm_flat.specs.Words.{StepEnds, Nothing}
 use Rattle.vm_flat.specs.Spot.{spot_after}
 use Rattle.vm_flat.proofs.Deeds.{Ground, is_file, Deed, Line, Region, Cow, Kept, Shadowed, Unmarked, Zeroed, Raised, Stored, Dropped, Created, Asked, Copied}
 use Rattle.vm_flat.proofs.Deeds.{Returned}
-use Rattle.vm_flat.proofs.Deeds.{TookRequest, TookReturn, Answered, Took, Terminated, Elsewhere, spot, control}
+use Rattle.vm_flat.proofs.Deeds.{Merged, TookRequest, TookReturn, Answered, Took, Terminated, Elsewhere, spot, control}
+use Rattle.vm_flat.proofs.MergeEffects.{merged_case}
 use Rattle.vm_flat.proofs.Good.{takes_control}
 use Rattle.vm_flat.proofs.World.{each_place}
 use Rattle.vm_flat.proofs.File.{file_is}
@@ -34,6 +35,9 @@ control_is z o p (Cow region source off count ∷ past) = control_is z o p past
 control_is z o p (Kept held ∷ past) = control_is z o p past
 control_is z o p (Shadowed region new ∷ past) = control_is z o p past
 control_is z o p (Unmarked region ∷ past) = control_is z o p past
+control_is z o p (Merged own upper lower shift upper_pages lower_pages ∷ past) =
+    merged_case (λ e. (spot_after z.zeros (spot z o p past) e).control ≡ (spot z o p past).control) own o p upper lower shift upper_pages lower_pages
+    (spot z o p past) (spot z lower (shift + p) past) (λ bytes dirty. refl) refl refl ∙ control_is z o p past
 control_is z o p (Elsewhere ∷ past) = control_is z o p past
 control_is z o p (Zeroed own k q ∷ past) = same z o p own k q Zeroes Nothing past (control_is z k q past) (λ o p. control_is z o p past)
 control_is z o p (Raised own l lp k q ∷ past) =

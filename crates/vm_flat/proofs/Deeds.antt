@@ -4,7 +4,7 @@ use Rattle.std.specs.Prelude.{not, nat_lt, ℕ, suc, ◌+◌, ◌==◌, List, []
 use Rattle.vm_base.specs.Pages.{with_bytes}
 use Rattle.vm_flat.specs.Words.{SpotDownWord, Supplying, Unavailing, Erring, SpotEffect, Creates, Requests, Returns, TakesRequest, TakesReturn, Answers, Takes}
 use Rattle.vm_flat.specs.Words.{Zeroes, Raises, Stores, Drops, Ends, StepEnds, Nothing}
-use Rattle.vm_flat.specs.Spot.{Spot, first_spot, spot_after}
+use Rattle.vm_flat.specs.Spot.{Spot, first_spot, merged_effect, spot_after}
 
 -- What does not change: the page of zeros; how many objects are declared, and which of them are
 -- files; the bytes of the files' pages at the start, and the pages of the declared objects.
@@ -23,7 +23,7 @@ is_file z o = nat_lt o z.named && z.file o
 abbrev pub covered : Ground → ℕ → Bool
 covered z o = (not (nat_lt o z.named) && z.paging) || (nat_lt o z.named && z.file o)
 
--- `own` says that it happens on the host; on other hosts it changes regions and the flat map alone
+-- `own` says that it happens on the host; on other hosts it changes regions, what stands on what, and the flat map alone
 pub data Deed : Type 0 where
   -- a step begins
   Line : Deed
@@ -34,6 +34,8 @@ pub data Deed : Type 0 where
   Kept : (held : ℕ → Bool) → Deed
   Shadowed : (region : ℕ) → (new : ℕ) → Deed
   Unmarked : (region : ℕ) → Deed
+  -- the lower object is merged into the upper, its one shadow, whose page 0 is over the lower's page `shift`
+  Merged : (own : Bool) → (upper : ℕ) → (lower : ℕ) → (shift : ℕ) → (upper_pages : ℕ) → (lower_pages : ℕ) → Deed
   Zeroed : (own : Bool) → (object : ℕ) → (page : ℕ) → Deed
   Raised : (own : Bool) → (lower : ℕ) → (lower_page : ℕ) → (upper : ℕ) → (upper_page : ℕ) → Deed
   -- a page of a region is stored to, in a page of an object
@@ -129,6 +131,15 @@ pub record Link : Type 0 where
   pub under : ℕ
   pub shift : ℕ
 
+-- an object that its backing object is merged into stands on what that stood on
+abbrev pub joined : Bool → Link → Link → Link
+joined b lower was =
+    record {
+      backed = if b then lower.backed else was.backed;
+      under = if b then lower.under else was.under;
+      shift = if b then lower.shift + was.shift else was.shift;
+    }
+
 abbrev pub link : Ground → ℕ → List Deed → Link
 link z o [] = record { backed = false; under = 0; shift = 0 }
 link z o (Shadowed region new ∷ past) =
@@ -137,6 +148,7 @@ link z o (Shadowed region new ∷ past) =
       under = if o == new then (row z region past).top else (link z o past).under;
       shift = if o == new then (row z region past).shift else (link z o past).shift;
     }
+link z o (Merged own upper lower shift upper_pages lower_pages ∷ past) = joined (o == upper) (link z lower past) (link z o past)
 link z o (e ∷ past) = link z o past
 
 -- an object's pages
@@ -165,6 +177,8 @@ effect o p (TookRequest own object page) spots = at_place o p own object page Ta
 effect o p (TookReturn own object page bytes) spots = at_place o p own object page (TakesReturn bytes) StepEnds
 effect o p (Answered own tells object page word) spots = at_place o p own object page (Answers tells word) Nothing
 effect o p (Took own object page word) spots = at_place o p own object page (Takes word) StepEnds
+effect o p (Merged own upper lower shift upper_pages lower_pages) spots =
+    if own then merged_effect o p upper lower shift upper_pages lower_pages (spots o p) (spots lower (shift + p)) else Nothing
 effect o p (Terminated own object) spots = if own && object == o then Ends else Nothing
 effect o p e spots = Nothing
 

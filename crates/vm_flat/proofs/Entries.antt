@@ -18,26 +18,29 @@ use Rattle.vm_model.specs.declared.event.Event.TheVariants as event
 use Rattle.vm_model.specs.declared.script.Header.{Header}
 use Rattle.vm_model.specs.Tasks.{host_of, entries_of, has_entry}
 use Rattle.vm_legal.specs.Outside.{Outside, is_private}
+use Rattle.vm_model.specs.Homes.{copying_host, first_of, home_of}
 use Rattle.vm_model.specs.Local.{is_on}
 use Rattle.vm_legal.specs.Living.{lives_on}
 use Rattle.vm_model.specs.Regions.{next_region, region_of}
 use Rattle.vm_legal.specs.Used.{made_here, is_kept}
 use Rattle.vm_flat.proofs.Uses.{in_use}
 use Rattle.vm_flat.proofs.Sustained.{Enters}
-use Rattle.vm_flat.proofs.Regions.{if_no}
+use Rattle.vm_flat.proofs.Regions.{if_no, if_yes}
 use Rattle.vm_model.specs.Rows.{AllRows, rows_map, rows_rewritten, rows_entered, rows_known, HoldsOfParts, Inside, inside_part, page_below}
 use Rattle.vm_flat.proofs.Held.{kept}
 
-pub record Owned (size : ℕ) (private : ℕ → Bool) (used : ℕ → ℕ → Bool) (pages : ℕ → ℕ) (next : ℕ) (host : ℕ) (row : Entry) : Type 0 where
+pub record Owned (size : ℕ) (private : ℕ → Bool) (used : ℕ → ℕ → Bool) (pages : ℕ → ℕ) (home : ℕ → Option ℕ) (next : ℕ)
+    (host : ℕ) (row : Entry) : Type 0 where
   pub made : row.region.0 < next
   pub inside : Inside size (pages row.region.0) row
   pub used_here : private row.region.0 ≡ true → used host row.region.0 ≡ true
   pub alone : (other : ℕ) → (other ≡ host → ⊥) → used other row.region.0 ≡ false
+  pub homed : home row.region.0 ≡ None → ⊥
 
 abbrev pub OwnedAt : Header → Outside → List Event → ℕ → Entry → Type 0
 OwnedAt header outside past host row =
     Owned header.size (λ r. is_private header outside r) (λ h r. in_use header outside h r past) (λ r. (region_of header r past).pages)
-    (next_region header past) host row
+    (λ r. home_of r past) (next_region header past) host row
 
 abbrev pub Entries : Header → Outside → List Event → Type 0
 Entries header outside past = (task host : ℕ) → host_of task past ≡ Some host → AllRows (OwnedAt header outside past host) (entries_of header.size task past)
@@ -68,6 +71,17 @@ lives_here task h past lives = let e : is_on h (host_of task past) ≡ (h == h) 
 lives_else : (task h g : ℕ) (past : List Event) → host_of task past ≡ Some g → h ≢ g → lives_on h task past ≡ false
 lives_else task h g past lives apart = let e : is_on h (host_of task past) ≡ (g == h) = is_some_host h g (host_of task past) lives in grind (arith, nat_tests)
 
+-- a region that has a home keeps it, and an entry gives it one
+
+unhomed : (b : Bool) (was x : Option ℕ) → (if b then first_of was x else was) ≡ None → was ≡ None
+unhomed false was x none = none
+unhomed true None x none = refl
+unhomed true (Some h) x none = none
+
+no_host : (h : ℕ) (was x : Option ℕ) → x ≡ Some h → first_of was x ≡ None → ⊥
+no_host h None x is none = absurd (let bad : ◌≡◌ {A = Option ℕ} (Some h) None = sym is ∙ none in cc)
+no_host h (Some g) x is none = absurd (let bad : ◌≡◌ {A = Option ℕ} (Some g) None = none in cc)
+
 -- parts of entries, and entries with another protection or inheritance
 
 pub owned_parts : (header : Header) (outside : Outside) (past : List Event) (host : ℕ) → HoldsOfParts header.size (OwnedAt header outside past host)
@@ -77,24 +91,41 @@ owned_parts header outside past host row start end is low less high =
       inside = inside_part header.size (region_of header row.region.0 past).pages row start end is.inside low less high;
       used_here = is.used_here;
       alone = is.alone;
+      homed = is.homed;
     }
 
 owned_prot : (header : Header) (outside : Outside) (past : List Event) (host : ℕ) (prot : Prot) (row : Entry) → OwnedAt header outside past host row
     → AllRows (OwnedAt header outside past host) (record row { prot = prot } ∷ [])
-owned_prot header outside past host prot row is =
-    (record { made = is.made; inside = record { whole = is.inside.whole; each = is.inside.each }; used_here = is.used_here; alone = is.alone }, tt)
+owned_prot header outside past host prot row is = (
+  record {
+    made = is.made;
+    inside = record { whole = is.inside.whole; each = is.inside.each };
+    used_here = is.used_here;
+    alone = is.alone;
+    homed = is.homed;
+  },
+  tt,
+)
 
 owned_inherit : (header : Header) (outside : Outside) (past : List Event) (host : ℕ) (inherit : Inherit) (row : Entry) → OwnedAt header outside past host row
     → AllRows (OwnedAt header outside past host) (record row { inherit = inherit } ∷ [])
-owned_inherit header outside past host inherit row is =
-    (record { made = is.made; inside = record { whole = is.inside.whole; each = is.inside.each }; used_here = is.used_here; alone = is.alone }, tt)
+owned_inherit header outside past host inherit row is = (
+  record {
+    made = is.made;
+    inside = record { whole = is.inside.whole; each = is.inside.each };
+    used_here = is.used_here;
+    alone = is.alone;
+    homed = is.homed;
+  },
+  tt,
+)
 
 -- where only held regions stay in use
 
 abbrev pub OwnedKept : Header → Outside → Event → List Event → ℕ → Entry → Type 0
 OwnedKept header outside e past host row =
     Owned header.size (λ r. is_private header outside r) (λ h r. is_kept header r (e ∷ past) && in_use header outside h r past)
-    (λ r. (region_of header r past).pages) (next_region header past) host row
+    (λ r. (region_of header r past).pages) (λ r. home_of r past) (next_region header past) host row
 
 keep_rows : (header : Header) (outside : Outside) (e : Event) (past : List Event) (task host : ℕ) → host_of task (e ∷ past) ≡ Some host
     → AllRows (OwnedAt header outside past host) (entries_of header.size task (e ∷ past))
@@ -110,6 +141,7 @@ keep_rows header outside e past task host lives all =
           λ ours. both (is_kept header row.region.0 (e ∷ past)) (in_use header outside host row.region.0 past)
           (kept header row.region.0 task host (e ∷ past) lives is.1) (is.0.used_here ours);
       alone = λ other apart. never (is_kept header row.region.0 (e ∷ past)) (in_use header outside other row.region.0 past) (is.0.alone other apart);
+      homed = is.0.homed;
     })
     (entries_of header.size task (e ∷ past)) (rows_known (OwnedAt header outside past host) (entries_of header.size task (e ∷ past)) all)
 
@@ -187,6 +219,8 @@ entries_region_made header outside region object pages past is all task host liv
       alone =
           λ other else_. if_no row.region.0 region.0 (made_here other past && outside.paging) (in_use header outside other row.region.0 past) apart
           ∙ ok.alone other else_;
+      homed = λ none. ok.homed (sym (if_no region.0 row.region.0 (first_of (home_of row.region.0 past) (copying_host past)) (home_of row.region.0 past)
+          (λ e. apart (sym e))) ∙ none);
     })
     (entries_of header.size task past) (all task host lives)
 
@@ -205,6 +239,7 @@ entries_region_copied header outside region source offset pages past is all task
       alone =
           λ other else_. if_no row.region.0 region.0 (in_use header outside other source.0 past) (in_use header outside other row.region.0 past) apart
           ∙ ok.alone other else_;
+      homed = ok.homed;
     })
     (entries_of header.size task past) (all task host lives)
 
@@ -233,6 +268,7 @@ entries_entered header outside owner address bytes region offset prot inherit pa
           alone =
               λ other apart. never (not (row.region.0 == region.0) || lives_on other owner.0 past) (in_use header outside other row.region.0 past)
               (ok.alone other apart);
+          homed = λ none. ok.homed (unhomed (region.0 == row.region.0) (home_of row.region.0 past) (host_of owner.0 past) none);
         }
       where
         same : is_private header outside row.region.0 ≡ true → region.0 ≡ row.region.0 → lives_on host owner.0 past ≡ true
@@ -258,6 +294,8 @@ entries_entered header outside owner address bytes region offset prot inherit pa
               λ ours. both (not (region.0 == region.0) || lives_on host owner.0 past) (in_use header outside host region.0 past)
               (stays region.0 (λ e. lives_here owner.0 host past here)) (subst (λ (k : ℕ). in_use header outside k region.0 past ≡ true) host_is (c.used ours));
           alone = λ other apart. elsewhere other apart;
+          homed = λ none. no_host host (home_of region.0 past) (host_of owner.0 past) here
+              (sym (if_yes region.0 region.0 (first_of (home_of region.0 past) (host_of owner.0 past)) (home_of region.0 past) refl) ∙ none);
         })
         (rows_map (OwnedAt header outside past host) (OwnedAt header outside (event.Entered owner address bytes region offset prot inherit ∷ past) host) step
         (entries_of header.size task past) (all task host lives))

@@ -1,7 +1,7 @@
 -- All places of a file object are pages of a file.
 use Rattle.std.proofs.Common.{◌≡◌, ℕ, List, [], ◌∷◌, refl, ◌∙◌}
 use Rattle.vm_flat.specs.Words.{SpotDownWord, Supplying, Unavailing, Erring, SpotEffect, Creates, Requests, Returns, TakesRequest, TakesReturn, Answers, Takes}
-use Rattle.vm_flat.specs.Words.{Zeroes, Raises, Stores, Drops, Ends, StepEnds, Nothing}
+use Rattle.vm_flat.specs.Words.{Zeroes, Raises, Stores, Drops, Moves, Ends, StepEnds, Nothing}
 use Rattle.vm_flat.specs.Spot.{Spot, spot_after}
 use Rattle.vm_flat.proofs.Deeds.{Ground, is_file, Deed, spot, effect}
 
@@ -22,6 +22,7 @@ move_file z s Zeroes = refl
 move_file z s (Raises bytes) = refl
 move_file z s (Stores at bytes) = refl
 move_file z s Drops = refl
+move_file z s (Moves bytes dirty) = refl
 move_file z s Ends = refl
 move_file z s StepEnds = refl
 move_file z s Nothing = refl

@@ -28,6 +28,7 @@ use Rattle.vm_flat.proofs.Ties.{as_row, as_link, row_is, link_is, spot_is}
 use Rattle.vm_model.specs.Rows.{FoundRow, found_row}
 use Rattle.vm_flat.proofs.Entries.{Entries, OwnedAt, PrivateUsed}
 use Rattle.vm_flat.proofs.Filling.{Filling}
+use Rattle.vm_flat.proofs.Housed.{Housed}
 use Rattle.vm_flat.proofs.Locals.{spot_is_local}
 use Rattle.vm_flat.proofs.Numbers.{NumberedAt, later_alike}
 use Rattle.vm_flat.proofs.Ports.{Worlds, Ups, UpNumbers, AskedBy, Downs, Locks}
@@ -55,6 +56,7 @@ pub record Holds (header : Header) (outside : Outside) (past : List Event) : Typ
   pub downs : Downs header outside past
   pub locks : Locks header outside past
   pub homes : Homes header outside past
+  pub housed : Housed header outside past
 
 clash : (b : Bool) → b ≡ false → b ≡ true → ⊥
 clash b isnt is = cc

@@ -38,7 +38,8 @@ use Rattle.vm_flat.proofs.Entries.{Entries, PrivateUsed, entries_task_made, entr
 use Rattle.vm_flat.proofs.Entries.{entries_inherited, entries_region_made, entries_region_copied, entries_entered}
 use Rattle.vm_flat.proofs.Filling.{Filling, filling_next}
 use Rattle.vm_flat.proofs.Numbers.{NumberedAt, numbered_start, numbered_region_made, numbered_region_copied, numbered_shadowed, numbered_unmarked, later_alike}
-use Rattle.vm_flat.proofs.Numbers.{told_private}
+use Rattle.vm_flat.proofs.Housed.{housed_next, housed_start}
+use Rattle.vm_flat.proofs.Numbers.{numbered_merged, told_private}
 use Rattle.vm_flat.proofs.Ports.{ups_start, ups_next, numbers_next, asked_next, downs_start, downs_next, locks_start, locks_next, private_there}
 use Rattle.vm_flat.proofs.Holds.{Holds, Homes, Flats, led, tops, walks}
 use Rattle.vm_flat.proofs.Caused.{here_is, bytes_are, cause, change_is, source_made, shadowed_made}
@@ -248,6 +249,7 @@ numbered_next header outside (event.RegionCopied region source offset pages) pas
 numbered_next header outside (event.Shadowed region new old) past h c =
     numbered_shadowed header region new old past h.numbered c.next c.marked (shadowed_made header outside region.0 new.0 old.0 past h c)
 numbered_next header outside (event.Unmarked region) past h c = numbered_unmarked header region past h.numbered
+numbered_next header outside (event.Merged upper lower) past h c = numbered_merged header upper lower past h.numbered c.pair.backed
 numbered_next header outside e past h c = h.numbered
 
 pub holds : (header : Header) (outside : Outside) (past : List Event) → AllSustained header outside past → EachEvent (CopiesCurrent header outside) past
@@ -266,6 +268,7 @@ holds header outside [] sustained current =
       downs = downs_start header outside;
       locks = locks_start header outside;
       homes = λ g o less ours live h apart. absurd (omega (arith, live));
+      housed = housed_start header outside;
     }
 holds header outside (e ∷ past) sustained current =
     let h : Holds header outside past = holds header outside past sustained.1 current.1 in
@@ -284,6 +287,7 @@ holds header outside (e ∷ past) sustained current =
       downs = downs_next header outside e past h.worlds h.asked h.downs sustained.0;
       locks = locks_next header outside e past h.locks sustained.0;
       homes = homes_next header outside e past h sustained.0;
+      housed = housed_next header outside e past h.worlds h.entries sustained.0 h.housed;
     }
 
 -- a load waits at one address, on one host

@@ -17,11 +17,15 @@ pub mod Forgets
 pub mod Good
 pub mod Held
 pub mod Holds
+pub mod Housed
+pub mod Joined
 pub mod Law
 pub mod Letters
 pub mod Lives
 pub mod Loads
 pub mod Locals
+pub mod MergeEffects
+pub mod Merges
 pub mod Numbers
 pub mod Opening
 pub mod Pagers

@@ -1,5 +1,6 @@
 -- A place is what its host has of the page.
-use Rattle.std.proofs.Common.{◌≡◌, ℕ, ◌==◌, ◌&&◌, ◌∙◌, List, [], ◌∷◌, arith, Bool, true, false, Option, Some, None, if◌then◌else◌, refl, ap, sym, replicate}
+use Rattle.std.proofs.Common.{◌≡◌, ℕ, ◌==◌, ◌&&◌, ◌∙◌, List, [], ◌∷◌, arith, Bool, true, false, Option, Some, None, if◌then◌else◌, refl, ap, subst, sym}
+use Rattle.std.proofs.Common.{replicate, ◌+◌}
 use Rattle.std.specs.Prelude.{not, nat_lt, ◌||◌}
 use native.Mathlib.Decide.{ℕ_discrete}
 use Rattle.std.proofs.lemmas.Bool.Decides.{nat_tests}
@@ -16,7 +17,9 @@ use Rattle.vm_model.specs.declared.script.Header.{Header}
 use Rattle.vm_model.specs.Controls.{is_control, without_control, control_after, last_control, live_after, live_control}
 use Rattle.vm_model.specs.Founded.{IsFounded}
 use Rattle.vm_model.specs.Local as L
-use Rattle.vm_model.specs.Local.{Local, Elsewhere, is_known_absent, local, local_after, taken_effect}
+use Rattle.vm_model.specs.Homes.{object_home}
+use Rattle.vm_model.specs.Regions.{backing_of, object_pages}
+use Rattle.vm_model.specs.Local.{Local, Elsewhere, is_known_absent, is_on, local, local_after, taken_effect}
 use Rattle.vm_model.specs.Moments.{EachEvent}
 use Rattle.vm_model.specs.Words.{in_range}
 use Rattle.vm_model.specs.Named.{declared, named}
@@ -24,7 +27,7 @@ use Rattle.vm_legal.specs.Licences.{Caused, HasCause, MaySendUp}
 use Rattle.vm_legal.specs.Outside.{Outside, is_file, is_file_kept, is_private, is_said, zeros}
 use Rattle.vm_legal.specs.Living.{lives_on}
 use Rattle.vm_flat.specs.Words.{SpotDownWord, Supplying, Unavailing, Erring, SpotEffect, Creates, Requests, Returns, TakesRequest, TakesReturn, Answers, Takes}
-use Rattle.vm_flat.specs.Words.{Zeroes, Raises, Stores, Drops, Ends, StepEnds, Nothing}
+use Rattle.vm_flat.specs.Words.{Zeroes, Raises, Stores, Drops, Moves, Ends, StepEnds, Nothing}
 use Rattle.vm_flat.specs.Spot.{Spot, spot_after}
 use Rattle.vm_flat.specs.Locals.{SpotIsLocal}
 use Rattle.vm_flat.proofs.Regions.{eq_yes, eq_no}
@@ -228,6 +231,48 @@ placed z size file last live s page true true e f at i = at refl
 placed z size file last live s page true false e f at i = i
 placed z size file last live s page false b e f at i = i
 
+-- a page of the lower of two objects that are merged comes up
+comes_up : (z : List ℕ) (size : ℕ) (file : Bool) (last : ℕ) (live : Option ℕ) (s t : Spot) (page low : Local) (a b : Bool) → t.here ≡ low.here
+    → t.bytes ≡ low.bytes → t.dirty ≡ low.dirty → SpotIsLocal file last live s page
+    → SpotIsLocal file last live (spot_after z s (if a && (b && (t.here && not s.here)) then Moves t.bytes t.dirty else Nothing))
+    (local_after size (if a && (b && (low.here && not page.here)) then L.Moves low else Elsewhere) page)
+comes_up z size file last live s t page low a b here bytes dirty i =
+    subst (λ (m : Bool). SpotIsLocal file last live (spot_after z s (if a && (b && m) then Moves t.bytes t.dirty else Nothing))
+    (local_after size (if a && (b && (low.here && not page.here)) then L.Moves low else Elsewhere) page)) (sym test)
+    (by (a && (b && (low.here && not page.here))) refl)
+  where
+    test : (t.here && not s.here) ≡ (low.here && not page.here)
+    test = ap (λ (x : Bool). x && not s.here) here ∙ ap (λ (x : Bool). low.here && not x) i.here
+
+    there : (a b c d : Bool) → (a && (b && (c && d))) ≡ true → true ≡ c
+    there a b c d is = grind arith
+
+    by : (m : Bool) → (a && (b && (low.here && not page.here))) ≡ m
+        → SpotIsLocal file last live (spot_after z s (if m then Moves t.bytes t.dirty else Nothing))
+        (local_after size (if m then L.Moves low else Elsewhere) page)
+    by false is = i
+    by true is =
+        record {
+          here = there a b low.here (not page.here) is;
+          bytes = bytes;
+          dirty = dirty;
+          asked = i.asked;
+          absent = i.absent;
+          file = i.file;
+          control = i.control;
+        }
+
+merges : (z : List ℕ) (size : ℕ) (file : Bool) (last : ℕ) (live : Option ℕ) (s t : Spot) (page low : Local) (own c d a b : Bool) → t.here ≡ low.here
+    → t.bytes ≡ low.bytes → t.dirty ≡ low.dirty → SpotIsLocal file last live s page
+    → SpotIsLocal file last live (spot_after z s (if own then (if c
+    then (if a && (b && (t.here && not s.here)) then Moves t.bytes t.dirty else Nothing) else (if d then Drops else Nothing)) else Nothing))
+    (local_after size (if own then (if c
+    then (if a && (b && (low.here && not page.here)) then L.Moves low else Elsewhere) else (if d then L.Drops else Elsewhere)) else Elsewhere) page)
+merges z size file last live s t page low false c d a b here bytes dirty i = i
+merges z size file last live s t page low true true d a b here bytes dirty i = comes_up z size file last live s t page low a b here bytes dirty i
+merges z size file last live s t page low true false true a b here bytes dirty i = drops z size file last live s page i
+merges z size file last live s t page low true false false a b here bytes dirty i = i
+
 -- a message is about an object, then about a page of it
 sorted : (z : List ℕ) (size : ℕ) (file : Bool) (last : ℕ) (live : Option ℕ) (s : Spot) (page : Local) (own c d : Bool) (e : SpotEffect) (f : L.LocalEffect)
     → SpotIsLocal file last live (spot_after z s e) (local_after size f page) → SpotIsLocal file last live s page
@@ -414,6 +459,16 @@ spot_is_local header outside (event.CopiedPage task page object object_page targ
     (Raises (spot header outside host object.0 object_page.0 past).bytes) (L.Raises
     (local header host (record { object = object.0; page = object_page.0 }) past).bytes)
     (λ mine. raises (zeros header) header.size _ _ _ _ _ _ _ (spot_is_local header outside past host object.0 object_page.0).bytes i) i
+spot_is_local header outside (event.Merged upper lower ∷ past) host o p =
+    let q : ℕ = (backing_of header upper.0 past).shift + p in
+    let below : SpotIsLocal (is_file header lower.0) (last_control host lower.0 past) (live_control host lower.0 past)
+    (spot header outside host lower.0 q past) (local header host (record { object = lower.0; page = q }) past) =
+    spot_is_local header outside past host lower.0 q
+    in merges (zeros header) header.size _ _ _ (spot header outside host o p past) (spot header outside host lower.0 q past)
+    (local header host (record { object = o; page = p }) past) (local header host (record { object = lower.0; page = q }) past)
+    (is_on host (object_home upper.0 past)) (o == upper.0) (o == lower.0 && nat_lt p (object_pages header lower.0 past))
+    (nat_lt p (object_pages header upper.0 past)) (nat_lt q (object_pages header lower.0 past)) below.here below.bytes below.dirty
+    (spot_is_local header outside past host o p)
 spot_is_local header outside (event.Sent (Up at object) m ∷ past) host o p =
     sent (zeros header) header.size host o p (is_file header o) (last_control host o past) (spot header outside host o p past)
     (local header host (record { object = o; page = p }) past) at object m past (spot_is_local header outside past host o p)

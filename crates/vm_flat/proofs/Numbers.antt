@@ -150,6 +150,34 @@ numbered_shadowed header region new old past n is marked made =
     apart : (r : ℕ) → r < named header → r ≢ region.0
     apart r less e = omega (arith, less, e, marked_later header region.0 past n marked)
 
+pub numbered_merged : (header : Header) (upper lower : ObjectId) (past : List Event) → NumberedAt header past
+    → (backing_of header upper.0 past).backed ≡ true → NumberedAt header (event.Merged upper lower ∷ past)
+numbered_merged header upper lower past n on =
+    record {
+      later_regions = n.later_regions;
+      later_objects = n.later_objects;
+      declared_top = n.declared_top;
+      declared_shift = n.declared_shift;
+      declared_mark = n.declared_mark;
+      temporary = n.temporary;
+      upper = λ o backed. elim (ℕ_discrete o upper.0) [
+        | yes e ↦ omega (arith, e, n.upper upper.0 on)
+        | no other ↦ n.upper o (sym (if_no o upper.0 (backing_of header lower.0 past).backed (backing_of header o past).backed other) ∙ backed)
+      ];
+      lower = λ o backed. elim (ℕ_discrete o upper.0) [
+        | yes e ↦ omega (
+          arith,
+          if_yes o upper.0 (backing_of header lower.0 past).under (backing_of header o past).under e,
+          n.lower lower.0 (sym (if_yes o upper.0 (backing_of header lower.0 past).backed (backing_of header o past).backed e) ∙ backed),
+        )
+        | no other ↦ omega (
+          arith,
+          if_no o upper.0 (backing_of header lower.0 past).under (backing_of header o past).under other,
+          n.lower o (sym (if_no o upper.0 (backing_of header lower.0 past).backed (backing_of header o past).backed other) ∙ backed),
+        )
+      ];
+    }
+
 -- temporary objects and regions are all alike
 pub later_alike : (header : Header) (outside : Outside) (a b : ℕ) → named header ≤ a → named header ≤ b
     → is_private header outside a ≡ is_private header outside b

@@ -15,6 +15,7 @@ use Rattle.vm_legal.specs.Living.{lives_on}
 use Rattle.vm_legal.specs.Outside.{Outside, is_file, is_said, start_page, zeros}
 use Rattle.vm_legal.specs.Pagers.{last_return, newer, returned_in}
 use Rattle.vm_legal.specs.Steps.{Letter, answers, is_answer, since, taken_letter}
+use Rattle.vm_flat.proofs.MergeEffects.{merge_keeps}
 use Rattle.vm_flat.specs.Places.{effect_sent_up, effect_taken_up, effect_sent_down, effect_taken_down, spot}
 use Rattle.vm_flat.specs.Spot.{Spot, spot_after}
 use Rattle.vm_flat.specs.Words.{SpotDownWord, Supplying, Unavailing, Erring, SpotEffect, Creates, TakesRequest, TakesReturn, Answers, Takes, Zeroes, Raises}
@@ -137,6 +138,8 @@ kept_is header outside host o p (event.Taken (Up at object) m ∷ past) silent =
 kept_is header outside host o p (event.Taken (Down at object control) m ∷ past) silent =
     taken_down_kept (zeros header) (spot header outside host o p past) o p (at.0 == host && control == last_control host object.0 past) object.0 m
     ∙ kept_is header outside host o p past silent
+kept_is header outside host o p (event.Merged upper lower ∷ past) silent =
+    merge_keeps (λ s. s.kept) (λ z s bytes dirty. refl) (λ z s. refl) header outside host o p upper lower past ∙ kept_is header outside host o p past silent
 kept_is header outside host o p (e ∷ past) silent = kept_is header outside host o p past silent
 
 -- the request that the step took
@@ -216,6 +219,9 @@ step_is header outside host o control p access (event.Sent (Down at object numbe
     × (since (answers o p) past ≡ false) = both_no (object.0 == o && is_answer p m) (since (answers o p) past) none in
     sent_down_step (zeros header) (spot header outside host o p past) o p (at.0 == host && number == last_control host object.0 past)
     (is_said header outside object.0) object.0 m no.0 ∙ step_is header outside host o control p access past is no.1
+step_is header outside host o control p access (event.Merged upper lower ∷ past) is none =
+    merge_keeps (λ s. s.step) (λ z s bytes dirty. refl) (λ z s. refl) header outside host o p upper lower past
+    ∙ step_is header outside host o control p access past is none
 step_is header outside host o control p access (e ∷ past) is none = step_is header outside host o control p access past is none
 
 pub request_is : (host o control p access : ℕ) (past : List Event) → taken_letter past ≡ Some (asking host o control p access)

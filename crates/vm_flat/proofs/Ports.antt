@@ -31,6 +31,7 @@ use Rattle.vm_flat.proofs.Lives.{is_newest}
 use Rattle.vm_flat.proofs.Queues.{requests}
 use Rattle.vm_flat.proofs.Sound.{Sound, count}
 use Rattle.vm_flat.proofs.Control.{control_is}
+use Rattle.vm_flat.proofs.MergeEffects.{merge_keeps}
 use Rattle.vm_flat.proofs.World.{World}
 use Rattle.vm_flat.proofs.Classes.{ground, deeds}
 use Rattle.vm_flat.proofs.Ties.{spot_is, control_tie}
@@ -117,6 +118,8 @@ ups_next header outside (event.Taken (Up at object) m) past ups c h o p =
     up_taken (zeros header) (spot header outside h o p past) (queue (up_port h o) past) o p (at.0 == h) object.0 m (head_up at object m past h o c) (ups h o p)
 ups_next header outside (event.Taken (Down at object n) m) past ups c h o p =
     up_taken_down (zeros header) (spot header outside h o p past) o p (at.0 == h && n == last_control h object.0 past) object.0 m ∙ ups h o p
+ups_next header outside (event.Merged upper lower) past ups c h o p =
+    merge_keeps (λ s. s.up) (λ z s bytes dirty. refl) (λ z s. refl) header outside h o p upper lower past ∙ ups h o p
 ups_next header outside e past ups c h o p = ups h o p
 
 -- every request on the way up is of the newest control
@@ -351,6 +354,8 @@ asked_next header outside (event.Sent (Down at object k) m) past w numbers all c
 asked_next header outside (event.Taken (Up at object) m) past w numbers all c h o n p ours taken step =
     asked_taken header outside at object m past numbers c h o n p ours taken step
 asked_next header outside (event.Taken (Down at object k) m) past w numbers all c h o n p ours taken step = absurd (none_request _ taken)
+asked_next header outside (event.Merged upper lower) past w numbers all c h o n p ours taken step =
+    all h o n p ours taken (sym (merge_keeps (λ s. s.step) (λ z s bytes dirty. refl) (λ z s. refl) header outside h o p upper lower past) ∙ step)
 asked_next header outside e past w numbers all c h o n p ours taken step = all h o n p ours taken step
 
 -- downwards: only the newest control has words on their way
@@ -483,6 +488,10 @@ downs_next header outside (event.Taken (Down at object n) m) past w asked downs 
     (λ is e. test_same k n (last_control h o past) e ∙ ap (λ x. n == x) (number_same past h o object.0 (same_object at.0 h o object.0 is)))
     (λ is one two. test_only k n (last_control h o past) one (ap (λ x. n == x) (number_same past h o object.0 (same_object at.0 h o object.0 is)) ∙ two))
     (downs h o ours k p)
+downs_next header outside (event.Merged upper lower) past w asked downs c h o ours k p =
+    downs h o ours k p ∙ move_down_of (k == last_control h o past) (spot header outside h o p past)
+    (spot header outside h o p (event.Merged upper lower ∷ past))
+    (merge_keeps (λ s. s.down) (λ z s bytes dirty. refl) (λ z s. refl) header outside h o p upper lower past)
 downs_next header outside e past w asked downs c h o ours k p = downs h o ours k p
 
 -- a lock_request for a private object wants changed pages back

@@ -1,7 +1,7 @@
 -- No page of temporary or file memory is precious: its pagers supply none.
-use Rattle.std.proofs.Common.{ℕ, ◌≡◌, List, [], ◌∷◌, ◌++◌, Bool, true, false, Option, Some, if◌then◌else◌, refl, ap, subst, ◌∙◌, arith}
+use Rattle.std.proofs.Common.{ℕ, ◌+◌, ◌≡◌, ◌≤◌, List, [], ◌∷◌, ◌++◌, Bool, true, false, Option, Some, if◌then◌else◌, refl, ap, subst, ◌∙◌, arith}
 use Rattle.std.proofs.lemmas.Bool.Decides.{nat_tests}
-use Rattle.std.specs.Prelude.{◌==◌, ◌&&◌, ◌||◌}
+use Rattle.std.specs.Prelude.{◌==◌, ◌&&◌, ◌||◌, nat_lt, not}
 use Rattle.vm_base.specs.Pages.{little_endian_bytes}
 use Rattle.vm_model.specs.declared.command.Command.{Command}
 use Rattle.vm_model.specs.declared.event.Event.{Event}
@@ -12,8 +12,11 @@ use Rattle.vm_model.specs.declared.message.Message.TheVariants as message
 use Rattle.vm_model.specs.declared.script.Header.{Header}
 use Rattle.vm_model.specs.Channels.{down_port, queue}
 use Rattle.vm_model.specs.Controls.{is_control, live_control}
-use Rattle.vm_model.specs.Local.{LocalEffect, Local, Place, Zeroes, Raises, Stores, Drops, Returns, Asks, Unlocks, TakesPage, TakesNothing, TakesError}
-use Rattle.vm_model.specs.Local.{TakesLock, Begins, Ends, Elsewhere, effect, is_on, is_place, local, local_after, sent_effect, taken_effect}
+use Rattle.vm_model.specs.Local.{LocalEffect, Local, Place, Zeroes, Raises, Stores, Drops, Moves, Returns, Asks, Unlocks, TakesPage, TakesNothing, TakesError}
+use Rattle.vm_model.specs.Homes.{object_home}
+use Rattle.vm_model.specs.Named.{named}
+use Rattle.vm_model.specs.Regions.{backing_of, object_pages}
+use Rattle.vm_model.specs.Local.{TakesLock, Begins, Ends, Elsewhere, effect, merge_effect, is_on, is_place, local, local_after, sent_effect, taken_effect}
 use Rattle.vm_model.specs.Moments.{EachEvent}
 use Rattle.vm_model.specs.Server.{first}
 use Rattle.vm_model.specs.Side.{rest}
@@ -27,6 +30,7 @@ use Rattle.vm_legal.specs.Walks.{page_on}
 -- nothing precious comes
 abbrev IsPlain : LocalEffect → Type 0
 IsPlain (TakesPage lock precious bytes) = precious ≡ false
+IsPlain (Moves page) = page.precious ≡ false
 IsPlain other = Unit {0}
 
 plain_if : (b : Bool) (e : LocalEffect) → IsPlain e → IsPlain (if b then e else Elsewhere)
@@ -38,6 +42,7 @@ plain_moved size Zeroes was is plain = refl
 plain_moved size (Raises bytes) was is plain = refl
 plain_moved size (Stores at bytes) was is plain = plain
 plain_moved size Drops was is plain = refl
+plain_moved size (Moves page) was is plain = is
 plain_moved size (Returns true) was is plain = refl
 plain_moved size (Returns false) was is plain = refl
 plain_moved size Asks was is plain = plain
@@ -134,6 +139,22 @@ spot o p = record { object = o; page = p }
 abbrev sources : Header → ℕ → List Event → Place → Local
 sources header host past = λ source. local header host source past
 
+-- of two objects that are merged only a page of the lower comes
+merge_plain : (upper lower shift upper_pages lower_pages o p : ℕ) (others : Place → Local) → (others (spot lower (shift + p))).precious ≡ false
+    → IsPlain (merge_effect upper lower shift upper_pages lower_pages (spot o p) others)
+merge_plain upper lower shift upper_pages lower_pages o p others plain =
+    by (o == upper) (nat_lt p upper_pages && (nat_lt (shift + p) lower_pages && ((others (spot lower (shift + p))).here && not (others (spot o p)).here)))
+    (o == lower && nat_lt p lower_pages)
+  where
+    by : (a b c : Bool) → IsPlain (if a then (if b then Moves (others (spot lower (shift + p))) else Elsewhere) else (if c then Drops else Elsewhere))
+    by true true c = plain
+    by true false c = tt
+    by false b true = tt
+    by false b false = tt
+
+later_paged : (header : Header) (o : ℕ) → named header ≤ o → is_paged header o ≡ true
+later_paged header o above = grind (arith, nat_tests)
+
 -- the object of a message on a channel
 object_is : (a h b o k n : ℕ) (x : Bool) → (a == h && (b == o && x)) ≡ true → b ≡ o
 object_is a h b o k n x is = grind (arith, nat_tests)
@@ -154,6 +175,10 @@ event_plain header outside host o p (event.Taken (Down at object control) m) pas
     guarded (at.0 == host && (object.0 == o && is_control control (live_control host o past))) (taken_effect p m)
     (λ own. down_plain p m (front (queue (Down at object control) past) m c.1.0 (was.queued at.0 object.0 control
     (ap (λ (k : ℕ). is_paged header k) (object_is at.0 host object.0 o control control (is_control control (live_control host o past)) own) ∙ paged))))
+event_plain header outside host o p (event.Merged upper lower) past was c paged =
+    guarded (is_on host (object_home upper.0 past)) _ (λ own. merge_plain upper.0 lower.0 (backing_of header upper.0 past).shift
+    (object_pages header upper.0 past) (object_pages header lower.0 past) o p (sources header host past)
+    (was.here host lower.0 ((backing_of header upper.0 past).shift + p) (later_paged header lower.0 c.1.pair.temporary)))
 event_plain header outside host o p other past was c paged = tt
 
 queue_plain : (header : Header) (outside : Outside) (h o k : ℕ) (e : Event) (past : List Event) → Plain header past → HasCause header outside e past

@@ -3,7 +3,7 @@ use Rattle.std.proofs.Common.{◌≡◌, ℕ, ◌+◌, ◌≤◌, List, [], ◌�
 use Rattle.std.proofs.lemmas.Bool.Decides.{nat_tests}
 use Rattle.std.specs.Prelude.{◌⊎◌}
 use Rattle.vm_flat.specs.Words.{SpotDownWord, Supplying, Unavailing, Erring, SpotEffect, Creates, Requests, Returns, TakesRequest, TakesReturn, Answers, Takes}
-use Rattle.vm_flat.specs.Words.{Zeroes, Raises, Stores, Drops, Ends, StepEnds, Nothing}
+use Rattle.vm_flat.specs.Words.{Zeroes, Raises, Stores, Drops, Moves, Ends, StepEnds, Nothing}
 use Rattle.vm_model.specs.Side.{rest}
 use Rattle.vm_flat.specs.Spot.{Spot, first_spot, spot_after}
 use Rattle.vm_flat.proofs.Allowed.{Passed, MayAnswer, May, content}
@@ -127,6 +127,14 @@ keep_stores z s at bytes ok may = grind (arith, nat_tests)
 pub keep_drops : (z : List ℕ) (s : Spot) → Sound z s → May z s Drops → Sound z (spot_after z s Drops)
 keep_drops z s ok may = grind (arith, nat_tests)
 
+pub keep_moves : (z : List ℕ) (s : Spot) (bytes : List ℕ) (dirty : Bool) → Sound z s → May z s (Moves bytes dirty)
+    → Sound z (spot_after z s (Moves bytes dirty))
+keep_moves z s bytes dirty ok may = grind (arith, nat_tests)
+
+-- also where there is no page
+pub keep_gone : (z : List ℕ) (s : Spot) → Sound z s → Sound z (spot_after z s Drops)
+keep_gone z s ok = grind (arith, nat_tests)
+
 pub keep_ends : (z : List ℕ) (s : Spot) → Sound z s → May z s Ends → Sound z (spot_after z s Ends)
 keep_ends z s ok may = grind (arith, nat_tests)
 
@@ -147,6 +155,7 @@ Saves s (Raises bytes) = ⊥
 Saves s (Stores at bytes) = ⊥
 Saves s (Answers true word) = ⊥
 Saves s Drops = s.dirty ≡ false
+Saves s (Moves bytes dirty) = ⊥
 Saves s e = Unit {0}
 
 takes_saves : (z : List ℕ) (s : Spot) (w : SpotDownWord) → Sound z s → May z s (Takes w) → content (spot_after z s (Takes w)) ≡ content s
@@ -169,6 +178,7 @@ content_saved z s Zeroes ok may saves = grind arith
 content_saved z s (Raises bytes) ok may saves = absurd saves
 content_saved z s (Stores at bytes) ok may saves = absurd saves
 content_saved z s Drops ok may saves = grind arith
+content_saved z s (Moves bytes dirty) ok may saves = absurd saves
 content_saved z s Ends ok may saves = refl
 content_saved z s StepEnds ok may saves = refl
 content_saved z s Nothing ok may saves = refl

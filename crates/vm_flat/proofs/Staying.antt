@@ -26,6 +26,7 @@ use Rattle.vm_legal.specs.Walks.{page_on}
 use Rattle.vm_flat.proofs.Filling.{Filling}
 use Rattle.vm_flat.proofs.Holds.{Holds}
 use Rattle.vm_flat.proofs.Law.{holds}
+use Rattle.vm_flat.proofs.MergeEffects.{merge_apart}
 use Rattle.vm_flat.proofs.Numbers.{NumberedAt}
 use Rattle.vm_flat.proofs.Takings.{TakingKeeps, lives_on_then, takings_keep}
 use Rattle.vm_legal.proofs.Groups.{any_cut_caused}
@@ -182,6 +183,15 @@ stays header outside (event.Stored task object page at size value ∷ past) caus
 stays header outside (event.Dropped at object page ∷ past) caused current keeps prompt host o p inside file =
     stays_if header.size (at.0 == host && (object.0 == o && page.0 == p)) Drops (page_on header host o p past) (live_control host o past)
     (λ is here. absurd (let bad : false ≡ true = here in cc))
+    (stays header outside past caused.1 current.1 keeps.1 prompt host o p inside file)
+stays header outside (event.Merged upper lower ∷ past) caused current keeps prompt host o p inside file =
+    subst (λ (f : LocalEffect). Stays header.size f (page_on header host o p past) (live_control host o past))
+    (sym (merge_apart header host (record { object = o; page = p }) (λ source. local header host source past) upper lower past
+    (λ same. by_cause header outside (event.Merged upper lower) past caused.0 (λ doing c.
+    let above = (holds header outside past (sustained header outside past caused.1) current.1).numbered.upper upper.0 c.pair.backed in
+    absurd (omega (arith, above, same, file_named header o file))))
+    (λ same. by_cause header outside (event.Merged upper lower) past caused.0 (λ doing c.
+    absurd (omega (arith, c.pair.temporary, same, file_named header o file))))))
     (stays header outside past caused.1 current.1 keeps.1 prompt host o p inside file)
 stays header outside (event.Sent (Up at object) m ∷ past) caused current keeps prompt host o p inside file =
     sent_up header host o p at object m past caused.0 (stays header outside past caused.1 current.1 keeps.1 prompt host o p inside file)

@@ -8,6 +8,7 @@ use Rattle.vm_model.specs.declared.message.Message.TheVariants as message
 use Rattle.vm_model.specs.declared.script.Header.{Header}
 use Rattle.vm_model.specs.Channels.{queue}
 use Rattle.vm_model.specs.Controls.{is_control, live_control}
+use Rattle.vm_model.specs.Homes.{object_home}
 use Rattle.vm_model.specs.Local.{Local}
 use Rattle.vm_model.specs.Named.{named}
 use Rattle.vm_model.specs.Regions.{next_region, next_object, region_of, backing_of}
@@ -16,6 +17,7 @@ use Rattle.vm_model.specs.Tasks.{host_of}
 use Rattle.vm_legal.specs.Accesses.{At}
 use Rattle.vm_legal.specs.Licences as L
 use Rattle.vm_legal.specs.Living.{tasks}
+use Rattle.vm_legal.specs.Merges as M
 use Rattle.vm_legal.specs.Outside.{Outside, is_file, is_private, is_said, zeros}
 use Rattle.vm_legal.specs.Used.{is_filled}
 use Rattle.vm_legal.specs.Walks.{Reaches, page_on}
@@ -123,6 +125,14 @@ MaySendDown header outside host object number (message.Error page reason) past =
 MaySendDown header outside host object number (message.Lock page count returns flush lock reply) past = returns ≡ 2
 MaySendDown header outside host object number other past = Unit {0}
 
+-- two objects are merged, and neither ever had a control on their host
+pub record Merges (header : Header) (upper lower : ℕ) (past : List Event) : Type 0 where
+  pub host : ℕ
+  pub home : object_home upper past ≡ Some host
+  pub pair : M.IsPair header host upper lower past
+  pub upper_none : control header host upper past ≡ 0
+  pub lower_none : control header host lower past ≡ 0
+
 -- an entry is of whole pages that its region has, on the host where the region is in use
 pub record Enters (header : Header) (outside : Outside) (task bytes region offset : ℕ) (past : List Event) : Type 0 where
   pub host : ℕ
@@ -153,6 +163,7 @@ Sustained header outside (event.RegionCopied region source offset pages) past = 
 Sustained header outside (event.Entered task address bytes region offset prot inherit) past = Enters header outside task.0 bytes region.0 offset past
 Sustained header outside (event.Shadowed region new old) past = L.Shadows header region.0 new.0 old.0 past
 Sustained header outside (event.Unmarked region) past = L.Unmarks header region.0 past
+Sustained header outside (event.Merged upper lower) past = Merges header upper.0 lower.0 past
 Sustained header outside (event.Loaded task object page value) past = L.Loads header task.0 object.0 page.0 past
 Sustained header outside (event.Stored task object page at bytes value) past = L.Stores header task.0 object.0 page.0 at bytes value past
 Sustained header outside (event.CopiedPage task page object object_page target) past = L.CopiesPage header task.0 page.0 object.0 object_page.0 target.0 past

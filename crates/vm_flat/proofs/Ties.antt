@@ -1,5 +1,5 @@
 -- What the events leave is what their deeds leave.
-use Rattle.std.proofs.Common.{◌≡◌, ℕ, List, [], ◌∷◌, Bool, true, refl, arith, if◌then◌else◌, ◌∙◌, ap, Option}
+use Rattle.std.proofs.Common.{◌≡◌, ℕ, List, [], ◌∷◌, Bool, true, refl, arith, if◌then◌else◌, ◌∙◌, ap, Option, ◌+◌}
 use Rattle.std.specs.Prelude.{◌==◌, ◌&&◌}
 use Rattle.vm_model.specs.declared.event.Event.{Event}
 use Rattle.vm_model.specs.declared.event.Event.TheVariants as event
@@ -9,11 +9,13 @@ use Rattle.vm_model.specs.declared.message.Message.TheVariants as message
 use Rattle.vm_model.specs.declared.script.Header.{Header}
 use Rattle.vm_legal.specs.Outside.{zeros, is_said}
 use Rattle.vm_legal.specs.Living.{lives_on}
-use Rattle.vm_model.specs.Regions.{next_region, next_object, Region, region_of, Backing, backing_of}
+use Rattle.vm_model.specs.Homes.{object_home}
+use Rattle.vm_model.specs.Local.{is_on}
+use Rattle.vm_model.specs.Regions.{next_region, next_object, Region, region_of, Backing, backing_of, object_pages}
 use Rattle.vm_legal.specs.Used.{made_here}
 use Rattle.vm_flat.proofs.Uses.{in_use}
 use Rattle.vm_flat.specs.Words.{SpotEffect, Raises, Nothing}
-use Rattle.vm_flat.specs.Spot.{Spot, spot_after}
+use Rattle.vm_flat.specs.Spot.{Spot, merged_effect, spot_after}
 use Rattle.vm_model.specs.Controls.{is_control, last_control, live_control}
 use Rattle.vm_flat.specs.Places.{effect_sent_up, effect_taken_up, effect_sent_down, effect_taken_down, effect_of, at_place, spot}
 use Rattle.vm_flat.proofs.Sustained.{control}
@@ -122,6 +124,10 @@ link_is header outside host o (event.Shadowed region new old ∷ past) =
     ap (λ (w : D.Row). over (o == new.0) w (D.link (ground header outside) o (deeds header outside host past))) (row_is header outside host region.0 past)
     ∙ ap (λ (l : D.Link). over (o == new.0) (as_row (in_use header outside host region.0 past) (region_of header region.0 past)) l)
     (link_is header outside host o past)
+link_is header outside host o (event.Merged upper lower ∷ past) =
+    ap (λ (l : D.Link). D.joined (o == upper.0) l (D.link (ground header outside) o (deeds header outside host past)))
+    (link_is header outside host lower.0 past)
+    ∙ ap (λ (l : D.Link). D.joined (o == upper.0) (as_link (backing_of header lower.0 past)) l) (link_is header outside host o past)
 link_is header outside host o (event.Sent (Up at object) m ∷ past) =
     up_case (λ d. D.link (ground header outside) o (d ∷ deeds header outside host past) ≡ D.link (ground header outside) o (deeds header outside host past))
     (λ own o. refl) (λ own lives o p. refl) (λ own o p keep bytes. refl) (λ own o. refl) refl (at.0 == host) (live_control host object.0 past) object.0 m
@@ -139,6 +145,33 @@ link_is header outside host o (event.Taken (Down at object number) m ∷ past) =
     (deeds header outside host past)) (λ own o p word. refl) refl (at.0 == host && number == last_control host object.0 past) object.0 m
     ∙ link_is header outside host o past
 link_is header outside host o (e ∷ past) = link_is header outside host o past
+
+pub pages_is : (header : Header) (outside : Outside) (host o : ℕ) (past : List Event)
+    → D.pages (ground header outside) o (deeds header outside host past) ≡ object_pages header o past
+pages_is header outside host o [] = refl
+pages_is header outside host o (event.RegionMade region object pages ∷ past) =
+    ap (λ (n : ℕ). if o == object.0 then pages else n) (pages_is header outside host o past)
+pages_is header outside host o (event.Shadowed region new old ∷ past) =
+    ap (λ (w : D.Row). if o == new.0 then w.pages else D.pages (ground header outside) o (deeds header outside host past))
+    (row_is header outside host region.0 past)
+    ∙ ap (λ (n : ℕ). if o == new.0 then (region_of header region.0 past).pages else n) (pages_is header outside host o past)
+pages_is header outside host o (event.Sent (Up at object) m ∷ past) =
+    up_case (λ d. D.pages (ground header outside) o (d ∷ deeds header outside host past) ≡ D.pages (ground header outside) o (deeds header outside host past))
+    (λ own o. refl) (λ own lives o p. refl) (λ own o p keep bytes. refl) (λ own o. refl) refl (at.0 == host) (live_control host object.0 past) object.0 m
+    ∙ pages_is header outside host o past
+pages_is header outside host o (event.Sent (Down at object number) m ∷ past) =
+    down_case (λ d. D.pages (ground header outside) o (d ∷ deeds header outside host past) ≡ D.pages (ground header outside) o (deeds header outside host past))
+    (at.0 == host && number == last_control host object.0 past) (is_said header outside object.0) (λ o p word. refl) refl object.0 m
+    ∙ pages_is header outside host o past
+pages_is header outside host o (event.Taken (Up at object) m ∷ past) =
+    taken_up_case (λ d. D.pages (ground header outside) o (d ∷ deeds header outside host past) ≡ D.pages (ground header outside) o
+    (deeds header outside host past)) (λ own o p. refl) (λ own o p bytes. refl) refl (at.0 == host) object.0 m
+    ∙ pages_is header outside host o past
+pages_is header outside host o (event.Taken (Down at object number) m ∷ past) =
+    taken_down_case (λ d. D.pages (ground header outside) o (d ∷ deeds header outside host past) ≡ D.pages (ground header outside) o
+    (deeds header outside host past)) (λ own o p word. refl) refl (at.0 == host && number == last_control host object.0 past) object.0 m
+    ∙ pages_is header outside host o past
+pages_is header outside host o (e ∷ past) = pages_is header outside host o past
 
 -- places
 
@@ -183,6 +216,14 @@ spot_is header outside host o p (event.Raised at lower lower_page upper upper_pa
 spot_is header outside host o p (event.CopiedPage task page object object_page target ∷ past) =
     moves header _ _ _ _ (spot_is header outside host o p past) (ap (λ (s : Spot). at_place o p (lives_on host task.0 past) target.0 page.0 (Raises s.bytes)
     Nothing) (spot_is header outside host object.0 object_page.0 past))
+spot_is header outside host o p (event.Merged upper lower ∷ past) =
+    moves header _ _ _ _ (spot_is header outside host o p past) (ap (λ (s : Spot). if is_on host (object_home upper.0 past) then merged_effect o p upper.0
+    lower.0 (backing_of header upper.0 past).shift (object_pages header upper.0 past) (object_pages header lower.0 past) s
+    (D.spot (ground header outside) lower.0 ((backing_of header upper.0 past).shift + p) (deeds header outside host past)) else Nothing)
+    (spot_is header outside host o p past)
+    ∙ ap (λ (s : Spot). if is_on host (object_home upper.0 past) then merged_effect o p upper.0 lower.0 (backing_of header upper.0 past).shift
+    (object_pages header upper.0 past) (object_pages header lower.0 past) (spot header outside host o p past) s else Nothing)
+    (spot_is header outside host lower.0 ((backing_of header upper.0 past).shift + p) past))
 spot_is header outside host o p (event.Sent (Up at object) m ∷ past) =
     moves header _ _ _ _ (spot_is header outside host o p past) (up_effect o p (at.0 == host) (live_control host object.0 past) object.0 m
     (λ k q. D.spot (ground header outside) k q (deeds header outside host past)))
@@ -196,7 +237,7 @@ spot_is header outside host o p (event.Taken (Down at object number) m ∷ past)
     moves header _ _ _ _ (spot_is header outside host o p past) (taken_down_effect o p (at.0 == host && number == last_control host object.0 past) object.0 m
     (λ k q. D.spot (ground header outside) k q (deeds header outside host past)))
 spot_is header outside host o p (e ∷ past) =
-    ap (λ s. spot_after (zeros header) s (effect_of (λ k. is_said header outside k) host o p e past (λ k q. spot header outside host k q past)))
+    ap (λ s. spot_after (zeros header) s (effect_of header (λ k. is_said header outside k) host o p e past (λ k q. spot header outside host k q past)))
     (spot_is header outside host o p past)
 
 pub control_tie : (header : Header) (outside : Outside) (host o : ℕ) (past : List Event)

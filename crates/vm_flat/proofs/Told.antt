@@ -1,6 +1,6 @@
 -- Where each answer of a file's pager carries what that has, each event has its cause as if the files were told; and the other way round.
 use Rattle.std.proofs.Common.{ℕ, ◌≡◌, List, [], ◌∷◌, Bool, true, false, Option, Some, None, refl}
-use Rattle.std.specs.Prelude.{◌&&◌, ◌||◌, not, nat_lt, if◌then◌else◌}
+use Rattle.std.specs.Prelude.{◌&&◌, not, if◌then◌else◌}
 use Rattle.vm_base.specs.declared.ids.ObjectKind.{ObjectKind}
 use Rattle.vm_base.specs.declared.ids.ObjectKind.TheVariants.{Temp, File, Shared, Wild}
 use Rattle.vm_model.specs.declared.command.Command.{Command}
@@ -11,10 +11,9 @@ use Rattle.vm_model.specs.declared.message.Message.{Message}
 use Rattle.vm_model.specs.declared.message.Message.TheVariants as message
 use Rattle.vm_model.specs.declared.script.Header.{Header}
 use Rattle.vm_model.specs.Moments.{EachEvent}
-use Rattle.vm_model.specs.Named.{named}
 use Rattle.vm_legal.proofs.Served.{paged_may}
 use Rattle.vm_legal.specs.Bytes.{CopiesCurrent, FlatBytes, LoadsCurrent, OwnBytes}
-use Rattle.vm_legal.specs.Licences.{Caused, HasCause, MaySendDown, PagerSends, is_paged}
+use Rattle.vm_legal.specs.Licences.{Caused, HasCause, MaySendDown, PagerSends}
 use Rattle.vm_legal.specs.Outside.{Outside, are_untold, is_file, kind_of, start_page, zeros}
 use Rattle.vm_legal.specs.Pagers.{last_return, newer}
 use Rattle.vm_flat.specs.Told.{AnswersTold, IsToldAnswer, told, untold}

@@ -1,7 +1,7 @@
 -- An event that has its cause sustains the law.
 use Rattle.std.proofs.Common.{ℕ, ◌≡◌, ◌<◌, ◌≤◌, List, [], ◌∷◌, Bool, true, false, Some, None, if◌then◌else◌, refl, sym, ap, ◌∙◌, arith, inl, inr}
 use Rattle.std.proofs.lemmas.Bool.Decides.{nat_tests}
-use Rattle.std.specs.Prelude.{◌⊎◌, ◌||◌, not, nat_lt}
+use Rattle.std.specs.Prelude.{◌⊎◌, not, nat_lt}
 use Rattle.vm_model.specs.declared.command.Command.{Command}
 use Rattle.vm_model.specs.declared.event.Event.{Event}
 use Rattle.vm_model.specs.declared.event.Event.TheVariants as event
@@ -167,6 +167,14 @@ sustains header outside doing (event.Entered task address bytes region offset pr
     entered header outside task.0 bytes region.0 offset past caused c
 sustains header outside doing (event.Shadowed region new old) past caused c = c
 sustains header outside doing (event.Unmarked region) past caused c = c
+sustains header outside doing (event.Merged upper lower) past caused c =
+    record {
+      host = c.host;
+      home = c.home;
+      pair = c.pair;
+      upper_none = (unmade header outside c.host upper.0 past caused c.pair.upper_never).control;
+      lower_none = (unmade header outside c.host lower.0 past caused c.pair.lower_never).control;
+    }
 sustains header outside doing (event.Loaded task object page value) past caused c = c
 sustains header outside doing (event.Stored task object page at bytes value) past caused c = c
 sustains header outside doing (event.CopiedPage task page object object_page target) past caused c = c

@@ -27,6 +27,7 @@ use Rattle.vm_flat.specs.Spot.{Spot, spot_after}
 use Rattle.vm_flat.specs.Words.{Supplying, Unavailing, Erring, SpotEffect, Creates, Answers, Takes, Zeroes, Raises, Stores, Drops, Ends, StepEnds, Nothing}
 use Rattle.vm_flat.proofs.Lives.{itself}
 use Rattle.vm_flat.proofs.Locals.{is_live, spot_is_local}
+use Rattle.vm_flat.proofs.MergeEffects.{merge_keeps}
 use Rattle.vm_flat.proofs.Pagers.{both_no}
 pub use Rattle.vm_legal.proofs.Files.{file_paged}
 
@@ -195,6 +196,9 @@ void_is header outside host o p (event.Stored task object page at size value ∷
 void_is header outside host o p (event.CopiedPage task page object object_page target ∷ past) caused file is none =
     void_if _ _ (lives_on host task.0 past && (target.0 == o && page.0 == p)) (Raises (spot header outside host object.0 object_page.0 past).bytes) Nothing
     (λ b. refl) refl ∙ void_is header outside host o p past caused.1 file is none
+void_is header outside host o p (event.Merged upper lower ∷ past) caused file is none =
+    merge_keeps (λ s. s.void) (λ z s bytes dirty. refl) (λ z s. refl) header outside host o p upper lower past
+    ∙ void_is header outside host o p past caused.1 file is none
 void_is header outside host o p (event.Sent (Up at object) m ∷ past) caused file is none =
     sent_up_void (zeros header) (spot header outside host o p past) o p (at.0 == host) (live_control host object.0 past) object.0 m
     ∙ void_is header outside host o p past caused.1 file is none

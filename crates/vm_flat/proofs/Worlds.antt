@@ -3,7 +3,7 @@ use Rattle.std.proofs.Common.{subst, ◌≡◌, ℕ, List, [], ◌∷◌, arith,
 use Rattle.std.proofs.lemmas.Bool.Decides.{nat_tests}
 use Rattle.vm_flat.proofs.Deeds.{Ground, is_file, Deed, Line, Region, Cow, Kept, Shadowed, Unmarked, Zeroed, Raised, Stored, Dropped, Created, Asked, Copied}
 use Rattle.vm_flat.proofs.Deeds.{Returned}
-use Rattle.vm_flat.proofs.Deeds.{TookRequest, TookReturn, Answered, Took, Terminated, Elsewhere}
+use Rattle.vm_flat.proofs.Deeds.{Merged, TookRequest, TookReturn, Answered, Took, Terminated, Elsewhere}
 use Rattle.vm_flat.proofs.Causes.{Cause, AllCaused}
 use Rattle.vm_flat.specs.Spot.{first_spot}
 use Rattle.vm_flat.proofs.Sound.{sound_start}
@@ -15,6 +15,7 @@ use Rattle.vm_flat.proofs.Traffic.{after_created, after_terminated, after_zeroed
 use Rattle.vm_flat.proofs.Answered.{after_answered}
 use Rattle.vm_flat.proofs.Stored.{after_stored}
 use Rattle.vm_flat.proofs.Regions.{after_region, after_kept}
+use Rattle.vm_flat.proofs.Merges.{after_merged}
 use Rattle.vm_flat.proofs.Copies.{after_cow, after_shadowed, after_unmarked}
 
 pub after : (z : Ground) (e : Deed) (past : List Deed) → World z past → Cause z e past → World z (e ∷ past)
@@ -24,6 +25,7 @@ after z (Cow region source off count) past w c = after_cow z region source off c
 after z (Kept held) past w c = after_kept z held past w
 after z (Shadowed region new) past w c = after_shadowed z region new past w c
 after z (Unmarked region) past w c = after_unmarked z region past w c
+after z (Merged own upper lower shift upper_pages lower_pages) past w c = after_merged z own upper lower shift upper_pages lower_pages past w c
 after z (Zeroed own object page) past w c = after_zeroed z own object page past w c
 after z (Raised own lower lower_page upper upper_page) past w c = after_raised z own lower lower_page upper upper_page past w c
 after z (Stored own region index object page at bytes) past w c = after_stored z own region index object page at bytes past w c

@@ -1,6 +1,6 @@
 -- What a host has of a page of an object, what is on the way about it, and what the host's pager has:
 -- each event is classified once, and moves one record.
-use Rattle.std.specs.Prelude.{ℕ, List, [], ◌∷◌, if◌then◌else◌, ◌==◌, ◌&&◌, Bool, Option}
+use Rattle.std.specs.Prelude.{ℕ, ◌+◌, List, [], ◌∷◌, if◌then◌else◌, ◌==◌, ◌&&◌, Bool, Option}
 use Rattle.vm_base.specs.Pages.{little_endian_bytes}
 use Rattle.vm_model.specs.declared.event.Event.{Event}
 use Rattle.vm_model.specs.declared.event.Event.TheVariants as event
@@ -9,11 +9,14 @@ use Rattle.vm_model.specs.declared.message.Message.{Message}
 use Rattle.vm_model.specs.declared.message.Message.TheVariants as message
 use Rattle.vm_model.specs.declared.script.Header.{Header}
 use Rattle.vm_model.specs.Controls.{is_control, last_control, live_control}
+use Rattle.vm_model.specs.Homes.{object_home}
+use Rattle.vm_model.specs.Local.{is_on}
+use Rattle.vm_model.specs.Regions.{backing_of, object_pages}
 use Rattle.vm_legal.specs.Outside.{Outside, is_file, is_said, start_page, zeros}
 use Rattle.vm_legal.specs.Living.{lives_on}
 use Rattle.vm_flat.specs.Words.{Supplying, Unavailing, Erring, SpotEffect, Creates, Requests, Returns, TakesRequest, TakesReturn, Answers, Takes, Zeroes}
 use Rattle.vm_flat.specs.Words.{Raises, Stores, Drops, Ends, StepEnds, Nothing}
-use Rattle.vm_flat.specs.Spot.{Spot, first_spot, spot_after}
+use Rattle.vm_flat.specs.Spot.{Spot, first_spot, merged_effect, spot_after}
 
 -- the effect of what is about page `page` of `object`, on page p of o; on all others that of `other`
 abbrev pub at_place : ℕ → ℕ → Bool → ℕ → ℕ → SpotEffect → SpotEffect → SpotEffect
@@ -47,26 +50,32 @@ effect_taken_down o p own object other = StepEnds
 
 -- What an event is to page p of object o on the host. What the host has of the other places comes in as a function.
 -- So does, of which objects the answers say what their files have. Of the answers those to the host's newest control count.
-abbrev pub effect_of : (ℕ → Bool) → ℕ → ℕ → ℕ → Event → List Event → (ℕ → ℕ → Spot) → SpotEffect
-effect_of says host o p (event.Line line) past spots = StepEnds
-effect_of says host o p (event.Zeroed at object page) past spots = at_place o p (at.0 == host) object.0 page.0 Zeroes Nothing
-effect_of says host o p (event.Raised at lower lower_page upper upper_page) past spots =
+abbrev pub effect_of : Header → (ℕ → Bool) → ℕ → ℕ → ℕ → Event → List Event → (ℕ → ℕ → Spot) → SpotEffect
+effect_of header says host o p (event.Line line) past spots = StepEnds
+effect_of header says host o p (event.Zeroed at object page) past spots = at_place o p (at.0 == host) object.0 page.0 Zeroes Nothing
+effect_of header says host o p (event.Raised at lower lower_page upper upper_page) past spots =
     at_place o p (at.0 == host) upper.0 upper_page.0 (Raises (spots lower.0 lower_page.0).bytes) Nothing
-effect_of says host o p (event.Stored task object page at size value) past spots =
+effect_of header says host o p (event.Stored task object page at size value) past spots =
     at_place o p (lives_on host task.0 past) object.0 page.0 (Stores at (little_endian_bytes size value)) Nothing
-effect_of says host o p (event.CopiedPage task page object object_page target) past spots =
+effect_of header says host o p (event.CopiedPage task page object object_page target) past spots =
     at_place o p (lives_on host task.0 past) target.0 page.0 (Raises (spots object.0 object_page.0).bytes) Nothing
-effect_of says host o p (event.Dropped at object page) past spots = at_place o p (at.0 == host) object.0 page.0 Drops Nothing
-effect_of says host o p (event.Sent (Up at object) m) past spots = effect_sent_up o p (at.0 == host) (live_control host object.0 past) object.0 m
-effect_of says host o p (event.Sent (Down at object control) m) past spots =
+effect_of header says host o p (event.Dropped at object page) past spots = at_place o p (at.0 == host) object.0 page.0 Drops Nothing
+effect_of header says host o p (event.Merged upper lower) past spots =
+    if is_on host (object_home upper.0 past)
+    then
+    merged_effect o p upper.0 lower.0 (backing_of header upper.0 past).shift (object_pages header upper.0 past) (object_pages header lower.0 past) (spots o p)
+    (spots lower.0 ((backing_of header upper.0 past).shift + p))
+    else Nothing
+effect_of header says host o p (event.Sent (Up at object) m) past spots = effect_sent_up o p (at.0 == host) (live_control host object.0 past) object.0 m
+effect_of header says host o p (event.Sent (Down at object control) m) past spots =
     effect_sent_down o p (at.0 == host && control == last_control host object.0 past) (says object.0) object.0 m
-effect_of says host o p (event.Taken (Up at object) m) past spots = effect_taken_up o p (at.0 == host) object.0 m
-effect_of says host o p (event.Taken (Down at object control) m) past spots =
+effect_of header says host o p (event.Taken (Up at object) m) past spots = effect_taken_up o p (at.0 == host) object.0 m
+effect_of header says host o p (event.Taken (Down at object control) m) past spots =
     effect_taken_down o p (at.0 == host && control == last_control host object.0 past) object.0 m
-effect_of says host o p e past spots = Nothing
+effect_of header says host o p e past spots = Nothing
 
 abbrev pub spot : Header → Outside → ℕ → ℕ → ℕ → List Event → Spot
 spot header outside host o p [] = first_spot (is_file header o) (start_page header outside o p)
 spot header outside host o p (e ∷ past) =
-    spot_after (zeros header) (spot header outside host o p past) (effect_of (λ k. is_said header outside k) host o p e past
+    spot_after (zeros header) (spot header outside host o p past) (effect_of header (λ k. is_said header outside k) host o p e past
     (λ k q. spot header outside host k q past))

@@ -1,9 +1,9 @@
 -- One place: the page on the host, what is on the way, and what the pager has.
-use Rattle.std.specs.Prelude.{not, ℕ, ◌==◌, List, [], ◌∷◌, ◌++◌, Bool, true, false, if◌then◌else◌, ◌&&◌, Option, Some, None}
+use Rattle.std.specs.Prelude.{not, nat_lt, ℕ, ◌+◌, ◌==◌, List, [], ◌∷◌, ◌++◌, Bool, true, false, if◌then◌else◌, ◌&&◌, Option, Some, None}
 use Rattle.vm_base.specs.Pages.{with_bytes}
 use Rattle.vm_model.specs.Side.{rest}
 use Rattle.vm_flat.specs.Words.{SpotUpWord, Requesting, Returning, SpotDownWord, Supplying, Unavailing, Erring, SpotEffect, Creates, Requests, Returns}
-use Rattle.vm_flat.specs.Words.{TakesRequest, TakesReturn, Answers, Takes, Zeroes, Raises, Stores, Drops, Ends, StepEnds, Nothing}
+use Rattle.vm_flat.specs.Words.{TakesRequest, TakesReturn, Answers, Takes, Zeroes, Raises, Stores, Drops, Moves, Ends, StepEnds, Nothing}
 
 pub record Spot : Type 0 where
   -- what is on the way about the page, oldest first
@@ -96,6 +96,15 @@ spot_after z s Zeroes = record s { here = true; bytes = z; dirty = false; void =
 spot_after z s (Raises bytes) = record s { here = true; bytes = bytes; dirty = true }
 spot_after z s (Stores at bytes) = record s { bytes = with_bytes at bytes s.bytes; dirty = true }
 spot_after z s Drops = record s { here = false; bytes = []; dirty = false }
+spot_after z s (Moves bytes dirty) = record s { here = true; bytes = bytes; dirty = dirty }
 spot_after z s Ends = record s { control = if s.file then 0 else 2; asked = false }
 spot_after z s StepEnds = record s { step = false; void = false }
 spot_after z s Nothing = s
+
+-- What a merge of two objects is to page p of o. `above` is that place, and `below` the lower's page under it: it moves up where only it is here.
+abbrev pub merged_effect : ℕ → ℕ → ℕ → ℕ → ℕ → ℕ → ℕ → Spot → Spot → SpotEffect
+merged_effect o p upper lower shift upper_pages lower_pages above below =
+    if o == upper
+    then
+    if nat_lt p upper_pages && (nat_lt (shift + p) lower_pages && (below.here && not above.here)) then Moves below.bytes below.dirty else Nothing
+    else if o == lower && nat_lt p lower_pages then Drops else Nothing

@@ -27,6 +27,8 @@ pub data SpotEffect : Type 0 where
   Raises : (bytes : List ℕ) → SpotEffect
   Stores : (at : ℕ) → (bytes : List ℕ) → SpotEffect
   Drops : SpotEffect
+  -- a page of the object below comes up to it
+  Moves : (bytes : List ℕ) → (dirty : Bool) → SpotEffect
   Ends : SpotEffect
   StepEnds : SpotEffect
   Nothing : SpotEffect

@@ -14,7 +14,7 @@ was_returned h o p (event.Sent (Up host object) (message.Return control page dir
 was_returned h o p (e ∷ past) = was_returned h o p past
 
 -- The pagers of temporary memory, whose objects are numbered from a number on, give the host only what it had returned, and lock nothing. Controls are numbered
--- from one, and a page is returned to a control.
+-- from one, and a page is returned to a control. Only temporary objects are merged into others.
 abbrev pub OnlyReturned : ℕ → ℕ → List Event → Type 0
 OnlyReturned least h [] = Unit {0}
 OnlyReturned least h (event.Taken (Down host object control) (message.Supply page lock precious bytes) ∷ past) =
@@ -25,4 +25,5 @@ OnlyReturned least h (event.Sent (Up host object) (message.Init control size) �
 OnlyReturned least h (event.Sent (Up host object) (message.Create control size) ∷ past) = (host.0 ≡ h → 0 < control) × OnlyReturned least h past
 OnlyReturned least h (event.Sent (Up host object) (message.Return control page dirty keep bytes) ∷ past) =
     (host.0 ≡ h → 0 < last_control h object.0 past) × OnlyReturned least h past
+OnlyReturned least h (event.Merged upper lower ∷ past) = (least ≤ lower.0) × OnlyReturned least h past
 OnlyReturned least h (e ∷ past) = OnlyReturned least h past

@@ -17,9 +17,11 @@ use Rattle.vm_model.specs.declared.message.Message.TheVariants as message
 use Rattle.vm_model.specs.declared.script.Header.{Header}
 use Rattle.vm_model.specs.Channels.{is_channel, queue, up_port, down_port}
 use Rattle.vm_model.specs.Controls.{is_control, without_control, live_control}
+use Rattle.vm_model.specs.Homes.{object_home}
 use Rattle.vm_model.specs.Local.{LocalEffect, Local, Zeroes, Raises, Stores, Drops, Returns, Asks, Unlocks, TakesPage, TakesNothing, TakesError, TakesLock}
 use Rattle.vm_model.specs.Local.{Begins, Ends, Elsewhere, is_on, local_after, taken_effect}
 use Rattle.vm_model.specs.Moments.{BeforeSteps, EachEvent}
+use Rattle.vm_model.specs.Regions.{backing_of, object_pages}
 use Rattle.vm_model.specs.Server.{first}
 use Rattle.vm_model.specs.Tasks.{host_of}
 use Rattle.vm_model.specs.Words.{in_range}
@@ -32,7 +34,7 @@ use Rattle.vm_legal.specs.Steps.{answers, is_answer, is_ready_message as says_re
 use Rattle.vm_legal.specs.Walks.{page_on}
 use Rattle.vm_quiet.specs.Carried.{is_request, opens}
 use Rattle.vm_quiet.proofs.Letters.{never}
-use Rattle.vm_quiet.proofs.Sane.{at_place, left, right, control_of}
+use Rattle.vm_quiet.proofs.Sane.{at_place, left, merge_case, right, control_of}
 use Rattle.vm_quiet.proofs.Ways.{IsDone, OnTheWay, same_taken, some_last, way_line, way_sent, way_taken}
 
 pub done_request : (header : Header) (past : List Event) → IsPaid header past → (h o k p : ℕ) → is_paged header o ≡ true
@@ -290,6 +292,11 @@ asks_next header outside host (event.Stored task object page at size value) past
     (page_on header host o p past) refl) ∙ is)
 asks_next header outside host (event.Dropped at object page) past c paid all =
     λ o p ours is. all o p ours (sym (asked_if header.size (at.0 == host && (object.0 == o && page.0 == p)) Drops (page_on header host o p past) refl) ∙ is)
+asks_next header outside host (event.Merged upper lower) past c paid all = λ o p ours is.
+    all o p ours (merge_case (λ e. (local_after header.size e (page_on header host o p past)).asked ≡ true → (page_on header host o p past).asked ≡ true)
+    (is_on host (object_home upper.0 past)) upper.0 lower.0 (backing_of header upper.0 past).shift (object_pages header upper.0 past)
+    (object_pages header lower.0 past) o p (λ source. page_on header host source.object source.page past) (λ on own here asked. asked) (λ on own asked. asked)
+    (λ asked. asked) is)
 asks_next header outside host (event.Sent (Up at object) m) past c paid all = up_asks header host at object m past c all
 asks_next header outside host (event.Sent (Down at object n) m) past c paid all = λ o p ours is.
     let a = all o p ours is in (

@@ -1,7 +1,7 @@
 -- The frames that are counted are those of the places and of the returns.
 use Rattle.std.proofs.Common.{ℕ, ◌≡◌, ◌∙◌, List, [], ◌∷◌, Bool, true, false, refl, sym, ap, subst, arith, Option, Some, None, if◌then◌else◌}
 use Rattle.std.proofs.lemmas.Bool.Decides.{nat_tests}
-use Rattle.std.specs.Prelude.{◌==◌, ◌&&◌, ◌||◌, ◌+◌, ◌-◌, ◌<◌, not, is_some}
+use Rattle.std.specs.Prelude.{◌==◌, ◌&&◌, ◌||◌, ◌+◌, ◌-◌, ◌<◌, not, nat_lt, is_some}
 use Rattle.std.proofs.lemmas.Bool.{cond-false}
 use Rattle.vm_base.specs.Pages.{little_endian_bytes}
 use Rattle.vm_base.specs.declared.ids.HostId.{HostId}
@@ -15,21 +15,27 @@ use Rattle.vm_model.specs.declared.message.Message.TheVariants as message
 use Rattle.vm_model.specs.declared.script.Header.{Header}
 use Rattle.vm_model.specs.Channels.{queue}
 use Rattle.vm_model.specs.Controls.{is_control, last_control, live_control}
-use Rattle.vm_model.specs.Local.{LocalEffect, Local, Zeroes, Raises, Stores, Drops, Returns, Asks, Unlocks, TakesPage, TakesNothing, TakesError, TakesLock}
-use Rattle.vm_model.specs.Local.{Begins, Ends, Elsewhere, is_on, local_after}
+use Rattle.vm_model.specs.Homes.{object_home}
+use Rattle.vm_model.specs.Local.{LocalEffect, Local, Place, Zeroes, Raises, Stores, Drops, Moves, Returns, Asks, Unlocks, TakesPage, TakesNothing, TakesError}
+use Rattle.vm_model.specs.Local.{TakesLock}
+use Rattle.vm_model.specs.Local.{Begins, Ends, Elsewhere, is_on, local, local_after, merge_effect}
 use Rattle.vm_model.specs.Moments.{EachEvent}
+use Rattle.vm_model.specs.Regions.{backing_of, object_pages}
 use Rattle.vm_model.specs.Server.{first}
 use Rattle.vm_model.specs.Tasks.{host_of}
 use Rattle.vm_model.specs.Words.{in_range}
-use Rattle.vm_legal.specs.Frames.{Takes, Gives, frames_after, frames_held, returns_out, change_where}
+use Rattle.vm_legal.specs.Frames.{Takes, Gives, GivesSome, frames_after, frames_held, pages_gone, returns_out, change_where}
 use Rattle.vm_legal.specs.Licences.{HasCause, MaySendUp}
+use Rattle.vm_legal.specs.Merges.{Merges}
 use Rattle.vm_legal.specs.Outside.{Outside}
 use Rattle.vm_legal.specs.Walks.{page_on}
 use Rattle.vm_model.proofs.Ports.{same_control}
 use Rattle.vm_quiet.specs.Places.{FramesAreCounted, has_frame}
 use Rattle.vm_quiet.proofs.Letters.{never, some_out}
+use Rattle.vm_quiet.proofs.Merging.{gone_same, held_merged, merged_below, pair_apart, place_left}
 use Rattle.vm_quiet.proofs.Places.{Held, one_if, held_none, held_same, held_more, held_less, held_some, test_there}
 use Rattle.vm_quiet.proofs.Sane.{Base, IsVacant, base_of, not_true, there, at_place, vacant_zeroed, vacant_raised, vacant_copied, left, right, control_of}
+use Rattle.vm_quiet.proofs.Sane.{merged_pair, merged_unasked, own_number, unasked_dead}
 
 abbrev pub framed : Header → ℕ → List Event → ℕ → ℕ → Bool
 framed header host past o p = has_frame (page_on header host o p past)
@@ -98,11 +104,8 @@ gives : (own : Bool) (U : ℕ → ℕ → Bool) (n a b r f : ℕ) → (own ≡ t
 gives true U n a b r f there h e = omega (arith, e, held_some U n a b (there refl) h)
 gives false U n a b r f there h e = e
 
-own_host : (a b : ℕ) → (a == b) ≡ true → a ≡ b
-own_host a b is = grind (arith, nat_tests)
-
 on_host : (P : ℕ → Type 0) (a h : ℕ) → (a == h) ≡ true → P a → P h
-on_host P a h is holds = subst P (own_host a h is) holds
+on_host P a h is holds = subst P (own_number a h is) holds
 
 sent_same : (header : Header) (host : ℕ) (at : HostId) (object : ObjectId) (m : Message) (past : List Event)
     → ((o p : ℕ) → framed header host (event.Sent (Up at object) m ∷ past) o p ≡ framed header host past o p)
@@ -120,10 +123,6 @@ sent_same header host at object m past same out frames count =
 -- a control begins or ends while nothing is asked
 unasked_kept : (size : ℕ) (page : Local) → page.asked ≡ false → (page.here || false) ≡ has_frame page
 unasked_kept size page is = ap (λ a. page.here || a) (sym is)
-
-unasked_dead : (header : Header) (host o p : ℕ) (past : List Event) → Base header host past → is_some (live_control host o past) ≡ false
-    → (page_on header host o p past).asked ≡ false
-unasked_dead header host o p past base dead = not_true (page_on header host o p past).asked (λ is. never (sym dead ∙ (base.sane o p).living is))
 
 dead_none : (live : Option ℕ) → live ≡ None → is_some live ≡ false
 dead_none live e = ap (λ (l : Option ℕ). is_some l) e
@@ -387,6 +386,131 @@ count_taken header host at object (message.Return control page dirty keep bytes)
     by false n r f some e = e
 count_taken header host at object m past base head count = taken_same header host at object m past refl refl count
 
+-- a merge
+
+-- the upper's place, to which a page moves up
+framed_up : (size : ℕ) (a b : Bool) (there page : Local) → there.asked ≡ false → page.asked ≡ false
+    → has_frame (local_after size (if a && (b && (there.here && not page.here)) then Moves there else Elsewhere) page)
+    ≡ (has_frame page || (a && (b && has_frame there)))
+framed_up size a b there page none none_here =
+    by a b there.here page.here refl (here_only page none_here)
+    ∙ ap (λ x. x || (a && (b && there.here))) (sym (here_only page none_here))
+    ∙ ap (λ x. has_frame page || (a && (b && x))) (sym (here_only there none))
+  where
+    here_only : (page : Local) → page.asked ≡ false → has_frame page ≡ page.here
+    here_only page none = ap (λ x. page.here || x) none ∙ sym (kept page.here)
+      where
+        kept : (b : Bool) → b ≡ (b || false)
+        kept true = refl
+        kept false = refl
+
+    by : (a b h w : Bool) → there.here ≡ h → has_frame page ≡ w
+        → has_frame (local_after size (if a && (b && (h && not w)) then Moves there else Elsewhere) page) ≡ (w || (a && (b && h)))
+    by true true true false here is = ap (λ x. x || page.asked) here
+    by true true true true here is = is
+    by true true false true here is = is
+    by true true false false here is = is
+    by true false h true here is = is
+    by true false h false here is = is
+    by false b h true here is = is
+    by false b h false here is = is
+
+framed_merged : (size upper lower shift upper_pages lower_pages o p : ℕ) (others : Place → Local)
+    → ((q : ℕ) → ((others (record { object = upper; page = q })).asked ≡ false) × ((others (record { object = lower; page = q })).asked ≡ false))
+    → has_frame (local_after size (merge_effect upper lower shift upper_pages lower_pages (record { object = o; page = p }) others)
+    (others (record { object = o; page = p })))
+    ≡ merged_below (λ k q. has_frame (others (record { object = k; page = q }))) upper lower shift upper_pages lower_pages o p
+framed_merged size upper lower shift upper_pages lower_pages o p others none =
+    by (o == upper) (o == lower) refl refl
+    ∙ ap (λ x. place_left x (o == lower) (has_frame page) up (nat_lt p lower_pages)) (turned o upper)
+    ∙ ap (λ x. place_left (upper == o) x (has_frame page) up (nat_lt p lower_pages)) (turned o lower)
+  where
+    page : Local
+    page = others (record { object = o; page = p })
+
+    there : Local
+    there = others (record { object = lower; page = shift + p })
+
+    up : Bool
+    up = nat_lt p upper_pages && (nat_lt (shift + p) lower_pages && has_frame there)
+
+    turned : (a b : ℕ) → (a == b) ≡ (b == a)
+    turned a b = grind (arith, nat_tests)
+
+    by : (s t : Bool) → (o == upper) ≡ s → (o == lower) ≡ t
+        → has_frame (local_after size (if s then if nat_lt p upper_pages && (nat_lt (shift + p) lower_pages && (there.here && not page.here))
+        then Moves there else Elsewhere else if t && nat_lt p lower_pages then Drops else Elsewhere) page)
+        ≡ place_left s t (has_frame page) up (nat_lt p lower_pages)
+    by true t own low =
+        framed_up size (nat_lt p upper_pages) (nat_lt (shift + p) lower_pages) there page (none (shift + p)).1
+        (subst (λ k. (others (record { object = k; page = p })).asked ≡ false) (sym (own_number o upper own)) (none p).0)
+    by false true own low = drops (nat_lt p lower_pages)
+      where
+        drops : (l : Bool) → has_frame (local_after size (if l then Drops else Elsewhere) page) ≡ (not l && has_frame page)
+        drops true = subst (λ k. (others (record { object = k; page = p })).asked ≡ false) (sym (own_number o lower low)) (none p).1
+        drops false = refl
+    by false false own low = refl
+
+merged_sum : (left out held was gone gone_there : ℕ) → left + gone_there ≡ was → gone_there ≡ gone → was + out ≡ held → left + out ≡ held - gone
+merged_sum left out held was gone gone_there e f g = omega (arith, e, f, g)
+
+count_merged : (header : Header) (host : ℕ) (upper lower : ObjectId) (past : List Event) → Base header host past → Merges header upper.0 lower.0 past
+    → Count header host past → Count header host (event.Merged upper lower ∷ past)
+count_merged header host upper lower past base c count = by (is_on host (object_home upper.0 past)) refl
+  where
+    shift : ℕ
+    shift = (backing_of header upper.0 past).shift
+
+    upper_pages : ℕ
+    upper_pages = object_pages header upper.0 past
+
+    lower_pages : ℕ
+    lower_pages = object_pages header lower.0 past
+
+    here : ℕ → ℕ → Bool
+    here = λ k q. (page_on header host k q past).here
+
+    gone : ℕ
+    gone = pages_gone here upper.0 lower.0 shift upper_pages lower_pages
+
+    here_only : (page : Local) → page.asked ≡ false → has_frame page ≡ page.here
+    here_only page none = ap (λ x. page.here || x) none ∙ kept page.here
+      where
+        kept : (b : Bool) → (b || false) ≡ b
+        kept true = refl
+        kept false = refl
+
+    by : (on : Bool) → is_on host (object_home upper.0 past) ≡ on → Count header host (event.Merged upper lower ∷ past)
+    by true on =
+        let none = λ (q : ℕ). merged_unasked header host upper.0 lower.0 q past base c on in
+        let same : pages_gone (framed header host past) upper.0 lower.0 shift upper_pages lower_pages ≡ gone =
+        gone_same (framed header host past) here upper.0 lower.0 shift upper_pages lower_pages
+        (λ q. here_only (page_on header host upper.0 q past) (none q).0) (λ q. here_only (page_on header host lower.0 q past) (none q).1) in
+        let left = held_merged (framed header host past) upper.0 lower.0 shift upper_pages count.number lower_pages
+        (pair_apart header host upper.0 lower.0 past base.declared (merged_pair header host upper.0 lower.0 past c on)) count.held in
+        record {
+          number = left.number;
+          held =
+              held_same (merged_below (framed header host past) upper.0 lower.0 shift upper_pages lower_pages)
+              (framed header host (event.Merged upper lower ∷ past)) left.number
+              (λ o p. ap (λ b. has_frame (local_after header.size (if b then merge_effect upper.0 lower.0 shift upper_pages lower_pages
+              (record { object = o; page = p }) (λ source. local header host source past) else Elsewhere) (page_on header host o p past))) on
+              ∙ framed_merged header.size upper.0 lower.0 shift upper_pages lower_pages o p (λ source. local header host source past) none) left.held;
+          sum =
+              merged_sum left.number (returns_out host past) (frames_held header host past) count.number gone
+              (pages_gone (framed header host past) upper.0 lower.0 shift upper_pages lower_pages) left.sum same count.sum
+              ∙ ap (λ b. frames_after (change_where b (GivesSome gone)) (frames_held header host past)) (sym on);
+        }
+    by false off =
+        record {
+          number = count.number;
+          held =
+              held_same (framed header host past) (framed header host (event.Merged upper lower ∷ past)) count.number
+              (λ o p. ap (λ b. has_frame (local_after header.size (if b then merge_effect upper.0 lower.0 shift upper_pages lower_pages
+              (record { object = o; page = p }) (λ source. local header host source past) else Elsewhere) (page_on header host o p past))) off) count.held;
+          sum = count.sum ∙ ap (λ b. frames_after (change_where b (GivesSome gone)) (frames_held header host past)) (sym off);
+        }
+
 pub count_next : (header : Header) (outside : Outside) (host : ℕ) (e : Event) (past : List Event) → Base header host past → HasCause header outside e past
     → Count header host past → Count header host (e ∷ past)
 count_next header outside host (event.Zeroed at object page) past base c count =
@@ -448,6 +572,7 @@ count_next header outside host (event.Dropped at object page) past base c count 
   where
     own : (at.0 == host) ≡ true → (page_on header host object.0 page.0 past).here ≡ true
     own is = on_host (λ h. (page_on header h object.0 page.0 past).here ≡ true) at.0 host is c.1.here
+count_next header outside host (event.Merged upper lower) past base c count = count_merged header host upper lower past base c.1 count
 count_next header outside host (event.Sent (Up at object) m) past base c count = count_up header host at object m past base c count
 count_next header outside host (event.Taken (Up at object) m) past base c count = count_taken header host at object m past base c.1.0 count
 count_next header outside host (event.Taken (Down at object control) m) past base c count = count_down header host at object control m past base count

@@ -1,6 +1,7 @@
 pub mod Letters
 pub mod Places
 pub mod Sane
+pub mod Merging
 pub mod Counting
 pub mod Unlocked
 pub mod Ways

@@ -2,7 +2,7 @@
 use Rattle.std.proofs.Common.{inl, inr, ℕ, zero, suc, ◌≡◌, ◌∙◌, List, [], ◌∷◌, Bool, true, false, refl, sym, ap, subst, arith, Option, Some, None}
 use Rattle.std.proofs.Common.{if◌then◌else◌}
 use Rattle.std.proofs.lemmas.Bool.Decides.{nat_tests}
-use Rattle.std.specs.Prelude.{◌==◌, ◌&&◌, ◌||◌, ◌<◌, ◌≤◌, ◌⊎◌, not, nat_lt, is_some}
+use Rattle.std.specs.Prelude.{◌==◌, ◌&&◌, ◌||◌, ◌+◌, ◌<◌, ◌≤◌, ◌⊎◌, not, nat_lt, is_some}
 use Rattle.vm_base.specs.Pages.{little_endian_bytes}
 use Rattle.vm_base.specs.declared.ids.HostId.{HostId}
 use Rattle.vm_base.specs.declared.ids.ObjectId.{ObjectId}
@@ -14,18 +14,22 @@ use Rattle.vm_model.specs.declared.message.Message.TheVariants as message
 use Rattle.vm_model.specs.declared.command.Command.{Command}
 use Rattle.vm_model.specs.declared.script.Header.{Header}
 use Rattle.vm_model.specs.Controls.{is_control, without_control, last_control, live_control}
-use Rattle.vm_model.specs.Local.{LocalEffect, Local, Zeroes, Raises, Stores, Drops, Returns, Asks, Unlocks, TakesPage, TakesNothing, TakesError, TakesLock}
-use Rattle.vm_model.specs.Local.{Begins, Ends, Elsewhere, effect, is_on, local, local_after}
+use Rattle.vm_model.specs.Homes.{object_home}
+use Rattle.vm_model.specs.Local.{LocalEffect, Local, Place, Zeroes, Raises, Stores, Drops, Moves, Returns, Asks, Unlocks, TakesPage, TakesNothing, TakesError}
+use Rattle.vm_model.specs.Local.{TakesLock}
+use Rattle.vm_model.specs.Local.{Begins, Ends, Elsewhere, effect, is_on, local, local_after, merge_effect}
 use Rattle.vm_model.specs.Moments.{EachEvent}
 use Rattle.vm_model.specs.Named.{named}
+use Rattle.vm_model.specs.Regions.{Region, backing_of, copied, made, next_region, object_pages, region_of, shadowed, unmarked}
 use Rattle.vm_model.specs.Tasks.{host_of}
 use Rattle.vm_model.specs.Words.{in_range}
 use Rattle.vm_legal.specs.Frames.{returns_out}
 use Rattle.vm_legal.specs.Licences.{Bottoms, CopiesPage, Fills, HasCause, MaySendUp, Raises as RaisesPage, is_paged}
+use Rattle.vm_legal.specs.Merges.{IsPair, Merges}
 use Rattle.vm_legal.specs.Outside.{Outside, is_file}
 use Rattle.vm_legal.specs.Undelivered.{undelivered}
 use Rattle.vm_legal.specs.Walks.{Sinks, page_on, sight}
-use Rattle.vm_model.specs.Regions.{backing_of}
+use Rattle.vm_legal.proofs.Numbering.{named_regions}
 use Rattle.vm_quiet.specs.Places.{AllPaged}
 use Rattle.vm_quiet.proofs.Letters.{never, outs, outs_sent, outs_taken}
 
@@ -67,6 +71,9 @@ at_place P a b h o is holds = subst (λ x. P h x) (second a b h o is) (subst (λ
     second : (a b h o : ℕ) → (a == h && b == o) ≡ true → b ≡ o
     second a b h o is = grind (arith, nat_tests)
 
+pub own_number : (a b : ℕ) → (a == b) ≡ true → a ≡ b
+own_number a b is = grind (arith, nat_tests)
+
 -- a page that is not here, nor asked
 pub record IsVacant (page : Local) : Type 0 where
   pub away : page.here ≡ false
@@ -107,7 +114,8 @@ abbrev pub Allowed : LocalEffect → Local → Option ℕ → Option ℕ → Typ
 Allowed Zeroes was live after = IsVacant was
 Allowed (Raises bytes) was live after = IsVacant was
 Allowed (Stores at bytes) was live after = Lives live after
-Allowed Drops was live after = was.here ≡ true
+Allowed Drops was live after = was.asked ≡ false
+Allowed (Moves page) was live after = was.asked ≡ false
 Allowed (Returns keep) was live after = was.here ≡ true
 Allowed Asks was live after = IsVacant was × (is_some after ≡ true)
 Allowed Unlocks was live after = Lives live after
@@ -123,7 +131,8 @@ sane_moved : (size : ℕ) (e : LocalEffect) (was : Local) (live after : Option �
 sane_moved size Zeroes was live after c s = record { apart = λ is. c.unasked; living = λ is. never (sym c.unasked ∙ is) }
 sane_moved size (Raises bytes) was live after c s = record { apart = λ is. c.unasked; living = λ is. never (sym c.unasked ∙ is) }
 sane_moved size (Stores at bytes) was live after c s = record { apart = s.apart; living = λ is. c (s.living is) }
-sane_moved size Drops was live after c s = record { apart = λ is. s.apart c; living = λ is. never (sym (s.apart c) ∙ is) }
+sane_moved size Drops was live after c s = record { apart = λ is. c; living = λ is. never (sym c ∙ is) }
+sane_moved size (Moves page) was live after c s = record { apart = λ is. c; living = λ is. never (sym c ∙ is) }
 sane_moved size (Returns true) was live after c s = record { apart = s.apart; living = λ is. never (sym (s.apart c) ∙ is) }
 sane_moved size (Returns false) was live after c s = record { apart = λ is. s.apart c; living = λ is. never (sym (s.apart c) ∙ is) }
 sane_moved size Asks was live after c s = record { apart = λ is. never (sym c.0.away ∙ is); living = λ is. c.1 }
@@ -156,10 +165,16 @@ sane_moved size Begins was live after c s = record { apart = λ x. refl; living 
 sane_moved size Ends was live after c s = record { apart = λ x. refl; living = λ x. never x }
 sane_moved size Elsewhere was live after c s = record { apart = s.apart; living = λ is. c (s.living is) }
 
+-- a declared object's region is over that object for ever
+pub record IsDeclaredRegion (r : ℕ) (region : Region) : Type 0 where
+  pub top : region.top ≡ r
+  pub unmarked : region.mark ≡ false
+
 pub record Base (header : Header) (host : ℕ) (past : List Event) : Type 0 where
   pub sane : (o p : ℕ) → Sane (page_on header host o p past) (live_control host o past)
   pub numbered : (o : ℕ) → last_control host o past ≡ 0 → is_some (live_control host o past) ≡ false
   pub returns : returns_out host past ≡ outs host (undelivered past)
+  pub declared : (r : ℕ) → r < named header → IsDeclaredRegion r (region_of header r past)
 
 allowed_if : (t : Bool) (e : LocalEffect) (was : Local) (live after : Option ℕ) → (t ≡ true → Allowed e was live after) → Lives live after
     → Allowed (if t then e else Elsewhere) was live after
@@ -264,20 +279,68 @@ down_allowed header host at object control m past o p =
     elsewhere_allowed (at.0 == host && (object.0 == o && is_control control (live_control host o past))) (page_on header host o p past)
     (live_control host o past)
 
-allowed_next : (header : Header) (outside : Outside) (host : ℕ) (e : Event) (past : List Event) → HasCause header outside e past → (o p : ℕ)
+-- an effect of a merge: a page of the lower moves up to the upper, the lower's goes, or it is about something else
+pub merge_case : (P : LocalEffect → Type 0) (on : Bool) (upper lower shift upper_pages lower_pages o p : ℕ) (others : Place → Local)
+    → (on ≡ true → o ≡ upper → (others (record { object = lower; page = shift + p })).here ≡ true
+    → P (Moves (others (record { object = lower; page = shift + p }))))
+    → (on ≡ true → o ≡ lower → P Drops) → P Elsewhere
+    → P (if on then merge_effect upper lower shift upper_pages lower_pages (record { object = o; page = p }) others else Elsewhere)
+merge_case P on upper lower shift upper_pages lower_pages o p others moved gone other =
+    by on (o == upper) (nat_lt p upper_pages && (nat_lt (shift + p) lower_pages && (there.here && not (others (record { object = o; page = p })).here)))
+    (o == lower && nat_lt p lower_pages)
+    (λ b s t. moved b (own_number o upper s) (middle (nat_lt p upper_pages) (nat_lt (shift + p) lower_pages) there.here
+    (not (others (record { object = o; page = p })).here) t))
+    (λ b u. gone b (own_number o lower (left (o == lower) (nat_lt p lower_pages) u)))
+  where
+    there : Local
+    there = others (record { object = lower; page = shift + p })
+
+    middle : (a b c d : Bool) → (a && (b && (c && d))) ≡ true → c ≡ true
+    middle a b c d is = left c d (right b (c && d) (right a (b && (c && d)) is))
+
+    by : (b s t u : Bool) → (b ≡ true → s ≡ true → t ≡ true → P (Moves there)) → (b ≡ true → u ≡ true → P Drops)
+        → P (if b then if s then if t then Moves there else Elsewhere else if u then Drops else Elsewhere else Elsewhere)
+    by true true true u up low = up refl refl refl
+    by true true false u up low = other
+    by true false t true up low = low refl refl
+    by true false t false up low = other
+    by false s t u up low = other
+
+pub merged_pair : (header : Header) (host upper lower : ℕ) (past : List Event) → Merges header upper lower past
+    → is_on host (object_home upper past) ≡ true → IsPair header host upper lower past
+merged_pair header host upper lower past c on =
+    let same : is_on host (Some c.host) ≡ true = subst (λ (h : Option ℕ). is_on host h ≡ true) c.home on in
+    subst (λ h. IsPair header h upper lower past) (own_number c.host host same) c.pair
+
+pub unasked_dead : (header : Header) (host o p : ℕ) (past : List Event) → Base header host past → is_some (live_control host o past) ≡ false
+    → (page_on header host o p past).asked ≡ false
+unasked_dead header host o p past base dead = not_true (page_on header host o p past).asked (λ is. never (sym dead ∙ (base.sane o p).living is))
+
+-- no page is asked of objects that are merged
+pub merged_unasked : (header : Header) (host upper lower p : ℕ) (past : List Event) → Base header host past → Merges header upper lower past
+    → is_on host (object_home upper past) ≡ true
+    → ((page_on header host upper p past).asked ≡ false) × ((page_on header host lower p past).asked ≡ false)
+merged_unasked header host upper lower p past base c on =
+    let pair = merged_pair header host upper lower past c on in (
+      unasked_dead header host upper p past base (base.numbered upper pair.upper_never),
+      unasked_dead header host lower p past base (base.numbered lower pair.lower_never),
+    )
+
+allowed_next : (header : Header) (outside : Outside) (host : ℕ) (e : Event) (past : List Event) → Base header host past → HasCause header outside e past
+    → (o p : ℕ)
     → Allowed (effect header host (record { object = o; page = p }) (λ source. local header host source past) e past) (page_on header host o p past)
     (live_control host o past) (live_control host o (e ∷ past))
-allowed_next header outside host (event.Zeroed at object page) past c o p =
+allowed_next header outside host (event.Zeroed at object page) past base c o p =
     allowed_if (at.0 == host && (object.0 == o && page.0 == p)) Zeroes (page_on header host o p past) (live_control host o past) (live_control host o past)
     (λ is. there (λ h k q. IsVacant (page_on header h k q past)) at.0 object.0 page.0 host o p is (vacant_zeroed header at.0 object.0 page.0 past c.1))
     (λ is. is)
-allowed_next header outside host (event.Raised at lower lower_page upper upper_page) past c o p =
+allowed_next header outside host (event.Raised at lower lower_page upper upper_page) past base c o p =
     allowed_if (at.0 == host && (upper.0 == o && upper_page.0 == p)) (Raises (page_on header host lower.0 lower_page.0 past).bytes)
     (page_on header host o p past) (live_control host o past) (live_control host o past)
     (λ is. there (λ h k q. IsVacant (page_on header h k q past)) at.0 upper.0 upper_page.0 host o p is
     (vacant_raised header at.0 lower.0 lower_page.0 upper.0 upper_page.0 past c.1))
     (λ is. is)
-allowed_next header outside host (event.CopiedPage task page object object_page target) past c o p =
+allowed_next header outside host (event.CopiedPage task page object object_page target) past base c o p =
     allowed_if (is_on host (host_of task.0 past) && (target.0 == o && page.0 == p)) (Raises (page_on header host object.0 object_page.0 past).bytes)
     (page_on header host o p past) (live_control host o past) (live_control host o past)
     (λ is. at_place (λ k q. IsVacant (page_on header host k q past)) target.0 page.0 o p
@@ -285,18 +348,25 @@ allowed_next header outside host (event.CopiedPage task page object object_page 
     (vacant_copied header host task.0 page.0 object.0 object_page.0 target.0 past c.1
     (left (is_on host (host_of task.0 past)) (target.0 == o && page.0 == p) is)))
     (λ is. is)
-allowed_next header outside host (event.Stored task object page at size value) past c o p =
+allowed_next header outside host (event.Stored task object page at size value) past base c o p =
     allowed_if (is_on host (host_of task.0 past) && (object.0 == o && page.0 == p)) (Stores at (little_endian_bytes size value)) (page_on header host o p past)
     (live_control host o past) (live_control host o past) (λ is. λ x. x) (λ is. is)
-allowed_next header outside host (event.Dropped at object page) past c o p =
+allowed_next header outside host (event.Dropped at object page) past base c o p =
     allowed_if (at.0 == host && (object.0 == o && page.0 == p)) Drops (page_on header host o p past) (live_control host o past) (live_control host o past)
-    (λ is. there (λ h k q. (page_on header h k q past).here ≡ true) at.0 object.0 page.0 host o p is c.1.here)
+    (λ is. (base.sane o p).apart (there (λ h k q. (page_on header h k q past).here ≡ true) at.0 object.0 page.0 host o p is c.1.here))
     (λ is. is)
-allowed_next header outside host (event.Sent (Up at object) m) past c o p = up_allowed header host at object m past o p c
-allowed_next header outside host (event.Sent (Down at object control) m) past c o p = λ is. is
-allowed_next header outside host (event.Taken (Up at object) m) past c o p = λ is. is
-allowed_next header outside host (event.Taken (Down at object control) m) past c o p = down_allowed header host at object control m past o p
-allowed_next header outside host e past c o p = λ is. is
+allowed_next header outside host (event.Merged upper lower) past base c o p =
+    merge_case (λ e. Allowed e (page_on header host o p past) (live_control host o past) (live_control host o past)) (is_on host (object_home upper.0 past))
+    upper.0 lower.0 (backing_of header upper.0 past).shift (object_pages header upper.0 past) (object_pages header lower.0 past) o p
+    (λ source. local header host source past)
+    (λ on own here. subst (λ k. (page_on header host k p past).asked ≡ false) (sym own) (merged_unasked header host upper.0 lower.0 p past base c.1 on).0)
+    (λ on own. subst (λ k. (page_on header host k p past).asked ≡ false) (sym own) (merged_unasked header host upper.0 lower.0 p past base c.1 on).1)
+    (λ is. is)
+allowed_next header outside host (event.Sent (Up at object) m) past base c o p = up_allowed header host at object m past o p c
+allowed_next header outside host (event.Sent (Down at object control) m) past base c o p = λ is. is
+allowed_next header outside host (event.Taken (Up at object) m) past base c o p = λ is. is
+allowed_next header outside host (event.Taken (Down at object control) m) past base c o p = down_allowed header host at object control m past o p
+allowed_next header outside host e past base c o p = λ is. is
 
 -- a number of a control is never 0
 numbered_if : (b : Bool) (control last : ℕ) (live : Option ℕ) → 1 ≤ control → (last ≡ 0 → is_some live ≡ false) → (if b then control else last) ≡ 0
@@ -325,18 +395,58 @@ returns_next header outside host (event.Sent d m) past base c = outs_sent host d
 returns_next header outside host (event.Taken d m) past base c = outs_taken host d m past c.1.0 base.returns
 returns_next header outside host e past base c = base.returns
 
+behind_declared : (header : Header) (past : List Event) (r new : ℕ) → r < named header → new ≡ next_region header past → (r == new) ≡ false
+behind_declared header past r new below next = apart r new (omega (arith, below, next, named_regions header past))
+  where
+    apart : (a b : ℕ) → a < b → (a == b) ≡ false
+    apart a b less = grind (arith, nat_tests)
+
+declared_next : (header : Header) (outside : Outside) (e : Event) (past : List Event) → HasCause header outside e past → (r : ℕ) → r < named header
+    → IsDeclaredRegion r (region_of header r past) → IsDeclaredRegion r (region_of header r (e ∷ past))
+declared_next header outside (event.RegionMade region object pages) past c r below was = by (r == region.0) (behind_declared header past r region.0 below c.1.0)
+  where
+    by : (b : Bool) → b ≡ false → IsDeclaredRegion r (made b object.0 pages (region_of header r past))
+    by true is = never (sym is)
+    by false is = record { top = was.top; unmarked = was.unmarked }
+declared_next header outside (event.RegionCopied region source offset pages) past c r below was =
+    by (r == region.0) (r == source.0) (behind_declared header past r region.0 below c.1.next) (apart r source.0 (omega (arith, below, c.1.temporary)))
+  where
+    apart : (a b : ℕ) → a < b → (a == b) ≡ false
+    apart a b less = grind (arith, nat_tests)
+
+    by : (b s : Bool) → b ≡ false → s ≡ false
+        → IsDeclaredRegion r (copied b s offset pages (region_of header source.0 past) (region_of header r past))
+    by true s is not = never (sym is)
+    by false true is not = never (sym not)
+    by false false is not = record { top = was.top; unmarked = was.unmarked }
+declared_next header outside (event.Shadowed region new old) past c r below was = by (r == region.0) refl
+  where
+    by : (b : Bool) → (r == region.0) ≡ b → IsDeclaredRegion r (shadowed b new.0 (region_of header r past))
+    by true is =
+        never (sym (subst (λ k. (region_of header k past).mark ≡ false) (own_number r region.0 is) was.unmarked) ∙ c.1.marked)
+    by false is = record { top = was.top; unmarked = was.unmarked }
+declared_next header outside (event.Unmarked region) past c r below was = by (r == region.0)
+  where
+    by : (b : Bool) → IsDeclaredRegion r (unmarked b (region_of header r past))
+    by true = record { top = was.top; unmarked = refl }
+    by false = record { top = was.top; unmarked = was.unmarked }
+declared_next header outside e past c r below was = was
+
 pub base_next : (header : Header) (outside : Outside) (host : ℕ) (e : Event) (past : List Event) → Base header host past → HasCause header outside e past
     → Base header host (e ∷ past)
 base_next header outside host e past base c =
     record {
       sane =
           λ o p. sane_moved header.size (effect header host (record { object = o; page = p }) (λ source. local header host source past) e past)
-          (page_on header host o p past) (live_control host o past) (live_control host o (e ∷ past)) (allowed_next header outside host e past c o p)
+          (page_on header host o p past) (live_control host o past) (live_control host o (e ∷ past)) (allowed_next header outside host e past base c o p)
           (base.sane o p);
       numbered = numbered_next header outside host e past base c;
       returns = returns_next header outside host e past base c;
+      declared = λ r below. declared_next header outside e past c r below (base.declared r below);
     }
 
 pub base_of : (header : Header) (outside : Outside) (host : ℕ) (history : List Event) → EachEvent (HasCause header outside) history → Base header host history
-base_of header outside host [] c = record { sane = λ o p. record { apart = λ is. refl; living = λ is. never is }; numbered = λ o is. refl; returns = refl }
+base_of header outside host [] c =
+    record { sane = λ o p. record { apart = λ is. refl; living = λ is. never is }; numbered = λ o is. refl; returns = refl;
+    declared = λ r below. record { top = refl; unmarked = refl } }
 base_of header outside host (e ∷ past) c = base_next header outside host e past (base_of header outside host past c.1) c.0

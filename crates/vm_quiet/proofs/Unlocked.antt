@@ -1,7 +1,7 @@
 -- No page of temporary memory or of a file has a lock, whatever else the header declares.
-use Rattle.std.proofs.Common.{ℕ, ◌≡◌, List, [], ◌∷◌, ◌++◌, Bool, true, false, refl, subst, arith, Some, if◌then◌else◌}
+use Rattle.std.proofs.Common.{ℕ, ◌≡◌, List, [], ◌∷◌, ◌++◌, Bool, true, false, refl, subst, sym, arith, Some, if◌then◌else◌}
 use Rattle.std.proofs.lemmas.Bool.Decides.{nat_tests}
-use Rattle.std.specs.Prelude.{◌==◌, ◌&&◌, ◌||◌}
+use Rattle.std.specs.Prelude.{◌==◌, ◌&&◌, ◌||◌, ◌+◌, ◌≤◌, not, nat_lt}
 use Rattle.vm_base.specs.Pages.{little_endian_bytes}
 use Rattle.vm_base.specs.declared.ids.HostId.{HostId}
 use Rattle.vm_base.specs.declared.ids.ObjectId.{ObjectId}
@@ -14,24 +14,29 @@ use Rattle.vm_model.specs.declared.message.Message.TheVariants as message
 use Rattle.vm_model.specs.declared.script.Header.{Header}
 use Rattle.vm_model.specs.Channels.{queue, down_port}
 use Rattle.vm_model.specs.Controls.{is_control, live_control}
-use Rattle.vm_model.specs.Local.{LocalEffect, Local, Zeroes, Raises, Stores, Drops, Returns, Asks, Unlocks, TakesPage, TakesNothing, TakesError, TakesLock}
+use Rattle.vm_model.specs.Homes.{object_home}
+use Rattle.vm_model.specs.Local.{LocalEffect, Local, Zeroes, Raises, Stores, Drops, Moves, Returns, Asks, Unlocks, TakesPage, TakesNothing, TakesError}
+use Rattle.vm_model.specs.Local.{TakesLock}
 use Rattle.vm_model.specs.Local.{Begins, Ends, Elsewhere, effect, is_on, local, local_after}
 use Rattle.vm_model.specs.Moments.{EachEvent}
+use Rattle.vm_model.specs.Named.{named}
+use Rattle.vm_model.specs.Regions.{backing_of, object_pages}
 use Rattle.vm_model.specs.Server.{first}
 use Rattle.vm_model.specs.Side.{rest}
 use Rattle.vm_model.specs.Tasks.{host_of}
 use Rattle.vm_model.specs.Words.{in_range}
 use Rattle.vm_legal.proofs.Served.{paged_may}
 use Rattle.vm_legal.specs.Licences.{HasCause, MaySendDown, is_paged}
-use Rattle.vm_legal.specs.Outside.{Outside}
+use Rattle.vm_legal.specs.Outside.{Outside, is_file}
 use Rattle.vm_legal.specs.Walks.{page_on}
 use Rattle.vm_quiet.proofs.Letters.{never}
-use Rattle.vm_quiet.proofs.Sane.{at_place}
+use Rattle.vm_quiet.proofs.Sane.{at_place, merge_case}
 
 -- an effect that locks nothing
 abbrev pub LocksNothing : LocalEffect → Type 0
 LocksNothing (TakesPage lock precious bytes) = lock ≡ 0
 LocksNothing (TakesLock lock flush) = lock ≡ 8
+LocksNothing (Moves page) = page.lock ≡ 0
 LocksNothing other = Unit {0}
 
 lock_kept : (flush : Bool) (lock was : ℕ) → lock ≡ 8 → was ≡ 0 → (if flush || lock == 8 then was else lock) ≡ 0
@@ -50,6 +55,7 @@ lock_moved size Zeroes was c is = refl
 lock_moved size (Raises bytes) was c is = refl
 lock_moved size (Stores at bytes) was c is = is
 lock_moved size Drops was c is = refl
+lock_moved size (Moves page) was c is = c
 lock_moved size (Returns true) was c is = is
 lock_moved size (Returns false) was c is = refl
 lock_moved size Asks was c is = is
@@ -162,23 +168,39 @@ down_nothing header host at object control (message.Error page reason) past o p 
 down_nothing header host at object control m past o p plain =
     if_nothing (at.0 == host && (object.0 == o && is_control control (live_control host o past))) Elsewhere (λ is. tt)
 
+temporary_paged : (header : Header) (o : ℕ) → named header ≤ o → is_paged header o ≡ true
+temporary_paged header o from = by (nat_lt o (named header)) (late o (named header) from)
+  where
+    late : (a b : ℕ) → b ≤ a → nat_lt a b ≡ false
+    late a b from = grind (arith, nat_tests)
+
+    by : (b : Bool) → b ≡ false → (not b || is_file header o) ≡ true
+    by true is = never (sym is)
+    by false is = refl
+
 nothing_next : (header : Header) (outside : Outside) (host o : ℕ) (e : Event) (past : List Event) → HasNoLock header host o past
-    → HasCause header outside e past → (p : ℕ)
+    → ((k q : ℕ) → is_paged header k ≡ true → (page_on header host k q past).lock ≡ 0) → HasCause header outside e past → (p : ℕ)
     → LocksNothing (effect header host (record { object = o; page = p }) (λ source. local header host source past) e past)
-nothing_next header outside host o (event.Zeroed at object page) past h c p = if_nothing (at.0 == host && (object.0 == o && page.0 == p)) Zeroes (λ is. tt)
-nothing_next header outside host o (event.Raised at lower lower_page upper upper_page) past h c p =
+nothing_next header outside host o (event.Zeroed at object page) past h unlocked c p =
+    if_nothing (at.0 == host && (object.0 == o && page.0 == p)) Zeroes (λ is. tt)
+nothing_next header outside host o (event.Raised at lower lower_page upper upper_page) past h unlocked c p =
     if_nothing (at.0 == host && (upper.0 == o && upper_page.0 == p)) (Raises (page_on header host lower.0 lower_page.0 past).bytes) (λ is. tt)
-nothing_next header outside host o (event.CopiedPage task page object object_page target) past h c p =
+nothing_next header outside host o (event.CopiedPage task page object object_page target) past h unlocked c p =
     if_nothing (is_on host (host_of task.0 past) && (target.0 == o && page.0 == p)) (Raises (page_on header host object.0 object_page.0 past).bytes) (λ is. tt)
-nothing_next header outside host o (event.Stored task object page at size value) past h c p =
+nothing_next header outside host o (event.Stored task object page at size value) past h unlocked c p =
     if_nothing (is_on host (host_of task.0 past) && (object.0 == o && page.0 == p)) (Stores at (little_endian_bytes size value)) (λ is. tt)
-nothing_next header outside host o (event.Dropped at object page) past h c p = if_nothing (at.0 == host && (object.0 == o && page.0 == p)) Drops (λ is. tt)
-nothing_next header outside host o (event.Sent (Up at object) m) past h c p = up_nothing header host at object m past o p
-nothing_next header outside host o (event.Taken (Down at object control) m) past h c p =
+nothing_next header outside host o (event.Dropped at object page) past h unlocked c p =
+    if_nothing (at.0 == host && (object.0 == o && page.0 == p)) Drops (λ is. tt)
+nothing_next header outside host o (event.Merged upper lower) past h unlocked c p =
+    merge_case LocksNothing (is_on host (object_home upper.0 past)) upper.0 lower.0 (backing_of header upper.0 past).shift
+    (object_pages header upper.0 past) (object_pages header lower.0 past) o p (λ source. local header host source past)
+    (λ on own here. unlocked lower.0 ((backing_of header upper.0 past).shift + p) (temporary_paged header lower.0 c.1.pair.temporary)) (λ on own. tt) tt
+nothing_next header outside host o (event.Sent (Up at object) m) past h unlocked c p = up_nothing header host at object m past o p
+nothing_next header outside host o (event.Taken (Down at object control) m) past h unlocked c p =
     down_nothing header host at object control m past o p
     (λ is. plain_first (queue (down_port host o control) past) m (at_place (λ g k. first (queue (down_port g k control) past) ≡ Some m) at.0 object.0 host o is
     c.1.0) (h.plain control))
-nothing_next header outside host o e past h c p = tt
+nothing_next header outside host o e past h unlocked c p = tt
 
 down_plain : (header : Header) (outside : Outside) (doing : Command) (h o k : ℕ) (m : Message) (past : List Event)
     → MaySendDown header outside doing h o k m past → IsPlain m
@@ -208,6 +230,7 @@ no_lock header outside host o (e ∷ past) paged c =
     record {
       locks =
           λ p. lock_moved header.size (effect header host (record { object = o; page = p }) (λ source. local header host source past) e past)
-          (page_on header host o p past) (nothing_next header outside host o e past was c.0 p) (was.locks p);
+          (page_on header host o p past) (nothing_next header outside host o e past was
+          (λ k q ours. (no_lock header outside host k past ours c.1).locks q) c.0 p) (was.locks p);
       plain = plain_next header outside host o e past paged was c.0;
     }

@@ -227,4 +227,5 @@ only_returned header outside h (event.Sent (Up host object) (message.Return cont
   λ on. live_last header outside h object.0 past control causes.1 (subst (λ (z : ℕ). live_control z object.0 past ≡ Some control) on causes.0.1.live),
   only_returned header outside h past causes.1,
 )
+only_returned header outside h (event.Merged upper lower ∷ past) causes = (causes.0.1.pair.temporary, only_returned header outside h past causes.1)
 only_returned header outside h (e ∷ past) causes = only_returned header outside h past causes.1

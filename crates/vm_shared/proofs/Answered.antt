@@ -35,6 +35,7 @@ use Rattle.vm_flat.proofs.Locals.{each_founded}
 use Rattle.vm_quiet.proofs.Letters.{none_queued}
 use Rattle.vm_quiet.proofs.Quiet.{none_in_vain, only_wild, ready_now, shared_supplied}
 use Rattle.vm_quiet.specs.Quiet.{IsShortOfFrames, NobodyWaitsInVain, OnlyWildAreAwaited, SharedAreAnswered, WaitsForWild, WaitsOnWild}
+use Rattle.vm_shared.proofs.Kept.{unmerged}
 use Rattle.vm_shared.proofs.Causes.{licensed}
 use Rattle.vm_shared.proofs.Declared.{place_own}
 use Rattle.vm_shared.proofs.Numbering.{Numbering, at_made, numbering}
@@ -68,7 +69,7 @@ quiet_part header outside history o p still shared licensed =
           (stepped_of header outside history still.causes h o p shared).ready live
           ∙ ready_now header outside history h o (side h (page_part header.size o p history)).control still.causes still.steps still.paid still.delivered
           (shared_supplied header o shared)
-          (live_some (side h (page_part header.size o p history)) (live_control h o history) (side_is_local header history h o p known).control live);
+          (live_some (side h (page_part header.size o p history)) (live_control h o history) (side_is_local header history h o p (unmerged header outside history still.causes o shared) known).control live);
       done = done_now header outside o p history shared still.causes still.paid;
     }
   where
@@ -98,14 +99,14 @@ all_answered : (header : Header) (outside : Outside) (history : List Event) → 
     → SharedAreAnswered header history
 all_answered header outside history still licensed served =
     record {
-      asked = λ h o p shared. sym (tied h o p).asked ∙ (none o p shared).none_asked h;
+      asked = λ h o p shared. sym (tied h o p shared).asked ∙ (none o p shared).none_asked h;
       unlocking =
-          λ h o p shared here. sym ((tied h o p).unlocking here)
-          ∙ (none o p shared).none_unlocking h (has_right (page_on header h o p history) _ (tied h o p).right here);
+          λ h o p shared here. sym ((tied h o p shared).unlocking here)
+          ∙ (none o p shared).none_unlocking h (has_right (page_on header h o p history) _ (tied h o p shared).right here);
     }
   where
-    tied : (h o p : ℕ) → SideIsLocal (live_control h o history) (side h (page_part header.size o p history)) (page_on header h o p history)
-    tied h o p = side_is_local header history h o p (each_founded header outside history still.causes)
+    tied : (h o p : ℕ) → is_shared header o ≡ true → SideIsLocal (live_control h o history) (side h (page_part header.size o p history)) (page_on header h o p history)
+    tied h o p shared = side_is_local header history h o p (unmerged header outside history still.causes o shared) (each_founded header outside history still.causes)
 
     none : (o p : ℕ) → is_shared header o ≡ true → NothingIsAsked (page_part header.size o p history)
     none o p shared =

@@ -30,6 +30,7 @@ use Rattle.vm_coherence.specs.Carried as word
 use Rattle.vm_coherence.specs.Locals.{SideIsLocal}
 use Rattle.vm_flat.proofs.Locals.{each_founded}
 use Rattle.vm_quiet.specs.Carried.{IsUndelivered, is_request}
+use Rattle.vm_shared.proofs.Kept.{unmerged}
 use Rattle.vm_shared.proofs.Answered.{has_right, live_some}
 use Rattle.vm_shared.proofs.Causes.{licensed}
 use Rattle.vm_shared.proofs.Order.{down_in_order, up_in_order}
@@ -114,7 +115,7 @@ part_of header outside h o p history known shared =
       at =
           carried header.size (page_part header.size o p history) (known.licensed o p shared)
           (steps_done header outside o p history shared known.causes known.steps) h;
-      tied = side_is_local header history h o p (each_founded header outside history known.causes);
+      tied = side_is_local header history h o p (unmerged header outside history known.causes o shared) (each_founded header outside history known.causes);
       up = page_queue header.size history h o p (up_in_order header outside history known.causes);
       down = page_descent header.size history h o p (down_in_order header outside history known.causes);
       done = done_now header outside o p history shared known.causes known.paid h;

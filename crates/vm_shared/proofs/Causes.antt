@@ -39,7 +39,7 @@ use Rattle.vm_coherence.proofs.Locals.{host_lives, side_is_local}
 use Rattle.vm_flat.proofs.Locals.{each_founded}
 use Rattle.vm_quiet.proofs.Letters.{never}
 use Rattle.vm_shared.proofs.Declared.{shared_declared}
-use Rattle.vm_shared.proofs.Kept.{IsShareds, lives_of, shareds_of, still_lives, uncopied, unraised, unzeroed}
+use Rattle.vm_shared.proofs.Kept.{IsShareds, lives_of, shareds_of, still_lives, uncopied, unmerged, unraised, unzeroed}
 use Rattle.vm_shared.proofs.Order.{down_in_order, up_in_order}
 use Rattle.vm_shared.proofs.Rows.{asks_row, completes_row, drops_row, ends_row, hears_row, kept_reply, load_row, locked_step, names_store, opens_row}
 use Rattle.vm_shared.proofs.Rows.{not_given, returns_row, store_row, takes_row, unlocks_row}
@@ -58,7 +58,7 @@ known : (header : Header) (outside : Outside) (past : List Event) → EachEvent 
     → Known header h o p past
 known header outside past caused h o p shared =
     record {
-      is = side_is_local header past h o p (each_founded header outside past caused);
+      is = side_is_local header past h o p (unmerged header outside past caused o shared) (each_founded header outside past caused);
       shared = shareds_of header outside past caused h o p shared;
       steps = stepped_of header outside past caused h o p shared;
     }

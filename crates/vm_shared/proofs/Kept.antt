@@ -2,7 +2,7 @@
 use Rattle.std.proofs.Common.{◌≡◌, ℕ, ◌≤◌, ◌==◌, ◌&&◌, ◌||◌, ◌∙◌, List, [], ◌∷◌, Bool, true, false, Option, Some, None, if◌then◌else◌, refl, sym, subst, arith}
 use Rattle.std.proofs.Common.{inl, inr}
 use Rattle.std.proofs.lemmas.Bool.Decides.{nat_tests}
-use Rattle.std.specs.Prelude.{◌⊎◌}
+use Rattle.std.specs.Prelude.{◌⊎◌, ◌+◌, nat_lt, not}
 use Rattle.vm_base.specs.Pages.{little_endian_bytes}
 use Rattle.vm_model.specs.declared.event.Event.{Event}
 use Rattle.vm_model.specs.declared.event.Event.TheVariants as event
@@ -11,16 +11,20 @@ use Rattle.vm_model.specs.declared.message.Message.{Message}
 use Rattle.vm_model.specs.declared.message.Message.TheVariants as message
 use Rattle.vm_model.specs.declared.script.Header.{Header}
 use Rattle.vm_model.specs.Controls.{is_control, live_control}
-use Rattle.vm_model.specs.Local.{Asks, Begins, Drops, Elsewhere, Ends, Local, LocalEffect, Raises, Returns, Stores, TakesError, TakesLock, TakesNothing}
-use Rattle.vm_model.specs.Local.{TakesPage, Unlocks, Zeroes, effect, is_on, local, local_after, sent_effect, taken_effect}
+use Rattle.vm_model.specs.Local.{Asks, Begins, Drops, Elsewhere, Ends, Local, LocalEffect, Moves, Place, Raises, Returns, Stores, TakesError, TakesLock, TakesNothing}
+use Rattle.vm_model.specs.Local.{TakesPage, Unlocks, Zeroes, effect, is_on, local, local_after, merge_effect, sent_effect, taken_effect}
+use Rattle.vm_model.specs.Homes.{object_home}
 use Rattle.vm_model.specs.Moments.{EachEvent}
 use Rattle.vm_model.specs.Named.{named}
+use Rattle.vm_model.specs.Regions.{backing_of, object_pages}
 use Rattle.vm_model.specs.Tasks.{host_of}
 use Rattle.vm_model.specs.Words.{in_range}
 use Rattle.vm_legal.proofs.Unshared.{temporary_unshared}
 use Rattle.vm_legal.specs.Licences.{Bottoms, CopiesPage, Fills, HasCause, LockRequest, Raises as RaisesPage, lock_taken}
 use Rattle.vm_legal.specs.Outside.{Outside, is_shared}
 use Rattle.vm_legal.specs.Walks.{page_on}
+use Rattle.vm_coherence.proofs.Locals.{LeavesApart, unmerged_of}
+use Rattle.vm_coherence.specs.Locals.{IsUnmerged}
 use Rattle.vm_quiet.proofs.Letters.{never}
 use Rattle.vm_quiet.proofs.Sane.{right, at_place}
 use Rattle.vm_shared.proofs.Numbering.{numbering}
@@ -34,6 +38,7 @@ pub record IsShareds (page : Local) : Type 0 where
 abbrev pub Gentle : LocalEffect → Type 0
 Gentle Zeroes = ⊥
 Gentle (Raises bytes) = ⊥
+Gentle (Moves page) = ⊥
 Gentle (TakesPage lock precious bytes) = IsLock lock × (precious ≡ false)
 Gentle (TakesLock lock flush) = IsLock lock ⊎ (lock ≡ 8)
 Gentle other = Unit {0}
@@ -56,6 +61,7 @@ lock_after b lock was new old = by (b || lock == 8) refl
 moved : (size : ℕ) (e : LocalEffect) (page : Local) → Gentle e → IsShareds page → IsShareds (local_after size e page)
 moved size Zeroes page g i = absurd g
 moved size (Raises bytes) page g i = absurd g
+moved size (Moves source) page g i = absurd g
 moved size (Stores at bytes) page g i = record { lock = i.lock; plain = i.plain }
 moved size Drops page g i = record { lock = inl refl; plain = refl }
 moved size (Returns true) page g i = record { lock = i.lock; plain = refl }
@@ -93,6 +99,7 @@ moved size Elsewhere page g i = i
 here_was : (size : ℕ) (e : LocalEffect) (page : Local) → Gentle e → BringsNone e → (local_after size e page).here ≡ true → page.here ≡ true
 here_was size Zeroes page g b here = absurd g
 here_was size (Raises bytes) page g b here = absurd g
+here_was size (Moves source) page g b here = absurd g
 here_was size (Stores at bytes) page g b here = here
 here_was size Drops page g b here = never here
 here_was size (Returns true) page g b here = here
@@ -147,6 +154,53 @@ pub uncopied : (header : Header) (outside : Outside) (task index object page tar
 uncopied header outside task index object page target past caused shared c =
     apart header target shared ((numbering header outside past caused).fills task _ c.filled)
 
+-- no merge names a shared object, and no page of another one comes to it
+apart_leaves : (header : Header) (outside : Outside) (e : Event) (past : List Event) → EachEvent (HasCause header outside) past → HasCause header outside e past
+    → (o : ℕ) → is_shared header o ≡ true → LeavesApart o e past
+apart_leaves header outside (event.Merged upper lower) past caused c o shared = (
+  λ same. apart header upper.0 (subst (λ k. is_shared header k ≡ true) same shared) ((numbering header outside past caused).numbered.upper upper.0 c.1.pair.backed),
+  λ same. apart header lower.0 (subst (λ k. is_shared header k ≡ true) same shared) c.1.pair.temporary,
+)
+apart_leaves header outside (event.Raised at lower lower_page upper upper_page) past caused c o shared =
+    λ same. unraised header outside at.0 lower.0 lower_page.0 upper.0 upper_page.0 past caused (subst (λ k. is_shared header k ≡ true) same shared) c.1
+apart_leaves header outside (event.CopiedPage task page object object_page target) past caused c o shared =
+    λ same. uncopied header outside task.0 page.0 object.0 object_page.0 target.0 past caused (subst (λ k. is_shared header k ≡ true) same shared) c.1
+apart_leaves header outside e past caused c o shared = tt
+
+each_apart : (header : Header) (outside : Outside) (history : List Event) → EachEvent (HasCause header outside) history → (o : ℕ) → is_shared header o ≡ true
+    → EachEvent (LeavesApart o) history
+each_apart header outside [] caused o shared = tt
+each_apart header outside (e ∷ past) caused o shared =
+    (apart_leaves header outside e past caused.1 caused.0 o shared, each_apart header outside past caused.1 o shared)
+
+pub unmerged : (header : Header) (outside : Outside) (history : List Event) → EachEvent (HasCause header outside) history → (o : ℕ) → is_shared header o ≡ true
+    → IsUnmerged o history
+unmerged header outside history caused o shared = unmerged_of o history (each_apart header outside history caused o shared)
+
+-- no page of a shared object moves
+gentle_merged : (upper lower shift upper_pages lower_pages : ℕ) (place : Place) (others : Place → Local) → ((place.object == upper) ≡ true → ⊥)
+    → Gentle (merge_effect upper lower shift upper_pages lower_pages place others)
+gentle_merged upper lower shift upper_pages lower_pages place others apart = by (place.object == upper) apart
+  where
+    by : (b : Bool) → (b ≡ true → ⊥)
+        → Gentle (if b
+        then if nat_lt place.page upper_pages && (nat_lt (shift + place.page) lower_pages
+        && ((others (record { object = lower; page = shift + place.page })).here && not (others place).here))
+        then Moves (others (record { object = lower; page = shift + place.page }))
+        else Elsewhere
+        else if place.object == lower && nat_lt place.page lower_pages then Drops else Elsewhere)
+    by true other = absurd (other refl)
+    by false other = gentle_if (place.object == lower && nat_lt place.page lower_pages) Drops (λ is. tt)
+
+none_merged : (upper lower shift upper_pages lower_pages : ℕ) (place : Place) (others : Place → Local)
+    → BringsNone (merge_effect upper lower shift upper_pages lower_pages place others)
+none_merged upper lower shift upper_pages lower_pages place others =
+    by (place.object == upper) _ _ (none_if _ (Moves _) tt) (none_if (place.object == lower && nat_lt place.page lower_pages) Drops tt)
+  where
+    by : (b : Bool) (e f : LocalEffect) → BringsNone e → BringsNone f → BringsNone (if b then e else f)
+    by true e f one other = one
+    by false e f one other = other
+
 gentle_sent : (p : ℕ) (live : Option ℕ) (m : Message) → Gentle (sent_effect p live m)
 gentle_sent p live (message.Init control size) = tt
 gentle_sent p live (message.Create control size) = tt
@@ -192,6 +246,9 @@ theirs header a h b o t is shared = its header a h b o (both (a == h) (b == o) t
     both true false c is = is
     both false b c is = is
 
+number_is : (a b : ℕ) → (a == b) ≡ true → a ≡ b
+number_is a b is = grind (arith, nat_tests)
+
 pub gentle : (header : Header) (outside : Outside) (e : Event) (past : List Event) → EachEvent (HasCause header outside) past → HasCause header outside e past
     → (h o p : ℕ) → is_shared header o ≡ true
     → Gentle (effect header h (record { object = o; page = p }) (λ source. local header h source past) e past)
@@ -206,6 +263,10 @@ gentle header outside (event.CopiedPage task page object object_page target) pas
     (λ is. uncopied header outside task.0 page.0 object.0 object_page.0 target.0 past caused
     (subst (λ k. is_shared header k ≡ true) (sym (at_place (λ k q. target.0 ≡ k) target.0 page.0 o p (right (is_on h (host_of task.0 past)) _ is) refl))
     shared) c.1)
+gentle header outside (event.Merged upper lower) past caused c h o p shared =
+    gentle_if (is_on h (object_home upper.0 past)) _ (λ on. gentle_merged upper.0 lower.0 (backing_of header upper.0 past).shift
+    (object_pages header upper.0 past) (object_pages header lower.0 past) (record { object = o; page = p }) (λ source. local header h source past)
+    (λ is. (apart_leaves header outside (event.Merged upper lower) past caused c o shared).0 (number_is o upper.0 is)))
 gentle header outside (event.Stored task object page at size value) past caused c h o p shared =
     gentle_if (is_on h (host_of task.0 past) && (object.0 == o && page.0 == p)) (Stores at (little_endian_bytes size value)) (λ is. tt)
 gentle header outside (event.Dropped at object page) past caused c h o p shared = gentle_if (at.0 == h && (object.0 == o && page.0 == p)) Drops (λ is. tt)
@@ -304,6 +365,11 @@ lives_next header outside (event.Raised at lower lower_page upper upper_page) pa
 lives_next header outside (event.CopiedPage task page object object_page target) past caused c h o p shared was here =
     was (here_was header.size (if is_on h (host_of task.0 past) && (target.0 == o && page.0 == p) then Raises _ else Elsewhere) (page_on header h o p past)
     (gentle header outside (event.CopiedPage task page object object_page target) past caused c h o p shared) (none_if _ (Raises _) tt) here)
+lives_next header outside (event.Merged upper lower) past caused c h o p shared was here =
+    was (here_was header.size (effect header h (record { object = o; page = p }) (λ source. local header h source past) (event.Merged upper lower) past)
+    (page_on header h o p past) (gentle header outside (event.Merged upper lower) past caused c h o p shared)
+    (none_if (is_on h (object_home upper.0 past)) _ (none_merged upper.0 lower.0 (backing_of header upper.0 past).shift (object_pages header upper.0 past)
+    (object_pages header lower.0 past) (record { object = o; page = p }) (λ source. local header h source past))) here)
 lives_next header outside (event.Stored task object page at size value) past caused c h o p shared was here =
     was (here_was header.size (if is_on h (host_of task.0 past) && (object.0 == o && page.0 == p) then Stores at (little_endian_bytes size value) else
     Elsewhere) (page_on header h o p past) (gentle_if _ (Stores at (little_endian_bytes size value)) (λ is. tt))

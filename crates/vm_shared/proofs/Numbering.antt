@@ -17,7 +17,7 @@ use Rattle.vm_legal.specs.Accesses.{At, Comes}
 use Rattle.vm_legal.specs.Licences.{HasCause}
 use Rattle.vm_legal.specs.Outside.{Outside}
 use Rattle.vm_legal.specs.Walks.{IsTop, Leads, Sight, Walks, sight}
-use Rattle.vm_flat.proofs.Numbers.{NumberedAt, numbered_region_copied, numbered_region_made, numbered_shadowed, numbered_start, numbered_unmarked}
+use Rattle.vm_flat.proofs.Numbers.{NumberedAt, numbered_merged, numbered_region_copied, numbered_region_made, numbered_shadowed, numbered_start, numbered_unmarked}
 
 -- each entry is on a region that was made
 abbrev pub AllMade : Header → List Event → Type 0
@@ -92,6 +92,7 @@ numbered_next header outside (event.Shadowed region new old) past n all c =
     numbered_shadowed header region new old past n c.1.next c.1.marked (subst (λ k. k < next_region header past) (sym c.1.region_is)
     (at_made header c.1.task _ past all c.1.waits.at))
 numbered_next header outside (event.Unmarked region) past n all c = numbered_unmarked header region past n
+numbered_next header outside (event.Merged upper lower) past n all c = numbered_merged header upper lower past n c.1.pair.backed
 numbered_next header outside e past n all c = n
 
 target_none : (t : Target) → ◌≡◌ {A = Option Target} None (Some t) → ⊥

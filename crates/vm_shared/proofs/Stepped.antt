@@ -32,6 +32,7 @@ use Rattle.vm_coherence.proofs.Locals.{reaches_is, side_is_local}
 use Rattle.vm_flat.proofs.Locals.{each_founded}
 use Rattle.vm_quiet.proofs.Letters.{never}
 use Rattle.vm_quiet.proofs.Sane.{at_place}
+use Rattle.vm_shared.proofs.Kept.{unmerged}
 use Rattle.vm_shared.proofs.Declared.{shared_declared}
 use Rattle.vm_shared.proofs.Speakers.{last_grows, numbers_of}
 
@@ -537,7 +538,7 @@ stepped_next header outside (event.Taken (Up host object) m) past caused c h o p
 stepped_next header outside (event.Taken (Down host object control) m) past caused c h o p shared was =
     taken header host object control m past h o p _ (side h (page_part header.size o p past))
     (open_is (live_control h o past) (side h (page_part header.size o p past)) _ control
-    (side_is_local header past h o p (each_founded header outside past caused))) was
+    (side_is_local header past h o p (unmerged header outside past caused o shared) (each_founded header outside past caused))) was
 stepped_next header outside (event.Dropped host object page) past caused c h o p shared was =
     mild_act _ _ (host.0 == h) _ _ (mild_if (object.0 == o && page.0 == p) Drops Nothing tt tt) was
 stepped_next header outside (event.Zeroed host object page) past caused c h o p shared was =

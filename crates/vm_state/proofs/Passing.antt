@@ -10,7 +10,7 @@ use Rattle.vm_legal.specs.Returned.{OnlyReturned, was_returned}
 use Rattle.vm_legal.specs.Walks.{page_on}
 use Rattle.vm_maps.specs.Maps.{Mapped}
 use Rattle.vm_model.specs.Controls.{last_control}
-use Rattle.vm_model.specs.Local.{Asks, Begins, Drops, Elsewhere, Ends, Local, LocalEffect, Place, Raises, Returns, Stores, TakesError, TakesLock, TakesNothing}
+use Rattle.vm_model.specs.Local.{Asks, Begins, Drops, Elsewhere, Ends, Local, LocalEffect, Moves, Place, Raises, Returns, Stores, TakesError, TakesLock, TakesNothing}
 use Rattle.vm_model.specs.Local.{TakesPage, Unlocks, Zeroes, effect, is_known_absent, local, local_after}
 use Rattle.vm_model.specs.Named.{named}
 use Rattle.vm_model.specs.declared.event.Event.{Event}
@@ -33,6 +33,7 @@ use Rattle.vm_waits.specs.declared.waiting.Want.{Want}
 abbrev pub IsQuiet : LocalEffect → Type 0
 IsQuiet Zeroes = ⊥
 IsQuiet (Raises bytes) = ⊥
+IsQuiet (Moves page) = ⊥
 IsQuiet (Returns keep) = ⊥
 IsQuiet Asks = ⊥
 IsQuiet (TakesPage lock precious bytes) = ⊥
@@ -47,6 +48,7 @@ quiet_if false f g one other = other
 away_after : (size : ℕ) (f : LocalEffect) (was : Local) (returned : Bool) → IsQuiet f → IsAway was returned → IsAway (local_after size f was) returned
 away_after size Zeroes was returned quiet is = absurd quiet
 away_after size (Raises bytes) was returned quiet is = absurd quiet
+away_after size (Moves page) was returned quiet is = absurd quiet
 away_after size (Returns keep) was returned quiet is = absurd quiet
 away_after size Asks was returned quiet is = absurd quiet
 away_after size (TakesPage lock precious bytes) was returned quiet is = absurd quiet
@@ -76,6 +78,7 @@ UnmetBy known page = (page.here ≡ false) × (page.asked ≡ false) × (known p
 abbrev pub IsCalm : LocalEffect → Type 0
 IsCalm Zeroes = ⊥
 IsCalm (Raises bytes) = ⊥
+IsCalm (Moves page) = ⊥
 IsCalm (Returns keep) = ⊥
 IsCalm Asks = ⊥
 IsCalm other = Unit {0}
@@ -87,6 +90,7 @@ calm_if false f g one other = other
 pub calm_of : (f : LocalEffect) → IsQuiet f → IsCalm f
 calm_of Zeroes quiet = quiet
 calm_of (Raises bytes) quiet = quiet
+calm_of (Moves page) quiet = quiet
 calm_of (Returns keep) quiet = quiet
 calm_of Asks quiet = quiet
 calm_of other quiet = tt
@@ -94,6 +98,7 @@ calm_of other quiet = tt
 unmet_after : (known : Bool → Bool) (size : ℕ) (f : LocalEffect) (was : Local) → IsCalm f → UnmetBy known was → UnmetBy known (local_after size f was)
 unmet_after known size Zeroes was calm is = absurd calm
 unmet_after known size (Raises bytes) was calm is = absurd calm
+unmet_after known size (Moves page) was calm is = absurd calm
 unmet_after known size (Returns keep) was calm is = absurd calm
 unmet_after known size Asks was calm is = absurd calm
 unmet_after known size (TakesPage lock precious bytes) was calm is = by was.asked is.1
@@ -151,6 +156,7 @@ only_before least h (event.Taken (Down host object control) (message.Lock page c
 only_before least h (event.Sent (Up host object) (message.Init control size)) past only = only.1
 only_before least h (event.Sent (Up host object) (message.Create control size)) past only = only.1
 only_before least h (event.Sent (Up host object) (message.Return control page dirty keep bytes)) past only = only.1
+only_before least h (event.Merged upper lower) past only = only.1
 only_before least h e past only = only
 
 -- so both stay so behind a quiet event

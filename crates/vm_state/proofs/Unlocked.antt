@@ -1,11 +1,13 @@
 -- No page of temporary memory is locked, where its pagers lock nothing.
-use Rattle.std.proofs.Common.{Bool, List, [], arith, false, refl, subst, sym, true, ℕ, ◌&&◌, ◌==◌, ◌∷◌, ◌≡◌, ◌≤◌}
+use Rattle.std.proofs.Common.{Bool, List, [], arith, false, refl, subst, sym, true, ℕ, ◌&&◌, ◌==◌, ◌∷◌, ◌+◌, ◌≡◌, ◌≤◌}
 use Rattle.std.specs.Prelude.{if◌then◌else◌}
 use Rattle.vm_base.specs.Pages.{little_endian_bytes}
 use Rattle.vm_legal.specs.Returned.{OnlyReturned}
 use Rattle.vm_model.specs.Controls.{is_control, live_control}
-use Rattle.vm_model.specs.Local.{Asks, Begins, Drops, Elsewhere, Ends, Local, LocalEffect, Place, Raises, Returns, Stores, TakesError, TakesLock, TakesNothing}
-use Rattle.vm_model.specs.Local.{TakesPage, Unlocks, Zeroes, effect, is_on, is_place, local, local_after, sent_effect, taken_effect}
+use Rattle.vm_model.specs.Local.{Asks, Begins, Drops, Elsewhere, Ends, Local, LocalEffect, Moves, Place, Raises, Returns, Stores, TakesError, TakesLock, TakesNothing}
+use Rattle.vm_model.specs.Local.{TakesPage, Unlocks, Zeroes, effect, is_on, is_place, local, local_after, merge_effect, sent_effect, taken_effect}
+use Rattle.vm_model.specs.Homes.{object_home}
+use Rattle.vm_model.specs.Regions.{backing_of, object_pages}
 use Rattle.vm_model.specs.Tasks.{host_of}
 use Rattle.vm_model.specs.Words.{in_range}
 use Rattle.vm_model.specs.declared.event.Event.{Event}
@@ -21,6 +23,7 @@ use Rattle.vm_state.specs.Places.{place_of}
 abbrev IsOpen : LocalEffect → Type 0
 IsOpen (TakesPage lock precious bytes) = lock ≡ 0
 IsOpen (TakesLock lock flush) = ⊥
+IsOpen (Moves page) = page.lock ≡ 0
 IsOpen other = Unit {0}
 
 open_if : (b : Bool) (f g : LocalEffect) → IsOpen f → IsOpen g → IsOpen (if b then f else g)
@@ -36,6 +39,7 @@ open_after size Zeroes was opens is = refl
 open_after size (Raises bytes) was opens is = refl
 open_after size (Stores at bytes) was opens is = is
 open_after size Drops was opens is = refl
+open_after size (Moves page) was opens is = opens
 open_after size (Returns true) was opens is = is
 open_after size (Returns false) was opens is = refl
 open_after size Asks was opens is = is
@@ -63,21 +67,32 @@ open_locked false b d c lock flush none = tt
 open_locked true false d c lock flush none = tt
 open_locked true true d c lock flush none = absurd (none refl refl)
 
-open_effect : (header : Header) (least h o p : ℕ) (others : Place → Local) (e : Event) (past : List Event) → least ≤ o → OnlyReturned least h (e ∷ past)
+-- a merge moves pages of temporary objects
+open_merged : (least upper lower shift upper_pages lower_pages : ℕ) (place : Place) (others : Place → Local)
+    → ((source : Place) → least ≤ source.object → (others source).lock ≡ 0) → least ≤ lower
+    → IsOpen (merge_effect upper lower shift upper_pages lower_pages place others)
+open_merged least upper lower shift upper_pages lower_pages place others unlocked high =
+    open_if (place.object == upper) _ _ (open_if _ (Moves (others below)) Elsewhere (unlocked below high) tt) (open_if _ Drops Elsewhere tt tt)
+  where
+    below : Place
+    below = record { object = lower; page = shift + place.page }
+
+open_effect : (header : Header) (least h o p : ℕ) (others : Place → Local) → ((source : Place) → least ≤ source.object → (others source).lock ≡ 0)
+    → (e : Event) (past : List Event) → least ≤ o → OnlyReturned least h (e ∷ past)
     → IsOpen (effect header h (place_of o p) others e past)
-open_effect header least h o p others (event.Zeroed at object page) past high only =
+open_effect header least h o p others unlocked (event.Zeroed at object page) past high only =
     open_if (at.0 == h && is_place (place_of o p) object.0 page.0) Zeroes Elsewhere tt tt
-open_effect header least h o p others (event.Raised at lower lower_page upper upper_page) past high only =
+open_effect header least h o p others unlocked (event.Raised at lower lower_page upper upper_page) past high only =
     open_if (at.0 == h && is_place (place_of o p) upper.0 upper_page.0) (Raises (others (record { object = lower.0; page = lower_page.0 })).bytes) Elsewhere tt
     tt
-open_effect header least h o p others (event.CopiedPage task page object object_page target) past high only =
+open_effect header least h o p others unlocked (event.CopiedPage task page object object_page target) past high only =
     open_if (is_on h (host_of task.0 past) && is_place (place_of o p) target.0 page.0)
     (Raises (others (record { object = object.0; page = object_page.0 })).bytes) Elsewhere tt tt
-open_effect header least h o p others (event.Stored task object page at size value) past high only =
+open_effect header least h o p others unlocked (event.Stored task object page at size value) past high only =
     open_if (is_on h (host_of task.0 past) && is_place (place_of o p) object.0 page.0) (Stores at (little_endian_bytes size value)) Elsewhere tt tt
-open_effect header least h o p others (event.Dropped at object page) past high only =
+open_effect header least h o p others unlocked (event.Dropped at object page) past high only =
     open_if (at.0 == h && is_place (place_of o p) object.0 page.0) Drops Elsewhere tt tt
-open_effect header least h o p others (event.Sent (Up at object) m) past high only =
+open_effect header least h o p others unlocked (event.Sent (Up at object) m) past high only =
     open_if (at.0 == h && object.0 == o) (sent_effect p (live_control h o past) m) Elsewhere (by m) tt
   where
     by : (m : Message) → IsOpen (sent_effect p (live_control h o past) m)
@@ -86,26 +101,31 @@ open_effect header least h o p others (event.Sent (Up at object) m) past high on
     by (message.Unlock control at access) = open_if (at.0 == p) Unlocks Elsewhere tt tt
     by (message.Return control at dirty keep bytes) = open_if (at.0 == p) (Returns keep) Elsewhere tt tt
     by m = tt
-open_effect header least h o p others (event.Taken (Down at object control) (message.Supply page lock precious bytes)) past high only =
+open_effect header least h o p others unlocked (event.Taken (Down at object control) (message.Supply page lock precious bytes)) past high only =
     open_supplied (at.0 == h) (object.0 == o) (is_control control (live_control h o past)) (page.0 == p) lock precious bytes
     (λ on of. (only.0 (same_of at.0 h on) (subst (λ (z : ℕ). least ≤ z) (sym (same_of object.0 o of)) high)).0)
-open_effect header least h o p others (event.Taken (Down at object control) (message.Lock page count returns flush lock reply)) past high only =
+open_effect header least h o p others unlocked (event.Taken (Down at object control) (message.Lock page count returns flush lock reply)) past high only =
     open_locked (at.0 == h) (object.0 == o) (is_control control (live_control h o past)) (in_range p page.0 count) lock flush
     (λ on of. let low = only.0 (same_of at.0 h on) in let same = same_of object.0 o of in omega (arith, low, same, high))
-open_effect header least h o p others (event.Taken (Down at object control) (message.Unavailable page)) past high only =
+open_effect header least h o p others unlocked (event.Taken (Down at object control) (message.Unavailable page)) past high only =
     open_if (at.0 == h && (object.0 == o && is_control control (live_control h o past))) (taken_effect p (message.Unavailable page)) Elsewhere
     (open_if (page.0 == p) TakesNothing Elsewhere tt tt) tt
-open_effect header least h o p others (event.Taken (Down at object control) (message.Error page reason)) past high only =
+open_effect header least h o p others unlocked (event.Taken (Down at object control) (message.Error page reason)) past high only =
     open_if (at.0 == h && (object.0 == o && is_control control (live_control h o past))) (taken_effect p (message.Error page reason)) Elsewhere
     (open_if (page.0 == p) TakesError Elsewhere tt tt) tt
-open_effect header least h o p others (event.Taken (Down at object control) m) past high only =
+open_effect header least h o p others unlocked (event.Taken (Down at object control) m) past high only =
     open_if (at.0 == h && (object.0 == o && is_control control (live_control h o past))) Elsewhere Elsewhere tt tt
-open_effect header least h o p others e past high only = tt
+open_effect header least h o p others unlocked (event.Merged upper lower) past high only =
+    open_if (is_on h (object_home upper.0 past)) _ Elsewhere
+    (open_merged least upper.0 lower.0 (backing_of header upper.0 past).shift (object_pages header upper.0 past) (object_pages header lower.0 past)
+    (place_of o p) others unlocked only.0) tt
+open_effect header least h o p others unlocked e past high only = tt
 
 pub unlocked_temporary : (least : ℕ) (header : Header) (h o p : ℕ) (past : List Event) → least ≤ o → OnlyReturned least h past
     → (local header h (place_of o p) past).lock ≡ 0
 unlocked_temporary least header h o p [] high only = refl
 unlocked_temporary least header h o p (e ∷ past) high only =
     open_after header.size (effect header h (place_of o p) (λ source. local header h source past) e past) (local header h (place_of o p) past)
-    (open_effect header least h o p (λ source. local header h source past) e past high only)
+    (open_effect header least h o p (λ source. local header h source past)
+    (λ source temporary. unlocked_temporary least header h source.object source.page past temporary (only_before least h e past only)) e past high only)
     (unlocked_temporary least header h o p past high (only_before least h e past only))

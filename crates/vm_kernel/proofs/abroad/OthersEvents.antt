@@ -29,7 +29,7 @@ use Rattle.vm_shadow.specs.Chains.{ChainTable, shadow_at}
 use Rattle.vm_shadow.specs.declared.shadow_row.ShadowRow.{ShadowRow}
 use Rattle.vm_abroad.proofs.Regions.{kind_cases}
 use Rattle.vm_state.proofs.Reaching.{chain_known}
-use Rattle.vm_state.proofs.Referring.{small_object, small_region, small_shadow}
+use Rattle.vm_state.proofs.Referring.{row_of, small_object, small_region, small_shadow}
 use Rattle.vm_state.specs.References.{is_backing, is_over, references_to, tally}
 use Rattle.vm_kernel.proofs.space.EntriesCounted.{by_some}
 use Rattle.vm_kernel.proofs.abroad.OwnHost.{lives_in, own_host}
@@ -223,7 +223,7 @@ module _ (header : Header) (h : ℕ) (k : Parts) (ids next : Ids) (past new : Li
         bottoms =
             λ o referred bare.
             ap (λ z. z.backed)
-                (same.backing o (small_object has o referred.row referred.known) (own_object header h k ids past rests o referred.row referred.known))
+            (same.backing o (small_object has o referred.row referred.known) (own_object header h k ids past rests o referred.row referred.known))
             ∙ has.bottoms o referred bare;
         unmade = λ r high. has.unmade r (let rise = same.regions in omega (arith, rise, high));
         unknown = λ o high. has.unknown o (let rise = same.objects in omega (arith, rise, high));

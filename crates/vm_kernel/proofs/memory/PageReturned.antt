@@ -6,7 +6,9 @@ use Rattle.vm_kernel.proofs.Common.{TakesPage, Unlocks, Up, Zeroes, [], absent_a
 use Rattle.vm_kernel.proofs.Common.{is_ready_state, last_in, live_control, live_in, local, local_after, local_with_page, named, object_at, one_case, place_of}
 use Rattle.vm_kernel.proofs.Common.{ready_in, refl, row_with_control, some_is, subst, sym, taken_effect, true, without_control, ℕ, ◌&&◌, ◌+◌, ◌<◌, ◌==◌, ◌∙◌}
 use Rattle.vm_kernel.proofs.Common.{◌∷◌, ◌≡◌, ◌≤◌}
-use Rattle.std.specs.Prelude.{◌||◌}
+use Rattle.std.specs.Prelude.{◌||◌, nat_lt}
+use Rattle.vm_model.specs.Local.{Moves, Place, merge_effect}
+use Rattle.vm_model.specs.Regions.{backing_of, object_pages}
 use Rattle.vm_model.specs.declared.event.Event.TheVariants as event
 use Rattle.vm_model.specs.declared.message.Message.TheVariants as message
 use Rattle.vm_objects.specs.declared.row.PagerState.TheVariants as state
@@ -30,6 +32,7 @@ calm size Zeroes was none is = is
 calm size (Raises bytes) was none is = is
 calm size (Stores at bytes) was none is = is
 calm size Drops was none is = is
+calm size (Moves page) was none is = is
 calm size (Returns true) was none is = is
 calm size (Returns false) was none is = is
 calm size Asks was none is = absurd none
@@ -46,6 +49,15 @@ calm size Elsewhere was none is = is
 calm_if : (b : Bool) (e : LocalEffect) → IsCalm e → IsCalm (if b then e else Elsewhere)
 calm_if true e none = none
 calm_if false e none = tt
+
+calm_either : (b : Bool) (e f : LocalEffect) → IsCalm e → IsCalm f → IsCalm (if b then e else f)
+calm_either true e f one other = one
+calm_either false e f one other = other
+
+calm_merged : (upper lower shift upper_pages lower_pages : ℕ) (place : Place) (others : Place → Local)
+    → IsCalm (merge_effect upper lower shift upper_pages lower_pages place others)
+calm_merged upper lower shift upper_pages lower_pages place others =
+    calm_either (place.object == upper) _ _ (calm_if _ (Moves _) tt) (calm_if (place.object == lower && nat_lt place.page lower_pages) Drops tt)
 
 calm_taken : (page : ℕ) (m : Message) → IsCalm (taken_effect page m)
 calm_taken page (message.Supply at lock precious bytes) = calm_if _ (TakesPage lock precious bytes) tt
@@ -90,6 +102,9 @@ unasked header host o p (event.CopiedPage task page object object_page target �
 unasked header host o p (event.Stored task object page at bytes value ∷ past) none =
     calm header.size _ _ (calm_if _ (Stores at _) tt) (unasked header host o p past none)
 unasked header host o p (event.Dropped at object page ∷ past) none = calm header.size _ _ (calm_if _ Drops tt) (unasked header host o p past none)
+unasked header host o p (event.Merged upper lower ∷ past) none =
+    calm header.size _ _ (calm_if _ _ (calm_merged upper.0 lower.0 (backing_of header upper.0 past).shift (object_pages header upper.0 past)
+    (object_pages header lower.0 past) (place_of o p) (λ source. local header host source past))) (unasked header host o p past none)
 unasked header host o p (event.Sent (Up at object) (message.Init control bytes) ∷ past) none =
     begun header.size control _ _ _ none (unasked header host o p past)
 unasked header host o p (event.Sent (Up at object) (message.Create control bytes) ∷ past) none =

@@ -1,0 +1,393 @@
+-- A temporary object is reached on its home alone, but while no task has an entry on the region that it was made for.
+use Rattle.std.proofs.Common.{◌≡◌, ◌≤◌, ◌<◌, ℕ, zero, suc, Bool, true, false, List, [], ◌∷◌, Option, Some, None, ap, refl, subst, sym, ◌∙◌, arith, inl, inr}
+use Rattle.std.proofs.Common.{if◌then◌else◌}
+use Rattle.std.proofs.lemmas.Bool.Decides.{nat_tests}
+use Rattle.std.specs.Prelude.{◌==◌, ◌&&◌, ◌||◌, ◌⊎◌, not}
+use native.Mathlib.Decide.{ℕ_discrete}
+use Rattle.vm_base.specs.declared.ids.Inherit.{Inherit}
+use Rattle.vm_base.specs.declared.ids.ObjectId.{ObjectId}
+use Rattle.vm_base.specs.declared.ids.Prot.{Prot}
+use Rattle.vm_base.specs.declared.ids.RegionId.{RegionId}
+use Rattle.vm_base.specs.declared.ids.TaskId.{TaskId}
+use Rattle.vm_model.specs.declared.event.Event.{Event}
+use Rattle.vm_model.specs.declared.event.Event.TheVariants as event
+use Rattle.vm_model.specs.declared.script.Header.{Header}
+use Rattle.vm_model.specs.Homes.{copying_host, first_of, home_in, home_of, object_home, region_for}
+use Rattle.vm_model.specs.Local.{is_on}
+use Rattle.vm_model.specs.Named.{named}
+use Rattle.vm_model.specs.Regions.{Backing, backing_of, joined, next_object, next_region, over, region_of}
+use Rattle.vm_model.specs.Rows.{found_row}
+use Rattle.vm_model.specs.Tasks.{host_of}
+use Rattle.vm_legal.specs.Living.{lives_on}
+use Rattle.vm_legal.specs.Outside.{Outside}
+use Rattle.vm_legal.specs.Used.{is_kept, made_here}
+use Rattle.vm_legal.specs.Walks.{Below}
+use Rattle.vm_flat.proofs.Classes.{deeds, ground}
+use Rattle.vm_flat.proofs.Deeds as D
+use Rattle.vm_flat.proofs.Entries.{Entries, OwnedAt}
+use Rattle.vm_flat.proofs.Ports.{Worlds}
+use Rattle.vm_flat.proofs.Regions.{eq_no, eq_yes, if_no, if_yes}
+use Rattle.vm_flat.proofs.Sustained.{Sustained}
+use Rattle.vm_flat.proofs.Ties.{link_is, objects_is, regions_is, row_is}
+use Rattle.vm_flat.proofs.Uses.{in_use}
+
+-- the object is at home there; or it was made for this region, and that has no home yet
+abbrev pub IsHoused : ℕ → ℕ → ℕ → List Event → Type 0
+IsHoused g r u past = ((home_of r past ≡ None) × (region_for u past ≡ Some r)) ⊎ (object_home u past ≡ Some g)
+
+pub record Housed (header : Header) (outside : Outside) (past : List Event) : Type 0 where
+  pub regions : (r : ℕ) → next_region header past ≤ r → home_of r past ≡ None
+  pub objects : (o : ℕ) → next_object header past ≤ o → region_for o past ≡ None
+  pub stay : (g h r : ℕ) → in_use header outside g r past ≡ true → home_of r past ≡ Some h → g ≡ h
+  pub reached : (g r n u : ℕ) → in_use header outside g r past ≡ true → Below (λ k. backing_of header k past) n (region_of header r past).top u
+      → named header ≤ u → IsHoused g r u past
+
+-- what is in use, or stands on something, was made
+record Made (header : Header) (outside : Outside) (past : List Event) : Type 0 where
+  used : (g r : ℕ) → in_use header outside g r past ≡ true → r < next_region header past
+  tops : (r : ℕ) → r < next_region header past → (region_of header r past).top < next_object header past
+  backed : (o : ℕ) → (backing_of header o past).backed ≡ true → o < next_object header past
+  under : (o : ℕ) → (backing_of header o past).backed ≡ true → (backing_of header o past).under < next_object header past
+
+made_of : (header : Header) (outside : Outside) (past : List Event) → Worlds header outside past → Made header outside past
+made_of header outside past w =
+    record {
+      used = λ g r is. omega (
+        arith,
+        (w g).shape.rows_below r (ap (λ (x : D.Row). x.used) (row_is header outside g r past) ∙ is),
+        regions_is header outside g past,
+      );
+      tops = λ r less. subst (λ (x : ℕ). x < next_object header past) (ap (λ (x : D.Row). x.top) (row_is header outside 0 r past))
+          (subst (λ (m : ℕ). (D.row (ground header outside) r (deeds header outside 0 past)).top < m) (objects_is header outside 0 past)
+          ((w 0).shape.tops_made r (omega (arith, less, regions_is header outside 0 past))));
+      backed = λ o on. omega (arith, (w 0).shape.made o (on_link o on), objects_is header outside 0 past);
+      under = λ o on. subst (λ (x : ℕ). x < next_object header past) (ap (λ (x : D.Link). x.under) (link_is header outside 0 o past))
+          (subst (λ (m : ℕ). (D.link (ground header outside) o (deeds header outside 0 past)).under < m) (objects_is header outside 0 past)
+          ((w 0).shape.born o (on_link o on)));
+    }
+  where
+    on_link : (o : ℕ) → (backing_of header o past).backed ≡ true → (D.link (ground header outside) o (deeds header outside 0 past)).backed ≡ true
+    on_link o on = ap (λ (x : D.Link). x.backed) (link_is header outside 0 o past) ∙ on
+
+-- a home stays
+
+first_stays : (b : Bool) (h : ℕ) (was later : Option ℕ) → was ≡ Some h → (if b then first_of was later else was) ≡ Some h
+first_stays true h was later is = ap (λ z. first_of z later) is
+first_stays false h was later is = is
+
+home_stays : (r h : ℕ) (e : Event) (past : List Event) → home_of r past ≡ Some h → home_of r (e ∷ past) ≡ Some h
+home_stays r h (event.Entered task address bytes region offset prot inherit) past is = first_stays (region.0 == r) h (home_of r past) (host_of task.0 past) is
+home_stays r h (event.RegionMade region object pages) past is = first_stays (region.0 == r) h (home_of r past) (copying_host past) is
+home_stays r h other past is = is
+
+region_stays : (o r : ℕ) (e : Event) (past : List Event) → region_for o past ≡ Some r → region_for o (e ∷ past) ≡ Some r
+region_stays o r (event.RegionMade region object pages) past is = first_stays (object.0 == o) r (region_for o past) (Some region.0) is
+region_stays o r (event.Shadowed region new old) past is = first_stays (new.0 == o) r (region_for o past) (Some region.0) is
+region_stays o r other past is = is
+
+no_some : {A : Type 0} (h : ℕ) → ◌≡◌ {A = Option ℕ} None (Some h) → A
+no_some h e = absurd (cc)
+
+same_some : (g h : ℕ) → ◌≡◌ {A = Option ℕ} (Some g) (Some h) → g ≡ h
+same_some g h e = cc
+
+object_stays : (o h : ℕ) (e : Event) (past : List Event) → object_home o past ≡ Some h → object_home o (e ∷ past) ≡ Some h
+object_stays o h e past is = by (region_for o past) refl is
+  where
+    by : (x : Option ℕ) → region_for o past ≡ x → home_in (λ r. home_of r past) x ≡ Some h → object_home o (e ∷ past) ≡ Some h
+    by None none is = no_some h is
+    by (Some r) made is = ap (home_in (λ r. home_of r (e ∷ past))) (region_stays o r e past made) ∙ home_stays r h e past is
+
+housed_stays : (g r u : ℕ) (e : Event) (past : List Event) → home_of r (e ∷ past) ≡ home_of r past → IsHoused g r u past → IsHoused g r u (e ∷ past)
+housed_stays g r u e past same (inl fresh) = inl (same ∙ fresh.0, region_stays u r e past fresh.1)
+housed_stays g r u e past same (inr home) = inr (object_stays u g e past home)
+
+-- what was made for a region that is at home here
+housed_at : (g r u : ℕ) (past : List Event) → region_for u past ≡ Some r → home_of r past ≡ Some g → IsHoused g r u past
+housed_at g r u past made home = inr (ap (home_in (λ r. home_of r past)) made ∙ home)
+
+-- what was made for it just now
+housed_new : (g r u : ℕ) (past : List Event) → region_for u past ≡ Some r → ((h : ℕ) → home_of r past ≡ Some h → g ≡ h) → IsHoused g r u past
+housed_new g r u past made stays = by (home_of r past) refl
+  where
+    by : (x : Option ℕ) → home_of r past ≡ x → IsHoused g r u past
+    by None none = inl (none, made)
+    by (Some h) home = housed_at g r u past made (home ∙ ap (λ (n : ℕ). Some n) (sym (stays h home)))
+
+-- hosts
+
+on_host : (g : ℕ) (x : Option ℕ) → is_on g x ≡ true → x ≡ Some g
+on_host g None is = absurd (let bad : false ≡ true = is in cc)
+on_host g (Some h) is = let same : h ≡ g = grind (arith, nat_tests) in ap (λ (n : ℕ). Some n) same
+
+-- a slow copy's region is in use on the host of its task alone
+made_there : (g h : ℕ) (past : List Event) → made_here g past ≡ true → copying_host past ≡ Some h → g ≡ h
+made_there g h (event.BegunCopy task address bytes to ∷ past) here home = same_some g h (sym (on_host g (host_of task.0 past) here) ∙ home)
+made_there g h [] here home = no_some h home
+made_there g h (e ∷ past) here home = no_some h home
+
+first : (a b : Bool) → (a && b) ≡ true → a ≡ true
+first true b is = refl
+first false b is = absurd (let bad : false ≡ true = is in cc)
+
+second : (a b : Bool) → (a && b) ≡ true → b ≡ true
+second true b is = is
+second false b is = absurd (let bad : false ≡ true = is in cc)
+
+-- chains
+
+-- nothing is below an object that has no backing object
+below_bare : (backings : ℕ → Backing) (n o u : ℕ) → ((backings o).backed ≡ true → ⊥) → Below backings n o u → o ≡ u
+below_bare backings zero o u bare is = is
+below_bare backings (suc n) o u bare is = absurd (bare is.0)
+
+-- below an object that is there, links of new ones are not seen
+below_old : (old new : ℕ → Backing) (m n o u : ℕ) → o < m → ((k : ℕ) → k < m → new k ≡ old k) → ((k : ℕ) → (old k).backed ≡ true → (old k).under < m)
+    → Below new n o u → Below old n o u
+below_old old new m zero o u small same born is = is
+below_old old new m (suc n) o u small same born is =
+    let backed : (old o).backed ≡ true = subst (λ (x : Backing). x.backed ≡ true) (same o small) is.0 in
+    let next : Below new n (old o).under u = subst (λ (x : Backing). Below new n x.under u) (same o small) is.1 in
+    (backed, below_old old new m n (old o).under u (born o backed) same born next)
+
+-- what is below where two objects were merged was below before
+below_merged : (old : ℕ → Backing) (upper lower n o u : ℕ) → (old upper).backed ≡ true → (old upper).under ≡ lower
+    → Below (λ k. joined (k == upper) (old lower) (old k)) n o u → (m : ℕ) × Below old m o u
+below_merged old upper lower zero o u on under is = (0, is)
+below_merged old upper lower (suc n) o u on under is = elim (ℕ_discrete o upper) [
+  | yes e ↦
+      let mine : joined (o == upper) (old lower) (old o) ≡ joined true (old lower) (old o) = ap (λ (b : Bool). joined b (old lower) (old o))
+      (eq_yes o upper e) in
+      let backed : (old lower).backed ≡ true = sym (ap (λ (x : Backing). x.backed) mine) ∙ is.0 in
+      let was : (m : ℕ) × Below old m (old lower).under u = below_merged old upper lower n (old lower).under u on under (subst
+      (λ (x : Backing). Below (λ k. joined (k == upper) (old lower) (old k)) n x.under u) mine is.1) in (
+        suc (suc was.0),
+        subst (λ (k : ℕ). Below old (suc (suc was.0)) k u) (sym e)
+            (on, subst (λ (k : ℕ). Below old (suc was.0) k u) (sym under) (backed, was.1)),
+      )
+  | no apart ↦
+      let same : joined (o == upper) (old lower) (old o) ≡ old o = ap (λ (b : Bool). joined b (old lower) (old o)) (eq_no o upper apart) in
+      let was : (m : ℕ) × Below old m (old o).under u = below_merged old upper lower n (old o).under u on under (subst
+      (λ (x : Backing). Below (λ k. joined (k == upper) (old lower) (old k)) n x.under u) same is.1) in
+      (suc was.0, (subst (λ (x : Backing). x.backed ≡ true) same is.0, was.1))
+]
+
+-- each event
+
+regions_next : (header : Header) (outside : Outside) (e : Event) (past : List Event) → Sustained header outside e past → Housed header outside past → (r : ℕ)
+    → next_region header (e ∷ past) ≤ r → home_of r (e ∷ past) ≡ None
+regions_next header outside (event.Entered task address bytes region offset prot inherit) past c was r high =
+    if_no region.0 r (first_of (home_of r past) (host_of task.0 past)) (home_of r past) (λ same. omega (arith, same, c.made, high)) ∙ was.regions r high
+regions_next header outside (event.RegionMade region object pages) past c was r high =
+    if_no region.0 r (first_of (home_of r past) (copying_host past)) (home_of r past) (λ same. omega (arith, same, c.0, high))
+    ∙ was.regions r (omega (arith, high))
+regions_next header outside (event.RegionCopied region source offset pages) past c was r high = was.regions r (omega (arith, high))
+regions_next header outside e past c was r high = was.regions r high
+
+objects_next : (header : Header) (outside : Outside) (e : Event) (past : List Event) → Sustained header outside e past → Housed header outside past → (o : ℕ)
+    → next_object header (e ∷ past) ≤ o → region_for o (e ∷ past) ≡ None
+objects_next header outside (event.RegionMade region object pages) past c was o high =
+    if_no object.0 o (first_of (region_for o past) (Some region.0)) (region_for o past) (λ same. omega (arith, same, c.1, high))
+    ∙ was.objects o (omega (arith, high))
+objects_next header outside (event.Shadowed region new old) past c was o high =
+    if_no new.0 o (first_of (region_for o past) (Some region.0)) (region_for o past) (λ same. omega (arith, same, c.next, high))
+    ∙ was.objects o (omega (arith, high))
+objects_next header outside e past c was o high = was.objects o high
+
+-- a region that is made, in use on this host
+made_home : (header : Header) (outside : Outside) (region : RegionId) (object : ObjectId) (pages g h r : ℕ) (past : List Event)
+    → region.0 ≡ next_region header past → Housed header outside past → r ≡ region.0
+    → in_use header outside g r (event.RegionMade region object pages ∷ past) ≡ true → home_of r (event.RegionMade region object pages ∷ past) ≡ Some h → g ≡ h
+made_home header outside region object pages g h r past number was e used home =
+    made_there g h past
+    (first (made_here g past) outside.paging (sym (if_yes r region.0 (made_here g past && outside.paging) (in_use header outside g r past) e) ∙ used))
+    (sym (ap (λ x. first_of x (copying_host past)) (was.regions r (omega (arith, e, number))))
+    ∙ sym (if_yes region.0 r (first_of (home_of r past) (copying_host past)) (home_of r past) (sym e)) ∙ home)
+
+-- the task that gets an entry on a region lives where that is in use
+entered_here : (header : Header) (outside : Outside) (task : TaskId) (region g r : ℕ) (past : List Event) → r ≡ region
+    → ((not (r == region) || lives_on g task.0 past) && in_use header outside g r past) ≡ true → host_of task.0 past ≡ Some g
+entered_here header outside task region g r past e used =
+    on_host g (host_of task.0 past) (by (r == region) (lives_on g task.0 past) (eq_yes r region e) (first _ (in_use header outside g r past) used))
+  where
+    by : (a b : Bool) → a ≡ true → (not a || b) ≡ true → b ≡ true
+    by true b one two = two
+    by false b one two = absurd (let bad : false ≡ true = one in cc)
+
+-- the home that there was, else the entry's host
+entered_home : (g h : ℕ) (was x : Option ℕ) → x ≡ Some g → first_of was x ≡ Some h → (was ≡ Some h → g ≡ h) → g ≡ h
+entered_home g h None x here home stays = same_some g h (sym here ∙ home)
+entered_home g h (Some f) x here home stays = stays home
+
+stay_next : (header : Header) (outside : Outside) (e : Event) (past : List Event) → Sustained header outside e past → Housed header outside past → (g h r : ℕ)
+    → in_use header outside g r (e ∷ past) ≡ true → home_of r (e ∷ past) ≡ Some h → g ≡ h
+stay_next header outside (event.RegionMade region object pages) past c was g h r used home = elim (ℕ_discrete r region.0) [
+  | yes e ↦ made_home header outside region object pages g h r past c.0 was e used home
+  | no apart ↦ was.stay g h r (sym (if_no r region.0 (made_here g past && outside.paging) (in_use header outside g r past) apart) ∙ used)
+      (sym (if_no region.0 r (first_of (home_of r past) (copying_host past)) (home_of r past) (λ e. apart (sym e))) ∙ home)
+]
+stay_next header outside (event.RegionCopied region source offset pages) past c was g h r used home = elim (ℕ_discrete r region.0) [
+  | yes e ↦ no_some h (sym (was.regions r (omega (arith, e, c.next))) ∙ home)
+  | no apart ↦ was.stay g h r (sym (if_no r region.0 (in_use header outside g source.0 past) (in_use header outside g r past) apart) ∙ used) home
+]
+stay_next header outside (event.Entered task address bytes region offset prot inherit) past c was g h r used home = elim (ℕ_discrete r region.0) [
+  | yes e ↦ entered_home g h (home_of r past) (host_of task.0 past) (entered_here header outside task region.0 g r past e used)
+      (sym (if_yes region.0 r (first_of (home_of r past) (host_of task.0 past)) (home_of r past) (sym e)) ∙ home)
+      (was.stay g h r (second _ (in_use header outside g r past) used))
+  | no apart ↦ was.stay g h r (second _ (in_use header outside g r past) used)
+      (sym (if_no region.0 r (first_of (home_of r past) (host_of task.0 past)) (home_of r past) (λ e. apart (sym e))) ∙ home)
+]
+stay_next header outside (event.Removed task address bytes) past c was g h r used home =
+    was.stay g h r (second (is_kept header r (event.Removed task address bytes ∷ past)) (in_use header outside g r past) used) home
+stay_next header outside (event.TaskEnded task) past c was g h r used home =
+    was.stay g h r (second (is_kept header r (event.TaskEnded task ∷ past)) (in_use header outside g r past) used) home
+stay_next header outside (event.Failed task object page) past c was g h r used home =
+    was.stay g h r (second (is_kept header r (event.Failed task object page ∷ past)) (in_use header outside g r past) used) home
+stay_next header outside e past c was g h r used home = was.stay g h r used home
+
+-- what is reached
+
+reached_made : (header : Header) (outside : Outside) (region : RegionId) (object : ObjectId) (pages g r n u : ℕ) (past : List Event)
+    → region.0 ≡ next_region header past → object.0 ≡ next_object header past → Made header outside past → Housed header outside past
+    → in_use header outside g r (event.RegionMade region object pages ∷ past) ≡ true
+    → Below (λ k. backing_of header k past) n (region_of header r (event.RegionMade region object pages ∷ past)).top u → named header ≤ u
+    → IsHoused g r u (event.RegionMade region object pages ∷ past)
+reached_made header outside region object pages g r n u past number new m was used below above = elim (ℕ_discrete r region.0) [
+  | yes e ↦
+      let from : Below (λ k. backing_of header k past) n object.0 u = subst (λ (t : ℕ). Below (λ k. backing_of header k past) n t u)
+      (if_yes r region.0 object.0 (region_of header r past).top e) below in
+      let same : object.0 ≡ u = below_bare (λ k. backing_of header k past) n object.0 u (λ on. absurd (omega (arith, new, m.backed object.0 on))) from in
+      housed_new g r u (event.RegionMade region object pages ∷ past)
+      (if_yes object.0 u (first_of (region_for u past) (Some region.0)) (region_for u past) same
+      ∙ ap (λ x. first_of x (Some region.0)) (was.objects u (omega (arith, same, new))) ∙ ap (λ (k : ℕ). Some k) (sym e))
+      (λ h home. made_home header outside region object pages g h r past number was e used home)
+  | no apart ↦ housed_stays g r u (event.RegionMade region object pages) past
+      (if_no region.0 r (first_of (home_of r past) (copying_host past)) (home_of r past) (λ e. apart (sym e)))
+      (was.reached g r n u (sym (if_no r region.0 (made_here g past && outside.paging) (in_use header outside g r past) apart) ∙ used)
+      (subst (λ (t : ℕ). Below (λ k. backing_of header k past) n t u) (if_no r region.0 object.0 (region_of header r past).top apart) below) above)
+]
+
+-- a region that is copied has an entry, and so a home
+reached_copied : (header : Header) (outside : Outside) (region source : RegionId) (offset pages g r n u : ℕ) (past : List Event)
+    → (home_of source.0 past ≡ None → ⊥) → Housed header outside past
+    → in_use header outside g r (event.RegionCopied region source offset pages ∷ past) ≡ true
+    → Below (λ k. backing_of header k past) n (region_of header r (event.RegionCopied region source offset pages ∷ past)).top u → named header ≤ u
+    → IsHoused g r u (event.RegionCopied region source offset pages ∷ past)
+reached_copied header outside region source offset pages g r n u past homed was used below above = elim (ℕ_discrete r region.0) [
+  | yes e ↦
+      elim (was.reached g source.0 n u (sym (if_yes r region.0 (in_use header outside g source.0 past) (in_use header outside g r past) e) ∙ used)
+      (subst (λ (t : ℕ). Below (λ k. backing_of header k past) n t u)
+      (if_yes r region.0 (region_of header source.0 past).top (region_of header r past).top e) below) above) [
+        | inl fresh ↦ absurd (homed fresh.0)
+        | inr home ↦ inr (object_stays u g (event.RegionCopied region source offset pages) past home)
+      ]
+  | no apart ↦ housed_stays g r u (event.RegionCopied region source offset pages) past refl
+      (was.reached g r n u (sym (if_no r region.0 (in_use header outside g source.0 past) (in_use header outside g r past) apart) ∙ used)
+      (subst (λ (t : ℕ). Below (λ k. backing_of header k past) n t u)
+      (if_no r region.0 (region_of header source.0 past).top (region_of header r past).top apart) below) above)
+]
+
+reached_entered : (header : Header) (outside : Outside) (task : TaskId) (address bytes : ℕ) (region : RegionId) (offset : ℕ) (prot : Prot) (inherit : Inherit)
+    (g r n u : ℕ) (past : List Event) → Housed header outside past
+    → in_use header outside g r (event.Entered task address bytes region offset prot inherit ∷ past) ≡ true
+    → Below (λ k. backing_of header k past) n (region_of header r past).top u → named header ≤ u
+    → IsHoused g r u (event.Entered task address bytes region offset prot inherit ∷ past)
+reached_entered header outside task address bytes region offset prot inherit g r n u past was used below above = elim (ℕ_discrete r region.0) [
+  | yes e ↦ here e before
+  | no apart ↦ housed_stays g r u (event.Entered task address bytes region offset prot inherit) past
+      (if_no region.0 r (first_of (home_of r past) (host_of task.0 past)) (home_of r past) (λ e. apart (sym e))) before
+]
+  where
+    before : IsHoused g r u past
+    before = was.reached g r n u (second _ (in_use header outside g r past) used) below above
+
+    here : r ≡ region.0 → IsHoused g r u past → IsHoused g r u (event.Entered task address bytes region offset prot inherit ∷ past)
+    here e (inr home) = inr (object_stays u g (event.Entered task address bytes region offset prot inherit) past home)
+    here e (inl fresh) =
+        housed_at g r u (event.Entered task address bytes region offset prot inherit ∷ past) fresh.1
+        (if_yes region.0 r (first_of (home_of r past) (host_of task.0 past)) (home_of r past) (sym e)
+        ∙ ap (λ x. first_of x (host_of task.0 past)) fresh.0 ∙ entered_here header outside task region.0 g r past e used)
+
+reached_shadowed : (header : Header) (outside : Outside) (region : RegionId) (new old : ObjectId) (g r n u : ℕ) (past : List Event)
+    → new.0 ≡ next_object header past → Made header outside past → Housed header outside past → in_use header outside g r past ≡ true
+    → Below (λ k. backing_of header k (event.Shadowed region new old ∷ past)) n (region_of header r (event.Shadowed region new old ∷ past)).top u
+    → named header ≤ u → IsHoused g r u (event.Shadowed region new old ∷ past)
+reached_shadowed header outside region new old g r n u past number m was used below above = elim (ℕ_discrete r region.0) [
+  | yes e ↦ own e n (subst (λ (t : ℕ). Below (λ k. backing_of header k (event.Shadowed region new old ∷ past)) n t u)
+      (if_yes r region.0 new.0 (region_of header r past).top e) below)
+  | no apart ↦ down n (subst (λ (t : ℕ). Below (λ k. backing_of header k (event.Shadowed region new old ∷ past)) n t u)
+      (if_no r region.0 new.0 (region_of header r past).top apart) below)
+]
+  where
+    same : (k : ℕ) → k < next_object header past → backing_of header k (event.Shadowed region new old ∷ past) ≡ backing_of header k past
+    same k less =
+        ap (λ (b : Bool). over b (region_of header region.0 past) (backing_of header k past)) (eq_no k new.0 (λ e. omega (arith, e, less, number)))
+
+    down : (n : ℕ) → Below (λ k. backing_of header k (event.Shadowed region new old ∷ past)) n (region_of header r past).top u
+        → IsHoused g r u (event.Shadowed region new old ∷ past)
+    down n is =
+        housed_stays g r u (event.Shadowed region new old) past refl (was.reached g r n u used (below_old (λ k. backing_of header k past)
+        (λ k. backing_of header k (event.Shadowed region new old ∷ past)) (next_object header past) n (region_of header r past).top u
+        (m.tops r (m.used g r used)) same m.under is) above)
+
+    own : r ≡ region.0 → (n : ℕ) → Below (λ k. backing_of header k (event.Shadowed region new old ∷ past)) n new.0 u
+        → IsHoused g r u (event.Shadowed region new old ∷ past)
+    own e zero is =
+        housed_new g r u (event.Shadowed region new old ∷ past)
+        (if_yes new.0 u (first_of (region_for u past) (Some region.0)) (region_for u past) is
+        ∙ ap (λ x. first_of x (Some region.0)) (was.objects u (omega (arith, is, number))) ∙ ap (λ (k : ℕ). Some k) (sym e))
+        (λ h home. was.stay g h r used home)
+    own e (suc n) is =
+        down n (subst (λ (t : ℕ). Below (λ k. backing_of header k (event.Shadowed region new old ∷ past)) n t u)
+        (if_yes new.0 new.0 (region_of header region.0 past).top (backing_of header new.0 past).under refl
+        ∙ ap (λ k. (region_of header k past).top) (sym e)) is.1)
+
+reached_next : (header : Header) (outside : Outside) (e : Event) (past : List Event) → Sustained header outside e past → Made header outside past
+    → Entries header outside past → Housed header outside past → (g r n u : ℕ) → in_use header outside g r (e ∷ past) ≡ true
+    → Below (λ k. backing_of header k (e ∷ past)) n (region_of header r (e ∷ past)).top u → named header ≤ u → IsHoused g r u (e ∷ past)
+reached_next header outside (event.RegionMade region object pages) past c m entries was g r n u used below above =
+    reached_made header outside region object pages g r n u past c.0 c.1 m was used below above
+reached_next header outside (event.RegionCopied region source offset pages) past c m entries was g r n u used below above =
+    reached_copied header outside region source offset pages g r n u past (λ none. (found_row (OwnedAt header outside past c.at.host) c.address _ c.at.entry
+    (entries c.task c.at.host c.at.lives) c.at.found).is.homed (ap (λ k. home_of k past) (sym c.source_is) ∙ none)) was used below above
+reached_next header outside (event.Entered task address bytes region offset prot inherit) past c m entries was g r n u used below above =
+    reached_entered header outside task address bytes region offset prot inherit g r n u past was used below above
+reached_next header outside (event.Shadowed region new old) past c m entries was g r n u used below above =
+    reached_shadowed header outside region new old g r n u past c.next m was used below above
+reached_next header outside (event.Merged upper lower) past c m entries was g r n u used below above =
+    let before : (k : ℕ) × Below (λ k. backing_of header k past) k (region_of header r past).top u = below_merged (λ k. backing_of header k past) upper.0
+    lower.0 n (region_of header r past).top u c.pair.backed c.pair.under below in
+    housed_stays g r u (event.Merged upper lower) past refl (was.reached g r before.0 u used before.1 above)
+reached_next header outside (event.Removed task address bytes) past c m entries was g r n u used below above =
+    housed_stays g r u (event.Removed task address bytes) past refl
+    (was.reached g r n u (second (is_kept header r (event.Removed task address bytes ∷ past)) (in_use header outside g r past) used) below above)
+reached_next header outside (event.TaskEnded task) past c m entries was g r n u used below above =
+    housed_stays g r u (event.TaskEnded task) past refl
+    (was.reached g r n u (second (is_kept header r (event.TaskEnded task ∷ past)) (in_use header outside g r past) used) below above)
+reached_next header outside (event.Failed task object page) past c m entries was g r n u used below above =
+    housed_stays g r u (event.Failed task object page) past refl
+    (was.reached g r n u (second (is_kept header r (event.Failed task object page ∷ past)) (in_use header outside g r past) used) below above)
+reached_next header outside e past c m entries was g r n u used below above = was.reached g r n u used below above
+
+pub housed_next : (header : Header) (outside : Outside) (e : Event) (past : List Event) → Worlds header outside past → Entries header outside past
+    → Sustained header outside e past → Housed header outside past → Housed header outside (e ∷ past)
+housed_next header outside e past w entries c was =
+    record {
+      regions = regions_next header outside e past c was;
+      objects = objects_next header outside e past c was;
+      stay = stay_next header outside e past c was;
+      reached = reached_next header outside e past c (made_of header outside past w) entries was;
+    }
+
+pub housed_start : (header : Header) (outside : Outside) → Housed header outside []
+housed_start header outside =
+    record {
+      regions = λ r high. refl;
+      objects = λ o high. refl;
+      stay = λ g h r used home. no_some h home;
+      reached = λ g r n u used below above. absurd (
+          let same : r ≡ u = below_bare (λ k. backing_of header k []) n r u (λ on. absurd (let bad : false ≡ true = on in cc)) below in
+          let less : r < named header = grind (arith, nat_tests) in
+          omega (arith, same, less, above)
+          );
+    }
