@@ -153,6 +153,11 @@ apart_next header outside other past sound cause next g h r temporary one two =
 
 -- what is declared
 
+-- no mark is left where a mark may have gone
+pub cleared : {mark : Bool} (gone : Bool) → mark ≡ false → (if gone then false else mark) ≡ false
+cleared true none = refl
+cleared false none = none
+
 unmarked_next : (header : Header) (outside : Outside) (e : Event) (past : List Event) → Sound header past → HasCause header outside e past → (r : ℕ)
     → r < named header → (region_of header r (e ∷ past)).mark ≡ false
 unmarked_next header outside (event.RegionMade new object pages) past sound cause r declared =
@@ -167,16 +172,8 @@ unmarked_next header outside (event.RegionCopied new source offset pages) past s
     let other : (r == new.0) ≡ false = unlike r new.0 (λ same. omega (arith, same, number, more, declared)) in
     let apart : (r == source.0) ≡ false = unlike r source.0 (λ same. omega (arith, same, temporary, declared)) in
     rw (other, apart) (sound.unmarked r declared)
-unmarked_next header outside (event.Shadowed changed new old) past sound cause r declared = by_test (r == changed.0)
-  where
-    by_test : (b : Bool) → (if b then false else (region_of header r past).mark) ≡ false
-    by_test true = refl
-    by_test false = sound.unmarked r declared
-unmarked_next header outside (event.Unmarked changed) past sound cause r declared = by_test (r == changed.0)
-  where
-    by_test : (b : Bool) → (if b then false else (region_of header r past).mark) ≡ false
-    by_test true = refl
-    by_test false = sound.unmarked r declared
+unmarked_next header outside (event.Shadowed changed new old) past sound cause r declared = cleared (r == changed.0) (sound.unmarked r declared)
+unmarked_next header outside (event.Unmarked changed) past sound cause r declared = cleared (r == changed.0) (sound.unmarked r declared)
 unmarked_next header outside other past sound cause r declared = sound.unmarked r declared
 
 -- a region that gets a shadow is marked, so it is none of these

@@ -9,6 +9,8 @@ use Rattle.vm_base.specs.declared.ids.Prot.{Prot}
 use Rattle.vm_base.specs.declared.ids.RegionId.{RegionId}
 use Rattle.vm_maps.specs.declared.change.MapChange.{MapChange}
 use Rattle.vm_maps.specs.declared.change.MapKind.TheVariants as kind
+use Rattle.vm_maps.specs.Judge.{judged}
+use Rattle.vm_maps.specs.Maps.{rows_in}
 use Rattle.vm_objects.specs.Objects.{PutsObject, SameMarks}
 use Rattle.vm_objects.specs.declared.row.PagerState.TheVariants.{Without}
 use Rattle.vm_shadow.specs.Chains.{PutsRegion}
@@ -36,6 +38,10 @@ whole_entry address bytes region =
 -- that an entry is entered
 abbrev pub entering : Entry → MapChange
 entering row = record { kind = kind.Enter; address = row.address; bytes = row.bytes; entry = Some row; prot = row.prot; inherit = row.inherit }
+
+-- a task can enter an entry: that is a range, its addresses are free, and there may be one more
+abbrev pub CanEnter : ℕ → Entry → Parts → Type 0
+CanEnter task row k = judged k.maps.size (entering row) (rows_in task k.maps) ≡ None
 
 -- the range gets some entry
 abbrev pub enter : ℕ → ℕ → MapChange

@@ -1,11 +1,10 @@
 -- A fork gives a child the entries that are to be shared and copies of others; a copy gives a task one.
-use Rattle.std.specs.Prelude.{ℕ, ◌≡◌, ◌+◌, ◌/◌, ◌<◌, ◌≤◌, ◌^◌, true, List, ◌∷◌, Some, None, IsSome, if◌then◌else◌}
+use Rattle.std.specs.Prelude.{ℕ, ◌≡◌, ◌+◌, ◌/◌, ◌<◌, ◌≤◌, ◌^◌, true, List, ◌∷◌, Some, IsSome, if◌then◌else◌}
 use Rattle.vm_base.specs.declared.entry.Entry.{Entry}
 use Rattle.vm_base.specs.declared.ids.TaskId.{TaskId}
 use Rattle.vm_base.specs.Entries.{entered}
 use Rattle.vm_model.specs.declared.event.Event.{Event}
 use Rattle.vm_model.specs.declared.event.Event.TheVariants as event
-use Rattle.vm_maps.specs.Judge.{judged}
 use Rattle.vm_maps.specs.Maps.{ChangesOnly, entries_in, rows_in}
 use Rattle.vm_base.specs.declared.ids.RegionId.{RegionId}
 use Rattle.vm_objects.specs.Objects.{PutsObject, SameMarks, object_at}
@@ -13,7 +12,7 @@ use Rattle.vm_objects.specs.declared.row.ObjectRow.{ObjectRow}
 use Rattle.vm_shadow.specs.Chains.{ChainTable, CopiesRegion, RegionsBelow, region_at}
 use Rattle.vm_shadow.specs.declared.ids.Ids.{Ids}
 use Rattle.vm_shadow.specs.declared.region_row.RegionRow.{RegionRow}
-use Rattle.vm_kernel.specs.Changes.{entering}
+use Rattle.vm_kernel.specs.Changes.{CanEnter}
 use Rattle.vm_state.specs.Places.{has_region, region_entries}
 use Rattle.vm_kernel.specs.Sweeping.{PutsEntries}
 use Rattle.vm_kernel.specs.declared.parts.Parts.{Parts}
@@ -25,7 +24,7 @@ got task row = event.Entered task row.address row.bytes row.region row.offset ro
 -- a task can get an entry: its addresses are free
 pub record CanShare (task : ℕ) (row : Entry) (k : Parts) : Type 0 where
   pub lives : IsSome (entries_in task k.maps)
-  pub free : judged k.maps.size (entering row) (rows_in task k.maps) ≡ None
+  pub free : CanEnter task row k
   pub pages : row.offset + row.bytes / k.maps.size < 2 ^ 32
   pub region : has_region k.chains row.region.0 ≡ true
   pub few : region_entries k.chains row.region.0 + 1 < 2 ^ 32
@@ -49,7 +48,7 @@ entry_on row region = record row { region = region; offset = 0 }
 -- a task can get an entry for a range, on a copy of pages of a region from one of its pages on
 pub record CanCopy (task : ℕ) (source : RegionId) (offset : ℕ) (row : Entry) (k : Parts) (ids : Ids) : Type 0 where
   pub lives : IsSome (entries_in task k.maps)
-  pub free : judged k.maps.size (entering row) (rows_in task k.maps) ≡ None
+  pub free : CanEnter task row k
   pub sized : k.maps.size ≡ k.size
   pub pages : row.bytes / k.size < 2 ^ 32
   pub region : RegionRow

@@ -70,9 +70,13 @@ pub record HasRoom (more : ℕ) (k : Parts) (room : ℕ) : Type 0 where
   pub shadows : k.chains.marked ≤ k.chains.spare
   pub objects : k.chains.marked ≤ k.memory.objects.rows
 
+-- each frame, where slow copies wait
+abbrev pub frames_for_copies : Parts → ℕ
+frames_for_copies k = if_copies (count_copies k.waits.rows) (frame_count k.memory.frames)
+
 -- the same for as many accesses as wait, and whatever the frames have: what is enough behind anything that a command or a message does first
 abbrev pub full_dues : Parts → ℕ
-full_dues k = 3 * length k.waits.rows + k.chains.marked + 2 * if_copies (count_copies k.waits.rows) (frame_count k.memory.frames) + 1
+full_dues k = 3 * length k.waits.rows + k.chains.marked + 2 * frames_for_copies k + 1
 
 -- there is room for that, for so many events more, and in each table for so many rows more
 pub record IsRoomy (more rows_more : ℕ) (k : Parts) (room : ℕ) : Type 0 where

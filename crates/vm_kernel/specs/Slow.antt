@@ -3,11 +3,10 @@ use Rattle.std.specs.Prelude.{ℕ, ◌≡◌, ◌*◌, ◌/◌, ◌<◌, ◌^◌
 use Rattle.vm_base.specs.declared.entry.Entry.{Entry}
 use Rattle.vm_base.specs.declared.ids.TaskId.{TaskId}
 use Rattle.vm_base.specs.Entries.{entered}
-use Rattle.vm_maps.specs.Judge.{judged}
 use Rattle.vm_maps.specs.Maps.{ChangesOnly, entries_in, rows_in}
 use Rattle.vm_model.specs.declared.event.Event.{Event}
 use Rattle.vm_model.specs.declared.event.Event.TheVariants as event
-use Rattle.vm_kernel.specs.Changes.{entering, whole_entry}
+use Rattle.vm_kernel.specs.Changes.{CanEnter, whole_entry}
 use Rattle.vm_kernel.specs.Forking.{got}
 use Rattle.vm_kernel.specs.Sweeping.{PutsEntries}
 use Rattle.vm_kernel.specs.declared.parts.Parts.{Parts}
@@ -24,7 +23,7 @@ filled_entry size pages to = whole_entry to.address (pages * size) to.region
 -- a task can get an entry on the whole of a region
 pub record CanMapFilled (task : ℕ) (row : Entry) (k : Parts) : Type 0 where
   pub lives : IsSome (entries_in task k.maps)
-  pub free : judged k.maps.size (entering row) (rows_in task k.maps) ≡ None
+  pub free : CanEnter task row k
   pub pages : row.bytes / k.maps.size < 2 ^ 32
   pub region : has_region k.chains row.region.0 ≡ true
 

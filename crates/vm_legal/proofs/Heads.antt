@@ -28,7 +28,7 @@ use Rattle.vm_legal.specs.Refusal.{code_where, copy_refusal, is_empty, is_uncopi
 use Rattle.vm_legal.specs.Undelivered.{is_made}
 
 -- a test that a command passed, and the later ones
-passed : (test : Bool) (why : Code) (later : Option Code) → code_where test why later ≡ None → (test ≡ false) × (later ≡ None)
+pub passed : (test : Bool) (why : Code) (later : Option Code) → code_where test why later ≡ None → (test ≡ false) × (later ≡ None)
 passed true why later is = absurd (let bad : Some why ≡ None = is in cc)
 passed false why later is = (refl, is)
 

@@ -10,7 +10,7 @@ pub mod Multiples
 mod Order
 mod Outside
 pub mod Pages
-mod Range
+pub mod Range
 mod Rewriting
 mod Tasks
 mod Walk

@@ -18,22 +18,29 @@ use Rattle.vm_state.specs.References.{is_backing, is_over, references_to}
 use Rattle.vm_state.specs.Stands.{HasRegions}
 use Rattle.vm_terminate.specs.Finishes.{IsReferred}
 
--- regions count other entries, and are as they were else; and so is what stands under objects
-pub record SameButEntries (old new : ChainTable) : Type 0 where
-  pub count : ℕ → ℕ
+-- each region counts so many entries now, and is as it was else; and so is what stands under objects
+pub record Recounts (count : ℕ → ℕ) (old new : ChainTable) : Type 0 where
   pub at : (r : ℕ) → region_at new r ≡ with_entries (count r) (region_at old r)
   pub shadows : (o : ℕ) → shadow_at new o ≡ shadow_at old o
 
--- the row of a region that counted other entries
-record IsRecounted (row : RegionRow) (before : Option RegionRow) : Type 0 where
-  was : RegionRow
-  found : before ≡ Some was
-  count : ℕ
-  is : row ≡ record was { entries = count }
+-- regions count other entries
+pub record SameButEntries (old new : ChainTable) : Type 0 where
+  pub count : ℕ → ℕ
+  pub recounts : Recounts count old new
 
-recounted : (n : ℕ) (row : RegionRow) (before : Option RegionRow) → with_entries n before ≡ Some row → IsRecounted row before
-recounted n row None is = absurd (let bad : None ≡ Some row = is in cc)
-recounted n row (Some was) is = record { was = was; found = refl; count = n; is = some_is row (record was { entries = n }) (sym is) }
+-- a region that has a row now had one, with another count
+pub record Recounted (n : ℕ) (row : RegionRow) (before : Option RegionRow) : Type 0 where
+  pub was : RegionRow
+  pub found : before ≡ Some was
+  pub is : row ≡ record was { entries = n }
+
+pub row_before : (count : ℕ → ℕ) (old new : ChainTable) → Recounts count old new → (r : ℕ) (row : RegionRow) → region_at new r ≡ Some row
+    → Recounted (count r) row (region_at old r)
+row_before count old new is r row found = go (region_at old r) (sym (is.at r) ∙ found)
+  where
+    go : (x : Option RegionRow) → with_entries (count r) x ≡ Some row → Recounted (count r) row x
+    go None none = absurd (let bad : None ≡ Some row = none in cc)
+    go (Some was) same = record { was = was; found = refl; is = some_is row (record was { entries = count r }) (sym same) }
 
 over_recounted : (x n : ℕ) (row : Option RegionRow) → is_over x (with_entries n row) ≡ is_over x row
 over_recounted x n None = refl
@@ -51,26 +58,26 @@ regions_recounted old new os ids region_from backing_from rm om marked same has 
       rows =
           λ r row found. let b = before r row found in subst (λ (z : RegionRow). region_from
           r ≡ record { mark = z.marked; top = z.top.0; shift = z.shift; pages = z.pages }) (sym b.is) (has.rows r b.was b.found);
-      shadows = λ o row found. has.shadows o row (sym (same.shadows o) ∙ found);
-      ranked = ranked_same old new same.shadows has.ranked;
-      bottoms = λ o referred none. has.bottoms o referred (sym (same.shadows o) ∙ none);
-      unmade = λ r le. same.at r ∙ ap (with_entries (same.count r)) (has.unmade r le);
+      shadows = λ o row found. has.shadows o row (sym (same.recounts.shadows o) ∙ found);
+      ranked = ranked_same old new same.recounts.shadows has.ranked;
+      bottoms = λ o referred none. has.bottoms o referred (sym (same.recounts.shadows o) ∙ none);
+      unmade = λ r le. same.recounts.at r ∙ ap (with_entries (same.count r)) (has.unmade r le);
       unknown = has.unknown;
       tops = λ r row found. let b = before r row found in subst (λ (z : RegionRow). IsSome (object_at os z.top.0)) (sym b.is) (has.tops r b.was b.found);
-      unders = λ o row found. has.unders o row (sym (same.shadows o) ∙ found);
+      unders = λ o row found. has.unders o row (sym (same.recounts.shadows o) ∙ found);
       fits = record {
         tops =
             λ r row found. let b = before r row found in subst (λ (z : RegionRow). z.shift + z.pages ≤ object_pages os z.top.0) (sym b.is)
             (has.fits.tops r b.was b.found);
-        unders = λ o row found. has.fits.unders o row (sym (same.shadows o) ∙ found);
+        unders = λ o row found. has.fits.unders o row (sym (same.recounts.shadows o) ∙ found);
       };
       counts =
           λ o known found. has.counts o known found ∙ sym (references_same old new rm om o
-          (λ r. ap (is_over o) (same.at r) ∙ over_recounted o (same.count r) (region_at old r)) (λ s. ap (is_backing o) (same.shadows s)));
+          (λ r. ap (is_over o) (same.recounts.at r) ∙ over_recounted o (same.count r) (region_at old r)) (λ s. ap (is_backing o) (same.recounts.shadows s)));
     }
   where
-    before : (r : ℕ) (row : RegionRow) → region_at new r ≡ Some row → IsRecounted row (region_at old r)
-    before r row found = recounted (same.count r) row (region_at old r) (sym (same.at r) ∙ found)
+    before : (r : ℕ) (row : RegionRow) → region_at new r ≡ Some row → Recounted (same.count r) row (region_at old r)
+    before r row found = row_before same.count old new same.recounts r row found
 
 -- one object is known otherwise, but for its pages and how often it is referred to
 pub regions_controlled : (o : ℕ) (row row2 : ObjectRow) (cs : ChainTable) (os os2 : ObjectTable) (ids : Ids) (region_from : ℕ → Region)

@@ -178,7 +178,7 @@ but_known o new cs os os2 rs put stays but =
 
 -- regions count other entries
 pub referred_recounted : (old new : ChainTable) (os : ObjectTable) (rs : ResidentTable) → SameButEntries old new → AllReferred old os rs → AllReferred new os rs
-referred_recounted old new os rs same all = referred_chains old new os rs (λ x row found. inl (sym (same.shadows x) ∙ found)) all
+referred_recounted old new os rs same all = referred_chains old new os rs (λ x row found. inl (sym (same.recounts.shadows x) ∙ found)) all
 
 -- an object has another control
 pub referred_controlled : (o : ℕ) (row row2 : ObjectRow) (cs : ChainTable) (os os2 : ObjectTable) (rs : ResidentTable) → object_at os o ≡ Some row

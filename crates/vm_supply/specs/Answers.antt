@@ -79,6 +79,10 @@ outcome_of (Some known) control rows message = if known.live && known.control ==
 abbrev pub outcome_on : HostParts → ObjectId → ℕ → Message → AnswerOutcome
 outcome_on parts object control message = outcome_of (object_at parts.objects object.0) control (row_at parts.resident object.0) message
 
+-- a page is asked, and this is its row
+abbrev pub HasAsked : PageKey → PageRow → HostParts → Type 0
+HasAsked key was parts = asked_row (row_at parts.resident key.object.0 key.page.0) ≡ Some was
+
 -- the pager of an object is ready now
 pub record Readies (object : ObjectId) (who : Woken) (old new : HostParts) (before after : List Event) : Type 0 where
   pub woken : who ≡ woken.ReadyOf object
@@ -94,7 +98,7 @@ pub record Readies (object : ObjectId) (who : Woken) (old new : HostParts) (befo
 pub record Supplies (key : PageKey) (lock : ℕ) (precious : Bool) (bytes : List ℕ) (who : Woken) (old new : HostParts) (before after : List Event) : Type 0 where
   pub woken : who ≡ woken.Page key
   pub was : PageRow
-  pub asked : asked_row (row_at old.resident key.object.0 key.page.0) ≡ Some was
+  pub asked : HasAsked key was old
   pub page : FillsPage key was (lock_numbered lock) precious bytes old new
   pub objects : new.objects ≡ old.objects
   pub events : after ≡ before
@@ -103,7 +107,7 @@ pub record Supplies (key : PageKey) (lock : ℕ) (precious : Bool) (bytes : List
 pub record Zeroes (host : HostId) (key : PageKey) (who : Woken) (old new : HostParts) (before after : List Event) : Type 0 where
   pub woken : who ≡ woken.Page key
   pub was : PageRow
-  pub asked : asked_row (row_at old.resident key.object.0 key.page.0) ≡ Some was
+  pub asked : HasAsked key was old
   pub page : FillsPage key was unlocked false (replicate old.buffers.size 0) old new
   pub objects : new.objects ≡ old.objects
   pub events : after ≡ event.Zeroed host key.object key.page ∷ before
@@ -112,7 +116,7 @@ pub record Zeroes (host : HostId) (key : PageKey) (who : Woken) (old new : HostP
 pub record Lacks (key : PageKey) (who : Woken) (old new : HostParts) (before after : List Event) : Type 0 where
   pub woken : who ≡ woken.Page key
   pub was : PageRow
-  pub asked : asked_row (row_at old.resident key.object.0 key.page.0) ≡ Some was
+  pub asked : HasAsked key was old
   pub page : Cancels key was old new
   pub absent : PutsAbsent key.object.0 key.page.0 true old.objects new.objects
   pub objects : SameObjects old.objects new.objects
@@ -123,7 +127,7 @@ pub record Lacks (key : PageKey) (who : Woken) (old new : HostParts) (before aft
 pub record FailsPage (key : PageKey) (who : Woken) (old new : HostParts) (before after : List Event) : Type 0 where
   pub woken : who ≡ woken.Fails key
   pub was : PageRow
-  pub asked : asked_row (row_at old.resident key.object.0 key.page.0) ≡ Some was
+  pub asked : HasAsked key was old
   pub page : Cancels key was old new
   pub objects : new.objects ≡ old.objects
   pub events : after ≡ before

@@ -1,5 +1,6 @@
 -- What is no event of a host leaves what its kernel stands for.
 use Rattle.vm_kernel.proofs.Common.{AllInTurn, AllRows, ApartElsewhere, BeganInOrder, Below, Bool, Command, Down, EachIn, EachOf, EntersNext, Entry, Event}
+use Rattle.vm_legal.proofs.Files.{file_paged}
 use Rattle.vm_kernel.proofs.Common.{HasCause, HasControls, HasFrames, HasLaundry, HasOrder, HasPages, HasQueue, HasRegions, HasTasks, HasUse, HasWaits, Header}
 use Rattle.vm_kernel.proofs.Common.{Ids, IfSome, IsAbroad, IsAmong, IsCommon, IsHeldOn, IsInside, IsMine, IsNobodys, IsOfHost, IsRegionOf, IsShut, IsUsed}
 use Rattle.vm_kernel.proofs.Common.{Knows, List, Matches, MomentsIn, None, Option, Outside, Parts, PromptAt, RegionRow, Rests, SameFacts, SameForHost, Some}
@@ -10,7 +11,7 @@ use Rattle.vm_kernel.proofs.Common.{leads_now, live_control, lives_on, local, na
 use Rattle.vm_kernel.proofs.Common.{region_at, region_of, returns_out, reverse, rows_in, rows_map, slice_get, sound_next, stays, subst, suc, swept_now, sym}
 use Rattle.vm_kernel.proofs.Common.{tasks, true, unwrap_or, use_of, use_same, used_of, vain_now, zero, ℕ, ◌++◌, ◌<◌, ◌==◌, ◌∙◌, ◌∷◌, ◌≡◌, ◌≤◌, ◌⊎◌}
 use Rattle.vm_kernel.proofs.space.RegionsFilled.{row_use}
-use Rattle.vm_kernel.proofs.space.RegionsInUse.{fills_here, paged_file, waits_some}
+use Rattle.vm_kernel.proofs.space.RegionsInUse.{fills_here, waits_some}
 use Rattle.vm_state.proofs.Filling.{used_told}
 use Rattle.vm_model.specs.declared.event.Event.TheVariants as event
 use Rattle.std.specs.Prelude.{◌&&◌, ◌+◌, ◌==◌, ◌||◌}
@@ -255,7 +256,7 @@ module _ (header : Header) (h : ℕ) (k : Parts) (ids next : Ids) (past new : Li
         files = λ r file some.
             let task = by_some all_tasks r k.maps some in
             let row = region_row k.chains r (entry_there header.size r k.chains (rows_in task.0 k.maps) (rests.matches.entries.inside task.0) task.1) in
-            common.homes.files r h file (inr (home r (rests.matches.homes.0 r row.0 (paged_file header r file) row.1)));
+            common.homes.files r h file (inr (home r (rests.matches.homes.0 r row.0 (file_paged header r file) row.1)));
         among =
             λ task rows found. subst (λ (z : List ℕ). is_among task z ≡ true) (sym same.made.is)
             (among_more task same.made.made (tasks past) (has.among task rows found));

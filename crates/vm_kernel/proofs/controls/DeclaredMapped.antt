@@ -1,4 +1,5 @@
 -- A declared object is mapped: a task gets an entry on its region, which counts one more or is made, and then the object's pager is told of it.
+use Rattle.vm_kernel.specs.Changes.{CanEnter}
 use Rattle.vm_kernel.proofs.Common.{Begins, Bool, ChainTable, ChangesOnly, Command, EachOf, Elsewhere, Enters, Entry, Event, HasControls, HasPages, Header, Ids}
 use Rattle.vm_kernel.proofs.Common.{IfSome, IsInside, IsReferred, IsSome, List, MapChange, Mapped, Matches, None, ObjectId, ObjectRow, ObjectTable, Option}
 use Rattle.vm_kernel.proofs.Common.{Outside, Parts, Plays, PutsObject, PutsRegion, QueueIsStill, Ran, RegionRow, Rests, RunsNone, SameMarks, Shares, Some}
@@ -51,7 +52,8 @@ use Rattle.vm_kernel.proofs.space.EntriesCounted.{most_is}
 use Rattle.vm_kernel.proofs.controls.DeclaredRegion.{BecomesKnown, controls_opened, declared_references, entries_declared, fit_declared, kinds_declared}
 use Rattle.vm_kernel.proofs.controls.DeclaredRegion.{own_region, regions_declared, used_declared, waits_declared}
 use Rattle.vm_kernel.proofs.steps.EventsGrow.{licensed, suffices}
-use Rattle.vm_kernel.proofs.steps.HeadAlone.{heads_one, passed, ran_head}
+use Rattle.vm_kernel.proofs.steps.HeadAlone.{heads_one, ran_head}
+use Rattle.vm_legal.proofs.Heads.{passed}
 use Rattle.vm_kernel.proofs.memory.WhatIsKnown.{other_if, pages_known}
 use Rattle.vm_kernel.proofs.abroad.OwnEvents.{mine_of, own_named, own_task}
 use Rattle.vm_kernel.proofs.abroad.OwnHost.{lives_here, lives_in, named_host, own_host, rows_here}
@@ -80,7 +82,7 @@ pub record MayMap (header : Header) (h : ℕ) (k : Parts) (task address bytes : 
   pub used : is_file header object.0 ≡ true → in_use header h object.0 past ≡ true
   pub free : meets_range address bytes (rows_in task k.maps) ≡ false
   pub room : length (rows_in task k.maps) < most_entries
-  pub judged : judged k.maps.size (entering (shared_entry address bytes object offset)) (rows_in task k.maps) ≡ None
+  pub judged : CanEnter task (shared_entry address bytes object offset) k
   pub pages : offset + bytes / k.maps.size < 2 ^ 32
 
 -- what isn't elsewhere is here

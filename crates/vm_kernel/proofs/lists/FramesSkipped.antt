@@ -5,7 +5,7 @@ use Rattle.vm_kernel.proofs.Common.{frame_count, free, has_page, inl, inr, is_qu
 use Rattle.vm_kernel.proofs.Common.{◌&&◌, ◌++◌, ◌*◌, ◌+◌, ◌<◌, ◌==◌, ◌||◌, ◌∙◌, ◌∷◌, ◌≡◌, ◌≤◌, ◌⊎◌}
 use Rattle.std.proofs.Common.{vec_capacity}
 use Rattle.vm_kernel.proofs.room.RunPays.{loose_moves}
-use Rattle.vm_kernel.specs.Rooms.{IsRoomy, IsSkipRoom, LeavesRoom, Spends, if_copies, is_kept, loose_frames}
+use Rattle.vm_kernel.specs.Rooms.{IsRoomy, IsSkipRoom, LeavesRoom, Spends, frames_for_copies, if_copies, is_kept, loose_frames}
 use Rattle.vm_kernel.specs.Serving.{FreesBut}
 use Rattle.vm_base.specs.Listing.{Listed}
 use Rattle.std.specs.Prelude.{min}
@@ -231,7 +231,7 @@ leaves_looked answer k k2 queues before after same r =
 -- what reclaims have taken since a pageout began: two events and a buffer at most for each page that they took off the lists
 pub record Reclaimed (done : ℕ) (old new : Parts) (before after : Listed Event) : Type 0 where
   pub accesses : length new.waits.rows ≡ length old.waits.rows
-  pub frames : if_copies (count_copies new.waits.rows) (frame_count new.memory.frames) ≡ if_copies (count_copies old.waits.rows) (frame_count old.memory.frames)
+  pub frames : frames_for_copies new ≡ frames_for_copies old
   pub told : length after.items + 2 * listed_pages new.memory.queues ≤ length before.items + 2 * listed_pages old.memory.queues
   pub room : before.room + 2 * listed_pages new.memory.queues ≤ after.room + 2 * listed_pages old.memory.queues
   pub rows : old.memory.resident.spare ≤ new.memory.resident.spare

@@ -10,7 +10,8 @@ use Rattle.vm_model.specs.declared.event.Event.TheVariants as event
 use Rattle.vm_model.specs.declared.command.Command.TheVariants as command
 use Rattle.vm_state.specs.Places.{known_local}
 use Rattle.vm_kernel.proofs.steps.EventsGrow.{free_is, suffices}
-use Rattle.vm_kernel.proofs.steps.HeadAlone.{heads_one, passed, ran_head}
+use Rattle.vm_kernel.proofs.steps.HeadAlone.{heads_one, ran_head}
+use Rattle.vm_legal.proofs.Heads.{passed}
 use Rattle.vm_kernel.proofs.abroad.OwnHost.{named_host, own_host}
 use Rattle.vm_kernel.proofs.abroad.OwnEvents.{own_named}
 use Rattle.vm_kernel.proofs.controls.LockReplied.{replied_behind}

@@ -1,10 +1,10 @@
 -- What is left of the kernel where a store's region loses its mark.
 use Rattle.vm_kernel.proofs.Common.{ChainTable, Event, Header, HostParts, Ids, List, Matches, ObjectTable, Parts, Region, RegionRow, Some, Works, ap, arith}
 use Rattle.vm_kernel.proofs.Common.{false}
-use Rattle.vm_kernel.proofs.Common.{has_region, in_use, inl, inr, is_some, is_woken, marks_of, named, next_object, next_region, pages_in, refl, region_at}
-use Rattle.vm_kernel.proofs.Common.{region_of, some_is, subst, sym, true, waiting, ℕ, ◌+◌, ◌-◌, ◌<◌, ◌==◌, ◌∙◌, ◌∷◌, ◌≡◌, ◌≤◌, ◌⊎◌}
+use Rattle.vm_kernel.proofs.Common.{inl, inr, is_woken, marks_of, next_object, next_region, refl, region_at}
+use Rattle.vm_kernel.proofs.Common.{subst, sym, true, waiting, ℕ, ◌+◌, ◌-◌, ◌<◌, ◌∙◌, ◌∷◌, ◌≡◌}
 use Rattle.vm_kernel.proofs.controls.LockReplied.{replied_behind}
-use Rattle.vm_kernel.proofs.memory.ShadowMade.{KeepsRegions, entries_kept}
+use Rattle.vm_kernel.proofs.memory.ShadowMade.{KeepsRegions, entries_kept, keeps_put}
 use Rattle.vm_kernel.proofs.space.RegionsFilled.{unmarked_filled}
 use Rattle.vm_kernel.proofs.Common.{Command, Outside, []}
 use Rattle.vm_kernel.proofs.space.RegionHomes.{homes_caused, homes_put}
@@ -13,7 +13,6 @@ use Rattle.vm_base.specs.declared.ids.RegionId.{RegionId}
 use Rattle.vm_fault.specs.Faults.{FaultState, LosesMark}
 use Rattle.vm_fault.specs.Walks.{ChainsFit}
 use Rattle.vm_model.specs.declared.event.Event.TheVariants as event
-use Rattle.vm_parts.proofs.Rows.{one_case}
 use Rattle.vm_shadow.specs.Chains.{PutsRegion}
 use Rattle.vm_state.proofs.Filling.{copies_kept, rows_unmade}
 use Rattle.vm_state.proofs.Marks.{marked_unmarked}
@@ -23,30 +22,7 @@ use Rattle.vm_supply.specs.declared.woken.Woken.TheVariants as woken
 
 keeps_unmarked : (region : ℕ) (row : RegionRow) (old new : ChainTable) → PutsRegion region (Some (record row { marked = false })) old new
     → region_at old region ≡ Some row → KeepsRegions old new
-keeps_unmarked region row old new put there =
-    record {
-      has = λ r. elim (cases r) [
-        | inl this ↦ ap is_some this.1 ∙ sym (ap is_some (was r this.0))
-        | inr other ↦ ap is_some other.1
-      ];
-      pages = λ r. elim (cases r) [
-        | inl this ↦ ap pages_in this.1 ∙ sym (ap pages_in (was r this.0))
-        | inr other ↦ ap pages_in other.1
-      ];
-      row = λ r found is. elim (cases r) [
-        | inl this ↦ (row, was r this.0, ap (λ (z : RegionRow). z.entries) (some_is found now (sym is ∙ this.1)))
-        | inr other ↦ (found, sym other.1 ∙ is, refl)
-      ];
-    }
-  where
-    now : RegionRow
-    now = record row { marked = false }
-
-    cases : (r : ℕ) → ((region ≡ r) × (region_at new r ≡ Some now)) ⊎ ((region ≡ r → ⊥) × (region_at new r ≡ region_at old r))
-    cases r = one_case region r (Some now) (region_at old r) (region_at new r) (put.at r)
-
-    was : (r : ℕ) → region ≡ r → region_at old r ≡ Some row
-    was r same = subst (λ (z : ℕ). region_at old z ≡ Some row) same there
+keeps_unmarked region row old new put there = keeps_put region row (record row { marked = false }) old new there put.at refl refl
 
 -- nothing but the mark and its count changes
 unmarked_with : (header : Header) (h : ℕ) (outside : Outside) (doing : Command) (past : List Event) (k : Parts) (ids : Ids) (region : RegionId)

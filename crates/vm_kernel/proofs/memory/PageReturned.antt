@@ -1,8 +1,9 @@
 -- A page goes back to its pager, which is told of its object first where it wasn't.
+use Rattle.vm_abroad.proofs.Sounds.{cleared}
 use Rattle.vm_kernel.proofs.Common.{AllLive, Asks, Begins, Bool, ChainTable, Down, Drops, Elsewhere, Ends, Event, FrameTable, HasControls, HasKinds, HasPages}
 use Rattle.vm_kernel.proofs.Common.{Header, IsOfKind, IsPagerTold, IsReferred, List, Local, LocalEffect, Message, None, ObjectRow, ObjectTable, Option}
 use Rattle.vm_kernel.proofs.Common.{PagerState, PutsAbsent, PutsObject, Raises, ResidentTable, Returns, Some, Stores, TakesError, TakesLock, TakesNothing}
-use Rattle.vm_kernel.proofs.Common.{TakesPage, Unlocks, Up, Zeroes, [], absent_at, ap, arith, eqb_tells, false, has_pager, if◌then◌else◌, inl, inr, is_control}
+use Rattle.vm_kernel.proofs.Common.{TakesPage, Unlocks, Up, Zeroes, [], ap, arith, eqb_tells, false, has_pager, if◌then◌else◌, inl, inr, is_control}
 use Rattle.vm_kernel.proofs.Common.{is_ready_state, last_in, live_control, live_in, local, local_after, local_with_page, named, object_at, one_case, place_of}
 use Rattle.vm_kernel.proofs.Common.{ready_in, refl, row_with_control, some_is, subst, sym, taken_effect, true, without_control, ℕ, ◌&&◌, ◌+◌, ◌<◌, ◌==◌, ◌∙◌}
 use Rattle.vm_kernel.proofs.Common.{◌∷◌, ◌≡◌, ◌≤◌}
@@ -19,15 +20,15 @@ use Rattle.vm_state.proofs.Knowing.{put_else, put_here}
 -- nothing is asked of an object without a live control
 
 -- what asks for no page
-abbrev IsCalm : LocalEffect → Type 0
-IsCalm Asks = ⊥
-IsCalm other = Unit {0}
+abbrev AsksNone : LocalEffect → Type 0
+AsksNone Asks = ⊥
+AsksNone other = Unit {0}
 
 either : (b : Bool) (x y : Local) → x.asked ≡ false → y.asked ≡ false → (if b then x else y).asked ≡ false
 either true x y one other = one
 either false x y one other = other
 
-calm : (size : ℕ) (e : LocalEffect) (was : Local) → IsCalm e → was.asked ≡ false → (local_after size e was).asked ≡ false
+calm : (size : ℕ) (e : LocalEffect) (was : Local) → AsksNone e → was.asked ≡ false → (local_after size e was).asked ≡ false
 calm size Zeroes was none is = is
 calm size (Raises bytes) was none is = is
 calm size (Stores at bytes) was none is = is
@@ -46,20 +47,20 @@ calm size Begins was none is = refl
 calm size Ends was none is = refl
 calm size Elsewhere was none is = is
 
-calm_if : (b : Bool) (e : LocalEffect) → IsCalm e → IsCalm (if b then e else Elsewhere)
+calm_if : (b : Bool) (e : LocalEffect) → AsksNone e → AsksNone (if b then e else Elsewhere)
 calm_if true e none = none
 calm_if false e none = tt
 
-calm_either : (b : Bool) (e f : LocalEffect) → IsCalm e → IsCalm f → IsCalm (if b then e else f)
+calm_either : (b : Bool) (e f : LocalEffect) → AsksNone e → AsksNone f → AsksNone (if b then e else f)
 calm_either true e f one other = one
 calm_either false e f one other = other
 
 calm_merged : (upper lower shift upper_pages lower_pages : ℕ) (place : Place) (others : Place → Local)
-    → IsCalm (merge_effect upper lower shift upper_pages lower_pages place others)
+    → AsksNone (merge_effect upper lower shift upper_pages lower_pages place others)
 calm_merged upper lower shift upper_pages lower_pages place others =
     calm_either (place.object == upper) _ _ (calm_if _ (Moves _) tt) (calm_if (place.object == lower && nat_lt place.page lower_pages) Drops tt)
 
-calm_taken : (page : ℕ) (m : Message) → IsCalm (taken_effect page m)
+calm_taken : (page : ℕ) (m : Message) → AsksNone (taken_effect page m)
 calm_taken page (message.Supply at lock precious bytes) = calm_if _ (TakesPage lock precious bytes) tt
 calm_taken page (message.Unavailable at) = calm_if _ TakesNothing tt
 calm_taken page (message.Error at reason) = calm_if _ TakesError tt
@@ -165,14 +166,10 @@ kinds_controlled header o p new os os2 cs put present its has =
             its)
         | inr other ↦ has.kinds x known (sym other.1 ∙ found)
       ];
-      present = λ x q declared. present.at x q ∙ either (o == x && p == q) (absent_at os x q) (has.present x q declared);
+      present = λ x q declared. present.at x q ∙ cleared (o == x && p == q) (has.present x q declared);
       tops = has.tops;
       unders = has.unders;
     }
-  where
-    either : (b was : Bool) → was ≡ false → (if b then false else was) ≡ false
-    either true was is = refl
-    either false was is = is
 
 -- an object to which something refers and of which no pager was told is temporary
 pub untold_temporary : (header : Header) (os : ObjectTable) (o : ℕ) (row : ObjectRow) → IsReferred os o → object_at os o ≡ Some row → IsOfKind header o row

@@ -4,6 +4,7 @@ use Rattle.vm_kernel.proofs.Common.{PutsObject, Region, RegionRow, SameMarks, So
 use Rattle.vm_kernel.proofs.Common.{is_some, is_woken, local_of_row, marks_of, next_object, next_region, object_at, one_case, pages_in, refl, region_at}
 use Rattle.vm_kernel.proofs.Common.{region_pages, row_at, rows_in, rows_map, some_is, subst, sym, true, waiting, ℕ, ◌+◌, ◌-◌, ◌<◌, ◌∙◌, ◌∷◌, ◌≡◌, ◌≤◌}
 use Rattle.vm_kernel.proofs.Common.{◌⊎◌}
+use Rattle.vm_kernel.proofs.Common.{if◌then◌else◌, ◌==◌}
 use Rattle.vm_kernel.proofs.space.RegionsFilled.{shadowed_filled, unknown_unfilled}
 use Rattle.vm_state.proofs.Filling.{copies_kept, rows_unmade}
 use Rattle.vm_abroad.proofs.Home.{home_shadowed, named_objects, object_stays}
@@ -14,7 +15,6 @@ use Rattle.vm_fault.specs.Walks.{ChainsFit}
 use Rattle.vm_model.specs.declared.event.Event.TheVariants as event
 use Rattle.vm_parts.specs.Fits.{Fit}
 use Rattle.vm_shadow.specs.Chains.{ObjectsBelow, ShadowsRegion}
-use Rattle.vm_model.specs.Homes.{first_of, region_for}
 use Rattle.vm_model.specs.Named.{named}
 use Rattle.vm_legal.proofs.Served.{later_paged as paged_temporary}
 use Rattle.vm_state.proofs.Declared.{kind_new, kinds_put, kinds_shadowed, marked_temporary}
@@ -40,32 +40,36 @@ pub record KeepsRegions (old new : ChainTable) : Type 0 where
   pub pages : (r : ℕ) → region_pages new r ≡ region_pages old r
   pub row : (r : ℕ) (row : RegionRow) → region_at new r ≡ Some row → (was : RegionRow) × (region_at old r ≡ Some was) × (row.entries ≡ was.entries)
 
-pub keeps_shadowed : (region : ℕ) (object : ObjectId) (row : RegionRow) (old new : ChainTable) → ShadowsRegion region object row old new
-    → region_at old region ≡ Some row → KeepsRegions old new
-keeps_shadowed region object row old new made there =
+-- one region has another row, over as many pages and with as many entries
+pub keeps_put : (region : ℕ) (row now : RegionRow) (old new : ChainTable) → region_at old region ≡ Some row
+    → ((r : ℕ) → region_at new r ≡ (if region == r then Some now else region_at old r)) → now.pages ≡ row.pages → now.entries ≡ row.entries
+    → KeepsRegions old new
+keeps_put region row now old new there put pages entries =
     record {
       has = λ r. elim (cases r) [
         | inl this ↦ ap is_some this.1 ∙ sym (ap is_some (was r this.0))
         | inr other ↦ ap is_some other.1
       ];
       pages = λ r. elim (cases r) [
-        | inl this ↦ ap pages_in this.1 ∙ sym (ap pages_in (was r this.0))
+        | inl this ↦ ap pages_in this.1 ∙ (pages ∙ sym (ap pages_in (was r this.0)))
         | inr other ↦ ap pages_in other.1
       ];
       row = λ r found is. elim (cases r) [
-        | inl this ↦ (row, was r this.0, ap (λ (z : RegionRow). z.entries) (some_is found now (sym is ∙ this.1)))
+        | inl this ↦ (row, was r this.0, ap (λ (z : RegionRow). z.entries) (some_is found now (sym is ∙ this.1)) ∙ entries)
         | inr other ↦ (found, sym other.1 ∙ is, refl)
       ];
     }
   where
-    now : RegionRow
-    now = record row { top = object; shift = 0; marked = false }
-
     cases : (r : ℕ) → ((region ≡ r) × (region_at new r ≡ Some now)) ⊎ ((region ≡ r → ⊥) × (region_at new r ≡ region_at old r))
-    cases r = one_case region r (Some now) (region_at old r) (region_at new r) (made.at r)
+    cases r = one_case region r (Some now) (region_at old r) (region_at new r) (put r)
 
     was : (r : ℕ) → region ≡ r → region_at old r ≡ Some row
     was r same = subst (λ (z : ℕ). region_at old z ≡ Some row) same there
+
+pub keeps_shadowed : (region : ℕ) (object : ObjectId) (row : RegionRow) (old new : ChainTable) → ShadowsRegion region object row old new
+    → region_at old region ≡ Some row → KeepsRegions old new
+keeps_shadowed region object row old new made there =
+    keeps_put region row (record row { top = object; shift = 0; marked = false }) old new there made.at refl refl
 
 -- the entries lie within their regions still, and are counted
 pub entries_kept : (size : ℕ) (k : Parts) (new : ChainTable) → HasEntries size k.maps k.chains [] → KeepsRegions k.chains new → HasEntries size k.maps new []

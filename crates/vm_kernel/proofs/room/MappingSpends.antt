@@ -1,19 +1,18 @@
 -- What mapping a declared object spends: holding its region, and opening its pager.
-use Rattle.vm_kernel.proofs.Common.{Event, IfSome, IsSome, List, None, ObjectId, ObjectRow, Option, Parts, Some, ap, arith, false, frame_count, length}
+use Rattle.vm_kernel.proofs.Common.{Event, IfSome, IsSome, List, None, ObjectId, ObjectRow, Option, Parts, Some, ap, arith, false, length}
 use Rattle.vm_kernel.proofs.Common.{nat_tests, refl, true, ◌+◌, ◌-◌, ◌<◌, ◌^◌, ◌∙◌, ◌≡◌, ◌≤◌}
 use Rattle.std.proofs.Common.{nat_lt}
 use Rattle.std.specs.Prelude.{Bool, ◌||◌}
 use Rattle.vm_kernel.specs.Mapping.{Again, Begins, First, Holds, IsOpen, Opens, can_open, referred}
-use Rattle.vm_kernel.specs.Rooms.{if_copies}
+use Rattle.vm_kernel.specs.Rooms.{frames_for_copies}
 use Rattle.vm_model.specs.declared.script.Declared.{Declared}
 use Rattle.vm_objects.specs.Objects.{object_at}
 use Rattle.vm_state.proofs.Knowing.{known_put}
-use Rattle.vm_waits.specs.Waits.{count_copies}
 
 -- the waiting accesses, the frames and the rows for pages are as many, and the events a few more
 pub record SameHeld (old new : Parts) : Type 0 where
   pub waits : length new.waits.rows ≡ length old.waits.rows
-  pub frames : if_copies (count_copies new.waits.rows) (frame_count new.memory.frames) ≡ if_copies (count_copies old.waits.rows) (frame_count old.memory.frames)
+  pub frames : frames_for_copies new ≡ frames_for_copies old
   pub rows : new.memory.resident.spare ≡ old.memory.resident.spare
   pub buffers : new.memory.buffers ≡ old.memory.buffers
   pub skip : new.skip ≡ old.skip
@@ -22,7 +21,7 @@ pub held_same : {object : ObjectId} {d : Declared} {old new : Parts} → Holds o
 held_same (Again region found put is) =
     record {
       waits = ap (λ (z : Parts). length z.waits.rows) is;
-      frames = ap (λ (z : Parts). if_copies (count_copies z.waits.rows) (frame_count z.memory.frames)) is;
+      frames = ap frames_for_copies is;
       rows = ap (λ (z : Parts). z.memory.resident.spare) is;
       buffers = ap (λ (z : Parts). z.memory.buffers) is;
       skip = ap (λ (z : Parts). z.skip) is;
@@ -30,7 +29,7 @@ held_same (Again region found put is) =
 held_same (First free put known marks is) =
     record {
       waits = ap (λ (z : Parts). length z.waits.rows) is;
-      frames = ap (λ (z : Parts). if_copies (count_copies z.waits.rows) (frame_count z.memory.frames)) is;
+      frames = ap frames_for_copies is;
       rows = ap (λ (z : Parts). z.memory.resident.spare) is;
       buffers = ap (λ (z : Parts). z.memory.buffers) is;
       skip = ap (λ (z : Parts). z.skip) is;
@@ -73,7 +72,7 @@ opens_little object (Some known) old new before after there opens = by opens
       held =
           record {
             waits = ap (λ (z : Parts). length z.waits.rows) is;
-            frames = ap (λ (z : Parts). if_copies (count_copies z.waits.rows) (frame_count z.memory.frames)) is;
+            frames = ap frames_for_copies is;
             rows = ap (λ (z : Parts). z.memory.resident.spare) is;
             buffers = ap (λ (z : Parts). z.memory.buffers) is;
             skip = ap (λ (z : Parts). z.skip) is;
@@ -86,7 +85,7 @@ opens_little object (Some known) old new before after there opens = by opens
       held =
           record {
             waits = ap (λ (z : Parts). length z.waits.rows) is;
-            frames = ap (λ (z : Parts). if_copies (count_copies z.waits.rows) (frame_count z.memory.frames)) is;
+            frames = ap frames_for_copies is;
             rows = ap (λ (z : Parts). z.memory.resident.spare) is;
             buffers = ap (λ (z : Parts). z.memory.buffers) is;
             skip = ap (λ (z : Parts). z.skip) is;

@@ -1,20 +1,15 @@
 -- Regions that count other entries, and are as they were else.
 use Rattle.vm_kernel.proofs.Common.{AllRows, ChainTable, Entry, List, None, Option, PutsEntries, Raised, RegionRow, Some, [], ap, arith, count_on, drop}
 use Rattle.vm_kernel.proofs.Common.{drop-cons, entries_in_row, eqb_tells, false, get_or, get_or_from_slice_get, has_region, if◌then◌else◌, inl, inr, is_some}
-use Rattle.vm_kernel.proofs.Common.{length, pages_in, refl, region_at, region_entries, region_pages, shadow_at, slice_get_within, some_is, subst, suc, sym}
+use Rattle.vm_kernel.proofs.Common.{length, pages_in, refl, region_at, region_entries, region_pages, slice_get_within, subst, suc, sym}
 use Rattle.vm_kernel.proofs.Common.{take, take_more, true, with_entries, zero, ℕ, ◌++◌, ◌+◌, ◌==◌, ◌∙◌, ◌∷◌, ◌≡◌, ◌≤◌}
 use Rattle.std.proofs.Common.{slice_get}
-use Rattle.vm_state.proofs.Changing.{SameButEntries}
+use Rattle.vm_state.proofs.Changing.{Recounts, SameButEntries}
 use Rattle.vm_kernel.proofs.space.EntriesCounted.{on_append, on_few}
-
--- each region counts so many entries now
-pub record Recounts (count : ℕ → ℕ) (old new : ChainTable) : Type 0 where
-  pub at : (r : ℕ) → region_at new r ≡ with_entries (count r) (region_at old r)
-  pub shadows : (o : ℕ) → shadow_at new o ≡ shadow_at old o
 
 -- they are the same but for these counts
 pub recounts_but : (count : ℕ → ℕ) (old new : ChainTable) → Recounts count old new → SameButEntries old new
-recounts_but count old new is = record { count = count; at = is.at; shadows = is.shadows }
+recounts_but count old new is = record { count = count; recounts = is }
 
 -- one row with another count
 has_with : (n : ℕ) (x : Option RegionRow) → is_some (with_entries n x) ≡ is_some x
@@ -81,20 +76,6 @@ recounts_put region n old new put = record {
   ];
   shadows = λ o. ap (λ f. f o) put.shadows;
 }
-
--- a region that has a row now had one, with another count
-pub record Recounted (n : ℕ) (row : RegionRow) (before : Option RegionRow) : Type 0 where
-  pub was : RegionRow
-  pub found : before ≡ Some was
-  pub is : row ≡ record was { entries = n }
-
-pub row_before : (count : ℕ → ℕ) (old new : ChainTable) → Recounts count old new → (r : ℕ) (row : RegionRow) → region_at new r ≡ Some row
-    → Recounted (count r) row (region_at old r)
-row_before count old new is r row found = go (region_at old r) (sym (is.at r) ∙ found)
-  where
-    go : (x : Option RegionRow) → with_entries (count r) x ≡ Some row → Recounted (count r) row x
-    go None bad = absurd (let no : None ≡ Some row = bad in cc)
-    go (Some was) e = record { was = was; found = refl; is = sym (some_is (record was { entries = count r }) row e) }
 
 -- lists of entries, one after another
 

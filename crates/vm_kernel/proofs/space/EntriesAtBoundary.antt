@@ -3,7 +3,8 @@ use Rattle.vm_kernel.proofs.Common.{Bool, AllRows, ChainTable, Entry, IfSome, In
 use Rattle.vm_kernel.proofs.Common.{count_on, cut_at, entry_at, false, has_region, if◌then◌else◌, length, nat_le, nat_lt, nat_tests, refl, region_entries}
 use Rattle.vm_kernel.proofs.Common.{some_is, subst, sym, true, ℕ, ◌&&◌, ◌+◌, ◌<◌, ◌^◌, ◌∙◌, ◌∷◌, ◌≡◌, ◌≤◌}
 use Rattle.vm_base.specs.declared.ids.Inherit.TheVariants.{Never}
-use Rattle.vm_kernel.proofs.space.CountsChanged.{Recounts, has_same, raised_none, raised_one}
+use Rattle.vm_state.proofs.Changing.{Recounts}
+use Rattle.vm_kernel.proofs.space.CountsChanged.{has_same, raised_none, raised_one}
 use Rattle.vm_kernel.specs.Sweeping.{IsCutOn, first_region}
 
 -- it is the entry that holds the boundary, if this begins in front of it

@@ -22,7 +22,8 @@ use Rattle.vm_supply.specs.declared.woken.Woken.TheVariants as woken
 use Rattle.vm_kernel.proofs.space.EntriesCounted.{by_changed, by_few, most_is}
 use Rattle.vm_kernel.proofs.space.EntriesCut.{Cuts, MayCut, inherit_cuts, may_cut, protect_cuts}
 use Rattle.vm_kernel.proofs.steps.EventsGrow.{suffices}
-use Rattle.vm_kernel.proofs.steps.HeadAlone.{grows_one, passed}
+use Rattle.vm_kernel.proofs.steps.HeadAlone.{grows_one}
+use Rattle.vm_legal.proofs.Heads.{passed}
 use Rattle.vm_kernel.proofs.space.CountsChanged.{raised_recounts}
 use Rattle.vm_kernel.proofs.space.RegionRows.{region_row, tops_recounted}
 use Rattle.vm_kernel.proofs.space.EntriesRewritten.{entries_changed, lives_below, on_among, recount_homes, recount_referred, recount_regions, recount_used}

@@ -13,7 +13,8 @@ use Rattle.vm_model.specs.declared.message.Message.TheVariants as message
 use Rattle.vm_supply.specs.declared.woken.Woken.TheVariants as woken
 use Rattle.vm_kernel.proofs.steps.EventsGrow.{grows_goes}
 use Rattle.vm_kernel.proofs.memory.PagesShown.{itself}
-use Rattle.vm_kernel.proofs.space.CountsChanged.{Recounts, entries_are, has_same, next_row, recounts_put, row_before}
+use Rattle.vm_state.proofs.Changing.{Recounts, row_before}
+use Rattle.vm_kernel.proofs.space.CountsChanged.{entries_are, has_same, next_row, recounts_put}
 use Rattle.vm_kernel.proofs.space.RegionRows.{region_row, tops_recounted}
 use Rattle.vm_kernel.proofs.space.EntriesRewritten.{recount_homes, recount_inside, recount_known, recount_referred, recount_regions}
 use Rattle.vm_kernel.proofs.space.RegionCases.{region_cases}

@@ -8,8 +8,8 @@ use Rattle.vm_kernel.proofs.Common.{true, unwrap_or, zero, ℕ, ◌&&◌, ◌++�
 use Rattle.vm_kernel.proofs.space.EntriesAtBoundary.{on_cut_at}
 use Rattle.vm_kernel.proofs.space.EntriesCounted.{by_changed, on_append, on_zero}
 use Rattle.std.proofs.lemmas.Grind.{flat_map-append}
-use Rattle.vm_kernel.proofs.space.CountsChanged.{Recounts, has_same, pages_same, recounts_but, row_before}
-use Rattle.vm_state.proofs.Changing.{regions_recounted}
+use Rattle.vm_kernel.proofs.space.CountsChanged.{has_same, pages_same, recounts_but}
+use Rattle.vm_state.proofs.Changing.{Recounts, regions_recounted, row_before}
 use Rattle.vm_state.proofs.Referred.{referred_recounted}
 use Rattle.vm_kernel.proofs.abroad.OwnHost.{rows_here}
 

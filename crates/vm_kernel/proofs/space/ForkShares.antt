@@ -1,8 +1,10 @@
 -- A fork makes a child, and gives it what is shared, and copies of what is copied, one entry after another.
+use Rattle.vm_kernel.specs.Changes.{CanEnter}
 use Rattle.vm_kernel.proofs.Common.{Access, AllRows, AreEntries, CanShare, ChainTable, ChangesOnly, Command, Enters, Entry, Event, HasEntries}
+use Rattle.vm_legal.proofs.Files.{file_paged}
 use Rattle.vm_kernel.proofs.Common.{HasWaiters, HasWholePages, HaveHomes, Header, Ids, InOrder, IsFilledIn, IsInside, IsShared, IsSome, List, Mapped}
 use Rattle.vm_kernel.proofs.Common.{None, Option, Outside, Parts, PutsEntries, Ran, RegionRow, Rests, Shares, Some, Starts, Target, TaskId, Waiting, []}
-use Rattle.vm_kernel.proofs.Common.{all_tasks, ap, arith, code_where, copies, copy_target, count_again, count_by, drop, entered, entering, entries_in}
+use Rattle.vm_kernel.proofs.Common.{all_tasks, ap, arith, code_where, copies, copy_target, count_again, count_by, drop, entered, entries_in}
 use Rattle.vm_kernel.proofs.Common.{entries_in_row, entries_of, entry, entry_at, eqb_tells, false, got, has_entry, has_region, head, holds}
 use Rattle.vm_kernel.proofs.Common.{host_id, host_of, if◌then◌else◌, in_use, inl, inr, is_copied, is_filled, is_fork_full, is_none, is_range}
 use Rattle.vm_kernel.proofs.Common.{is_some, is_woken, length, length_entered, lives_on, most_entries, named, nat_tests, next_region, one_case, pages_in, refl}
@@ -11,7 +13,7 @@ use Rattle.vm_kernel.proofs.Common.{slice_get, slice_get_within, some_is, subst,
 use Rattle.vm_kernel.proofs.Common.{◌^◌, ◌∙◌, ◌∷◌, ◌≡◌, ◌≢◌, ◌≤◌, ◌⊎◌}
 use Rattle.vm_kernel.proofs.space.RegionsFilled.{counted_unfilled, entry_some, recount_filled, same_waiting}
 use Rattle.vm_legal.proofs.Served.{later_paged as paged_temporary}
-use Rattle.vm_kernel.proofs.space.RegionsInUse.{fills_here, holds_rows, paged_file, unfilled, uses_entered}
+use Rattle.vm_kernel.proofs.space.RegionsInUse.{fills_here, holds_rows, unfilled, uses_entered}
 use Rattle.vm_state.proofs.Filling.{copies_kept, rows_unmade}
 use Rattle.std.proofs.Common.{nat_lt}
 use Rattle.vm_abroad.proofs.Elsewhere.{filled_other}
@@ -20,7 +22,6 @@ use Rattle.vm_base.specs.declared.code.Code.TheVariants as code
 use Rattle.vm_base.specs.declared.ids.Inherit.TheVariants as inherit
 use Rattle.vm_base.specs.declared.ids.RegionId.{RegionId}
 use Rattle.vm_legal.specs.Follows.{inherits, inherits_all, next_behind}
-use Rattle.vm_maps.specs.Judge.{judged}
 use Rattle.vm_model.specs.declared.event.Event.TheVariants as event
 use Rattle.vm_model.specs.declared.command.Command.TheVariants as command
 use Rattle.vm_state.proofs.Changing.{SameButEntries, regions_recounted}
@@ -41,7 +42,8 @@ use Rattle.vm_kernel.proofs.space.EntriesCounted.{by_few, most_is, none_on, on_e
 use Rattle.vm_kernel.proofs.space.ChildEntries.{found_first, free_behind, told_next}
 use Rattle.vm_maps.proofs.Pages.{whole_at}
 use Rattle.vm_kernel.proofs.steps.EventsGrow.{suffices}
-use Rattle.vm_kernel.proofs.steps.HeadAlone.{Heads, passed, ran_head}
+use Rattle.vm_kernel.proofs.steps.HeadAlone.{Heads, ran_head}
+use Rattle.vm_legal.proofs.Heads.{passed}
 use Rattle.vm_kernel.proofs.space.TaskMade.{rests_made}
 use Rattle.vm_kernel.proofs.abroad.OwnEvents.{own_new, own_task}
 use Rattle.vm_kernel.proofs.abroad.OwnHost.{free_in, lives_here, lives_in, named_host, rows_here}
@@ -63,7 +65,7 @@ pub record MayShare (header : Header) (task : ℕ) (row : Entry) (past : List Ev
   pub counted : 0 < region_entries k.chains row.region.0
   pub lives : entries_in task k.maps ≡ Some (rows_in task k.maps)
   pub idle : waiting task past ≡ None
-  pub free : judged k.maps.size (entering row) (rows_in task k.maps) ≡ None
+  pub free : CanEnter task row k
   pub pages : row.offset + row.bytes / k.maps.size < 2 ^ 32
   pub inside : IsInside header.size k.chains row
   pub shared : IsShared (named header) row
@@ -167,7 +169,7 @@ share_enters header h task row past k ids rests may =
       inside = omega (arith, inside, pages);
       made = small_region m.regions r there.0 there.1;
       used = λ temporary. used (paged_temporary header r temporary);
-      file = λ is. used (paged_file header r is);
+      file = λ is. used (file_paged header r is);
       unfilled = elim (kind_cases header r) [
         | inl declared ↦ unfilled_declared header r (tasks past) past declared m.homes.1
         | inr temporary ↦ unfilled header.size r (tasks past) k.maps k.waits.rows past (fills_here {past = past} rests.waits rests.used.copies)
@@ -215,7 +217,7 @@ rests_shared header h outside doing task row past k k2 ids before after rests ma
             regions =
                 rw s.memory (regions_recounted k.chains k2.chains k.memory.objects ids _ _ _ _ _ recount m.regions);
             files =
-                rw s.memory (files_entered header h task row k.memory.objects past (λ file. m.homes.0 r there.0 (paged_file header r file) there.1) m.files);
+                rw s.memory (files_entered header h task row k.memory.objects past (λ file. m.homes.0 r there.0 (file_paged header r file) there.1) m.files);
             homes =
                 homes_caused header outside h k2.chains e past (doing, share_enters header h task row past k ids rests may)
                 (recount_homes _ header h k.chains k2.chains past (recounts_put r (region_entries k.chains r + 1) k.chains k2.chains s.counts) m.homes);
@@ -356,7 +358,7 @@ record IsNext (header : Header) (child : ℕ) (rows : List Entry) (i : ℕ) (row
   inside : IsInside header.size k.chains row
   shared : IsShared (named header) row
   whole : HasWholePages k.maps.size row
-  free : judged k.maps.size (entering row) (rows_in child k.maps) ≡ None
+  free : CanEnter child row k
   own : AllRows (λ mine. mine.address + mine.bytes ≤ row.address + row.bytes) (rows_in child k.maps)
   order : InOrder (row.address + row.bytes) (2 ^ 32) (drop (i + 1) rows)
 

@@ -23,7 +23,8 @@ use Rattle.vm_model.specs.Homes.{copying_host, home_in}
 use Rattle.vm_model.specs.Regions as R
 use Rattle.vm_kernel.proofs.space.EntriesCounted.{by_none, most_is, none_on, on_entered, one_on}
 use Rattle.vm_kernel.proofs.steps.EventsGrow.{licensed, suffices}
-use Rattle.vm_kernel.proofs.steps.HeadAlone.{passed, ran_head}
+use Rattle.vm_kernel.proofs.steps.HeadAlone.{ran_head}
+use Rattle.vm_legal.proofs.Heads.{passed}
 use Rattle.vm_kernel.proofs.space.TaskMade.{controls_made, idle_of, new_object}
 use Rattle.vm_kernel.proofs.abroad.OwnEvents.{mine_of, own_task}
 use Rattle.vm_kernel.proofs.space.RegionCases.{region_cases}

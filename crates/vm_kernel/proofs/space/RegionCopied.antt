@@ -1,4 +1,5 @@
 -- A task gets an entry on a symmetric copy of a region.
+use Rattle.vm_kernel.specs.Changes.{CanEnter}
 use Rattle.vm_kernel.proofs.Common.{Access, AllReferred, AllRows, ArePlain, Backing, Bool, ChainTable, ChangesOnly, Command, Enters, Entry, Event, Fit}
 use Rattle.vm_kernel.proofs.Common.{HasEntries, HasKinds, HasRegions, HasSlow, HasWaiters, HasWaits, Header, HostParts, Ids, Inside, IsAllowed, IsFilledIn}
 use Rattle.vm_kernel.proofs.Common.{IsInside, IsUsed, List, Mapped, None, ObjectRow, ObjectTable, Option, Outside, Parts, Place, PutsEntries, PutsObject, Ran}
@@ -53,11 +54,12 @@ use Rattle.vm_state.proofs.Told.{waits_referred}
 use Rattle.vm_supply.specs.declared.woken.Woken.TheVariants as woken
 use Rattle.vm_kernel.proofs.space.EntriesCounted.{by_none, none_on, on_entered, one_on}
 use Rattle.vm_kernel.proofs.steps.EventsGrow.{licensed, suffices}
-use Rattle.vm_kernel.proofs.steps.HeadAlone.{Heads, IsOne, passed, ran_head}
+use Rattle.vm_kernel.proofs.steps.HeadAlone.{Heads, IsOne, ran_head}
+use Rattle.vm_legal.proofs.Heads.{passed}
 use Rattle.vm_kernel.proofs.abroad.OwnEvents.{mine_of, own_task}
 use Rattle.vm_kernel.proofs.abroad.OwnHost.{lives_here, lives_in, rows_here}
 use Rattle.vm_kernel.proofs.space.CountsChanged.{recounts_put}
-use Rattle.vm_kernel.proofs.space.RegionRows.{apart_there, none_leads, region_row}
+use Rattle.vm_kernel.proofs.space.RegionRows.{apart_there, none_leads, region_row, tops_recounted}
 use Rattle.vm_kernel.proofs.space.TaskTables.{Keeps, entries_changed, inside_kept, tasks_entered}
 use Rattle.vm_kernel.proofs.space.SharedEntries.{shared_entered, temporary_shared}
 use Rattle.vm_kernel.proofs.space.EntriesRewritten.{lives_below}
@@ -73,25 +75,10 @@ use Rattle.vm_kernel.proofs.space.RegionHomes.{homes_caused}
 -- regions that count other entries
 
 pub same_put : (r n : ℕ) (old new : ChainTable) → PutsEntries r n old new → SameButEntries old new
-same_put r n old new put =
-    record {
-      count = λ q. if r == q then n else region_entries old q;
-      at = (recounts_put r n old new put).at;
-      shadows = λ o. ap (λ f. f o) put.shadows;
-    }
+same_put r n old new put = record { count = λ q. if r == q then n else region_entries old q; recounts = recounts_put r n old new put }
 
 pub keeps_recounted : (old new : ChainTable) → SameButEntries old new → KeepsPlaces old new
-keeps_recounted old new same =
-    record {
-      tops =
-          λ r row found. record {
-            row_now = record row { entries = same.count r };
-            found = same.at r ∙ ap (with_entries (same.count r)) found;
-            top = refl;
-            shift = refl;
-          };
-      shadows = λ o row found. same.shadows o ∙ found;
-    }
+keeps_recounted old new same = tops_recounted same.count old new same.recounts
 
 pub keeps_both : (one two three : ChainTable) → KeepsPlaces one two → KeepsPlaces two three → KeepsPlaces one three
 keeps_both one two three a b =
@@ -286,7 +273,7 @@ pub record IsFrom (header : Header) (source offset pages : ℕ) (past : List Eve
 pub record MayCopy (header : Header) (task : ℕ) (source : RegionId) (offset : ℕ) (row : Entry) (past : List Event) (k : Parts) : Type 0 where
   pub lives : entries_in task k.maps ≡ Some (rows_in task k.maps)
   pub idle : waiting task past ≡ None
-  pub free : judged k.maps.size (entering row) (rows_in task k.maps) ≡ None
+  pub free : CanEnter task row k
   pub pages : row.bytes / header.size < 2 ^ 32
   pub region : RegionRow
   pub there : region_at k.chains source.0 ≡ Some region

@@ -1,7 +1,7 @@
 -- The row of a region that is there, and that nothing leads to one that is not.
 use Rattle.vm_kernel.proofs.Common.{AllRows, ChainTable, Entry, IsInside, List, None, Option, RegionRow, Some, [], ap, eqb_tells, false, has_entry, has_region}
 use Rattle.vm_kernel.proofs.Common.{inl, inr, is_some, refl, region_at, sym, true, with_entries, ℕ, ◌∙◌, ◌≡◌, ◌∷◌}
-use Rattle.vm_kernel.proofs.space.CountsChanged.{Recounts}
+use Rattle.vm_state.proofs.Changing.{Recounts}
 use Rattle.vm_state.proofs.Waited.{KeepsPlaces}
 
 region_some : (x : Option RegionRow) → is_some x ≡ true → (row : RegionRow) × (x ≡ Some row)

@@ -14,7 +14,7 @@ use Rattle.vm_state.proofs.Filling.{IsUnfilled, KeepsFilled, copies_kept_where, 
 use Rattle.vm_state.proofs.Places.{on_its_region}
 use Rattle.vm_state.proofs.Waited.{SameOf}
 use Rattle.vm_state.specs.Filling.{HasCopies, IsAlone, filled_row}
-use Rattle.vm_kernel.proofs.space.CountsChanged.{Recounts, row_before}
+use Rattle.vm_state.proofs.Changing.{Recounts, row_before}
 use Rattle.vm_kernel.proofs.space.RegionsInUse.{entry_counts}
 
 -- regions count their entries anew, but for those that had none

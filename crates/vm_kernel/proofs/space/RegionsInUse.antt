@@ -1,6 +1,7 @@
 -- Which regions are in use.
 use Rattle.vm_legal.proofs.Served.{later_paged as paged_temporary}
 use Rattle.vm_kernel.proofs.Common.{Access, Bool, ChainTable, ChangesOnly, Entry, Event, HasCopies, HasUse, HasWaiters, Header, IsFilledIn, IsInUse, IsUsed}
+use Rattle.vm_legal.proofs.Files.{file_paged}
 use Rattle.vm_kernel.proofs.Common.{List, Mapped, None, ObjectTable, On, Option, ResidentTable, Some, Waiting, [], all_tasks, ap, arith, copy_target, count_by}
 use Rattle.vm_kernel.proofs.Common.{count_on, entered, entries_in, entries_of, entry, eqb_tells, false, fills, fills_in, has_entry, holds, if◌then◌else◌, inl}
 use Rattle.vm_kernel.proofs.Common.{inr, is_among, is_filled, is_held, is_kept, is_some, named, nat_lt, nat_tests, refl, rows_in, subst, suc, sym, tasks, true}
@@ -153,14 +154,6 @@ kept_is header region maps list past temporary shows apart most among =
       why = λ kept. some_use header.size region (tasks past) maps list past shows apart most (rw new at kept);
       is = λ needed. rw new (use_held header.size region (tasks past) maps list past shows among needed);
     }
-
--- the regions of files are of one host
-pub paged_file : (header : Header) (r : ℕ) → is_file header r ≡ true → is_paged header r ≡ true
-paged_file header r file = ap (λ b. not (nat_lt r (named header)) || b) file ∙ or_always (not (nat_lt r (named header)))
-  where
-    or_always : (b : Bool) → (b || true) ≡ true
-    or_always true = refl
-    or_always false = refl
 
 -- a file is declared, and so its region is kept always
 pub file_declared : (header : Header) (r : ℕ) → is_file header r ≡ true → nat_lt r (named header) ≡ true
@@ -335,7 +328,7 @@ uses_entered {list = list} header maps new used_at made held2 n task row here ot
             (λ some. subst (λ (z : ℕ). 0 < z) (sym (as_many r apart.1)) some)
       ]);
       files = λ r file some. simple (r == row.region.0) (used_at r) ∙ elim (eqb_tells r row.region.0) [
-        | inl same ↦ ap used_at same.1 ∙ own (paged_file header row.region.0 (subst (λ (z : ℕ). is_file header z ≡ true) same.1 file))
+        | inl same ↦ ap used_at same.1 ∙ own (file_paged header row.region.0 (subst (λ (z : ℕ). is_file header z ≡ true) same.1 file))
         | inr apart ↦ files r file apart.1 (subst (λ (z : ℕ). 0 < z) (sym (as_many r apart.1)) some)
       ];
       among = λ t rows found. elim (eqb_tells task t) [

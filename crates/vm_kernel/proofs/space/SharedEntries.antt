@@ -7,7 +7,7 @@ use Rattle.std.specs.Prelude.{if◌then◌else◌}
 use Rattle.std.proofs.lemmas.Bool.{or_parts}
 use Rattle.vm_base.specs.declared.ids.Inherit.TheVariants as inherit
 use Rattle.vm_model.specs.Rows.{rows_append}
-use Rattle.vm_kernel.proofs.space.CountsChanged.{Recounts, row_before}
+use Rattle.vm_state.proofs.Changing.{Recounts, row_before}
 
 -- an entry on a temporary region may be copied
 pub temporary_shared : (declared : ℕ) (row : Entry) → declared ≤ row.region.0 → IsShared declared row

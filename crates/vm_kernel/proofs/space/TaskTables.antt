@@ -7,7 +7,7 @@ use Rattle.vm_base.specs.declared.code.Code.TheVariants as code
 use Rattle.vm_model.specs.declared.event.Event.TheVariants as event
 use Rattle.vm_model.specs.declared.command.Command.TheVariants as command
 use Rattle.vm_kernel.proofs.space.EntriesCounted.{by_changed, most_is}
-use Rattle.vm_kernel.proofs.steps.HeadAlone.{passed}
+use Rattle.vm_legal.proofs.Heads.{passed}
 use Rattle.vm_kernel.proofs.abroad.OwnHost.{free_in, own_host, rows_here}
 
 -- a task has no entries yet

@@ -20,7 +20,8 @@ use Rattle.vm_waits.specs.declared.waiting.Want.TheVariants as want
 use Rattle.vm_kernel.proofs.space.EntriesChanged.{acts}
 use Rattle.vm_kernel.proofs.steps.EventsGrow.{grows_goes, suffices}
 use Rattle.vm_kernel.proofs.steps.RowsInOrder.{begun_below, begun_order}
-use Rattle.vm_kernel.proofs.steps.HeadAlone.{grows_one, passed}
+use Rattle.vm_kernel.proofs.steps.HeadAlone.{grows_one}
+use Rattle.vm_legal.proofs.Heads.{passed}
 use Rattle.vm_kernel.proofs.space.TaskMade.{idle_of}
 use Rattle.vm_kernel.proofs.abroad.OwnHost.{lives_in, rows_here}
 use Rattle.vm_kernel.proofs.space.RegionsInUse.{uses_still, holds_waits}

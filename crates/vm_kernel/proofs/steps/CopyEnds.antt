@@ -1,11 +1,12 @@
 -- A slow copy ends once all its pages are copied: its row goes, and its task gets the entry of what it filled.
 use Rattle.vm_kernel.proofs.Common.{Bool, ChainTable, ChangesOnly, Command, Enters, Entry, Event, HasCopies, HasUse, HasWaiters, Header, Ids, IsFilledIn}
+use Rattle.vm_legal.proofs.Files.{file_paged}
 use Rattle.vm_kernel.proofs.Common.{IsInside, IsUsed, LegalEvents, List, Mapped, Matches, None, ObjectId, Option, Outside, Parts, PutsEntries, PutsEntry}
 use Rattle.vm_kernel.proofs.Common.{RegionRow, Some, TaskId, WaitTable, Waiting, Works, [], ap, arith, begun_at, copy_target, entered, entries_in}
 use Rattle.vm_kernel.proofs.Common.{entries_in_row, entries_of, entry, eqb_tells, false, fills_in, got, holds, host_of, if◌then◌else◌}
 use Rattle.vm_kernel.proofs.Common.{in_use, inl, inr, is_range, is_some, is_woken, length, lives_on, most_entries, named, nat_lt, nat_tests, next_page}
 use Rattle.vm_kernel.proofs.Common.{next_region, one_case, owed, page_below, pages_in, refl, region_at, region_entries, region_of, region_pages, rows_in}
-use Rattle.vm_kernel.proofs.Common.{some_is, subst, sym, tasks, true, waiting, waiting_in, whole_entry, with_entries, ℕ, ◌%◌, ◌*◌, ◌++◌, ◌+◌, ◌-◌, ◌/◌, ◌<◌}
+use Rattle.vm_kernel.proofs.Common.{some_is, subst, sym, tasks, true, waiting, waiting_in, whole_entry, with_entries, ℕ, ◌*◌, ◌++◌, ◌+◌, ◌-◌, ◌/◌, ◌<◌}
 use Rattle.vm_kernel.proofs.Common.{◌^◌, ◌∙◌, ◌∷◌, ◌≡◌, ◌≤◌, ◌⊎◌}
 use Rattle.std.proofs.Math.Nat.{mul-div_cancel}
 use Rattle.std.specs.Prelude.{MatchOption}
@@ -20,19 +21,20 @@ use Rattle.vm_kernel.proofs.abroad.OwnEvents.{mine_of, own_task}
 use Rattle.vm_kernel.proofs.steps.RowsInOrder.{PutsInOrder}
 use Rattle.vm_kernel.proofs.abroad.OwnHost.{lives_here}
 use Rattle.vm_kernel.proofs.memory.PagesShown.{itself}
-use Rattle.vm_kernel.proofs.space.CountsChanged.{recounts_put, row_before}
+use Rattle.vm_kernel.proofs.space.CountsChanged.{recounts_put}
 use Rattle.vm_kernel.proofs.controls.LockReplied.{replied_behind}
 use Rattle.vm_kernel.proofs.space.EntriesRewritten.{lives_below, recount_homes}
 use Rattle.vm_kernel.proofs.space.ForkShares.{entries_share, lives_some}
 use Rattle.vm_kernel.proofs.space.SharedEntries.{kinds_recounted, shared_entered, temporary_shared}
 use Rattle.vm_kernel.proofs.space.TaskTables.{tasks_entered}
-use Rattle.vm_kernel.proofs.space.RegionsInUse.{fills_here, holds_rows, holds_waits, paged_file, unfilled, uses_entered}
+use Rattle.vm_kernel.proofs.space.RegionsInUse.{fills_here, holds_rows, holds_waits, unfilled, uses_entered}
 use Rattle.vm_kernel.specs.Serving.{runs_now}
 use Rattle.vm_kernel.specs.Slow.{CanEndCopy, CanEndWant, EndsCopyIn, EndsWant, MapsFilled, filled_entry}
 use Rattle.vm_legal.specs.Licences.{EndsCopy, EntryOf, Owed, Pays, entry_of}
+use Rattle.vm_maps.proofs.Range.{range_is}
 use Rattle.vm_model.specs.Waiting.{Copying as Copies}
 use Rattle.vm_model.specs.declared.event.Event.TheVariants as event
-use Rattle.vm_state.proofs.Changing.{SameButEntries, regions_recounted}
+use Rattle.vm_state.proofs.Changing.{SameButEntries, regions_recounted, row_before}
 use Rattle.vm_state.proofs.Files.{files_entered}
 use Rattle.vm_state.proofs.Filling.{KeepsRegionOf, copies_kept_where, rows_unmade}
 use Rattle.vm_state.proofs.Referred.{referred_recounted}
@@ -49,15 +51,6 @@ use Rattle.vm_kernel.proofs.controls.WaitersFail.{fills_apart}
 use Rattle.vm_state.specs.Passed.{IsUnmet, StaysAway}
 use Rattle.vm_kernel.proofs.memory.PageReturned.{controls_stay}
 use Rattle.vm_kernel.proofs.space.RegionHomes.{homes_caused}
-
--- what the test of a range tells
-record IsRange (size address bytes : ℕ) : Type 0 where
-  whole : bytes % size ≡ 0
-  some : 0 < bytes
-  end : address + bytes ≤ 2 ^ 32
-
-range_is : (size address bytes : ℕ) → is_range size address bytes ≡ true → IsRange size address bytes
-range_is size address bytes test = record { whole = grind (arith, nat_tests); some = grind (arith, nat_tests); end = grind (arith, nat_tests) }
 
 -- so many whole pages are so many
 counted_pages : (size pages : ℕ) → 0 < size → pages * size / size ≡ pages
@@ -404,7 +397,7 @@ matches_ended header h outside doing k ids past w address pages target next c la
           (homes_caused header outside h k2.chains first past (doing, ends_cause header h k ids past w address pages target next c last)
           (recount_homes _ header h k.chains k2.chains past (recounts_put r 1 k.chains k2.chains counts) m.homes));
       files =
-          files_entered header h w.task row k.memory.objects (first ∷ past) (λ file. m.homes.0 r (filled_row target pages) (paged_file header r file)
+          files_entered header h w.task row k.memory.objects (first ∷ past) (λ file. m.homes.0 r (filled_row target pages) (file_paged header r file)
           c.slow.region) m.files;
       entries =
           entries_share size k.maps k2.maps k.chains k2.chains t row m.entries e.inside counts_more changes

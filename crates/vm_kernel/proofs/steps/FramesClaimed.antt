@@ -2,6 +2,7 @@
 use Rattle.std.specs.Prelude.{◌≡◌, ◌≢◌, ◌⊎◌, ◌&&◌, ◌<◌, ◌≤◌, ◌==◌, ℕ, Bool, true, false, List, [], ◌∷◌, ◌++◌, length, Option, Some, None, if◌then◌else◌}
 use Rattle.std.proofs.Common.{◌∙◌, ap, arith, inl, inr, refl, subst, sym}
 use Rattle.std.proofs.lemmas.Bool.Decides.{eqb_tells}
+use Rattle.vm_state.proofs.Filling.{KeepsAway}
 use Rattle.vm_base.specs.declared.ids.FrameNo.{FrameNo}
 use Rattle.vm_base.specs.declared.ids.HostId.{HostId}
 use Rattle.vm_base.specs.declared.ids.Inherit.TheVariants.{Copy}
@@ -50,7 +51,7 @@ pub record Front (task : TaskId) (copying : Bool) (s mid : FaultState) : Type 0 
   pub spent : claims ≡ true → free mid.parts.frames < free s.parts.frames
   pub frames : free mid.parts.frames ≤ free s.parts.frames
   pub plain : copying ≡ false → claims ≡ false
-  pub rows : (o p : ℕ) → row_at mid.parts.resident o p ≡ None → row_at s.parts.resident o p ≡ None
+  pub rows : KeepsAway mid.parts.resident s.parts.resident
 
 some_copied : {task : TaskId} {front : List Event} (some : Bool) → AreCopied task some front → some ≡ true → 0 < length front
 some_copied false NoPage bad = absurd (let clash : false ≡ true = bad in cc)

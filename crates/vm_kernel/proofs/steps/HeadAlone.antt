@@ -1,14 +1,9 @@
 -- A command whose events are those of its head.
-use Rattle.vm_kernel.proofs.Common.{AllInner, AllInTurn, Bool, CausedInTurn, Code, Command, CreatesHere, EachIn, EachOf, Event, Grows, Header, Ids}
-use Rattle.vm_kernel.proofs.Common.{IsDoneInTurn, IsInner, IsMine, IsOnlyOfHost, IsSettled, KernelSays, List, MomentsIn, None, Option, Outside, OwnBytes, Parts}
-use Rattle.vm_kernel.proofs.Common.{Ran, Rests, Some, Suffice, [], code_where, false, head, refl, reverse, true, ℕ, ◌++◌, ◌∷◌, ◌≡◌}
+use Rattle.vm_kernel.proofs.Common.{AllInner, AllInTurn, CausedInTurn, Command, CreatesHere, EachIn, EachOf, Event, Grows, Header, Ids}
+use Rattle.vm_kernel.proofs.Common.{IsDoneInTurn, IsInner, IsMine, IsOnlyOfHost, IsSettled, KernelSays, List, MomentsIn, Outside, OwnBytes, Parts}
+use Rattle.vm_kernel.proofs.Common.{Ran, Rests, Some, Suffice, [], head, refl, reverse, ℕ, ◌++◌, ◌∷◌, ◌≡◌}
 use Rattle.vm_kernel.proofs.steps.EventsGrow.{licensed}
 use Rattle.vm_kernel.proofs.abroad.OwnEvents.{mine_of}
-
--- of a list of tests that finds nothing, each found nothing
-pub passed : (b : Bool) (why : Code) (later : Option Code) → code_where b why later ≡ None → (b ≡ false) × (later ≡ None)
-passed true why later none = absurd (let bad : Some why ≡ None = none in cc)
-passed false why later none = (refl, none)
 
 -- what holds of each event of a command's head
 pub record Heads (header : Header) (h : ℕ) (outside : Outside) (doing : Command) (past events : List Event) : Type 0 where

@@ -1,7 +1,8 @@
 -- A run of an access, page by page: the pages that a slow copy made first, and how it was run once behind them.
-use Rattle.std.specs.Prelude.{◌≡◌, ◌+◌, ◌<◌, ◌≤◌, ◌&&◌, ℕ, Bool, true, false, List, [], ◌∷◌, ◌++◌, length, Option, None}
+use Rattle.std.specs.Prelude.{◌≡◌, ◌+◌, ◌<◌, ◌≤◌, ◌&&◌, ℕ, Bool, true, false, List, [], ◌∷◌, ◌++◌, length, Option}
 use Rattle.std.proofs.Common.{◌∙◌, ap, arith, inl, inr, refl, subst, sym}
 use Rattle.std.proofs.lemmas.Bool.Decides.{nat_tests}
+use Rattle.vm_state.proofs.Filling.{KeepsAway}
 use Rattle.vm_base.proofs.Options.{none_of}
 use Rattle.vm_base.specs.declared.ids.FrameNo.{FrameNo}
 use Rattle.vm_base.specs.declared.ids.HostId.{HostId}
@@ -38,7 +39,7 @@ pub record PageDone (task : TaskId) (old new : FaultState) : Type 0 where
   pub told : new.events ≡ event.CopiedPage task page object object_page target ∷ old.events
   pub frames : free new.parts.frames + 1 ≡ free old.parts.frames
   pub claims : claimed new.parts.frames ≡ claimed old.parts.frames + 1
-  pub rows : (o p : ℕ) → row_at new.parts.resident o p ≡ None → row_at old.parts.resident o p ≡ None
+  pub rows : KeepsAway new.parts.resident old.parts.resident
   pub objects : new.parts.objects ≡ old.parts.objects
   pub chains : new.chains ≡ old.chains
   pub ids : new.ids ≡ old.ids
@@ -116,7 +117,7 @@ pub record SoFar (task : TaskId) (what at : Want) (s mid : FaultState) : Type 0 
   pub none : (some ≡ false) → (mid ≡ s) × (at ≡ what)
   pub copies : some ≡ true → is_copying at ≡ true
   pub kind : is_copying at ≡ is_copying what
-  pub rows : (o p : ℕ) → row_at mid.parts.resident o p ≡ None → row_at s.parts.resident o p ≡ None
+  pub rows : KeepsAway mid.parts.resident s.parts.resident
   pub objects : mid.parts.objects ≡ s.parts.objects
   pub chains : mid.chains ≡ s.chains
   pub ids : mid.ids ≡ s.ids
