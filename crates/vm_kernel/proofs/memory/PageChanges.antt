@@ -159,11 +159,12 @@ amidst_moved {header = header} {h = h} {k = k} {ids = ids} {gone = gone} {who = 
       pages = moved.pages;
     }
 
--- the change of a page, whatever the objects are
+-- the change of a page, whatever the objects and the buffers are
 pub changes_among : {key : PageKey} {frame : FrameNo} {was now : Option PageRow} {held : Bool} {bytes : List ℕ} {lists : Queues} {old new : HostParts}
-    (os os2 : ObjectTable) → Changes key frame was now held bytes lists old new
-    → Changes key frame was now held bytes lists (record old { objects = os }) (record new { objects = os2 })
-changes_among os os2 c =
+    (before after : HostParts) → Changes key frame was now held bytes lists old new
+    → Changes key frame was now held bytes lists (record old { objects = before.objects; buffers = before.buffers })
+    (record new { objects = after.objects; buffers = after.buffers })
+changes_among before after c =
     record {
       found = c.found;
       was_in = c.was_in;
@@ -190,7 +191,7 @@ pub fit_rerowed : {key : PageKey} {row : PageRow} {now : Option PageRow} {held :
 fit_rerowed {key = key} {row = row} {now = now} {held = held} {lists = lists} {old = old} {new = new} fit c kept same objects buffers =
     let among = record new { objects = old.objects } in
     fit_objects among new.objects
-    (fit_changed key row.frame (Some row) now held (page_in old.frames row.frame.0) lists old among fit (changes_among old.objects old.objects c) kept
+    (fit_changed key row.frame (Some row) now held (page_in old.frames row.frame.0) lists old among fit (changes_among old among c) kept
     (λ some. fit.inside key.object.0 key.page.0 row c.found) (fit.all_sized row.frame.0 c.inside) same refl buffers) (λ o. ap pages_of_row (objects.at o))
 
 pub fit_lost : {key : PageKey} {row : PageRow} {held : Bool} {old new : HostParts} → Fit old

@@ -371,7 +371,8 @@ took_first header h outside doing past ids skip k k2 before after rests beside l
     (record { at = is.objects.at }) (record { at = λ o2 p2. refl }) (record { at = beside.live.at }) in
     let unlocked = unsent skip k.memory.resident o p row locked page.found is.victim.unskipped in
     let back : Amidst header h (record k { memory = k2.memory; laundry = k2.laundry }) ids [] woken.Nobody (e2 ∷ moment) =
-    amidst_returned key control told is.victim.here unlocked (changes_among os k2.memory.objects page) (record { at = λ o2. refl })
+    amidst_returned key control told is.victim.here unlocked (changes_among (record (looked k.memory) { objects = os }) k2.memory page)
+    (record { at = λ o2. refl })
     (record { at = is.present.at }) beside.fit beside.buffers is.held is.room in
     let seen = seen_of key (inside rests) page.found is.victim.here in
     let alive : live_in (object_at k2.memory.objects o) ≡ Some control =

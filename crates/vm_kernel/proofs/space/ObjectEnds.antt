@@ -48,7 +48,7 @@ use Rattle.vm_legal.specs.Walks.{page_on}
 use Rattle.vm_state.proofs.Bypassing.{waits_quiet}
 use Rattle.vm_state.proofs.Passing.{quiet_if}
 use Rattle.vm_kernel.proofs.memory.PageChanges.{amidst_gone, amidst_of, amidst_returned, core_of, drop_follows, drops, fit_lost, fits_known, live_at}
-use Rattle.vm_kernel.proofs.memory.PageChanges.{matches_of, objects_known, return_follows, same_objects, seen_of}
+use Rattle.vm_kernel.proofs.memory.PageChanges.{gives, matches_of, objects_known, return_follows, same_objects, seen_of}
 use Rattle.vm_kernel.specs.TablesInGroups.{Amidst}
 use Rattle.vm_kernel.specs.Matches.{IsReplied}
 use Rattle.vm_model.specs.declared.event.Event.TheVariants as event
@@ -218,7 +218,7 @@ lost_plays header h past who k ids rest key row memory events e is_here c = elim
 
 -- the return of a page of an object that ends
 abbrev pub going_back : ℕ → PageKey → ObjectRow → PageRow → List ℕ → Event
-going_back h key known row bytes = event.Sent (Up (host_id h) key.object) (message.Return known.control key.page row.dirty false bytes)
+going_back h key known row bytes = gives h key known.control row.dirty false bytes
 
 -- an object is put where it is
 put_same : (o : ℕ) (row : ObjectRow) (os os2 : ObjectTable) → SameObjects os os2 → object_at os o ≡ Some row → PutsObject o (Some row) os os2

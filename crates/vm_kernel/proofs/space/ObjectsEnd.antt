@@ -30,6 +30,7 @@ use Rattle.vm_terminate.specs.Finishes.{LosesUnder, Next, NoControl, NoMore, Ove
 use Rattle.vm_kernel.proofs.abroad.OtherLists.{matches_with}
 use Rattle.vm_state.proofs.Waiting.{away_awaited}
 use Rattle.vm_kernel.proofs.controls.DeclaredKinds.{declared_kind}
+use Rattle.vm_kernel.proofs.memory.PageChanges.{changes_among}
 
 -- no place of an access is in an object that ends with one to which nothing refers
 
@@ -136,25 +137,7 @@ lost_one o p old new put o2 p2 row found = elim (row_cases o p None old new put 
 pub changes_beside : {key : PageKey} {frame : FrameNo} {was now : Option PageRow} {held : Bool} {bytes : List ℕ} {lists : Queues} (old new : HostParts)
     (k : Parts) → Changes key frame was now held bytes lists old new
     → Changes key frame was now held bytes lists (record old { buffers = k.memory.buffers }) (record new { buffers = k.memory.buffers })
-changes_beside old new k c =
-    record {
-      found = c.found;
-      was_in = c.was_in;
-      inside = c.inside;
-      had = c.had;
-      owned = c.owned;
-      listed = c.listed;
-      row = c.row;
-      now_in = c.now_in;
-      owner = c.owner;
-      frames = c.frames;
-      page = c.page;
-      claim = c.claim;
-      claims = c.claims;
-      left = c.left;
-      queues = c.queues;
-      lists_are = c.lists_are;
-    }
+changes_beside old new k c = changes_among (record old { buffers = k.memory.buffers }) (record new { buffers = k.memory.buffers }) c
 
 -- a page of the object has gone
 record IsLess (header : Header) (h : ℕ) (outside : Outside) (doing : Command) (past : List Event) (who : Woken) (k : Parts) (ids : Ids) (rest : List Entry)
