@@ -27,18 +27,10 @@ use Rattle.vm_legal.specs.Used.{in_use, is_held, is_kept, made_here}
 use Rattle.vm_abroad.specs.Home.{HaveHomes}
 use Rattle.vm_abroad.specs.Sound.{IsAbroad}
 use Rattle.vm_abroad.proofs.Sounds.{objects_rise, unlike}
+use Rattle.vm_legal.proofs.Homes.{first_stays, made_there}
 pub use Rattle.vm_legal.proofs.Files.{file_named}
+pub use Rattle.vm_legal.proofs.Homes.{home_stays, object_stays, on_host, same_some}
 pub use Rattle.vm_legal.proofs.Numbering.{named_regions}
-
--- the first host stays
-first_stays : (b : Bool) (h : ℕ) (was later : Option ℕ) → was ≡ Some h → (if b then first_of was later else was) ≡ Some h
-first_stays true h was later is = ap (λ z. first_of z later) is
-first_stays false h was later is = is
-
-pub home_stays : (r h : ℕ) (e : Event) (past : List Event) → home_of r past ≡ Some h → home_of r (e ∷ past) ≡ Some h
-home_stays r h (event.Entered task address bytes region offset prot inherit) past is = first_stays (region.0 == r) h (home_of r past) (host_of task.0 past) is
-home_stays r h (event.RegionMade region object pages) past is = first_stays (region.0 == r) h (home_of r past) (copying_host past) is
-home_stays r h other past is = is
 
 pub homes_stay : (r h : ℕ) (events past : List Event) → home_of r past ≡ Some h → home_of r (events ++ past) ≡ Some h
 homes_stay r h [] past is = is
@@ -113,18 +105,6 @@ homes_abroad header outside h r (e ∷ events) past abroad =
 
 -- an object keeps the region that it was made for, and its home
 
-region_stays : (o r : ℕ) (e : Event) (past : List Event) → region_for o past ≡ Some r → region_for o (e ∷ past) ≡ Some r
-region_stays o r (event.RegionMade region object pages) past is = first_stays (object.0 == o) r (region_for o past) (Some region.0) is
-region_stays o r (event.Shadowed region new old) past is = first_stays (new.0 == o) r (region_for o past) (Some region.0) is
-region_stays o r other past is = is
-
-pub object_stays : (o h : ℕ) (e : Event) (past : List Event) → object_home o past ≡ Some h → object_home o (e ∷ past) ≡ Some h
-object_stays o h e past is = by (region_for o past) refl is
-  where
-    by : (x : Option ℕ) → region_for o past ≡ x → home_in (λ r. home_of r past) x ≡ Some h → object_home o (e ∷ past) ≡ Some h
-    by None none is = absurd (let bad : None ≡ Some h = is in cc)
-    by (Some r) made is = ap (home_in (λ r. home_of r (e ∷ past))) (region_stays o r e past made) ∙ home_stays r h e past is
-
 pub objects_stay : (o h : ℕ) (events past : List Event) → object_home o past ≡ Some h → object_home o (events ++ past) ≡ Some h
 objects_stay o h [] past is = is
 objects_stay o h (e ∷ events) past is = object_stays o h e (events ++ past) (objects_stay o h events past is)
@@ -134,10 +114,6 @@ itself n = grind (arith, nat_tests)
 
 pub on_own : (h : ℕ) → is_on h (Some h) ≡ true
 on_own h = itself h
-
-pub on_host : (g : ℕ) (x : Option ℕ) → is_on g x ≡ true → x ≡ Some g
-on_host g None is = absurd (let bad : false ≡ true = is in cc)
-on_host g (Some own) is = let same : own ≡ g = grind (arith, nat_tests) in ap Some same
 
 pub home_on : (h o : ℕ) (e : Event) (past : List Event) → is_on h (object_home o past) ≡ true → is_on h (object_home o (e ∷ past)) ≡ true
 home_on h o e past on = ap (is_on h) (object_stays o h e past (on_host h (object_home o past) on)) ∙ on_own h
@@ -199,9 +175,6 @@ both : (a b : Bool) → (a && b) ≡ true → (a ≡ true) × (b ≡ true)
 both true b is = (refl, is)
 both false b is = absurd (let bad : false ≡ true = is in cc)
 
-pub same_some : (g h : ℕ) → Some g ≡ Some h → g ≡ h
-same_some g h is = cc
-
 -- the first entry says where, and the others can't say otherwise
 home_first : (header : Header) (g h r region : ℕ) (here : Bool) (b : Bool) (was x : Option ℕ) (past : List Event) → (region == r) ≡ b
     → ((not (r == region) || here) && in_use header g r past) ≡ true → (here ≡ true → x ≡ Some g)
@@ -223,12 +196,6 @@ new_homeless header g h r n true here past test number homes used home stays =
     let same : r ≡ n = grind (arith, nat_tests) in
     absurd (let bad : None ≡ Some h = sym (homes.regions r (omega (arith, same, number))) ∙ home in cc)
 new_homeless header g h r n false here past test number homes used home stays = stays used
-
--- a region that a slow copy fills is in use on the host of its task, and that is its home; any other that is made now has none
-made_there : (g h : ℕ) (past : List Event) → made_here g past ≡ true → copying_host past ≡ Some h → g ≡ h
-made_there g h (event.BegunCopy task address bytes to ∷ past) here home = same_some g h (sym (on_host g (host_of task.0 past) here) ∙ home)
-made_there g h [] here home = absurd (let bad : None ≡ Some h = home in cc)
-made_there g h (e ∷ past) here home = absurd (let bad : None ≡ Some h = home in cc)
 
 made_where : (header : Header) (g h r n : ℕ) (b c : Bool) (past : List Event) → (r == n) ≡ b → (n == r) ≡ c → n ≡ next_region header past
     → HaveHomes header past → (if b then made_here g past else in_use header g r past) ≡ true

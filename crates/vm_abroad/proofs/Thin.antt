@@ -1,5 +1,5 @@
 -- Where no object of a host can be merged, none can where the host's facts read the same.
-use Rattle.std.proofs.Common.{◌≡◌, ℕ, zero, suc, ◌<◌, ◌≤◌, Bool, true, false, List, ap, sym, ◌∙◌, subst, arith, inl, inr}
+use Rattle.std.proofs.Common.{◌≡◌, ℕ, zero, suc, ◌<◌, ◌≤◌, true, false, List, ap, sym, ◌∙◌, subst, arith, inl, inr}
 use Rattle.std.proofs.lemmas.Bool.{cases_lt}
 use Rattle.vm_model.specs.declared.event.Event.{Event}
 use Rattle.vm_model.specs.declared.script.Header.{Header}
@@ -14,7 +14,7 @@ use Rattle.vm_abroad.specs.Sound.{IsObjectOf, IsRegionOf, Knows, Sound}
 use Rattle.vm_abroad.proofs.Chains.{below_was}
 use Rattle.vm_abroad.proofs.Facts.{small_region, use_same}
 use Rattle.vm_abroad.proofs.Sounds.{used_of}
-use Rattle.vm_abroad.proofs.Waits.{reach_now, region_now}
+use Rattle.vm_abroad.proofs.Waits.{reach_declared, reach_now, region_now}
 
 -- an object of the host that was made, and that a region led to
 record WasReached (header : Header) (h o : ℕ) (old : List Event) : Type 0 where
@@ -90,17 +90,13 @@ module _ (header : Header) (h : ℕ) (old new : List Event) (sound : Sound heade
         where
           link_now : (o : ℕ) → Reach header h o old → named header ≤ o → backing_of header o new ≡ backing_of header o old
           link_now o reached later = elim (cases_lt reached.0 (named header)) [
-            | inl declared ↦ absurd (never_under reached.0 reached.1 o declared later
+            | inl declared ↦ absurd (reach_declared header h old new sound knows same reached.0 reached.1 o declared later
                 (subst (λ (z : ℕ). Below (λ k. backing_of header k old) reached.1 z o) (sound.tops reached.0 declared) reached.3))
             | inr ours ↦
                 let own : IsRegionOf header h reached.0 old = λ is. used_of header h reached.0 old (shut reached.0) reached.2 in
                 let made = knows.chains reached.0 (small_region header h reached.0 old sound own) own reached.1 o reached.3 in
                 same.backing o made.0 made.1
           ]
-            where
-              never_under : (r n k : ℕ) → r < named header → named header ≤ k → Below (λ j. backing_of header j old) n r k → ⊥
-              never_under r zero k declared high is = omega (arith, is, declared, high)
-              never_under r (suc n) k declared high is = let bad : true ≡ false = sym is.0 ∙ sound.bare r declared in absurd (cc)
 
   pub thin_now : IsThin header h old → IsThin header h new
   thin_now thin upper lower pair = thin upper lower (pair_was upper lower pair)

@@ -237,7 +237,7 @@ module _ (header : Header) (h : ℕ) (old new : List Event) (sound : Sound heade
 
   -- what is left of temporary objects
 
-  reach_declared : (r n object : ℕ) → r < named header → named header ≤ object → Below (λ o. backing_of header o old) n r object → ⊥
+  pub reach_declared : (r n object : ℕ) → r < named header → named header ≤ object → Below (λ o. backing_of header o old) n r object → ⊥
   reach_declared r zero object declared temporary is = omega (arith, is, declared, temporary)
   reach_declared r (suc n) object declared temporary is = let bad : true ≡ false = sym is.0 ∙ sound.bare r declared in absurd (cc)
 

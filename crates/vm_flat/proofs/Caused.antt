@@ -50,7 +50,7 @@ use Rattle.vm_flat.proofs.Control.{control_is}
 use Rattle.vm_flat.proofs.World.{load}
 use Rattle.vm_flat.proofs.Classes.{ground, deed, deeds, up_deed, taken_up_deed, down_deed, taken_down_deed, region_in, page_in, number_or_zero}
 use Rattle.vm_flat.proofs.Ties.{as_row, as_link, row_is, link_is, spot_is, regions_is, objects_is, control_tie}
-use Rattle.vm_flat.proofs.Joined.{merge_cause}
+use Rattle.vm_flat.proofs.Joined.{merge_cause, top_at, used_at}
 use Rattle.vm_flat.proofs.Filling.{FilledAt}
 use Rattle.vm_flat.proofs.Numbers.{marked_later, later_alike, later_told, told_private}
 use Rattle.vm_flat.proofs.Ports.{sound_of, spot_control}
@@ -116,23 +116,17 @@ unmark_cause : (header : Header) (outside : Outside) (host region : ℕ) (past :
     → Cause (ground header outside) (D.Unmarked region) (deeds header outside host past)
 unmark_cause header outside host region past h c used =
     record {
-      tops = λ r there apart same. apart (tops_at r (sym (used_at r) ∙ there) (sym (top_at r) ∙ same ∙ top_at region));
+      tops = λ r there apart same. apart (tops_at r (sym (used_at header outside host past r) ∙ there) (sym (top_at header outside host past r) ∙ same ∙ top_at header outside host past region));
       bare = λ v reached backed same. sole.bare v (legally header outside host v past (reach header outside host v past reached))
           (sym (ap (λ (x : D.Link). x.backed) (link_is header outside host v past)) ∙ backed)
-          (sym (ap (λ (x : D.Link). x.under) (link_is header outside host v past)) ∙ same ∙ top_at region);
+          (sym (ap (λ (x : D.Link). x.under) (link_is header outside host v past)) ∙ same ∙ top_at header outside host past region);
     }
   where
-    used_at : (r : ℕ) → (D.row (ground header outside) r (deeds header outside host past)).used ≡ in_use header outside host r past
-    used_at r = ap (λ (w : D.Row). w.used) (row_is header outside host r past)
-
-    top_at : (r : ℕ) → (D.row (ground header outside) r (deeds header outside host past)).top ≡ (region_of header r past).top
-    top_at r = ap (λ (w : D.Row). w.top) (row_is header outside host r past)
-
     made : region < next_region header past
     made = omega (arith, (led header outside c.task c.address past h.entries c.waits.at).is.made, c.region_is)
 
     clash_used : in_use header outside host region past ≡ false → ⊥
-    clash_used none = clash (in_use header outside host region past) none (sym (used_at region) ∙ used)
+    clash_used none = clash (in_use header outside host region past) none (sym (used_at header outside host past region) ∙ used)
 
     on : c.waits.at.host ≡ host
     on = elim (ℕ_discrete host c.waits.at.host) [

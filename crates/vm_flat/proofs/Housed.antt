@@ -1,6 +1,5 @@
 -- A temporary object is reached on its home alone, but while no task has an entry on the region that it was made for.
 use Rattle.std.proofs.Common.{◌≡◌, ◌≤◌, ◌<◌, ℕ, zero, suc, Bool, true, false, List, [], ◌∷◌, Option, Some, None, ap, refl, subst, sym, ◌∙◌, arith, inl, inr}
-use Rattle.std.proofs.Common.{if◌then◌else◌}
 use Rattle.std.proofs.lemmas.Bool.Decides.{nat_tests}
 use Rattle.std.specs.Prelude.{◌==◌, ◌&&◌, ◌||◌, ◌⊎◌, not}
 use native.Mathlib.Decide.{ℕ_discrete}
@@ -13,11 +12,11 @@ use Rattle.vm_model.specs.declared.event.Event.{Event}
 use Rattle.vm_model.specs.declared.event.Event.TheVariants as event
 use Rattle.vm_model.specs.declared.script.Header.{Header}
 use Rattle.vm_model.specs.Homes.{copying_host, first_of, home_in, home_of, object_home, region_for}
-use Rattle.vm_model.specs.Local.{is_on}
 use Rattle.vm_model.specs.Named.{named}
 use Rattle.vm_model.specs.Regions.{Backing, backing_of, joined, next_object, next_region, over, region_of}
 use Rattle.vm_model.specs.Rows.{found_row}
 use Rattle.vm_model.specs.Tasks.{host_of}
+use Rattle.vm_legal.proofs.Homes.{made_there, object_stays, on_host, region_stays, same_some}
 use Rattle.vm_legal.specs.Living.{lives_on}
 use Rattle.vm_legal.specs.Outside.{Outside}
 use Rattle.vm_legal.specs.Used.{is_kept, made_here}
@@ -69,34 +68,8 @@ made_of header outside past w =
     on_link : (o : ℕ) → (backing_of header o past).backed ≡ true → (D.link (ground header outside) o (deeds header outside 0 past)).backed ≡ true
     on_link o on = ap (λ (x : D.Link). x.backed) (link_is header outside 0 o past) ∙ on
 
--- a home stays
-
-first_stays : (b : Bool) (h : ℕ) (was later : Option ℕ) → was ≡ Some h → (if b then first_of was later else was) ≡ Some h
-first_stays true h was later is = ap (λ z. first_of z later) is
-first_stays false h was later is = is
-
-home_stays : (r h : ℕ) (e : Event) (past : List Event) → home_of r past ≡ Some h → home_of r (e ∷ past) ≡ Some h
-home_stays r h (event.Entered task address bytes region offset prot inherit) past is = first_stays (region.0 == r) h (home_of r past) (host_of task.0 past) is
-home_stays r h (event.RegionMade region object pages) past is = first_stays (region.0 == r) h (home_of r past) (copying_host past) is
-home_stays r h other past is = is
-
-region_stays : (o r : ℕ) (e : Event) (past : List Event) → region_for o past ≡ Some r → region_for o (e ∷ past) ≡ Some r
-region_stays o r (event.RegionMade region object pages) past is = first_stays (object.0 == o) r (region_for o past) (Some region.0) is
-region_stays o r (event.Shadowed region new old) past is = first_stays (new.0 == o) r (region_for o past) (Some region.0) is
-region_stays o r other past is = is
-
 no_some : {A : Type 0} (h : ℕ) → ◌≡◌ {A = Option ℕ} None (Some h) → A
 no_some h e = absurd (cc)
-
-same_some : (g h : ℕ) → ◌≡◌ {A = Option ℕ} (Some g) (Some h) → g ≡ h
-same_some g h e = cc
-
-object_stays : (o h : ℕ) (e : Event) (past : List Event) → object_home o past ≡ Some h → object_home o (e ∷ past) ≡ Some h
-object_stays o h e past is = by (region_for o past) refl is
-  where
-    by : (x : Option ℕ) → region_for o past ≡ x → home_in (λ r. home_of r past) x ≡ Some h → object_home o (e ∷ past) ≡ Some h
-    by None none is = no_some h is
-    by (Some r) made is = ap (home_in (λ r. home_of r (e ∷ past))) (region_stays o r e past made) ∙ home_stays r h e past is
 
 housed_stays : (g r u : ℕ) (e : Event) (past : List Event) → home_of r (e ∷ past) ≡ home_of r past → IsHoused g r u past → IsHoused g r u (e ∷ past)
 housed_stays g r u e past same (inl fresh) = inl (same ∙ fresh.0, region_stays u r e past fresh.1)
@@ -115,16 +88,6 @@ housed_new g r u past made stays = by (home_of r past) refl
     by (Some h) home = housed_at g r u past made (home ∙ ap (λ (n : ℕ). Some n) (sym (stays h home)))
 
 -- hosts
-
-on_host : (g : ℕ) (x : Option ℕ) → is_on g x ≡ true → x ≡ Some g
-on_host g None is = absurd (let bad : false ≡ true = is in cc)
-on_host g (Some h) is = let same : h ≡ g = grind (arith, nat_tests) in ap (λ (n : ℕ). Some n) same
-
--- a slow copy's region is in use on the host of its task alone
-made_there : (g h : ℕ) (past : List Event) → made_here g past ≡ true → copying_host past ≡ Some h → g ≡ h
-made_there g h (event.BegunCopy task address bytes to ∷ past) here home = same_some g h (sym (on_host g (host_of task.0 past) here) ∙ home)
-made_there g h [] here home = no_some h home
-made_there g h (e ∷ past) here home = no_some h home
 
 first : (a b : Bool) → (a && b) ≡ true → a ≡ true
 first true b is = refl

@@ -36,14 +36,23 @@ no_host : {A : Type 0} (x : Option ℕ) (h : ℕ) → x ≡ None → x ≡ Some 
 no_host x h none some = absurd (cc)
 
 -- on their host
+-- a region's row is what the history says of it
+pub used_at : (header : Header) (outside : Outside) (host : ℕ) (past : List Event) (r : ℕ)
+    → (D.row (ground header outside) r (deeds header outside host past)).used ≡ in_use header outside host r past
+used_at header outside host past r = ap (λ (w : D.Row). w.used) (row_is header outside host r past)
+
+pub top_at : (header : Header) (outside : Outside) (host : ℕ) (past : List Event) (r : ℕ)
+    → (D.row (ground header outside) r (deeds header outside host past)).top ≡ (region_of header r past).top
+top_at header outside host past r = ap (λ (w : D.Row). w.top) (row_is header outside host r past)
+
 merge_pair : (header : Header) (outside : Outside) (host upper lower : ℕ) (past : List Event) → Holds header outside past
     → IsPair header host upper lower past → control header host upper past ≡ 0 → control header host lower past ≡ 0
     → C.Pair (ground header outside) upper lower (deeds header outside host past)
 merge_pair header outside host upper lower past h pair upper_none lower_none =
     record {
       no_top = λ r used same. ⊎_elim
-          (λ less. absurd (omega (arith, h.numbered.declared_top r less, less, pair.temporary, sym (top_at r) ∙ same)))
-          (λ later. pair.no_top r later (in_legal_use header outside host r past (sym (used_at r) ∙ used)) (sym (top_at r) ∙ same))
+          (λ less. absurd (omega (arith, h.numbered.declared_top r less, less, pair.temporary, sym (top_at header outside host past r) ∙ same)))
+          (λ later. pair.no_top r later (in_legal_use header outside host r past (sym (used_at header outside host past r) ∙ used)) (sym (top_at header outside host past r) ∙ same))
           (cases_lt r (named header));
       sole = λ v reached backed under. pair.sole v (legally header outside host v past (reach header outside host v past reached))
           (sym (ap (λ (x : D.Link). x.backed) (link_is header outside host v past)) ∙ backed)
@@ -51,12 +60,6 @@ merge_pair header outside host upper lower past h pair upper_none lower_none =
       upper_never = control_tie header outside host upper past ∙ upper_none;
       lower_never = control_tie header outside host lower past ∙ lower_none;
     }
-  where
-    used_at : (r : ℕ) → (D.row (ground header outside) r (deeds header outside host past)).used ≡ in_use header outside host r past
-    used_at r = ap (λ (w : D.Row). w.used) (row_is header outside host r past)
-
-    top_at : (r : ℕ) → (D.row (ground header outside) r (deeds header outside host past)).top ≡ (region_of header r past).top
-    top_at r = ap (λ (w : D.Row). w.top) (row_is header outside host r past)
 
 pub merge_cause : (header : Header) (outside : Outside) (host upper lower : ℕ) (past : List Event) → Holds header outside past
     → S.Merges header upper lower past

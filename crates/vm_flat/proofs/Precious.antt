@@ -1,5 +1,5 @@
 -- No page of temporary or file memory is precious: its pagers supply none.
-use Rattle.std.proofs.Common.{ℕ, ◌+◌, ◌≡◌, ◌≤◌, List, [], ◌∷◌, ◌++◌, Bool, true, false, Option, Some, if◌then◌else◌, refl, ap, subst, ◌∙◌, arith}
+use Rattle.std.proofs.Common.{ℕ, ◌+◌, ◌≡◌, List, [], ◌∷◌, ◌++◌, Bool, true, false, Option, Some, if◌then◌else◌, refl, ap, subst, ◌∙◌, arith}
 use Rattle.std.proofs.lemmas.Bool.Decides.{nat_tests}
 use Rattle.std.specs.Prelude.{◌==◌, ◌&&◌, ◌||◌, nat_lt, not}
 use Rattle.vm_base.specs.Pages.{little_endian_bytes}
@@ -14,7 +14,6 @@ use Rattle.vm_model.specs.Channels.{down_port, queue}
 use Rattle.vm_model.specs.Controls.{is_control, live_control}
 use Rattle.vm_model.specs.Local.{LocalEffect, Local, Place, Zeroes, Raises, Stores, Drops, Moves, Returns, Asks, Unlocks, TakesPage, TakesNothing, TakesError}
 use Rattle.vm_model.specs.Homes.{object_home}
-use Rattle.vm_model.specs.Named.{named}
 use Rattle.vm_model.specs.Regions.{backing_of, object_pages}
 use Rattle.vm_model.specs.Local.{TakesLock, Begins, Ends, Elsewhere, effect, merge_effect, is_on, is_place, local, local_after, sent_effect, taken_effect}
 use Rattle.vm_model.specs.Moments.{EachEvent}
@@ -22,7 +21,7 @@ use Rattle.vm_model.specs.Server.{first}
 use Rattle.vm_model.specs.Side.{rest}
 use Rattle.vm_model.specs.Tasks.{host_of}
 use Rattle.vm_model.specs.Words.{in_range}
-use Rattle.vm_legal.proofs.Served.{paged_may}
+use Rattle.vm_legal.proofs.Served.{later_paged, paged_may}
 use Rattle.vm_legal.specs.Licences.{HasCause, MaySendDown, is_paged}
 use Rattle.vm_legal.specs.Outside.{Outside}
 use Rattle.vm_legal.specs.Walks.{page_on}
@@ -151,9 +150,6 @@ merge_plain upper lower shift upper_pages lower_pages o p others plain =
     by true false c = tt
     by false b true = tt
     by false b false = tt
-
-later_paged : (header : Header) (o : ℕ) → named header ≤ o → is_paged header o ≡ true
-later_paged header o above = grind (arith, nat_tests)
 
 -- the object of a message on a channel
 object_is : (a h b o k n : ℕ) (x : Bool) → (a == h && (b == o && x)) ≡ true → b ≡ o

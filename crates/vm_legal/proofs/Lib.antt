@@ -1,9 +1,11 @@
 pub mod Answering
+pub mod Below
 pub mod Completing
 pub mod Exhausted
 pub mod Files
 pub mod Groups
 pub mod Heads
+pub mod Homes
 pub mod Inside
 pub mod LockNames
 pub mod Locks

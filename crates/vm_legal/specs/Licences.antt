@@ -27,11 +27,11 @@ use Rattle.vm_model.specs.PageLicences as server
 use Rattle.vm_model.specs.PagePart.{page_part}
 use Rattle.vm_model.specs.Regions.{next_region, next_object, region_of, backing_of}
 use Rattle.vm_model.specs.Server.{first}
-use Rattle.vm_model.specs.Tasks.{host_of, entries_of, has_entry}
+use Rattle.vm_model.specs.Tasks.{host_of}
 use Rattle.vm_model.specs.Words.{Supplying, Locking, in_range}
 use Rattle.vm_model.specs.Waiting.{Access, Loading, Storing, Copying, Target, waiting, next_page, copy_target, is_store}
 use Rattle.vm_legal.specs.Accesses.{At, Waits, Comes, HasPlace, is_ready, names, page_of}
-use Rattle.vm_legal.specs.Living.{lives_on, tasks}
+use Rattle.vm_legal.specs.Living.{tasks}
 use Rattle.vm_legal.specs.Merges.{Merges}
 use Rattle.vm_legal.specs.Outside.{Outside, is_file, is_said, is_wild, kind_of, start_page, zeros}
 use Rattle.vm_legal.specs.Pagers.{LacksSlot, is_lost, known_control, last_return, newer, slot_at}

@@ -1,11 +1,10 @@
 -- Nobody waits in vain, and nothing is left behind: what holds whenever a step has ended.
-use Rattle.std.specs.Prelude.{ℕ, ◌<◌, ◌≤◌, ◌≡◌, ◌⊎◌, List, length, Bool, true, false, IfSome, Option, Some, None}
+use Rattle.std.specs.Prelude.{ℕ, ◌<◌, ◌≡◌, ◌⊎◌, List, length, Bool, true, false, IfSome, Option, Some}
 use Rattle.vm_model.specs.declared.event.Event.{Event}
 use Rattle.vm_model.specs.declared.script.Header.{Header}
 use Rattle.vm_model.specs.Coherence.{SomebodyIsAwaited}
 use Rattle.vm_model.specs.Controls.{live_control}
 use Rattle.vm_model.specs.Local.{Place}
-use Rattle.vm_model.specs.Named.{named}
 use Rattle.vm_model.specs.PagePart.{page_part}
 use Rattle.vm_model.specs.Waiting.{Access, is_store, waiting}
 use Rattle.vm_legal.specs.Accesses.{Comes, HasPlace, Waits, WaitsUnlocked, WantsFrame, is_ready, names, page_of}
@@ -13,7 +12,7 @@ use Rattle.vm_legal.specs.Frames.{frames_free, returns_out}
 use Rattle.vm_legal.specs.Living.{lives_on}
 use Rattle.vm_legal.specs.Outside.{is_shared}
 use Rattle.vm_legal.specs.Swept.{IsSwept}
-use Rattle.vm_legal.specs.Walks.{Reach, page_on}
+use Rattle.vm_legal.specs.Walks.{page_on}
 
 -- what an access waits for at a place of its page
 pub data Awaits (header : Header) (host : ℕ) (store : Bool) (object page : ℕ) (past : List Event) : Type 0 where

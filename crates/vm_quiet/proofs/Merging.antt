@@ -6,7 +6,8 @@ use Rattle.vm_model.specs.declared.event.Event.{Event}
 use Rattle.vm_model.specs.declared.script.Header.{Header}
 use Rattle.vm_model.specs.Local.{moves_up}
 use Rattle.vm_model.specs.Named.{named}
-use Rattle.vm_model.specs.Regions.{Backing, backing_of, region_of}
+use Rattle.vm_model.specs.Regions.{backing_of, region_of}
+use Rattle.vm_legal.proofs.Below.{below_next}
 use Rattle.vm_legal.specs.Frames.{pages_gone}
 use Rattle.vm_legal.specs.Merges.{IsPair}
 use Rattle.vm_legal.specs.Walks.{Below, Reach}
@@ -292,12 +293,6 @@ gone_same U V upper lower shift pages (suc n) up low =
   where
     counted : (a b : Bool) (m k : ℕ) → a ≡ b → m ≡ k → (if a then m + 1 else m) ≡ (if b then k + 1 else k)
     counted a b m k e f = ap (λ x. if x then m + 1 else m) e ∙ ap (λ x. if b then x + 1 else x) f
-
--- one object further down
-below_next : (backings : ℕ → Backing) (n o u : ℕ) → Below backings n o u → (backings u).backed ≡ true → Below backings (suc n) o (backings u).under
-below_next backings zero o u below on =
-    subst (λ x. Below backings 1 x (backings u).under) (sym below) (on, refl)
-below_next backings (suc n) o u below on = (below.0, below_next backings n (backings o).under u below.1 on)
 
 -- Two objects of a pair are not the same one: whoever reaches the upper comes from an object that stands on it, or by a region's top.
 pub pair_apart : (header : Header) (host upper lower : ℕ) (past : List Event)

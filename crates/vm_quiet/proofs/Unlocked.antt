@@ -1,7 +1,7 @@
 -- No page of temporary memory or of a file has a lock, whatever else the header declares.
-use Rattle.std.proofs.Common.{ℕ, ◌≡◌, List, [], ◌∷◌, ◌++◌, Bool, true, false, refl, subst, sym, arith, Some, if◌then◌else◌}
+use Rattle.std.proofs.Common.{ℕ, ◌≡◌, List, [], ◌∷◌, ◌++◌, Bool, true, false, refl, subst, arith, Some, if◌then◌else◌}
 use Rattle.std.proofs.lemmas.Bool.Decides.{nat_tests}
-use Rattle.std.specs.Prelude.{◌==◌, ◌&&◌, ◌||◌, ◌+◌, ◌≤◌, not, nat_lt}
+use Rattle.std.specs.Prelude.{◌==◌, ◌&&◌, ◌||◌, ◌+◌}
 use Rattle.vm_base.specs.Pages.{little_endian_bytes}
 use Rattle.vm_base.specs.declared.ids.HostId.{HostId}
 use Rattle.vm_base.specs.declared.ids.ObjectId.{ObjectId}
@@ -19,15 +19,14 @@ use Rattle.vm_model.specs.Local.{LocalEffect, Local, Zeroes, Raises, Stores, Dro
 use Rattle.vm_model.specs.Local.{TakesLock}
 use Rattle.vm_model.specs.Local.{Begins, Ends, Elsewhere, effect, is_on, local, local_after}
 use Rattle.vm_model.specs.Moments.{EachEvent}
-use Rattle.vm_model.specs.Named.{named}
 use Rattle.vm_model.specs.Regions.{backing_of, object_pages}
 use Rattle.vm_model.specs.Server.{first}
 use Rattle.vm_model.specs.Side.{rest}
 use Rattle.vm_model.specs.Tasks.{host_of}
 use Rattle.vm_model.specs.Words.{in_range}
-use Rattle.vm_legal.proofs.Served.{paged_may}
+use Rattle.vm_legal.proofs.Served.{later_paged, paged_may}
 use Rattle.vm_legal.specs.Licences.{HasCause, MaySendDown, is_paged}
-use Rattle.vm_legal.specs.Outside.{Outside, is_file}
+use Rattle.vm_legal.specs.Outside.{Outside}
 use Rattle.vm_legal.specs.Walks.{page_on}
 use Rattle.vm_quiet.proofs.Letters.{never}
 use Rattle.vm_quiet.proofs.Sane.{at_place, merge_case}
@@ -168,16 +167,6 @@ down_nothing header host at object control (message.Error page reason) past o p 
 down_nothing header host at object control m past o p plain =
     if_nothing (at.0 == host && (object.0 == o && is_control control (live_control host o past))) Elsewhere (λ is. tt)
 
-temporary_paged : (header : Header) (o : ℕ) → named header ≤ o → is_paged header o ≡ true
-temporary_paged header o from = by (nat_lt o (named header)) (late o (named header) from)
-  where
-    late : (a b : ℕ) → b ≤ a → nat_lt a b ≡ false
-    late a b from = grind (arith, nat_tests)
-
-    by : (b : Bool) → b ≡ false → (not b || is_file header o) ≡ true
-    by true is = never (sym is)
-    by false is = refl
-
 nothing_next : (header : Header) (outside : Outside) (host o : ℕ) (e : Event) (past : List Event) → HasNoLock header host o past
     → ((k q : ℕ) → is_paged header k ≡ true → (page_on header host k q past).lock ≡ 0) → HasCause header outside e past → (p : ℕ)
     → LocksNothing (effect header host (record { object = o; page = p }) (λ source. local header host source past) e past)
@@ -194,7 +183,7 @@ nothing_next header outside host o (event.Dropped at object page) past h unlocke
 nothing_next header outside host o (event.Merged upper lower) past h unlocked c p =
     merge_case LocksNothing (is_on host (object_home upper.0 past)) upper.0 lower.0 (backing_of header upper.0 past).shift
     (object_pages header upper.0 past) (object_pages header lower.0 past) o p (λ source. local header host source past)
-    (λ on own here. unlocked lower.0 ((backing_of header upper.0 past).shift + p) (temporary_paged header lower.0 c.1.pair.temporary)) (λ on own. tt) tt
+    (λ on own here. unlocked lower.0 ((backing_of header upper.0 past).shift + p) (later_paged header lower.0 c.1.pair.temporary)) (λ on own. tt) tt
 nothing_next header outside host o (event.Sent (Up at object) m) past h unlocked c p = up_nothing header host at object m past o p
 nothing_next header outside host o (event.Taken (Down at object control) m) past h unlocked c p =
     down_nothing header host at object control m past o p

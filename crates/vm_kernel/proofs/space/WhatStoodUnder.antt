@@ -6,15 +6,11 @@ use Rattle.vm_kernel.proofs.Common.{◌≡◌}
 use Rattle.vm_kernel.proofs.space.ObjectsEnd.{state_of}
 use Rattle.vm_kernel.proofs.space.RegionRows.{region_row}
 use Rattle.vm_kernel.specs.Endings.{EndsBelow, EndsUnder, IsUnderneath}
+use Rattle.vm_legal.proofs.Below.{below_next}
 use Rattle.vm_model.specs.Regions.{Backing, Region}
 use Rattle.vm_shadow.specs.Chains.{DropsShadow}
 use Rattle.vm_terminate.specs.Finishes.{Alone, ControlEnds, Downward, Finishes, FinishState, GoesBack, IsDropped, IsTold, Next, NoControl, NoMore, OverOne}
 use Rattle.vm_terminate.specs.Finishes.{PageLeaves, PagesLeave}
-
--- one step further down
-further : (backings : ℕ → Backing) (n top o : ℕ) → Below backings n top o → (backings o).backed ≡ true → Below backings (suc n) top (backings o).under
-further backings zero top o is backed = (ap (λ z. (backings z).backed) is ∙ backed, ap (λ z. (backings z).under) is)
-further backings (suc n) top o below backed = (below.0, further backings n (backings top).under o below.1 backed)
 
 -- what the chains know of shadows is so
 abbrev KnowsUnder : Header → List Event → ChainTable → Type 0
@@ -27,7 +23,7 @@ stands_under header past top o row chains is knows found =
     let known = knows o row found in (
       suc is.0,
       subst (λ (z : ℕ). Below (λ o. backing_of header o past) (suc is.0) top z) (ap (λ (z : Backing). z.under) known)
-          (further (λ o. backing_of header o past) is.0 top o is.1 (ap (λ (z : Backing). z.backed) known)),
+          (below_next (λ o. backing_of header o past) is.0 top o is.1 (ap (λ (z : Backing). z.backed) known)),
     )
 
 knows_less : (header : Header) (past : List Event) (o : ℕ) (old new : ChainTable) → KnowsUnder header past old → DropsShadow o old new
