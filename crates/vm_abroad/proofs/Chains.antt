@@ -36,24 +36,31 @@ pub leads_is : (header : Header) (h : ℕ) (old new : List Event) → SameLinks 
     → Leads (λ k. backing_of header k old) n o p l lp → Leads (λ k. backing_of header k new) n o p l lp
 leads_is header h old new same zero o p l lp made is = is
 leads_is header h old new same (suc n) o p l lp made is =
-    subst (λ (b : Backing). (b.backed ≡ true) × Leads (λ k. backing_of header k new) n b.under (b.shift + p) l lp) (sym (same o (made 0 o refl).0 (made 0 o refl).1))
-    (is.0, leads_is header h old new same n (backing_of header o old).under ((backing_of header o old).shift + p) l lp (made_below header h o old made is.0) is.1)
+    subst (λ (b : Backing). (b.backed ≡ true) × Leads (λ k. backing_of header k new) n b.under (b.shift + p) l lp)
+    (sym (same o (made 0 o refl).0 (made 0 o refl).1)) (
+      is.0,
+      leads_is header h old new same n (backing_of header o old).under ((backing_of header o old).shift + p) l lp (made_below header h o old made is.0)
+          is.1,
+    )
 
-pub walks_is : (header : Header) (h : ℕ) (old new : List Event) → SameLinks header h old new → (before after : ℕ → ℕ → Sight) → ((k q : ℕ) → after k q ≡ before k q)
+pub walks_is : (header : Header) (h : ℕ) (old new : List Event) → SameLinks header h old new → (before after : ℕ → ℕ → Sight)
+    → ((k q : ℕ) → after k q ≡ before k q)
     → (n o p l lp : ℕ) → IsMade header h o old
     → Walks before (λ k. backing_of header k old) n o p l lp → Walks after (λ k. backing_of header k new) n o p l lp
 walks_is header h old new same before after sights zero o p l lp made is = is
 walks_is header h old new same before after sights (suc n) o p l lp made is =
     let later : ((backing_of header o new).backed ≡ true)
     × Walks after (λ k. backing_of header k new) n (backing_of header o new).under ((backing_of header o new).shift + p) l lp =
-    subst (λ (b : Backing). (b.backed ≡ true) × Walks after (λ k. backing_of header k new) n b.under (b.shift + p) l lp) (sym (same o (made 0 o refl).0 (made 0 o refl).1)) (
+    subst (λ (b : Backing). (b.backed ≡ true) × Walks after (λ k. backing_of header k new) n b.under (b.shift + p) l lp)
+    (sym (same o (made 0 o refl).0 (made 0 o refl).1)) (
       is.1,
       walks_is header h old new same before after sights n (backing_of header o old).under ((backing_of header o old).shift + p) l lp
           (made_below header h o old made is.1) is.2,
     ) in
     (subst (λ (s : Sight). Passes s) (sym (sights o p)) is.0, later.0, later.1)
 
-pub sinks_is : (header : Header) (h : ℕ) (old new : List Event) → SameLinks header h old new → (before after : ℕ → ℕ → Sight) → ((k q : ℕ) → after k q ≡ before k q)
+pub sinks_is : (header : Header) (h : ℕ) (old new : List Event) → SameLinks header h old new → (before after : ℕ → ℕ → Sight)
+    → ((k q : ℕ) → after k q ≡ before k q)
     → (n o p : ℕ) → IsMade header h o old
     → Sinks before (λ k. backing_of header k old) n o p → Sinks after (λ k. backing_of header k new) n o p
 sinks_is header h old new same before after sights zero o p made is =
@@ -61,7 +68,8 @@ sinks_is header h old new same before after sights zero o p made is =
 sinks_is header h old new same before after sights (suc n) o p made is =
     let later : ((backing_of header o new).backed ≡ true)
     × Sinks after (λ k. backing_of header k new) n (backing_of header o new).under ((backing_of header o new).shift + p) =
-    subst (λ (b : Backing). (b.backed ≡ true) × Sinks after (λ k. backing_of header k new) n b.under (b.shift + p)) (sym (same o (made 0 o refl).0 (made 0 o refl).1)) (
+    subst (λ (b : Backing). (b.backed ≡ true) × Sinks after (λ k. backing_of header k new) n b.under (b.shift + p))
+    (sym (same o (made 0 o refl).0 (made 0 o refl).1)) (
       is.1,
       sinks_is header h old new same before after sights n (backing_of header o old).under ((backing_of header o old).shift + p)
           (made_below header h o old made is.1) is.2,

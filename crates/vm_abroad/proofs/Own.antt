@@ -28,7 +28,8 @@ itself n = grind (arith, nat_tests)
 -- places
 
 pub effect_own : (header : Header) (h : ℕ) (place : Place) (others : Place → Local) (e : Event) (past : List Event) → is_home header h e past ≡ true
-    → effect header h place others e past ≡ own_effect (λ o. backing_of header o past) (λ o. object_pages header o past) place others (live_control h place.object past) e
+    → effect header h place others e past ≡ own_effect (λ o. backing_of header o past) (λ o. object_pages header o past) place others
+    (live_control h place.object past) e
 effect_own header h place others (event.Zeroed at object page) past is = rw is refl
 effect_own header h place others (event.Raised at lower lower_page upper upper_page) past is = rw is refl
 effect_own header h place others (event.CopiedPage task page object object_page target) past is = rw is refl
@@ -42,7 +43,8 @@ effect_own header h place others (event.Merged upper lower) past is = rw is refl
 effect_own header h place others other past is = refl
 
 pub local_own : (header : Header) (h : ℕ) (e : Event) (past : List Event) → is_home header h e past ≡ true → (place : Place)
-    → local header h place (e ∷ past) ≡ local_after header.size (own_effect (λ o. backing_of header o past) (λ o. object_pages header o past) place (λ source. local header h source past)
+    → local header h place (e ∷ past) ≡ local_after header.size (own_effect (λ o. backing_of header o past) (λ o. object_pages header o past) place
+    (λ source. local header h source past)
     (live_control h place.object past) e) (local header h place past)
 local_own header h e past is place =
     ap (λ z. local_after header.size z (local header h place past)) (effect_own header h place (λ source. local header h source past) e past is)

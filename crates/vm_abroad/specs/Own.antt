@@ -10,7 +10,8 @@ use Rattle.vm_model.specs.Local.{Drops, Elsewhere, Local, LocalEffect, Place, Ra
 use Rattle.vm_model.specs.Regions.{Backing}
 use Rattle.vm_legal.specs.Frames.{FrameChange, Gives, GivesSome, Keeps, Takes, pages_gone, sent_up_change, taken_down_change, taken_up_change}
 
--- to a place of the host, with what the host has of the others, and the live control of its object; what objects stand on, and their pages, come in as functions
+-- to a place of the host, with what the host has of the others, and the live control of its object; what objects stand on, and their pages, come in as
+-- functions
 abbrev pub own_effect : (ℕ → Backing) → (ℕ → ℕ) → Place → (Place → Local) → Option ℕ → Event → LocalEffect
 own_effect links lengths place others live (event.Zeroed at object page) = if is_place place object.0 page.0 then Zeroes else Elsewhere
 own_effect links lengths place others live (event.Raised at lower lower_page upper upper_page) =

@@ -56,7 +56,8 @@ pub fn who_waits_waits_as_before()
 /// What a host's own event does to the host's pages, controls and frames: nothing is asked of numbers of hosts.
 pub fn own_events_move_their_host()
     ensures local { (header : Header) (h : ℕ) (e : Event) (past : List Event) → is_home header h e past ≡ true → (place : Place)
-        → local header h place (e ∷ past) ≡ local_after header.size (own_effect (λ o. backing_of header o past) (λ o. object_pages header o past) place (λ source. local header h source past)
+        → local header h place (e ∷ past) ≡ local_after header.size (own_effect (λ o. backing_of header o past) (λ o. object_pages header o past) place
+        (λ source. local header h source past)
         (live_control h place.object past) e) (local header h place past) }
     ensures live { (header : Header) (h : ℕ) (e : Event) (past : List Event) → is_home header h e past ≡ true → (o : ℕ)
         → live_control h o (e ∷ past) ≡ own_live o e (live_control h o past) }

@@ -116,7 +116,9 @@ unmark_cause : (header : Header) (outside : Outside) (host region : ℕ) (past :
     → Cause (ground header outside) (D.Unmarked region) (deeds header outside host past)
 unmark_cause header outside host region past h c used =
     record {
-      tops = λ r there apart same. apart (tops_at r (sym (used_at header outside host past r) ∙ there) (sym (top_at header outside host past r) ∙ same ∙ top_at header outside host past region));
+      tops =
+          λ r there apart same. apart (tops_at r (sym (used_at header outside host past r) ∙ there)
+          (sym (top_at header outside host past r) ∙ same ∙ top_at header outside host past region));
       bare = λ v reached backed same. sole.bare v (legally header outside host v past (reach header outside host v past reached))
           (sym (ap (λ (x : D.Link). x.backed) (link_is header outside host v past)) ∙ backed)
           (sym (ap (λ (x : D.Link). x.under) (link_is header outside host v past)) ∙ same ∙ top_at header outside host past region);

@@ -52,7 +52,8 @@ merge_pair header outside host upper lower past h pair upper_none lower_none =
     record {
       no_top = λ r used same. ⊎_elim
           (λ less. absurd (omega (arith, h.numbered.declared_top r less, less, pair.temporary, sym (top_at header outside host past r) ∙ same)))
-          (λ later. pair.no_top r later (in_legal_use header outside host r past (sym (used_at header outside host past r) ∙ used)) (sym (top_at header outside host past r) ∙ same))
+          (λ later. pair.no_top r later (in_legal_use header outside host r past (sym (used_at header outside host past r) ∙ used))
+          (sym (top_at header outside host past r) ∙ same))
           (cases_lt r (named header));
       sole = λ v reached backed under. pair.sole v (legally header outside host v past (reach header outside host v past reached))
           (sym (ap (λ (x : D.Link). x.backed) (link_is header outside host v past)) ∙ backed)

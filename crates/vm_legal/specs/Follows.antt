@@ -21,7 +21,8 @@ use Rattle.vm_model.specs.declared.message.Message.TheVariants as message
 use Rattle.vm_model.specs.declared.script.Header.{Header}
 use Rattle.vm_model.specs.Channels.{queue}
 use Rattle.vm_model.specs.Controls.{last_control, live_control}
-use Rattle.vm_model.specs.Kinds.{About, about, Accesses, Backings, Beginnings, Entries, Lines, Merges, Pages, Regions, Sendings, Shadows, Takings, Tasks, Wirings}
+use Rattle.vm_model.specs.Kinds.{About, about, Accesses, Backings, Beginnings, Entries, Lines, Merges, Pages, Regions, Sendings, Shadows, Takings, Tasks}
+use Rattle.vm_model.specs.Kinds.{Wirings}
 use Rattle.vm_model.specs.Regions.{next_region, next_object}
 use Rattle.vm_model.specs.Server.{first}
 use Rattle.vm_model.specs.Named.{named}

@@ -21,9 +21,9 @@ abbrev pub gives_frame : Message → Bool
 gives_frame (message.Return control page dirty keep bytes) = not keep
 gives_frame other = false
 
--- The event is the host's: of one of its tasks, of a region in use or an object that is at home there, or told by its kernel; and so is the taking of a return that gives
--- it a frame back. A region that is made is nobody's until its entry says whose it is, but that of a slow copy. What a pager says, and what
--- its device does, is no host's.
+-- The event is the host's: of one of its tasks, of a region in use or an object that is at home there, or told by its kernel; and so is the taking of a return
+-- that gives it a frame back. A region that is made is nobody's until its entry says whose it is, but that of a slow copy. What a pager says, and what its
+-- device does, is no host's.
 abbrev pub is_home : Header → ℕ → Event → List Event → Bool
 is_home header h (event.Line line) past = false
 is_home header h (event.Refused code) past = false

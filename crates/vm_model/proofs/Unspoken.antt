@@ -286,8 +286,10 @@ effect_elsewhere header h place others (event.Sent channel m) unsent untaken no_
 effect_elsewhere header h place others (event.Taken channel m) unsent untaken no_page no_access no_merge past = absurd (untaken refl)
 effect_elsewhere header h place others (event.Dropped host object page) unsent untaken no_page no_access no_merge past = absurd (no_page refl)
 effect_elsewhere header h place others (event.Zeroed host object page) unsent untaken no_page no_access no_merge past = absurd (no_page refl)
-effect_elsewhere header h place others (event.Raised host lower lower_page upper upper_page) unsent untaken no_page no_access no_merge past = absurd (no_page refl)
-effect_elsewhere header h place others (event.CopiedPage task page object object_page target) unsent untaken no_page no_access no_merge past = absurd (no_access refl)
+effect_elsewhere header h place others (event.Raised host lower lower_page upper upper_page) unsent untaken no_page no_access no_merge past =
+    absurd (no_page refl)
+effect_elsewhere header h place others (event.CopiedPage task page object object_page target) unsent untaken no_page no_access no_merge past =
+    absurd (no_access refl)
 effect_elsewhere header h place others (event.Stored task object page at size value) unsent untaken no_page no_access no_merge past = absurd (no_access refl)
 effect_elsewhere header h place others (event.Merged upper lower) unsent untaken no_page no_access no_merge past = absurd (no_merge refl)
 effect_elsewhere header h place others other unsent untaken no_page no_access no_merge past = refl

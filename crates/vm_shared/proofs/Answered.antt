@@ -69,7 +69,8 @@ quiet_part header outside history o p still shared licensed =
           (stepped_of header outside history still.causes h o p shared).ready live
           ∙ ready_now header outside history h o (side h (page_part header.size o p history)).control still.causes still.steps still.paid still.delivered
           (shared_supplied header o shared)
-          (live_some (side h (page_part header.size o p history)) (live_control h o history) (side_is_local header history h o p (unmerged header outside history still.causes o shared) known).control live);
+          (live_some (side h (page_part header.size o p history)) (live_control h o history)
+          (side_is_local header history h o p (unmerged header outside history still.causes o shared) known).control live);
       done = done_now header outside o p history shared still.causes still.paid;
     }
   where
@@ -105,8 +106,10 @@ all_answered header outside history still licensed served =
           ∙ (none o p shared).none_unlocking h (has_right (page_on header h o p history) _ (tied h o p shared).right here);
     }
   where
-    tied : (h o p : ℕ) → is_shared header o ≡ true → SideIsLocal (live_control h o history) (side h (page_part header.size o p history)) (page_on header h o p history)
-    tied h o p shared = side_is_local header history h o p (unmerged header outside history still.causes o shared) (each_founded header outside history still.causes)
+    tied : (h o p : ℕ) → is_shared header o ≡ true → SideIsLocal (live_control h o history) (side h (page_part header.size o p history))
+        (page_on header h o p history)
+    tied h o p shared =
+        side_is_local header history h o p (unmerged header outside history still.causes o shared) (each_founded header outside history still.causes)
 
     none : (o p : ℕ) → is_shared header o ≡ true → NothingIsAsked (page_part header.size o p history)
     none o p shared =

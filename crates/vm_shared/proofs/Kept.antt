@@ -11,7 +11,8 @@ use Rattle.vm_model.specs.declared.message.Message.{Message}
 use Rattle.vm_model.specs.declared.message.Message.TheVariants as message
 use Rattle.vm_model.specs.declared.script.Header.{Header}
 use Rattle.vm_model.specs.Controls.{is_control, live_control}
-use Rattle.vm_model.specs.Local.{Asks, Begins, Drops, Elsewhere, Ends, Local, LocalEffect, Moves, Place, Raises, Returns, Stores, TakesError, TakesLock, TakesNothing}
+use Rattle.vm_model.specs.Local.{Asks, Begins, Drops, Elsewhere, Ends, Local, LocalEffect, Moves, Place, Raises, Returns, Stores, TakesError, TakesLock}
+use Rattle.vm_model.specs.Local.{TakesNothing}
 use Rattle.vm_model.specs.Local.{TakesPage, Unlocks, Zeroes, effect, is_on, local, local_after, merge_effect, sent_effect, taken_effect}
 use Rattle.vm_model.specs.Homes.{object_home}
 use Rattle.vm_model.specs.Moments.{EachEvent}
@@ -158,7 +159,8 @@ uncopied header outside task index object page target past caused shared c =
 apart_leaves : (header : Header) (outside : Outside) (e : Event) (past : List Event) → EachEvent (HasCause header outside) past → HasCause header outside e past
     → (o : ℕ) → is_shared header o ≡ true → LeavesApart o e past
 apart_leaves header outside (event.Merged upper lower) past caused c o shared = (
-  λ same. apart header upper.0 (subst (λ k. is_shared header k ≡ true) same shared) ((numbering header outside past caused).numbered.upper upper.0 c.1.pair.backed),
+  λ same. apart header upper.0 (subst (λ k. is_shared header k ≡ true) same shared)
+      ((numbering header outside past caused).numbered.upper upper.0 c.1.pair.backed),
   λ same. apart header lower.0 (subst (λ k. is_shared header k ≡ true) same shared) c.1.pair.temporary,
 )
 apart_leaves header outside (event.Raised at lower lower_page upper upper_page) past caused c o shared =

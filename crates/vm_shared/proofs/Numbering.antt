@@ -17,7 +17,8 @@ use Rattle.vm_legal.specs.Accesses.{At, Comes}
 use Rattle.vm_legal.specs.Licences.{HasCause}
 use Rattle.vm_legal.specs.Outside.{Outside}
 use Rattle.vm_legal.specs.Walks.{IsTop, Leads, Sight, Walks, sight}
-use Rattle.vm_flat.proofs.Numbers.{NumberedAt, numbered_merged, numbered_region_copied, numbered_region_made, numbered_shadowed, numbered_start, numbered_unmarked}
+use Rattle.vm_flat.proofs.Numbers.{NumberedAt, numbered_merged, numbered_region_copied, numbered_region_made, numbered_shadowed, numbered_start}
+use Rattle.vm_flat.proofs.Numbers.{numbered_unmarked}
 
 -- each entry is on a region that was made
 abbrev pub AllMade : Header → List Event → Type 0

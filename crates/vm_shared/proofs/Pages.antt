@@ -28,7 +28,8 @@ pub one_writer : (header : Header) (outside : Outside) (history : List Event) �
     → EachEvent (OwnBytes header) history → (g h o p : ℕ) → is_shared header o ≡ true → g ≢ h → CanWrite (page_on header h o p history)
     → CanRead (page_on header g o p history) → ⊥
 one_writer header outside history caused own g h o p shared apart write read =
-    page.one_writer header history g h o p (unmerged header outside history caused o shared) (each_founded header outside history caused) (licensed header outside history caused own o p shared) apart write
+    page.one_writer header history g h o p (unmerged header outside history caused o shared) (each_founded header outside history caused)
+    (licensed header outside history caused own o p shared) apart write
     read
 
 -- it has one writer at every moment
@@ -44,4 +45,5 @@ pub same_bytes : (header : Header) (outside : Outside) (history : List Event) �
     → EachEvent (OwnBytes header) history → (h o p : ℕ) → is_shared header o ≡ true → (page_on header h o p history).here ≡ true
     → (page_on header h o p history).bytes ≡ current header.size (page_part header.size o p history)
 same_bytes header outside history caused own h o p shared here =
-    page.local_bytes header history h o p (unmerged header outside history caused o shared) (each_founded header outside history caused) (licensed header outside history caused own o p shared) here
+    page.local_bytes header history h o p (unmerged header outside history caused o shared) (each_founded header outside history caused)
+    (licensed header outside history caused own o p shared) here

@@ -10,7 +10,8 @@ use Rattle.vm_legal.specs.Returned.{OnlyReturned, was_returned}
 use Rattle.vm_legal.specs.Walks.{page_on}
 use Rattle.vm_maps.specs.Maps.{Mapped}
 use Rattle.vm_model.specs.Controls.{last_control}
-use Rattle.vm_model.specs.Local.{Asks, Begins, Drops, Elsewhere, Ends, Local, LocalEffect, Moves, Place, Raises, Returns, Stores, TakesError, TakesLock, TakesNothing}
+use Rattle.vm_model.specs.Local.{Asks, Begins, Drops, Elsewhere, Ends, Local, LocalEffect, Moves, Place, Raises, Returns, Stores, TakesError, TakesLock}
+use Rattle.vm_model.specs.Local.{TakesNothing}
 use Rattle.vm_model.specs.Local.{TakesPage, Unlocks, Zeroes, effect, is_known_absent, local, local_after}
 use Rattle.vm_model.specs.Named.{named}
 use Rattle.vm_model.specs.declared.event.Event.{Event}

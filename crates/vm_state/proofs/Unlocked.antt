@@ -4,7 +4,8 @@ use Rattle.std.specs.Prelude.{if◌then◌else◌}
 use Rattle.vm_base.specs.Pages.{little_endian_bytes}
 use Rattle.vm_legal.specs.Returned.{OnlyReturned}
 use Rattle.vm_model.specs.Controls.{is_control, live_control}
-use Rattle.vm_model.specs.Local.{Asks, Begins, Drops, Elsewhere, Ends, Local, LocalEffect, Moves, Place, Raises, Returns, Stores, TakesError, TakesLock, TakesNothing}
+use Rattle.vm_model.specs.Local.{Asks, Begins, Drops, Elsewhere, Ends, Local, LocalEffect, Moves, Place, Raises, Returns, Stores, TakesError, TakesLock}
+use Rattle.vm_model.specs.Local.{TakesNothing}
 use Rattle.vm_model.specs.Local.{TakesPage, Unlocks, Zeroes, effect, is_on, is_place, local, local_after, merge_effect, sent_effect, taken_effect}
 use Rattle.vm_model.specs.Homes.{object_home}
 use Rattle.vm_model.specs.Regions.{backing_of, object_pages}
