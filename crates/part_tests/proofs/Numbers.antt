@@ -1,5 +1,5 @@
 -- What is made has the next number, so that what the chains name stays below.
-use Rattle.std.proofs.Common.{◌≡◌, ℕ, ◌+◌, ◌<◌, ◌≤◌, ◌==◌, Option, Some, None, ap, arith, if◌then◌else◌, IfSome}
+use Rattle.std.proofs.Common.{◌≡◌, ℕ, ◌+◌, ◌<◌, ◌≤◌, Option, Some, None, ap, arith}
 use Rattle.std.proofs.lemmas.Bool.Decides.{nat_tests}
 use Rattle.part_tests.specs.Numbering.{AreNumbered}
 use Rattle.vm_base.specs.declared.ids.ObjectId.{ObjectId}

@@ -15,6 +15,8 @@ mod maps;
 #[cfg(test)]
 mod messages;
 #[cfg(test)]
+mod moving;
+#[cfg(test)]
 mod objects;
 #[cfg(test)]
 mod pageout;

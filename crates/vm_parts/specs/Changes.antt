@@ -128,3 +128,14 @@ Removes key row old new = Changes key row.frame (Some row) None true (page_in ol
 -- a page that was here has gone, and its frame is free
 abbrev pub Discards : PageKey → PageRow → HostParts → HostParts → Type 0
 Discards key row old new = Changes key row.frame (Some row) None false (page_in old.frames row.frame.0) (queues_except row.frame.0 old.queues) old new
+
+-- A page that was here, with this row, is another page now, which had no row: all of the row goes there, in the same frame. The lists name pages by their
+-- frames, so it keeps its place and its mark. No other page has changed.
+pub record ShiftsPage (from to : PageKey) (row : PageRow) (old new : HostParts) : Type 0 where
+  pub found : row_at old.resident from.object.0 from.page.0 ≡ Some row
+  pub vacant : row_at old.resident to.object.0 to.page.0 ≡ None
+  pub rows : (o p : ℕ) → row_at new.resident o p ≡ (if to.object.0 == o && to.page.0 == p then Some row else
+      (if from.object.0 == o && from.page.0 == p then None else row_at old.resident o p))
+  pub owner : PutsOwner row.frame.0 (Some to) old.resident new.resident
+  pub frames : new.frames ≡ old.frames
+  pub queues : new.queues ≡ old.queues

@@ -1,4 +1,4 @@
--- An object with one reference, which a region has: no other region has it as its top, and no object stands on it.
+-- An object with one reference, which a region or a shadow has: no other has it as its top, or stands on it.
 use Rattle.std.proofs.Common.{◌≡◌, ◌∙◌, sym, ap, ℕ, ◌+◌, ◌<◌, ◌≤◌, ◌==◌, Bool, true, false, List, [], ◌∷◌, Some, None, IfSome, arith, refl, inl, inr}
 use Rattle.std.proofs.lemmas.Bool.Decides.{eqb_tells, nat_tests}
 use Rattle.std.proofs.lemmas.List.Sums.{sum_by-cons}
@@ -8,7 +8,7 @@ use Rattle.std.specs.Prelude.{if◌then◌else◌}
 use Rattle.vm_base.specs.declared.ids.ObjectId.{ObjectId}
 use Rattle.vm_base.specs.declared.ids.RegionId.{RegionId}
 use Rattle.vm_shadow.proofs.Tables.{row_told, same_row}
-use Rattle.vm_shadow.specs.Chains.{ChainTable, IsOnlyTop, references_in, region_at}
+use Rattle.vm_shadow.specs.Chains.{ChainTable, IsOnlyShadow, IsOnlyTop, references_in, region_at, shadow_at}
 use Rattle.vm_shadow.specs.declared.region_row.RegionRow.{RegionRow}
 use Rattle.vm_shadow.specs.declared.shadow_row.ShadowRow.{ShadowRow}
 
@@ -73,6 +73,24 @@ rows_counted first second passes (e ∷ es) row other apart found also passed bo
         let more = later here there in
         omega (arith, step, more)
 
+-- a region has the object as its top
+abbrev tops : ℕ → RegionRow → Bool
+tops object row = row.top.0 == object
+
+-- a shadow stands on the object
+abbrev stands : ℕ → ShadowRow → Bool
+stands object row = row.under.0 == object
+
+passes_test : (n m : ℕ) → n ≡ m → (n == m) ≡ true
+passes_test n m same = grind (arith, nat_tests)
+
+-- no number is two
+apart_keys : (n m k : ℕ) → (n ≡ m → ⊥) → (n == k) ≡ true → (m == k) ≡ true → ⊥
+apart_keys n m k apart one two =
+    let first : n ≡ k = grind (arith, nat_tests) in
+    let second : m ≡ k = grind (arith, nat_tests) in
+    apart (first ∙ sym second)
+
 -- the region over an object of which one reference is counted is that reference
 pub only_top : (table : ChainTable) (region object : ℕ) (row : RegionRow) → references_in table object ≡ 1 → region_at table region ≡ Some row
     → row.top.0 ≡ object → IsOnlyTop region object table
@@ -81,27 +99,33 @@ only_top table region object row single found top =
       tops = λ r other is also. elim (eqb_tells r region) [
         | inl same ↦ same.1
         | inr apart ↦
-            let two = rows_counted (λ (id : RegionId). r == id.0) (λ (id : RegionId). region == id.0) over table.regions other row
-            (λ id one two. apart.1 (number r id.0 one ∙ sym (number region id.0 two))) is found (test other.top.0 also) (test row.top.0 top) in
+            let two = rows_counted (λ (id : RegionId). r == id.0) (λ (id : RegionId). region == id.0) (tops object) table.regions other row
+            (λ id. apart_keys r region id.0 apart.1) is found (passes_test other.top.0 object also) (passes_test row.top.0 object top) in
             absurd (omega (arith, single, two))
       ];
       bare = λ o shadow is also.
-          let one = row_counted (λ (id : RegionId). region == id.0) over table.regions row found (test row.top.0 top) in
-          let more = row_counted (λ (id : ObjectId). o == id.0) under table.shadows shadow is (test shadow.under.0 also) in
+          let one = row_counted (λ (id : RegionId). region == id.0) (tops object) table.regions row found (passes_test row.top.0 object top) in
+          let more = row_counted (λ (id : ObjectId). o == id.0) (stands object) table.shadows shadow is (passes_test shadow.under.0 object also) in
           omega (arith, single, one, more);
     }
-  where
-    over : RegionRow → Bool
-    over other = other.top.0 == object
 
-    under : ShadowRow → Bool
-    under shadow = shadow.under.0 == object
-
-    test : (n : ℕ) → n ≡ object → (n == object) ≡ true
-    test n same = grind (arith, nat_tests)
-
-    number : (n m : ℕ) → (n == m) ≡ true → n ≡ m
-    number n m is = grind (arith, nat_tests)
+-- and so is the shadow
+pub only_shadow : (table : ChainTable) (shadow object : ℕ) (row : ShadowRow) → references_in table object ≡ 1 → shadow_at table shadow ≡ Some row
+    → row.under.0 ≡ object → IsOnlyShadow shadow object table
+only_shadow table shadow object row single found under =
+    record {
+      bare = λ r region is top.
+          let one = row_counted (λ (id : ObjectId). shadow == id.0) (stands object) table.shadows row found (passes_test row.under.0 object under) in
+          let more = row_counted (λ (id : RegionId). r == id.0) (tops object) table.regions region is (passes_test region.top.0 object top) in
+          omega (arith, single, one, more);
+      shadows = λ o other is also. elim (eqb_tells o shadow) [
+        | inl same ↦ same.1
+        | inr apart ↦
+            let two = rows_counted (λ (id : ObjectId). o == id.0) (λ (id : ObjectId). shadow == id.0) (stands object) table.shadows other row
+            (λ id. apart_keys o shadow id.0 apart.1) is found (passes_test other.under.0 object also) (passes_test row.under.0 object under) in
+            absurd (omega (arith, single, two))
+      ];
+    }
 
 -- as whoever takes its mark needs it
 pub region_alone : (table : ChainTable) (region : ℕ) (row : RegionRow) → references_in table row.top.0 ≡ 1 → region_at table region ≡ Some row

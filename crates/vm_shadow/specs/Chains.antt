@@ -71,6 +71,11 @@ pub record IsOnlyTop (region object : ℕ) (table : ChainTable) : Type 0 where
   pub tops : (r : ℕ) (row : RegionRow) → region_at table r ≡ Some row → row.top.0 ≡ object → r ≡ region
   pub bare : (o : ℕ) (row : ShadowRow) → shadow_at table o ≡ Some row → row.under.0 ≢ object
 
+-- the shadow is the one reference of an object: no region has that as its top, and no other object stands on it
+pub record IsOnlyShadow (shadow object : ℕ) (table : ChainTable) : Type 0 where
+  pub bare : (r : ℕ) (row : RegionRow) → region_at table r ≡ Some row → row.top.0 ≢ object
+  pub shadows : (o : ℕ) (row : ShadowRow) → shadow_at table o ≡ Some row → row.under.0 ≡ object → o ≡ shadow
+
 -- the shadow stands on an object, and no other does
 pub record StandsAlone (upper object : ℕ) (table : ChainTable) : Type 0 where
   pub over : IsSomeAnd (shadow_at table upper) (λ row. row.under.0 ≡ object)

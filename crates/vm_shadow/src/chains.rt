@@ -4,8 +4,8 @@ ghost use Rattle.std.specs.Option.{option_map};
 ghost use Rattle.std.specs.Prelude.{ℕ, ◌≡◌, ◌+◌, ◌-◌, ◌==◌, ◌<◌, ◌≤◌, ◌^◌, min, Some, None, false, true, if◌then◌else◌, IfNone, IfOk, IfSome, IsOk, IsSome};
 ghost use Rattle.std.specs.Prelude.{IsSomeAnd};
 ghost use Rattle.std.specs.Prelude.{OnErr, OnOk};
-ghost use Rattle.vm_shadow.specs.Chains.{CopiesRegion, DropsShadow, IsDeep, IsOnlyTop, IsRanked, ObjectsBelow, PutsRegion, RegionsBelow, SameChains};
-ghost use Rattle.vm_shadow.specs.Chains.{ShadowsRegion, StandsAlone};
+ghost use Rattle.vm_shadow.specs.Chains.{CopiesRegion, DropsShadow, IsDeep, IsOnlyShadow, IsOnlyTop, IsRanked, ObjectsBelow, PutsRegion, RegionsBelow};
+ghost use Rattle.vm_shadow.specs.Chains.{SameChains, ShadowsRegion, StandsAlone};
 ghost use Rattle.vm_shadow.specs.Chains.{MergesShadow, height, place_under, references_in, region_at, shadow_at};
 
 use crate::{Ids, RegionRow, ShadowRow, Tallies};
@@ -275,7 +275,7 @@ impl Chains {
     /// shadow now, by the sum of both shifts, and nothing stands under it any more. It takes no memory.
     pub fn merge(&mut self, upper: ObjectId, lower: ObjectId)
         requires over { IsSomeAnd (shadow_at self.old upper.0) (λ row. row.under ≡ lower) }
-        requires alone { references_in self.old lower.0 ≡ 1 }
+        requires alone { IsOnlyShadow upper.0 lower.0 self.old }
         requires shift { IfSome (shadow_at self.old upper.0) (λ up. IfSome (shadow_at self.old lower.0) (λ low. up.shift + low.shift < 2 ^ 32)) }
         ensures merges { IfSome (shadow_at self.old upper.0) (λ up. MergesShadow upper.0 lower.0 up self.old self.new) }
         ensures marked { self.new.marked ≡ self.old.marked }

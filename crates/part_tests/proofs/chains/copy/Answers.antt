@@ -1,5 +1,5 @@
 use Rattle.std.proofs.lemmas.Option.{MatchOption-at_some}
-use Rattle.std.proofs.Common.{sym, ap, refl}
+use Rattle.std.proofs.Common.{sym, ap}
 use Rattle.vm_shadow.specs.declared.ids.Ids.{Ids}
 use Rattle.part_tests.proofs.Numbers.{numbered_copy}
 use Rattle.part_tests.proofs.chains.copy.Goals as goal
