@@ -100,6 +100,7 @@ fn shadowed(rt: HostRuntime) -> Result<(), Fail> {
     // Region 6 is of object 9 from its page 3 on. Object 10 is over object 9 from page 2 on, where region 5 began.
     shows(&rt, copy(&mut chains, &mut ids)? == RegionId(6));
     shows(&rt, shadow(&mut chains, &mut ids, FIRST)? == ObjectId(10));
+    shows(&rt, chains.sole_shadow(ObjectId(9)) == Some(ObjectId(10)));
     shows(
         &rt,
         depth(&chains, FIRST) == 2 && depth(&chains, RegionId(6)) == 1 && chains.marked() == 1,
@@ -109,7 +110,14 @@ fn shadowed(rt: HostRuntime) -> Result<(), Fail> {
         page: PageNo(5),
     };
     shows(&rt, below(&chains, ObjectId(10)) == Some(place));
+    // Object 11 is over object 9 too.
+    shows(
+        &rt,
+        shadow(&mut chains, &mut ids, RegionId(6))? == ObjectId(11),
+    );
+    shows(&rt, chains.sole_shadow(ObjectId(9)).is_none());
     shows(&rt, chains.drop_object(ObjectId(10)) == Some(ObjectId(9)));
+    shows(&rt, chains.sole_shadow(ObjectId(9)) == Some(ObjectId(11)));
     Ok(())
 }
 
@@ -178,7 +186,9 @@ fn merged(rt: HostRuntime) -> Result<(), Fail> {
     }
     unmark(&mut chains, &mut ids, FIRST)?;
     shows(&rt, chains.marked() == 0 && ids.marks == 3);
+    shows(&rt, chains.sole_shadow(ObjectId(10)) == Some(ObjectId(11)));
     merge(&mut chains, ObjectId(11), ObjectId(10))?;
+    shows(&rt, chains.sole_shadow(ObjectId(9)) == Some(ObjectId(11)));
     let under = ShadowRow {
         under: ObjectId(9),
         shift: 2,

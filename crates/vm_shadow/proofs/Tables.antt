@@ -7,9 +7,10 @@ use Rattle.std.proofs.lemmas.Bool.{cond-false, ne_eqb}
 use Rattle.vm_base.specs.declared.ids.ObjectId.{ObjectId}
 use Rattle.vm_shadow.proofs.Ranks.{dropped_was, height_fewer, height_merged, ranked_dropped, ranked_merged, ranked_same, twice}
 use Rattle.vm_shadow.specs.Chains.{ChainTable, CopiesRegion, IsDeep, IsRanked, MergesShadow, Over, PutsRegion, RegionsBelow, copy_of, region_at, shadow_at}
-use Rattle.vm_shadow.specs.Kept.{AreKept, count_marked}
+use Rattle.vm_shadow.specs.Kept.{AreKept, AreTallied, count_marked}
 use Rattle.vm_shadow.specs.declared.region_row.RegionRow.{RegionRow}
 use Rattle.vm_shadow.specs.declared.shadow_row.ShadowRow.{ShadowRow}
+use Rattle.vm_shadow.specs.declared.tally.Tally.{Tally}
 
 pub some_of : {A : Type 0} (o : Option A) (x : A) → o ≡ Some x → IsSome o
 some_of o x is = rw is refl
@@ -56,8 +57,9 @@ region_copied old mid new source copy offset pages row found below is put there 
     record { at = at; shadows = marks.shadows ∙ put.shadows }
 
 -- tables with the same rows are kept alike
-pub kept_same : (old new : ChainTable) → new.regions ≡ old.regions → new.shadows ≡ old.shadows → new.marked ≡ old.marked → AreKept old → AreKept new
-kept_same old new regions shadows marked kept =
+pub kept_same : (tallies next : ℕ → Tally) (old new : ChainTable) → new.regions ≡ old.regions → new.shadows ≡ old.shadows → new.marked ≡ old.marked
+    → next ≡ tallies → AreKept tallies old → AreKept next new
+kept_same tallies next old new regions shadows marked told kept =
     let rows : (o : ℕ) → shadow_at new o ≡ shadow_at old o = λ o. ap (λ z. lookup (λ id. o == id.0) z) shadows in
     record {
       ranked = ranked_same old new rows kept.ranked;
@@ -66,12 +68,14 @@ kept_same old new regions shadows marked kept =
           let was = kept.few n o in
           omega (arith, less, was);
       count = marked ∙ (kept.count ∙ ap count_marked (sym regions));
+      tallied = rw (told, shadows) kept.tallied;
     }
 
 -- and where a shadow has gone
-pub kept_dropped : (old new : ChainTable) (object : ℕ) → ((o : ℕ) → shadow_at new o ≡ (if object == o then None else shadow_at old o))
-    → new.regions ≡ old.regions → new.marked ≡ old.marked → AreKept old → AreKept new
-kept_dropped old new object at regions marked kept =
+pub kept_dropped : (tallies next : ℕ → Tally) (old new : ChainTable) (object : ℕ)
+    → ((o : ℕ) → shadow_at new o ≡ (if object == o then None else shadow_at old o))
+    → new.regions ≡ old.regions → new.marked ≡ old.marked → AreTallied next new.shadows → AreKept tallies old → AreKept next new
+kept_dropped tallies next old new object at regions marked tallied kept =
     record {
       ranked = ranked_dropped old new object at kept.ranked;
       few = λ n o.
@@ -79,6 +83,7 @@ kept_dropped old new object at regions marked kept =
           let was = kept.few n o in
           omega (arith, less, was);
       count = marked ∙ (kept.count ∙ ap count_marked (sym regions));
+      tallied = tallied;
     }
 
 -- what holds of each row holds of the one that is there
@@ -124,11 +129,12 @@ merged_over old new mid upper lower up low there taken put regions = record {
 }
 
 -- where an object is merged into its shadow a rank falls still, and no chain is longer
-pub kept_merged : (old new : ChainTable) (upper lower : ℕ) (up low row : ShadowRow) → shadow_at old upper ≡ Some up → up.under.0 ≡ lower
+pub kept_merged : (tallies next : ℕ → Tally) (old new : ChainTable) (upper lower : ℕ) (up low row : ShadowRow) → shadow_at old upper ≡ Some up
+    → up.under.0 ≡ lower
     → shadow_at old lower ≡ Some low → row.under ≡ low.under
     → ((o : ℕ) → shadow_at new o ≡ (if upper == o then Some row else (if lower == o then None else shadow_at old o)))
-    → new.regions ≡ old.regions → new.marked ≡ old.marked → AreKept old → AreKept new
-kept_merged old new upper lower up low row over is there under at regions marked kept =
+    → new.regions ≡ old.regions → new.marked ≡ old.marked → AreTallied next new.shadows → AreKept tallies old → AreKept next new
+kept_merged tallies next old new upper lower up low row over is there under at regions marked tallied kept =
     let others : (o : ℕ) (s : ShadowRow) → upper ≢ o → shadow_at new o ≡ Some s → shadow_at old o ≡ Some s =
     λ o s apart found. let test : (upper == o) ≡ false = grind (arith, nat_tests) in grind (arith, nat_tests, at o, found, test) in
     let put : shadow_at new upper ≡ Some row = grind (arith, nat_tests, at upper) in
@@ -141,6 +147,7 @@ kept_merged old new upper lower up low row over is there under at regions marked
           let was = kept.few (twice n) o in
           omega (arith, less, was);
       count = marked ∙ (kept.count ∙ ap count_marked (sym regions));
+      tallied = tallied;
     }
 
 -- one object more on the way down

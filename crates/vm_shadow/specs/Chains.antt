@@ -2,7 +2,7 @@
 use Rattle.std.specs.List.{count_by}
 use Rattle.std.specs.Map.{lookup, values_of}
 use Rattle.std.specs.Option.{option_map_or}
-use Rattle.std.specs.Prelude.{ℕ, zero, suc, ◌≡◌, ◌≢◌, ◌+◌, ◌<◌, ◌≤◌, ◌==◌, true, false, List, length, Option, Some, None, if◌then◌else◌}
+use Rattle.std.specs.Prelude.{ℕ, zero, suc, ◌≡◌, ◌≢◌, ◌+◌, ◌<◌, ◌≤◌, ◌==◌, true, false, List, length, Option, Some, None, if◌then◌else◌, IsSomeAnd}
 use Rattle.vm_base.specs.declared.ids.ObjectId.{ObjectId}
 use Rattle.vm_base.specs.declared.ids.PageKey.{PageKey}
 use Rattle.vm_base.specs.declared.ids.RegionId.{RegionId}
@@ -75,6 +75,11 @@ pub record IsOnlyTop (region object : ℕ) (table : ChainTable) : Type 0 where
 pub record IsOnlyShadow (shadow object : ℕ) (table : ChainTable) : Type 0 where
   pub bare : (r : ℕ) (row : RegionRow) → region_at table r ≡ Some row → row.top.0 ≢ object
   pub shadows : (o : ℕ) (row : ShadowRow) → shadow_at table o ≡ Some row → row.under.0 ≡ object → o ≡ shadow
+
+-- the shadow stands on an object, and no other does
+pub record StandsAlone (upper object : ℕ) (table : ChainTable) : Type 0 where
+  pub over : IsSomeAnd (shadow_at table upper) (λ row. row.under.0 ≡ object)
+  pub others : (o : ℕ) (row : ShadowRow) → shadow_at table o ≡ Some row → row.under.0 ≡ object → o ≡ upper
 
 -- what stands under a shadow once the object under it is merged into it: what stood under that one, by the sum of both shifts
 abbrev pub joined : ShadowRow → Option ShadowRow → Option ShadowRow

@@ -1,13 +1,14 @@
 // The regions of a host, and the shadows under them.
 ghost use Rattle.std.specs.List.{count_by};
 ghost use Rattle.std.specs.Option.{option_map};
-ghost use Rattle.std.specs.Prelude.{ℕ, ◌≡◌, ◌+◌, ◌-◌, ◌==◌, ◌<◌, ◌≤◌, ◌^◌, min, Some, None, false, true, if◌then◌else◌, IfOk, IfSome, IsOk, IsSome, IsSomeAnd};
+ghost use Rattle.std.specs.Prelude.{ℕ, ◌≡◌, ◌+◌, ◌-◌, ◌==◌, ◌<◌, ◌≤◌, ◌^◌, min, Some, None, false, true, if◌then◌else◌, IfNone, IfOk, IfSome, IsOk, IsSome};
+ghost use Rattle.std.specs.Prelude.{IsSomeAnd};
 ghost use Rattle.std.specs.Prelude.{OnErr, OnOk};
 ghost use Rattle.vm_shadow.specs.Chains.{CopiesRegion, DropsShadow, IsDeep, IsOnlyShadow, IsOnlyTop, IsRanked, ObjectsBelow, PutsRegion, RegionsBelow};
-ghost use Rattle.vm_shadow.specs.Chains.{SameChains, ShadowsRegion};
+ghost use Rattle.vm_shadow.specs.Chains.{SameChains, ShadowsRegion, StandsAlone};
 ghost use Rattle.vm_shadow.specs.Chains.{MergesShadow, height, place_under, references_in, region_at, shadow_at};
 
-use crate::{Ids, RegionRow, ShadowRow};
+use crate::{Ids, RegionRow, ShadowRow, Tallies};
 use indexmap::IndexMap;
 use std::alloc::Global;
 use std::marker::Model;
@@ -28,6 +29,8 @@ pub struct Chains {
     regions: IndexMap<RegionId, RegionRow>,
     // What stands under each object that is a shadow.
     shadows: IndexMap<ObjectId, ShadowRow>,
+    // How many shadows stand on each object.
+    overs: Tallies,
     // So many regions are marked.
     marked: u32,
 }
@@ -37,6 +40,7 @@ impl Model for Chains {
     ghost use Rattle.indexmap.specs.IndexMap.{spare};
     ghost use Rattle.vm_shadow.specs.Chains.{ChainTable};
     ghost use Rattle.vm_shadow.specs.Kept.{AreKept};
+    ghost use Rattle.vm_shadow.specs.Standing.{tally_at};
 
     ghost Value = { ChainTable };
 
@@ -44,14 +48,14 @@ impl Model for Chains {
       regions = s.regions.entries;
       shadows = s.shadows.entries;
       marked = s.marked;
-      spare = min (min (spare s.regions) (spare s.shadows)) ((2 ^ 32 - 1 - s.marked) / 2);
+      spare = min (min (min (spare s.regions) (spare s.shadows)) s.overs.spare) ((2 ^ 32 - 1 - s.marked) / 2);
     } };
 
-    ghost invariant = { λ s. AreKept (record {
+    ghost invariant = { λ s. AreKept (tally_at s.overs) (record {
       regions = s.regions.entries;
       shadows = s.shadows.entries;
       marked = s.marked;
-      spare = min (min (spare s.regions) (spare s.shadows)) ((2 ^ 32 - 1 - s.marked) / 2);
+      spare = min (min (min (spare s.regions) (spare s.shadows)) s.overs.spare) ((2 ^ 32 - 1 - s.marked) / 2);
     }) };
 }
 
@@ -65,6 +69,7 @@ impl Chains {
         Chains {
             regions: IndexMap::new(alloc),
             shadows: IndexMap::new(alloc),
+            overs: Tallies::new(alloc),
             marked: 0,
         }
     }
@@ -84,6 +89,7 @@ impl Chains {
         }
         self.regions.reserve(rows as usize)?;
         self.shadows.reserve(rows as usize)?;
+        self.overs.reserve(rows as usize)?;
         Ok(())
     }
 
@@ -234,7 +240,9 @@ impl Chains {
             under: row.top,
             shift: row.shift,
         };
+        self.overs.reserve(1)?;
         self.shadows.insert(object, under)?;
+        self.overs.add(object, row.top);
         let shadowed = self.regions.get_mut(&region).unwrap();
         shadowed.top = object;
         shadowed.shift = 0;
@@ -273,10 +281,12 @@ impl Chains {
         ensures marked { self.new.marked ≡ self.old.marked }
         ensures spare { self.old.spare ≤ self.new.spare }
     {
+        self.overs.remove(upper, lower);
         let Some(low) = self.shadows.swap_remove(&lower) else {
             let _ = self.shadows.swap_remove(&upper);
             return;
         };
+        self.overs.replace(lower, upper, low.under);
         let up = self.shadows.get_mut(&upper).unwrap();
         up.under = low.under;
         up.shift += low.shift;
@@ -290,6 +300,15 @@ impl Chains {
         let tops = tops_at(self.regions.values().as_slice(), object);
         let backed = unders_at(self.shadows.values().as_slice(), object);
         u32::try_from(tops + backed).unwrap_or(u32::MAX)
+    }
+
+    /// The one shadow that stands on an object; None where none does, or several do. It looks at no other
+    /// shadow.
+    pub fn sole_shadow(&self, object: ObjectId) -> Option<ObjectId>
+        ensures alone { IfSome result (λ upper. StandsAlone upper.0 object.0 self.now) }
+        ensures none { IfNone result ((upper : ℕ) → StandsAlone upper object.0 self.now → ⊥) }
+    {
+        self.overs.sole(object)
     }
 
     /// Drops a region to which no entry leads, and gives its top object.
@@ -315,6 +334,7 @@ impl Chains {
         ensures spare { self.old.spare ≤ self.new.spare }
     {
         let row = self.shadows.swap_remove(&object)?;
+        self.overs.remove(object, row.under);
         Some(row.under)
     }
 

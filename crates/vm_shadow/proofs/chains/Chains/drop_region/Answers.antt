@@ -18,6 +18,7 @@ invariant_of-self c =
       ranked = ranked_same _ _ (λ o. refl) c.self.invariant.ranked;
       few = c.self.invariant.few;
       count = grind (arith, dropped, c.self.invariant.count, c.if-row.branch);
+      tallied = c.self.invariant.tallied;
     }
 
 pub returns-clause-dropped : goal.returns-clause-dropped

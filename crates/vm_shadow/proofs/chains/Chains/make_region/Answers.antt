@@ -11,6 +11,7 @@ invariant_of-self-2 c =
       ranked = ranked_same _ _ (λ o. refl) c.self.invariant.ranked;
       few = c.self.invariant.few;
       count = grind (arith, made, c.self.invariant.count, c.if-row.branch);
+      tallied = c.self.invariant.tallied;
     }
 
 pub returns-clause-ok : goal.returns-clause-ok

@@ -1,22 +1,48 @@
-use Rattle.std.proofs.Common.{◌≡◌, ◌∙◌, ◌+◌, ◌==◌, ℕ, IsSome, Option, if◌then◌else◌, rules, sym, ap, refl, None, Some}
+use Rattle.std.proofs.Common.{◌≡◌, ◌∙◌, ◌+◌, ◌==◌, ℕ, IsSome, Option, if◌then◌else◌, rules, sym, ap, subst, refl, None, Some}
 use Rattle.std.specs.Map.{lookup}
 use Rattle.std.specs.Option.{option_copied_mut}
 use Rattle.vm_base.specs.declared.ids.ObjectId.{ObjectId}
+use Rattle.vm_shadow.proofs.Overs.{has_number, over_has}
 use Rattle.vm_shadow.proofs.Tables.{kept_dropped, kept_merged, merged_bottom, merged_over, row_behind, row_each, row_must, row_told, shadow_stays, some_of}
+use Rattle.vm_shadow.proofs.Tallying.{apart_under, merged_fits, tallied_bottom, tallied_merged}
 use Rattle.vm_shadow.specs.Chains.{IsRanked, shadow_at}
-use Rattle.vm_shadow.specs.Kept.{AreKept}
+use Rattle.vm_shadow.specs.Standing.{HasNumber, tally_at}
 use Rattle.vm_shadow.specs.declared.shadow_row.ShadowRow.{ShadowRow}
 use Rattle.vm_shadow.proofs.chains.Chains.merge.Goals as goal
 
+pub remove-requires : goal.remove-requires
+remove-requires c =
+    record { has = (over_has _ _ c.self.invariant.tallied c.args.upper c.args.lower (rw (← c.self.view_is) at c.requires.over)).0 }
+
 pub invariant_of-self : goal.invariant_of-self
 invariant_of-self c =
-    let first : AreKept (record {
-      regions = c.self.inside.regions.entries;
-      shadows = c.swap_remove.new.self.entries;
-      marked = c.self.inside.marked;
-      spare = 0;
-    }) = kept_dropped _ _ c.args.lower.0 (λ o. c.swap_remove.ensures.updates.0 (record { 0 = o })) refl refl c.self.invariant in
-    kept_dropped _ _ c.args.upper.0 (λ o. c.swap_remove-in_default.ensures.updates.0 (record { 0 = o })) refl refl first
+    let same : c.swap_remove.new.self.entries ≡ c.self.inside.shadows.entries = rw c.in_default.is at c.swap_remove.ensures.unchanged in
+    let entries = rw same at c.swap_remove-in_default.ensures.entries in
+    let at : (o : ℕ) → lookup (λ id. o == id.0) c.swap_remove-in_default.new.self.entries
+    ≡ (if c.args.upper.0 == o then None else lookup (λ id. o == id.0) c.self.inside.shadows.entries) =
+    rw (← same) (λ o. c.swap_remove-in_default.ensures.updates.0 (record { 0 = o })) in
+    kept_dropped _ _ _ _ c.args.upper.0 at refl refl
+    (tallied_bottom _ _ _ _ c.args.upper c.args.lower (rw (← c.self.view_is) at c.requires.over) entries c.swap_remove-in_default.ensures.unique at
+    c.remove.ensures.removed c.self.invariant.tallied)
+    c.self.invariant
+
+pub replace-requires-clause-has : goal.replace-requires-clause-has
+replace-requires-clause-has c =
+    let low : ShadowRow = c.in-Some.low in
+    let there : lookup (λ id. c.args.lower.0 == id.0) c.self.inside.shadows.entries ≡ Some low = sym c.swap_remove.ensures.value ∙ c.in-Some.is in
+    let apart = apart_under _ c.args.lower.0 low c.self.invariant.ranked there in
+    let kept : tally_at c.remove.new.self low.under.0 ≡ tally_at c.self.inside.overs low.under.0 = rw apart at (c.remove.ensures.removed low.under.0) in
+    subst (HasNumber c.args.lower.0) (sym kept) (has_number _ _ c.self.invariant.tallied c.args.lower low low.under.0 there refl)
+
+pub replace-requires-clause-small : goal.replace-requires-clause-small
+replace-requires-clause-small c =
+    let low : ShadowRow = c.in-Some.low in
+    let there : lookup (λ id. c.args.lower.0 == id.0) c.self.inside.shadows.entries ≡ Some low = sym c.swap_remove.ensures.value ∙ c.in-Some.is in
+    let apart = apart_under _ c.args.lower.0 low c.self.invariant.ranked there in
+    let kept : tally_at c.remove.new.self low.under.0 ≡ tally_at c.self.inside.overs low.under.0 = rw apart at (c.remove.ensures.removed low.under.0) in
+    let small = (over_has _ _ c.self.invariant.tallied c.args.upper c.args.lower (rw (← c.self.view_is) at c.requires.over)).1 in
+    let fits = merged_fits _ _ c.args.upper.0 c.self.invariant.tallied small low.under.0 in
+    rw kept fits
 
 pub returns-in_default-clause-merges : goal.returns-in_default-clause-merges
 returns-in_default-clause-merges c =
@@ -54,8 +80,13 @@ invariant_of-self-2 c =
     let at : (o : ℕ) → lookup (λ id. o == id.0) (c.get_mut.follows.lender row).entries
     ≡ (if c.args.upper.0 == o then Some row else (if c.args.lower.0 == o then None else lookup (λ id. o == id.0) old)) =
     λ o. put.0 (record { 0 = o }) ∙ ap (λ z. if c.args.upper.0 == o then Some row else z) (taken o) in
-    kept_merged _ _ c.args.upper.0 c.args.lower.0 up low row there (ap (λ (z : ObjectId). z.0) under) (sym c.swap_remove.ensures.value ∙ c.in-Some.is) refl at
-    refl refl c.self.invariant
+    let low_there = sym c.swap_remove.ensures.value ∙ c.in-Some.is in
+    let over = ap (λ (z : ObjectId). z.0) under in
+    let apart = apart_under _ c.args.lower.0 low c.self.invariant.ranked low_there in
+    kept_merged _ _ _ _ c.args.upper.0 c.args.lower.0 up low row there over low_there refl at refl refl
+    (tallied_merged _ _ _ _ _ _ c.args.upper c.args.lower up low row low_there c.swap_remove.ensures.entries there found (c.get_mut.follows.holds row).0
+    over refl apart c.swap_remove.ensures.unique at c.remove.ensures.removed c.replace.ensures.replaced c.self.invariant.tallied)
+    c.self.invariant
 
 pub returns-clause-merges : goal.returns-clause-merges
 returns-clause-merges c =

@@ -12,7 +12,12 @@ invariant_of-self c =
     let row : RegionRow = record c.unwrap-row.result.now { entries = c.args.entries } in
     let found = sym c.get_mut.ensures.value ∙ ap option_copied_mut c.unwrap-row.ensures in
     let set = marked_set _ _ c.args.region c.unwrap-row.result.now row found (c.get_mut.follows.holds row).0 in
-    record { ranked = ranked_same _ _ (λ o. refl) c.self.invariant.ranked; few = c.self.invariant.few; count = omega (arith, set, c.self.invariant.count) }
+    record {
+      ranked = ranked_same _ _ (λ o. refl) c.self.invariant.ranked;
+      few = c.self.invariant.few;
+      count = omega (arith, set, c.self.invariant.count);
+      tallied = c.self.invariant.tallied;
+    }
 
 pub returns-clause-row : goal.returns-clause-row
 returns-clause-row c =

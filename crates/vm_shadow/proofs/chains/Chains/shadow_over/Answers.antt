@@ -1,11 +1,16 @@
 use Rattle.std.proofs.Common.{◌≡◌, ◌∙◌, ℕ, ◌<◌, ◌==◌, if◌then◌else◌, sym, ap, subst, refl, Some, true, false, arith}
 use Rattle.std.specs.Option.{option_copied_mut}
+use Rattle.vm_base.specs.declared.ids.ObjectId.{ObjectId}
 use Rattle.vm_shadow.proofs.Counts.{marked_counted, marked_set}
+use Rattle.vm_shadow.proofs.Overs.{same_tallies}
 use Rattle.vm_shadow.proofs.Ranks.{few_over, ranked_over, ranked_same}
 use Rattle.vm_shadow.proofs.Tables.{kept_same, row_must, row_told, same_row, some_of}
+use Rattle.vm_shadow.proofs.Tallying.{made_fits, next_free, tallied_made}
 use Rattle.vm_shadow.specs.Chains.{ChainTable, IsRanked, ObjectsBelow, region_at, shadow_at}
 use Rattle.vm_shadow.specs.declared.region_row.RegionRow.{RegionRow}
 use Rattle.vm_shadow.specs.declared.shadow_row.ShadowRow.{ShadowRow}
+use Rattle.vm_shadow.specs.Standing.{tally_at}
+use Rattle.vm_shadow.specs.declared.tally.Tally.{Tally}
 use Rattle.vm_shadow.proofs.chains.Chains.shadow_over.Goals as goal
 
 pub overflow_sub-self : goal.overflow_sub-self
@@ -14,6 +19,20 @@ overflow_sub-self c =
     let is : region_at c.args.self.now c.args.region.0 ≡ Some row = rw (← c.self.view_is) c.index-row.ensures in
     let counted = marked_counted _ c.args.region row c.index-row.ensures (row_must _ _ _ is c.requires.marked) in
     omega (arith, counted, c.self.invariant.count)
+
+pub add-requires-clause-few : goal.add-requires-clause-few
+add-requires-clause-few c =
+    let o = c.index-row.result.now.top.0 in
+    let kept : tally_at c.reserve.new.self o ≡ tally_at c.self.inside.overs o = ap (λ (f : ℕ → Tally). f o)
+    (same_tallies c.self.inside.overs c.reserve.new.self c.reserve.ensures.same) in
+    rw kept (made_fits _ _ c.args.ids.now.next_object c.self.invariant.tallied (rw (← c.self.view_is) at c.requires.below.shadows) c.requires.objects o).0
+
+pub add-requires-clause-small : goal.add-requires-clause-small
+add-requires-clause-small c =
+    let o = c.index-row.result.now.top.0 in
+    let kept : tally_at c.reserve.new.self o ≡ tally_at c.self.inside.overs o = ap (λ (f : ℕ → Tally). f o)
+    (same_tallies c.self.inside.overs c.reserve.new.self c.reserve.ensures.same) in
+    rw kept (made_fits _ _ c.args.ids.now.next_object c.self.invariant.tallied (rw (← c.self.view_is) at c.requires.below.shadows) c.requires.objects o).1
 
 pub invariant_of-self-2 : goal.invariant_of-self-2
 invariant_of-self-2 c =
@@ -27,6 +46,7 @@ invariant_of-self-2 c =
     let marked : found.marked ≡ true = ap (λ (z : RegionRow). z.marked) same ∙ row_must _ _ _ is c.requires.marked in
     let set = marked_set _ _ c.args.region found shadowed there (c.get_mut.follows.holds shadowed).0 in
     let next = c.args.ids.now.next_object in
+    let object : ObjectId = record { 0 = next } in
     let under : ShadowRow = record { under = row.top; shift = row.shift } in
     let old : ChainTable = record { regions = c.self.inside.regions.entries; shadows = c.self.inside.shadows.entries; marked = 0; spare = 0 } in
     let new : ChainTable = record { regions = c.self.inside.regions.entries; shadows = c.insert.new.self.entries; marked = 0; spare = 0 } in
@@ -42,10 +62,17 @@ invariant_of-self-2 c =
       ranked = ranked_same new _ (λ o. refl) ranked;
       few = λ n o. let few = few_over old new next under below less at ranked n o in let small = c.requires.objects in omega (arith, few, small);
       count = omega (arith, rw marked at set, c.self.invariant.count);
+      tallied = tallied_made (tally_at c.reserve.new.self) _ _ _ object under (next_free next _ below.shadows) c.in_ok-insert.ensures.entries
+          c.insert.ensures.unique at (let small = c.requires.objects in omega (arith, small)) c.add.ensures.added
+          (rw (same_tallies c.self.inside.overs c.reserve.new.self c.reserve.ensures.same) c.self.invariant.tallied);
     }
 
 pub invariant_of-self : goal.invariant_of-self
-invariant_of-self c = kept_same _ _ refl c.in_err-insert.ensures.err refl c.self.invariant
+invariant_of-self c = kept_same _ _ _ _ refl refl refl (same_tallies c.self.inside.overs c.reserve.new.self c.reserve.ensures.same) c.self.invariant
+
+pub invariant_of-self-in_err-insert : goal.invariant_of-self-in_err-insert
+invariant_of-self-in_err-insert c =
+    kept_same _ _ _ _ refl c.in_err-insert.ensures.err refl (same_tallies c.self.inside.overs c.reserve.new.self c.reserve.ensures.same) c.self.invariant
 
 pub returns-clause-ok : goal.returns-clause-ok
 returns-clause-ok c =

@@ -27,6 +27,7 @@ invariant_of-self c =
       ranked = ranked_same _ _ (λ o. refl) c.self.invariant.ranked;
       few = c.self.invariant.few;
       count = omega (arith, rw marked at set, c.self.invariant.count);
+      tallied = c.self.invariant.tallied;
     }
 
 pub returns-clause-unmarks : goal.returns-clause-unmarks

@@ -1,0 +1,6 @@
+mod Behind
+mod Heaps
+mod Making
+mod Moving
+mod Turns
+mod Uppers
