@@ -14,6 +14,8 @@ pub mod Knowing
 pub mod Locks
 pub mod Making
 pub mod Marks
+pub mod Merging
+pub mod Pairs
 pub mod Passing
 pub mod Places
 pub mod Reaching
