@@ -14,7 +14,9 @@ pub mod Knowing
 pub mod Locks
 pub mod Making
 pub mod Marks
+pub mod MergedPages
 pub mod Merging
+pub mod Moving
 pub mod Pairs
 pub mod Passing
 pub mod Places
