@@ -15,6 +15,7 @@ pub mod Locks
 pub mod Making
 pub mod Marks
 pub mod MergedPages
+pub mod MergedWaits
 pub mod Merging
 pub mod Moving
 pub mod Pairs
