@@ -11,6 +11,7 @@ pub mod Filling
 pub mod Fresh
 pub mod Going
 pub mod Knowing
+pub mod KnownPages
 pub mod Locks
 pub mod Making
 pub mod Marks
@@ -27,6 +28,7 @@ pub mod Referring
 pub mod Shadowing
 pub mod Shown
 pub mod Tallies
+pub mod Targets
 pub mod Told
 pub mod Unlocked
 pub mod Unmarking

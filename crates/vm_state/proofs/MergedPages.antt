@@ -3,6 +3,7 @@ use Rattle.std.proofs.Common.{◌≡◌, ◌∙◌, ℕ, ◌+◌, ◌<◌, ◌�
 use Rattle.std.proofs.lemmas.Bool.Decides.{nat_tests}
 use Rattle.std.specs.Prelude.{if◌then◌else◌, nat_lt, not}
 use Rattle.vm_abroad.proofs.Home.{on_own}
+use Rattle.vm_abroad.specs.Home.{HaveHomes}
 use Rattle.vm_base.specs.declared.ids.ObjectId.{ObjectId}
 use Rattle.vm_frames.specs.Frames.{FrameTable}
 use Rattle.vm_model.specs.declared.event.Event.{Event}
@@ -21,6 +22,7 @@ use Rattle.vm_resident.specs.Resident.{ResidentTable, row_at}
 use Rattle.vm_resident.specs.declared.page_row.PageRow.{PageRow}
 use Rattle.vm_shadow.specs.Chains.{ChainTable}
 use Rattle.vm_shadow.specs.declared.ids.Ids.{Ids}
+use Rattle.vm_state.proofs.Declared.{shadow_temporary}
 use Rattle.vm_state.proofs.Fresh.{other_test, same_test}
 use Rattle.vm_state.proofs.Merging.{lower_quiet, merged_apart, upper_quiet}
 use Rattle.vm_state.proofs.Moving.{IsBeyond, IsGone, IsMoved, IsOwn, IsSame, RowNow, row_now}
@@ -135,15 +137,15 @@ Shows header h past fs rs os o p =
     known_local header o p (local header h (place_of o p) past) ≡ local_of_row fs (row_at rs o p) (absent_at os o p)
 
 -- an event is a merge to each place
-abbrev pub Merging : Header → ℕ → Event → List Event → ℕ → ℕ → ℕ → ℕ → ℕ → Type 0
-Merging header h e past upper lower shift up low =
+abbrev pub IsMerge : Header → ℕ → Event → List Event → ℕ → ℕ → ℕ → ℕ → ℕ → Type 0
+IsMerge header h e past upper lower shift up low =
     (o p : ℕ) → effect header h (place_of o p) (places header h past) e past
     ≡ merge_effect upper lower shift up low (place_of o p) (places header h past)
 
 -- an event is a merge, and the tables have gone on with it
 record MovesUp (header : Header) (h : ℕ) (e : Event) (past : List Event) (upper lower shift up low : ℕ) (os os2 : ObjectTable) (rs rs2 : ResidentTable)
     (fs fs2 : FrameTable) : Type 0 where
-  pub is : Merging header h e past upper lower shift up low
+  pub is : IsMerge header h e past upper lower shift up low
   pub apart : upper ≡ lower → ⊥
   pub rows : MergesRows upper lower shift up rs rs2
   pub bytes : KeepsBytes rs2 fs fs2
@@ -195,7 +197,8 @@ module _ {header : Header} {h : ℕ} {e : Event} {past : List Event} {upper lowe
 
   -- what moves up is the lower's page, and the upper's marks stay
   moved_up : (p : ℕ) (row : PageRow) → row_at rs upper p ≡ None → row_at rs lower (shift + p) ≡ Some row
-      → known_local header upper p (local_after header.size (Moves (local header h (place_of lower (shift + p)) past)) (local header h (place_of upper p) past))
+      → known_local header upper p (local_after header.size (Moves (local header h (place_of lower (shift + p)) past))
+      (local header h (place_of upper p) past))
       ≡ local_of_row fs (Some row) (absent_at os upper p)
   moved_up p row none found =
       let q = shift + p in
@@ -259,9 +262,9 @@ module _ {header : Header} {h : ℕ} {e : Event} {past : List Event} {upper lowe
   shows_all o p = all_shows o p (row_now moves.rows o p)
 
 -- what the event is to a place of the upper's home, by the tables
-pub merged_effect : (header : Header) (h : ℕ) (past : List Event) (upper lower : ObjectId) (shift up low : ℕ) → object_home upper.0 past ≡ Some h
+merged_effect : (header : Header) (h : ℕ) (past : List Event) (upper lower : ObjectId) (shift up low : ℕ) → object_home upper.0 past ≡ Some h
     → (backing_of header upper.0 past).shift ≡ shift → pages_made header upper.0 past ≡ up → pages_made header lower.0 past ≡ low
-    → Merging header h (event.Merged upper lower) past upper.0 lower.0 shift up low
+    → IsMerge header h (event.Merged upper lower) past upper.0 lower.0 shift up low
 merged_effect header h past upper lower shift up low home link above below o p =
     ap (λ z. if is_on h z then whole (backing_of header upper.0 past).shift (pages_made header upper.0 past) (pages_made header lower.0 past) else Elsewhere)
     home
@@ -273,29 +276,33 @@ merged_effect header h past upper lower shift up low home link above below o p =
     whole : ℕ → ℕ → ℕ → LocalEffect
     whole = λ n m k. merge_effect upper.0 lower.0 n m k (place_of o p) (places header h past)
 
+pub table_effect : (header : Header) (h : ℕ) (past : List Event) (upper lower : ObjectId) (cs : ChainTable) (os : ObjectTable) {ids : Ids} {rm om marked : ℕ}
+    (can : CanMerge cs os upper.0 lower.0)
+    → HasRegions cs os ids (λ q. region_of header q past) (λ q. backing_of header q past) rm om marked → HasKinds header os cs → HaveHomes header past
+    → KnowsPages (named header) os (λ o. pages_made header o past) → object_home upper.0 past ≡ Some h
+    → IsMerge header h (event.Merged upper lower) past upper.0 lower.0 can.link.shift can.upper_row.pages can.lower_row.pages
+table_effect header h past upper lower cs os can regions kinds homes knows home =
+    merged_effect header h past upper lower can.link.shift can.upper_row.pages can.lower_row.pages home
+    (ap (λ (z : Backing). z.shift) (regions.shadows upper.0 can.link can.over))
+    (sym (knows.at upper.0 can.upper_row (shadow_temporary regions homes upper.0 can.link can.over) can.upper_known))
+    (sym (knows.at lower.0 can.lower_row (subst (λ (z : ℕ). named header ≤ z) can.under (kinds.unders upper.0 can.link can.over)) can.lower_known))
+
 -- the pages of a host behind a merge
 pub shown_merged : (header : Header) (h : ℕ) (past : List Event) (upper lower : ObjectId) (cs cs2 : ChainTable) (os os2 : ObjectTable)
     (rs rs2 : ResidentTable) (fs fs2 : FrameTable) {ids : Ids} {rm om marked : ℕ} (merges : MergesObjects upper.0 lower.0 cs cs2 os os2)
     → MergesRows upper.0 lower.0 merges.can.link.shift merges.can.upper_row.pages rs rs2 → KeepsBytes rs2 fs fs2
-    → HasRegions cs os ids (λ q. region_of header q past) (λ q. backing_of header q past) rm om marked
-    → KnowsPages os (λ o. pages_made header o past) → object_home upper.0 past ≡ Some h → AreHere rs upper.0 lower.0
+    → HasRegions cs os ids (λ q. region_of header q past) (λ q. backing_of header q past) rm om marked → HasKinds header os cs → HaveHomes header past
+    → KnowsPages (named header) os (λ o. pages_made header o past) → object_home upper.0 past ≡ Some h → AreHere rs upper.0 lower.0
     → ((o p : ℕ) (row : PageRow) → row_at rs o p ≡ Some row → p < object_pages os o)
     → HasPages fs rs os (λ o p. known_local header o p (local header h (place_of o p) past))
     → HasPages fs2 rs2 os2 (λ o p. known_local header o p (local header h (place_of o p) (event.Merged upper lower ∷ past)))
-shown_merged header h past upper lower cs cs2 os os2 rs rs2 fs fs2 merges moves bytes regions knows home here inside has =
+shown_merged header h past upper lower cs cs2 os os2 rs rs2 fs fs2 merges moves bytes regions kinds homes knows home here inside has =
     record { shown = shows_all now_moves }
   where
-    effects : Merging header h (event.Merged upper lower) past upper.0 lower.0 merges.can.link.shift merges.can.upper_row.pages
-        merges.can.lower_row.pages
-    effects =
-        merged_effect header h past upper lower merges.can.link.shift merges.can.upper_row.pages merges.can.lower_row.pages home
-        (ap (λ (z : Backing). z.shift) (regions.shadows upper.0 merges.can.link merges.can.over))
-        (sym (knows.at upper.0 merges.can.upper_row merges.can.upper_known)) (sym (knows.at lower.0 merges.can.lower_row merges.can.lower_known))
-
     now_moves : MovesUp header h (event.Merged upper lower) past upper.0 lower.0 merges.can.link.shift merges.can.upper_row.pages merges.can.lower_row.pages
         os os2 rs rs2 fs fs2
     now_moves = record {
-      is = effects;
+      is = table_effect header h past upper lower cs os merges.can regions kinds homes knows home;
       apart = merged_apart regions.ranked merges.can;
       rows = moves;
       bytes = bytes;

@@ -15,7 +15,7 @@ use Rattle.vm_model.specs.declared.script.Header.{Header}
 use Rattle.vm_model.specs.Homes.{object_home}
 use Rattle.vm_model.specs.Local.{Elsewhere, Moves, local, merge_effect}
 use Rattle.vm_model.specs.Named.{named}
-use Rattle.vm_model.specs.Regions.{Backing, backing_of, object_pages as pages_made, region_of}
+use Rattle.vm_model.specs.Regions.{backing_of, object_pages as pages_made, region_of}
 use Rattle.vm_model.specs.Waiting.{Access}
 use Rattle.vm_objects.specs.Objects.{ObjectTable, object_at}
 use Rattle.vm_objects.specs.declared.row.ObjectRow.{ObjectRow}
@@ -29,7 +29,7 @@ use Rattle.vm_shadow.specs.declared.ids.Ids.{Ids}
 use Rattle.vm_shadow.specs.declared.region_row.RegionRow.{RegionRow}
 use Rattle.vm_shadow.specs.declared.shadow_row.ShadowRow.{ShadowRow}
 use Rattle.vm_state.proofs.Declared.{shadow_temporary}
-use Rattle.vm_state.proofs.MergedPages.{AreHere, Merging, all_here, effect_else, effect_upper, merged_effect, places, unmoved_away}
+use Rattle.vm_state.proofs.MergedPages.{AreHere, IsMerge, all_here, effect_else, effect_upper, places, table_effect, unmoved_away}
 use Rattle.vm_state.proofs.Merging.{IsLower, IsOther, IsUpper, StandsNow, lower_quiet, merged_apart, stands_now, upper_quiet}
 use Rattle.vm_state.proofs.Moving.{IsBeyond, IsGone, IsMoved, IsOwn, IsSame, Rose, RowNow, RowWas, Stayed, row_now, row_was}
 use Rattle.vm_state.proofs.Passing.{IsQuiet, calm_of, effect_at, only_before, over_leads, stays_quiet, unmet_calm}
@@ -241,7 +241,7 @@ unwaited header cs rs os o known kinds all is untold here =
           (ap is_live_in is ∙ ((kinds.kinds o known is).lives ∙ untold)) awaits;
     }
 
--- a merge by the tables, of which nobody waits for anything
+-- a merge by the tables, of two objects for which nobody waits
 record IsUnseen (upper lower : ℕ) (cs cs2 : ChainTable) (os os2 : ObjectTable) (rs rs2 : ResidentTable) : Type 0 where
   pub merges : MergesObjects upper lower cs cs2 os os2
   pub rows : MergesRows upper lower merges.can.link.shift merges.can.upper_row.pages rs rs2
@@ -364,13 +364,13 @@ module _ {upper lower : ℕ} {cs cs2 : ChainTable} {os os2 : ObjectTable} {rs rs
 
 -- what is known of the history's places behind the merge
 
-quiet_else : (header : Header) (h : ℕ) (e : Event) (past : List Event) (upper lower shift up low : ℕ) → Merging header h e past upper lower shift up low
+quiet_else : (header : Header) (h : ℕ) (e : Event) (past : List Event) (upper lower shift up low : ℕ) → IsMerge header h e past upper lower shift up low
     → (key : PageKey) → (upper ≡ key.object.0 → ⊥) → (lower ≡ key.object.0 → ⊥) → IsQuiet (effect_at header h key e past)
 quiet_else header h e past upper lower shift up low is key above below =
     subst IsQuiet (sym (is key.object.0 key.page.0 ∙ effect_else upper lower shift up low key.object.0 key.page.0 (places header h past) above below)) tt
 
 -- nothing comes to a page of the upper from one that isn't here
-quiet_upper : (header : Header) (h : ℕ) (e : Event) (past : List Event) (upper lower shift up low : ℕ) → Merging header h e past upper lower shift up low
+quiet_upper : (header : Header) (h : ℕ) (e : Event) (past : List Event) (upper lower shift up low : ℕ) → IsMerge header h e past upper lower shift up low
     → (key : PageKey) → upper ≡ key.object.0 → (page_on header h lower (shift + key.page.0) past).here ≡ false → IsQuiet (effect_at header h key e past)
 quiet_upper header h e past upper lower shift up low is key same gone = subst IsQuiet (sym (is key.object.0 key.page.0 ∙ none)) tt
   where
@@ -384,7 +384,7 @@ quiet_upper header h e past upper lower shift up low is key same gone = subst Is
 
 -- so what was passed over is so still
 stays_merged : (header : Header) (h : ℕ) (e : Event) (past : List Event) (upper lower pages low : ℕ) (up : ShadowRow) → up.under.0 ≡ lower
-    → Merging header h e past upper lower up.shift pages low → StaysStill upper lower up (StaysAway header h past) (StaysAway header h (e ∷ past))
+    → IsMerge header h e past upper lower up.shift pages low → StaysStill upper lower up (StaysAway header h past) (StaysAway header h (e ∷ past))
 stays_merged header h e past upper lower pages low up under is =
     record {
       apart = λ key above below stays. stays_quiet header h e past key (quiet_else header h e past upper lower up.shift pages low is key above below) stays;
@@ -403,13 +403,13 @@ stays_merged header h e past upper lower pages low up under is =
         ∙ (ap (λ n. (page_on header h n (key.page.0 + up.shift) past).here) (sym under)
         ∙ (ap (λ (z : PageKey). (page_on header h z.object.0 z.page.0 past).here) (sym next_is) ∙ away))
 
--- the accesses that wait behind a merge: somebody is to be woken by none
+-- the accesses that wait behind a merge, while nobody is to be woken
 pub waits_merged : (header : Header) (h : ℕ) (past : List Event) (upper lower : ObjectId) (maps : Mapped) (cs cs2 : ChainTable) (os os2 : ObjectTable)
     (rs rs2 : ResidentTable) {ids : Ids} {rm om marked : ℕ} (rows : List Waiting) (who : On → Bool) (waiting_at : ℕ → Option Access)
     (merges : MergesObjects upper.0 lower.0 cs cs2 os os2)
     → MergesRows upper.0 lower.0 merges.can.link.shift merges.can.upper_row.pages rs rs2
     → HasRegions cs os ids (λ q. region_of header q past) (λ q. backing_of header q past) rm om marked → HasKinds header os cs → HaveHomes header past
-    → AllReferred cs os rs → KnowsPages os (λ o. pages_made header o past) → object_home upper.0 past ≡ Some h → ((why : On) → who why ≡ false)
+    → AllReferred cs os rs → KnowsPages (named header) os (λ o. pages_made header o past) → object_home upper.0 past ≡ Some h → ((why : On) → who why ≡ false)
     → HasWaiters maps cs rs os rows who waiting_at (StaysAway header h past) (IsUnmet header h past)
     → HasWaiters maps cs2 rs2 os2 rows who waiting_at (StaysAway header h (event.Merged upper lower ∷ past))
     (IsUnmet header h (event.Merged upper lower ∷ past))
@@ -417,7 +417,8 @@ waits_merged header h past upper lower maps cs cs2 os os2 rs rs2 rows who waitin
     waits_unseen unseen (stays_merged header h (event.Merged upper lower) past upper.0 lower.0 merges.can.upper_row.pages merges.can.lower_row.pages
     merges.can.link merges.can.under effects)
     (λ key above below unmet. unmet_calm header h (event.Merged upper lower) past key
-    (calm_of (effect_at header h key (event.Merged upper lower) past) (quiet_else header h (event.Merged upper lower) past upper.0 lower.0 merges.can.link.shift
+    (calm_of (effect_at header h key (event.Merged upper lower) past)
+    (quiet_else header h (event.Merged upper lower) past upper.0 lower.0 merges.can.link.shift
     merges.can.upper_row.pages merges.can.lower_row.pages effects key above below)) unmet)
     maps rows who waiting_at nobody has
   where
@@ -427,11 +428,9 @@ waits_merged header h past upper lower maps cs cs2 os os2 rs rs2 rows who waitin
     here : AreHere rs upper.0 lower.0
     here = all_here kinds least all has.ready merges.can
 
-    effects : Merging header h (event.Merged upper lower) past upper.0 lower.0 merges.can.link.shift merges.can.upper_row.pages merges.can.lower_row.pages
+    effects : IsMerge header h (event.Merged upper lower) past upper.0 lower.0 merges.can.link.shift merges.can.upper_row.pages merges.can.lower_row.pages
     effects =
-        merged_effect header h past upper lower merges.can.link.shift merges.can.upper_row.pages merges.can.lower_row.pages home
-        (ap (λ (z : Backing). z.shift) (regions.shadows upper.0 merges.can.link merges.can.over))
-        (sym (knows.at upper.0 merges.can.upper_row merges.can.upper_known)) (sym (knows.at lower.0 merges.can.lower_row merges.can.lower_known))
+        table_effect header h past upper lower cs os merges.can regions kinds homes knows home
 
     unseen : IsUnseen upper.0 lower.0 cs cs2 os os2 rs rs2
     unseen = record {

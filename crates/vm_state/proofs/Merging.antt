@@ -25,6 +25,7 @@ use Rattle.vm_state.proofs.Files.{files_put}
 use Rattle.vm_state.proofs.Fresh.{other_test, same_test}
 use Rattle.vm_state.proofs.Going.{one_other, one_own}
 use Rattle.vm_state.proofs.Knowing.{counts_still, fits_still, known_apart, known_cases, known_still, referred_before, unknown_still}
+use Rattle.vm_state.proofs.KnownPages.{pages_put}
 use Rattle.vm_state.proofs.Referring.{below_all, small_shadow}
 use Rattle.vm_state.proofs.Tallies.{tally_put, tally_same}
 use Rattle.vm_state.specs.Merging.{CanMerge, KnowsPages, MergesObjects}
@@ -393,13 +394,70 @@ files_merged header h upper lower cs cs2 os os2 home_from merges files =
     files_put header h lower merges.can.lower_row (record merges.can.lower_row { references = 0 }) os os2 home_from merges.can.lower_known merges.object files
 
 -- objects have as many pages
-pub pages_merged : (upper lower : ℕ) (cs cs2 : ChainTable) (os os2 : ObjectTable) (pages_from : ℕ → ℕ) → MergesObjects upper lower cs cs2 os os2
-    → KnowsPages os pages_from → KnowsPages os2 pages_from
-pages_merged upper lower cs cs2 os os2 pages_from merges has = record {
-  at = λ o row found. elim (known_cases lower (record merges.can.lower_row { references = 0 }) os os2 merges.object o) [
-    | inl this ↦
-        sym (ap (λ z. z.pages) (some_is (record merges.can.lower_row { references = 0 }) row (sym this.1 ∙ found)))
-        ∙ (has.at lower merges.can.lower_row merges.can.lower_known ∙ ap pages_from this.0)
-    | inr other ↦ has.at o row (sym other.1 ∙ found)
-  ];
-}
+pub pages_merged : (least upper lower : ℕ) (cs cs2 : ChainTable) (os os2 : ObjectTable) (pages_from : ℕ → ℕ) → MergesObjects upper lower cs cs2 os os2
+    → KnowsPages least os pages_from → KnowsPages least os2 pages_from
+pages_merged least upper lower cs cs2 os os2 pages_from merges has =
+    pages_put least lower merges.can.lower_row (record merges.can.lower_row { references = 0 }) os os2 pages_from merges.can.lower_known refl merges.object has
+
+-- What can be merged behind it could be before, into another object it may be, and isn't the lower, which has no reference any more.
+pub record CouldMerge (chains : ChainTable) (objects : ObjectTable) (gone lower : ℕ) : Type 0 where
+  pub upper : ℕ
+  pub can : CanMerge chains objects upper lower
+  pub other : gone ≡ lower → ⊥
+
+pub could_merge : {upper lower : ℕ} {cs cs2 : ChainTable} {os os2 : ObjectTable} → MergesObjects upper lower cs cs2 os os2 → (u l : ℕ)
+    → CanMerge cs2 os2 u l → CouldMerge cs os lower l
+could_merge {upper = upper} {lower = lower} {cs = cs} {cs2 = cs2} {os = os} {os2 = os2} merges u l can = by (stands_now merges.chain u)
+  where
+    apart : lower ≡ l → ⊥
+    apart same = elim (known_cases lower (record merges.can.lower_row { references = 0 }) os os2 merges.object l) [
+      | inl this ↦
+          let none : 0 ≡ can.lower_row.references = ap (λ (z : ObjectRow). z.references)
+          (some_is (record merges.can.lower_row { references = 0 }) can.lower_row (sym this.1 ∙ can.lower_known)) in
+          let sole = can.sole in
+          omega (arith, none, sole)
+      | inr other ↦ other.0 same
+    ]
+
+    was : (o : ℕ) (row : ObjectRow) → (lower ≡ o → ⊥) → object_at os2 o ≡ Some row → object_at os o ≡ Some row
+    was o row other found = elim (known_cases lower (record merges.can.lower_row { references = 0 }) os os2 merges.object o) [
+      | inl this ↦ absurd (other this.0)
+      | inr that ↦ sym that.1 ∙ found
+    ]
+
+    by : StandsNow upper lower merges.can.link cs cs2 u → CouldMerge cs os lower l
+    by (IsUpper same is) =
+        let join = joined_some merges.can.link can.link (shadow_at cs lower) (sym is ∙ can.over) in
+        record {
+          upper = lower;
+          can = record {
+            link = join.low;
+            over = join.below;
+            under = sym (ap (λ (z : ShadowRow). z.under.0) join.is) ∙ can.under;
+            upper_row = merges.can.lower_row;
+            upper_known = merges.can.lower_known;
+            lower_row = can.lower_row;
+            lower_known = was l can.lower_row apart can.lower_known;
+            sole = can.sole;
+            upper_never = merges.can.lower_never;
+            lower_never = can.lower_never;
+          };
+          other = apart;
+        }
+    by (IsLower above same is) = absurd (let bad : None ≡ Some can.link = sym is ∙ can.over in cc)
+    by (IsOther above below is) = record {
+      upper = u;
+      can = record {
+        link = can.link;
+        over = sym is ∙ can.over;
+        under = can.under;
+        upper_row = can.upper_row;
+        upper_known = was u can.upper_row below can.upper_known;
+        lower_row = can.lower_row;
+        lower_known = was l can.lower_row apart can.lower_known;
+        sole = can.sole;
+        upper_never = can.upper_never;
+        lower_never = can.lower_never;
+      };
+      other = apart;
+    }

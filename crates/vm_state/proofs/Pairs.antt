@@ -1,16 +1,19 @@
 -- Whether two objects can be merged: by the tables of their host, and by what they stand for.
-use Rattle.std.proofs.Common.{◌≡◌, ◌≤◌, ◌<◌, ◌∙◌, ℕ, zero, suc, Bool, true, false, List, Option, Some, None, ap, arith, refl, sym, subst, inl, inr}
+use Rattle.std.proofs.Common.{[], ◌≡◌, ◌≤◌, ◌<◌, ◌∙◌, ℕ, zero, suc, Bool, true, false, List, Option, Some, None, ap, arith, refl, sym, subst, inl, inr}
 use Rattle.vm_abroad.proofs.Regions.{kind_cases}
 use Rattle.vm_abroad.specs.Home.{HaveHomes}
-use Rattle.vm_legal.specs.Merges.{IsPair}
+use Rattle.vm_legal.specs.Merges.{IsPair, Merges}
+use Rattle.vm_legal.specs.Swept.{IsSwept}
 use Rattle.vm_legal.specs.Used.{in_use}
 use Rattle.vm_legal.specs.Walks.{Reach}
 use Rattle.vm_model.specs.declared.event.Event.{Event}
 use Rattle.vm_model.specs.declared.script.Header.{Header}
 use Rattle.vm_model.specs.Controls.{last_control}
+use Rattle.vm_model.specs.Homes.{object_home}
 use Rattle.vm_model.specs.Named.{named}
 use Rattle.vm_model.specs.Regions.{Backing, Region, backing_of, region_of}
 use Rattle.vm_objects.specs.Objects.{ObjectTable, object_at}
+use Rattle.vm_objects.specs.declared.row.ObjectRow.{ObjectRow}
 use Rattle.vm_parts.specs.Changes.{one}
 use Rattle.vm_shadow.specs.Chains.{ChainTable, region_at, shadow_at}
 use Rattle.vm_shadow.specs.declared.ids.Ids.{Ids}
@@ -22,11 +25,15 @@ use Rattle.vm_state.proofs.Passing.{same_of}
 use Rattle.vm_state.proofs.Reaching.{temporary_down, temporary_up}
 use Rattle.vm_state.proofs.Referring.{refers_shadow, sole_region, sole_shadow}
 use Rattle.vm_state.proofs.Tallies.{tally_none}
-use Rattle.vm_state.specs.Merging.{CanMerge, IsThin}
+use Rattle.vm_state.specs.Merging.{CanMerge, IsThin, IsThinBut}
 use Rattle.vm_state.specs.Pagers.{last_in}
 use Rattle.vm_state.specs.References.{is_backing, is_over, references_to, tally}
 use Rattle.vm_state.specs.Stands.{HasKinds, HasRegions}
 use Rattle.vm_terminate.specs.Finishes.{IsReferred}
+
+-- nothing can be merged but none
+pub thin_none : (chains : ChainTable) (objects : ObjectTable) → IsThinBut [] chains objects → IsThin chains objects
+thin_none chains objects thin upper lower can = let none = thin upper lower can in let less : none.0 < 0 = none.1 in omega (arith, less)
 
 -- what the tables of a host and its history have in common, as far as pairs are concerned
 pub record KnowsPairs (header : Header) (h : ℕ) (chains : ChainTable) (objects : ObjectTable) (ids : Ids) (regions_made objects_made marked : ℕ)
@@ -168,3 +175,14 @@ module _ {header : Header} {h : ℕ} {chains : ChainTable} {objects : ObjectTabl
   -- and the least of the lower objects that can be is the least of all pairs
   pub least_told : (lower : ℕ) → ((u l : ℕ) → CanMerge chains objects u l → lower ≤ l) → (u l : ℕ) → IsPair header h u l past → lower ≤ l
   least_told lower least u l pair = least u l (pair_can u l pair)
+
+  -- a merge of the least pair of the upper's home, when nothing is left there that was to end
+  pub merges_told : ((o : ℕ) (row : ObjectRow) → named header ≤ o → object_at objects o ≡ Some row → object_home o past ≡ Some h) → IsSwept header h past
+      → (upper lower : ℕ) → CanMerge chains objects upper lower → ((u l : ℕ) → CanMerge chains objects u l → lower ≤ l) → Merges header upper lower past
+  merges_told homes swept upper lower can least = record {
+    host = h;
+    home = homes upper can.upper_row (shadow_temporary knows.regions knows.homes upper can.link can.over) can.upper_known;
+    pair = pair_of upper lower can;
+    least = least_told lower least;
+    swept = swept;
+  }
