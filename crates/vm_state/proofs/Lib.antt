@@ -11,9 +11,15 @@ pub mod Filling
 pub mod Fresh
 pub mod Going
 pub mod Knowing
+pub mod KnownPages
 pub mod Locks
 pub mod Making
 pub mod Marks
+pub mod MergedPages
+pub mod MergedWaits
+pub mod Merging
+pub mod Moving
+pub mod Pairs
 pub mod Passing
 pub mod Places
 pub mod Reaching
@@ -22,6 +28,7 @@ pub mod Referring
 pub mod Shadowing
 pub mod Shown
 pub mod Tallies
+pub mod Targets
 pub mod Told
 pub mod Unlocked
 pub mod Unmarking

@@ -1,5 +1,6 @@
 pub mod Counts
 pub mod Filling
+pub mod Merging
 pub mod Pagers
 pub mod Passed
 pub mod Places

@@ -1,0 +1,58 @@
+-- Which objects of a host can be merged, by its tables, and what that does to the pages that are here.
+use Rattle.std.specs.Prelude.{ℕ, ◌+◌, ◌≡◌, ◌≤◌, ◌==◌, List, Contains, Option, Some, None, if◌then◌else◌, nat_lt}
+use Rattle.vm_base.specs.declared.ids.ObjectId.{ObjectId}
+use Rattle.vm_frames.specs.Frames.{FrameTable, page_in}
+use Rattle.vm_objects.specs.Objects.{ObjectTable, PutsObject, SameMarks, object_at}
+use Rattle.vm_objects.specs.declared.row.ObjectRow.{ObjectRow}
+use Rattle.vm_resident.specs.Resident.{ResidentTable, row_at}
+use Rattle.vm_resident.specs.declared.page_row.PageRow.{PageRow}
+use Rattle.vm_shadow.specs.Chains.{ChainTable, MergesShadow, shadow_at}
+use Rattle.vm_shadow.specs.declared.shadow_row.ShadowRow.{ShadowRow}
+
+-- an object can be merged into the shadow over it that is its one reference, where neither ever had a control
+pub record CanMerge (chains : ChainTable) (objects : ObjectTable) (upper lower : ℕ) : Type 0 where
+  pub link : ShadowRow
+  pub over : shadow_at chains upper ≡ Some link
+  pub under : link.under.0 ≡ lower
+  pub upper_row : ObjectRow
+  pub upper_known : object_at objects upper ≡ Some upper_row
+  pub lower_row : ObjectRow
+  pub lower_known : object_at objects lower ≡ Some lower_row
+  pub sole : lower_row.references ≡ 1
+  pub upper_never : upper_row.control ≡ 0
+  pub lower_never : lower_row.control ≡ 0
+
+-- no object can be merged into a shadow but these
+abbrev pub IsThinBut : List ObjectId → ChainTable → ObjectTable → Type 0
+IsThinBut lowers chains objects = (upper lower : ℕ) → CanMerge chains objects upper lower → Contains lowers (record { 0 = lower })
+
+-- no object can
+abbrev pub IsThin : ChainTable → ObjectTable → Type 0
+IsThin chains objects = (upper lower : ℕ) → CanMerge chains objects upper lower → ⊥
+
+-- a page's own row, or the one that it gets where it has none
+abbrev pub its_own_or : Option PageRow → Option PageRow → Option PageRow
+its_own_or None gets = gets
+its_own_or (Some own) gets = Some own
+
+-- The upper of two objects has so many pages, and its page 0 is over the lower's page `shift`. Where a page of the upper has no row it gets that of the page
+-- under it; the lower has no rows any more, and each other object has those that it had.
+pub record MergesRows (upper lower shift pages : ℕ) (old new : ResidentTable) : Type 0 where
+  pub at : (o p : ℕ) → row_at new o p ≡ (if upper == o
+      then its_own_or (row_at old upper p) (if nat_lt p pages then row_at old lower (shift + p) else None)
+      else (if lower == o then None else row_at old o p))
+
+-- the frames of the pages that are left hold the same bytes
+pub record KeepsBytes (resident : ResidentTable) (old new : FrameTable) : Type 0 where
+  pub at : (o p : ℕ) (row : PageRow) → row_at resident o p ≡ Some row → page_in new row.frame.0 ≡ page_in old row.frame.0
+
+-- each object with a number from this one on has as many pages as it was made with, if it is known
+pub record KnowsPages (least : ℕ) (objects : ObjectTable) (pages_from : ℕ → ℕ) : Type 0 where
+  pub at : (o : ℕ) (known : ObjectRow) → least ≤ o → object_at objects o ≡ Some known → known.pages ≡ pages_from o
+
+-- a merge by the tables: the lower's shadow row is the upper's, by the sum of both shifts, nothing refers to the lower any more, and all else is as it was
+pub record MergesObjects (upper lower : ℕ) (chains chains2 : ChainTable) (objects objects2 : ObjectTable) : Type 0 where
+  pub can : CanMerge chains objects upper lower
+  pub chain : MergesShadow upper lower can.link chains chains2
+  pub object : PutsObject lower (Some (record can.lower_row { references = 0 })) objects objects2
+  pub marks : SameMarks objects objects2
