@@ -4,31 +4,11 @@ use Rattle.vm_base.specs.declared.ids.ObjectId.{ObjectId}
 use Rattle.vm_frames.specs.Frames.{FrameTable, page_in}
 use Rattle.vm_objects.specs.Objects.{ObjectTable, PutsObject, SameMarks, object_at}
 use Rattle.vm_objects.specs.declared.row.ObjectRow.{ObjectRow}
+pub use Rattle.vm_merge.specs.Merges.{CanMerge, IsThin, IsThinBut}
 use Rattle.vm_resident.specs.Resident.{ResidentTable, row_at}
 use Rattle.vm_resident.specs.declared.page_row.PageRow.{PageRow}
 use Rattle.vm_shadow.specs.Chains.{ChainTable, MergesShadow, shadow_at}
 use Rattle.vm_shadow.specs.declared.shadow_row.ShadowRow.{ShadowRow}
-
--- an object can be merged into the shadow over it that is its one reference, where neither ever had a control
-pub record CanMerge (chains : ChainTable) (objects : ObjectTable) (upper lower : ℕ) : Type 0 where
-  pub link : ShadowRow
-  pub over : shadow_at chains upper ≡ Some link
-  pub under : link.under.0 ≡ lower
-  pub upper_row : ObjectRow
-  pub upper_known : object_at objects upper ≡ Some upper_row
-  pub lower_row : ObjectRow
-  pub lower_known : object_at objects lower ≡ Some lower_row
-  pub sole : lower_row.references ≡ 1
-  pub upper_never : upper_row.control ≡ 0
-  pub lower_never : lower_row.control ≡ 0
-
--- no object can be merged into a shadow but these
-abbrev pub IsThinBut : List ObjectId → ChainTable → ObjectTable → Type 0
-IsThinBut lowers chains objects = (upper lower : ℕ) → CanMerge chains objects upper lower → Contains lowers (record { 0 = lower })
-
--- no object can
-abbrev pub IsThin : ChainTable → ObjectTable → Type 0
-IsThin chains objects = (upper lower : ℕ) → CanMerge chains objects upper lower → ⊥
 
 -- a page's own row, or the one that it gets where it has none
 abbrev pub its_own_or : Option PageRow → Option PageRow → Option PageRow
