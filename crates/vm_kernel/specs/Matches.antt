@@ -13,7 +13,7 @@ use Rattle.vm_model.specs.Homes.{home_of, object_home}
 use Rattle.vm_model.specs.Ranges.{IsBetween}
 use Rattle.vm_model.specs.Local.{local}
 use Rattle.vm_model.specs.Named.{named}
-use Rattle.vm_model.specs.Regions.{backing_of, next_object, next_region, region_of}
+use Rattle.vm_model.specs.Regions.{backing_of, next_object, next_region, object_pages, region_of}
 use Rattle.vm_model.specs.Tasks.{entries_of, host_of}
 use Rattle.vm_model.specs.Waiting.{copy_target, next_page, waiting}
 use Rattle.vm_legal.specs.Accesses.{begun_at, is_ready}
@@ -26,7 +26,7 @@ use Rattle.vm_abroad.specs.Home.{HaveHomes}
 use Rattle.vm_state.specs.References.{AllReferred}
 use Rattle.vm_state.specs.Filling.{AllUsed, HasCopies}
 use Rattle.vm_state.specs.Stands.{AreShared, HasControls, HasEntries, HasFrames, HasHomes, HasKinds, HasLaundry, HasPages, HasRegions, HasTasks, HasUse}
-use Rattle.vm_state.specs.Stands.{KnowsFiles}
+use Rattle.vm_state.specs.Stands.{KnowsFiles, KnowsPages}
 use Rattle.vm_abroad.specs.Sound.{holds}
 use Rattle.vm_abroad.specs.Whose.{IsShut}
 use Rattle.vm_supply.specs.declared.woken.Woken.{Woken}
@@ -84,6 +84,7 @@ pub record Matches (header : Header) (h : ℕ) (k : Parts) (ids : Ids) (gone : L
   pub kinds : HasKinds header k.memory.objects k.chains
   pub homes : KnowsHomes header h k.chains past
   pub files : KnowsFiles header h k.memory.objects (λ o. home_of o past)
+  pub sizes : KnowsPages (named header) k.memory.objects (λ o. object_pages header o past)
   pub entries : HasEntries header.size k.maps k.chains gone
   pub shared : AreShared (named header) k.maps
   pub pages : HasPages k.memory.frames k.memory.resident k.memory.objects (λ o p. known_local header o p (local header h (place_of o p) past))

@@ -18,7 +18,7 @@ use Rattle.vm_model.specs.Controls.{last_control, live_control}
 use Rattle.vm_model.specs.Homes.{home_in, home_of, region_for}
 use Rattle.vm_model.specs.Local.{Local, local}
 use Rattle.vm_model.specs.Named.{named}
-use Rattle.vm_model.specs.Regions.{Backing, Region, backing_of, next_object, next_region, region_of}
+use Rattle.vm_model.specs.Regions.{Backing, Region, backing_of, next_object, next_region, object_pages, region_of}
 use Rattle.vm_model.specs.Tasks.{entries_of, host_of}
 use Rattle.vm_model.specs.Waiting.{Target, copy_target, next_page}
 use Rattle.vm_model.specs.declared.event.Event.{Event}
@@ -32,7 +32,7 @@ use Rattle.vm_shadow.specs.declared.ids.Ids.{Ids}
 use Rattle.vm_state.specs.Counts.{marked_in}
 use Rattle.vm_state.specs.Places.{known_local, place_of}
 use Rattle.vm_state.specs.Stands.{AreShared, HasControls, HasEntries, HasFrames, HasHomes, HasKinds, HasLaundry, HasPages, HasRegions, HasTasks, HasUse}
-use Rattle.vm_state.specs.Stands.{KnowsFiles}
+use Rattle.vm_state.specs.Stands.{KnowsFiles, KnowsPages}
 use Rattle.vm_supply.specs.declared.woken.Woken.{Woken}
 use Rattle.vm_waits.specs.declared.waiting.Waiting.{Waiting}
 
@@ -52,6 +52,7 @@ pub record SpaceFacts : Type 0 where
   pub used_at : ℕ → ℕ → Bool
   pub home : ℕ → Option ℕ
   pub made_for : ℕ → Option ℕ
+  pub made_with : ℕ → ℕ
 
 abbrev pub space_facts : Header → List Event → SpaceFacts
 space_facts header past =
@@ -70,6 +71,7 @@ space_facts header past =
       used_at = λ h r. in_use header h r past;
       home = λ r. home_of r past;
       made_for = λ o. region_for o past;
+      made_with = λ o. object_pages header o past;
     }
 
 -- the controls of one host's objects
@@ -119,6 +121,7 @@ pub record Objects (header : Header) (h : ℕ) (chains : ChainTable) (objects : 
   pub regions : HasRegions chains objects ids s.region s.backing s.regions_made s.objects_made (marked_in s.regions_made s.region)
   pub kinds : HasKinds header objects chains
   pub files : KnowsFiles header h objects s.home
+  pub sizes : KnowsPages (named header) objects s.made_with
 
 -- pages and frames
 pub record Pages (header : Header) (h : ℕ) (frames : FrameTable) (resident : ResidentTable) (objects : ObjectTable) (laundry : LaundryList) (m : MemoryFacts) :

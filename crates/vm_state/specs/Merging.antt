@@ -26,10 +26,6 @@ pub record MergesRows (upper lower shift pages : ℕ) (old new : ResidentTable) 
 pub record KeepsBytes (resident : ResidentTable) (old new : FrameTable) : Type 0 where
   pub at : (o p : ℕ) (row : PageRow) → row_at resident o p ≡ Some row → page_in new row.frame.0 ≡ page_in old row.frame.0
 
--- each object with a number from this one on has as many pages as it was made with, if it is known
-pub record KnowsPages (least : ℕ) (objects : ObjectTable) (pages_from : ℕ → ℕ) : Type 0 where
-  pub at : (o : ℕ) (known : ObjectRow) → least ≤ o → object_at objects o ≡ Some known → known.pages ≡ pages_from o
-
 -- a merge by the tables: the lower's shadow row is the upper's, by the sum of both shifts, nothing refers to the lower any more, and all else is as it was
 pub record MergesObjects (upper lower : ℕ) (chains chains2 : ChainTable) (objects objects2 : ObjectTable) : Type 0 where
   pub can : CanMerge chains objects upper lower

@@ -21,6 +21,7 @@ matches_with {k = k} queues buffers waits same fit size m =
       regions = m.regions;
       homes = m.homes;
       files = m.files;
+      sizes = m.sizes;
       entries = m.entries;
       pages = m.pages;
       uses = uses_refilled k.waits.rows waits.rows same m.uses;

@@ -348,6 +348,9 @@ module _ (header : Header) (h : ℕ) (k : Parts) (ids next : Ids) (past new : Li
           regions = regions_same;
           homes = (λ r row paged found. home r (rests.matches.homes.0 r row paged found), common.homes);
           files = λ o file. known o ∙ rests.matches.files o file;
+          sizes = record {
+            at = λ o row least found. rests.matches.sizes.at o row least found ∙ sym (same.sizes o (small_object rests.matches.regions o row found));
+          };
           entries = rests.matches.entries;
           pages = pages_same;
           uses = uses_same apart home;

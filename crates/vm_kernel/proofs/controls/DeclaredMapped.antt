@@ -1,4 +1,6 @@
 -- A declared object is mapped: a task gets an entry on its region, which counts one more or is made, and then the object's pager is told of it.
+use Rattle.vm_model.specs.Regions.{object_pages}
+use Rattle.vm_state.proofs.KnownPages.{sizes_new}
 use Rattle.vm_kernel.specs.Changes.{CanEnter}
 use Rattle.vm_kernel.proofs.Common.{Begins, Bool, ChainTable, ChangesOnly, Command, EachOf, Elsewhere, Enters, Entry, Event, HasControls, HasPages, Header, Ids}
 use Rattle.vm_kernel.proofs.Common.{IfSome, IsInside, IsReferred, IsSome, List, MapChange, Mapped, Matches, None, ObjectId, ObjectRow, ObjectTable, Option}
@@ -348,6 +350,9 @@ rests_opened header h outside doing task address bytes object offset pages new p
                   ∙ (own_host h ∙ sym (ap is_some this.1))
               | inr other ↦ ap (is_on h) (other_home task address bytes object offset past x other.0) ∙ (m.files x file ∙ sym (ap is_some other.1))
             ];
+            sizes =
+                sizes_new (named header) object.0 new k.memory.objects objects (λ x. object_pages header x past) (λ x. object_pages header x past) o.put
+                (λ least. let declared = may.declared in absurd (omega (arith, least, declared))) (λ x apart. refl) m.sizes;
             entries =
                 entries_declared size k.maps maps k.chains chains task.0 object pages row m.entries o.free o.region o.changes refl below may.whole may.some
                 may.end (let inside = may.inside in let all = o.sized in omega (arith, inside, all)) may.room;

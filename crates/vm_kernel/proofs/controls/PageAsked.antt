@@ -69,6 +69,7 @@ matches_asked header h k ids past key control access frame memory m live c plan 
       regions = rw plan.objects m.regions;
       homes = m.homes;
       files = rw plan.objects m.files;
+      sizes = rw plan.objects m.sizes;
       entries = m.entries;
       pages = rw (plan.objects, own_host h) pages2;
       uses = m.uses;

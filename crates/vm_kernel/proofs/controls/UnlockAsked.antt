@@ -78,6 +78,7 @@ matches_unlocked header h k ids past key row control access memory m here c plan
       regions = rw plan.objects m.regions;
       homes = m.homes;
       files = rw plan.objects m.files;
+      sizes = rw plan.objects m.sizes;
       entries = m.entries;
       pages = rw (plan.objects, own_host h) pages2;
       uses = m.uses;

@@ -244,6 +244,7 @@ failed_one header h outside doing past old events key k ids w waits f found pass
           controls = was.controls;
           homes = homes_caused header outside h k.chains e moment (doing, cause.0) was.homes;
           files = was.files;
+          sizes = was.sizes;
           settled = record { none_owed = refl; shut = λ region. refl };
           replied = replied_behind tt was.replied;
           laundry = was.laundry;

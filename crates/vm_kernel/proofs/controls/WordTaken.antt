@@ -1,4 +1,6 @@
 -- A message of a pager is taken: what the kernel stands for behind it.
+use Rattle.vm_state.proofs.KnownPages.{sizes_put, sizes_same}
+use Rattle.vm_model.specs.Regions.{object_pages as pages_made}
 use Rattle.vm_kernel.proofs.Common.{Access, AllReferred, ArePlain, Backing, Bool, Cancels, ChainTable, Changes, Command, Elsewhere, EndsNobody, Event, FailsNow}
 use Rattle.vm_kernel.proofs.Common.{FailsPage, FillsPage, Fit, FrameTable, HasAsker, HasControls, HasFrames, HasKinds, HasLaundry, HasOrder, HasPages}
 use Rattle.vm_kernel.proofs.Common.{HasRegions, HasTasks, HasUse, HasWaiters, Header, HostId, HostParts, Ids, IsAnswered, IsOfKind, IsPagerTold, IsReferred}
@@ -37,7 +39,7 @@ use Rattle.vm_model.specs.declared.event.Event.TheVariants as event
 use Rattle.vm_state.proofs.Declared.{kinds_marked, kinds_put, kinds_same}
 use Rattle.vm_state.proofs.Files.{files_put, files_same}
 use Rattle.vm_state.specs.Places.{known_local}
-use Rattle.vm_state.specs.Stands.{KnowsFiles}
+use Rattle.vm_state.specs.Stands.{KnowsFiles, KnowsPages}
 use Rattle.vm_supply.specs.Answers as supply
 use Rattle.vm_legal.specs.Living.{tasks as made_tasks}
 use Rattle.vm_state.proofs.Filling.{KeepsAway, away_put, used_away, used_told}
@@ -108,6 +110,7 @@ pub record Changed (header : Header) (h : ℕ) (k : Parts) (ids : Ids) (who : Wo
       (next_object header past) (marks_of header past)
   pub kinds : HasKinds header new.objects k.chains
   pub files : KnowsFiles header h new.objects (λ o. home_of o past)
+  pub sizes : KnowsPages (named header) new.objects (λ o. pages_made header o past)
   pub pages : HasPages new.frames new.resident new.objects (λ o p. known_local header o p (local header h (place_of o p) now))
   pub controls : HasControls (named header) h new.objects (λ o. last_control h o past) (λ o. live_control h o past) (λ o. is_ready h o now)
       (λ o. object_home o past)
@@ -128,6 +131,7 @@ zeros h object page = event.Zeroed (host_id h) object page
 -- what stays, of the parts that no message changes
 pub record Stays (header : Header) (h : ℕ) (k : Parts) (past now : List Event) : Type 0 where
   pub home : (r : ℕ) → home_of r now ≡ home_of r past
+  pub sizes : (o : ℕ) → pages_made header o now ≡ pages_made header o past
   pub target : (task : ℕ) → copy_target task now ≡ copy_target task past
   pub next : (task : ℕ) → next_page task now ≡ next_page task past
   pub tasks : HasTasks h header.size k.maps (λ task. host_of task now) (λ task. entries_of header.size task now)
@@ -153,6 +157,7 @@ stays_heard header h k ids past object control m rests none =
     let was = rests.matches in
     record {
       home = λ r. refl;
+      sizes = λ o. refl;
       target = λ task. refl;
       next = λ task. refl;
       tasks = was.tasks;
@@ -174,6 +179,7 @@ pub stays_zeroed : (header : Header) (h : ℕ) (k : Parts) (past now : List Even
 stays_zeroed header h k past now object page stays =
     record {
       home = stays.home;
+      sizes = stays.sizes;
       target = stays.target;
       next = stays.next;
       tasks = stays.tasks;
@@ -213,6 +219,7 @@ works_of header h k ids who new past now rests stays fit same c =
             controls = stays.controls c.controls;
             homes = stays.homes;
             files = λ o file. ap (is_on h) (stays.home o) ∙ c.files o file;
+            sizes = record { at = λ o known least is. c.sizes.at o known least is ∙ sym (stays.sizes o) };
             settled = stays.settled;
             replied = stays.replied;
             laundry = subst (λ (z : ℕ). HasLaundry new.frames new.resident k.laundry z) (sym stays.returned) c.laundry;
@@ -320,6 +327,7 @@ changed_none header h k ids past object control m rests nothing =
       regions = was.regions;
       kinds = was.kinds;
       files = was.files;
+      sizes = was.sizes;
       pages =
           pages_eq k.memory.frames k.memory.resident k.memory.objects (λ o p. known_local header o p (local header h (place_of o p) past))
           (λ o p. known_local header o p (local header h (place_of o p) (hears h object control m ∷ past)))
@@ -447,6 +455,9 @@ changed_ready header h k ids events after past object control cache strategy who
       files =
           files_put header h object.0 known (record known { state = state.Ready }) k.memory.objects new.objects (λ o. home_of o past) readies.found
           readies.ready was.files;
+      sizes =
+          sizes_put (named header) object.0 known (record known { state = state.Ready }) k.memory.objects new.objects (λ o. pages_made header o past)
+          readies.found refl readies.ready was.sizes;
       pages =
           pages_marked k.memory.frames k.memory.resident k.memory.objects new.objects
           (λ o p. known_local header o p (local header h (place_of o p) (hears h object control (message.Ready cache strategy) ∷ past)))
@@ -583,6 +594,7 @@ changed_supplied header h k ids events after past object control page lock preci
           (next_object header past) (marks_of header past) was.regions same;
       kinds = kinds_same header k.memory.objects new.objects k.chains same (same_marks k.memory.objects new.objects supplies.objects) was.kinds;
       files = files_same header h k.memory.objects new.objects (λ o. home_of o past) same was.files;
+      sizes = sizes_same (named header) k.memory.objects new.objects (λ o. pages_made header o past) same was.sizes;
       pages =
           pages_eq new.frames new.resident new.objects (λ o p. known_local header o p (effect_on header.size key (TakesPage lock precious bytes) local_at o p))
           (λ o p. known_local header o p (local header h (place_of o p) (hears h object control (message.Supply page lock precious bytes) ∷ past)))
@@ -652,6 +664,7 @@ changed_ended header h k ids past object control page m effect who row new rests
           (next_object header past) (marks_of header past) was.regions same;
       kinds = kinds;
       files = files_same header h k.memory.objects new.objects (λ o. home_of o past) same was.files;
+      sizes = sizes_same (named header) k.memory.objects new.objects (λ o. pages_made header o past) same was.sizes;
       pages = pages_eq new.frames new.resident new.objects (λ o p. known_local header o p (effect_on header.size key effect local_at o p))
           (λ o p. known_local header o p (local header h (place_of o p) (hears h object control m ∷ past))) pages
           (λ o p. ap (known_local header o p)
@@ -813,6 +826,7 @@ changed_zeroed header h k ids host after past object control page who new rests 
           (next_object header past) (marks_of header past) was.regions same;
       kinds = kinds_same header k.memory.objects new.objects k.chains same (same_marks k.memory.objects new.objects zeroes.objects) was.kinds;
       files = files_same header h k.memory.objects new.objects (λ o. home_of o past) same was.files;
+      sizes = sizes_same (named header) k.memory.objects new.objects (λ o. pages_made header o past) same was.sizes;
       pages = subst (λ (z : ObjectTable). HasPages new.frames new.resident z local_now) (sym zeroes.objects) pages;
       controls =
           controls_of k.memory.objects new.objects (λ o. last_control h o past) (λ o. live_control h o past) (λ o. is_ready h o past) (λ o. is_ready h o past)

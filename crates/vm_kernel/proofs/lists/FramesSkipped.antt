@@ -45,6 +45,7 @@ rests_skip {header} {h} {ids} {past} {k} {k2} is rests =
             controls = m.controls;
             homes = m.homes;
             files = m.files;
+            sizes = m.sizes;
             settled = m.settled;
             replied = m.replied;
             laundry = m.laundry;

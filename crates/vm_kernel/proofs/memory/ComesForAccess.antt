@@ -93,6 +93,7 @@ matches_zeroed header h k ids past key frame memory m c plan =
       regions = rw plan.objects m.regions;
       homes = m.homes;
       files = rw plan.objects m.files;
+      sizes = rw plan.objects m.sizes;
       entries = m.entries;
       pages = rw (plan.objects, own_host h) pages2;
       uses = m.uses;
@@ -154,6 +155,7 @@ matches_raised header h k ids past low top row frame memory m found here c plan 
           rw plan.objects m.regions;
       homes = m.homes;
       files = rw plan.objects m.files;
+      sizes = rw plan.objects m.sizes;
       entries = m.entries;
       pages = rw (plan.objects, own_host h) pages2;
       uses = m.uses;
@@ -241,6 +243,7 @@ works_loaded header h past k ids w key value waits2 number works is now put =
         regions = m.regions;
         homes = m.homes;
         files = m.files;
+        sizes = m.sizes;
         entries = m.entries;
         pages = m.pages;
         uses =
@@ -316,6 +319,7 @@ works_stored header h past k ids w key frame at size value row memory waits2 num
         regions = rw plan.objects m.regions;
         homes = m.homes;
         files = rw plan.objects m.files;
+        sizes = rw plan.objects m.sizes;
         entries = m.entries;
         pages = rw plan.objects pages3;
         uses =

@@ -97,6 +97,7 @@ ran_wired header h outside doing past k ids wired rests few first done =
             controls = m.controls;
             homes = m.homes;
             files = m.files;
+            sizes = m.sizes;
             settled = record { none_owed = refl; shut = λ region. refl };
             replied = replied_behind tt m.replied;
             laundry = laundry_wired k.memory.frames k.memory.resident k.laundry (returns_out h past) wired m.laundry;

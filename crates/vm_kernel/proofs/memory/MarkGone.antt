@@ -50,6 +50,7 @@ unmarked_with header h outside doing past k ids region row chains works there co
             homes_put header h k.chains chains region.0 (record row { marked = false }) (e ∷ past) put.at (λ paged. m.homes.0 region.0 row paged there)
             (homes_caused header outside h k.chains e past (doing, cause) m.homes);
         files = m.files;
+        sizes = m.sizes;
         entries = entries_kept header.size k chains m.entries keeps;
         pages = m.pages;
         uses = m.uses;

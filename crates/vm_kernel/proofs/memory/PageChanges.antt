@@ -1,4 +1,5 @@
 -- What a kernel stands for once one of its pages has changed, whatever the reason: a page goes, goes back to its pager, or stays with another row.
+use Rattle.vm_state.proofs.KnownPages.{sizes_put, sizes_same}
 use Rattle.vm_kernel.specs.TablesInGroups.{Amidst, ControlFacts, Core, Objects, Pages, SpaceFacts, control_facts, memory_facts, space_facts}
 use Rattle.vm_state.proofs.Passing.{quiet_if}
 use Rattle.vm_kernel.proofs.Common.{AllUsed, BeganInOrder, Bool, ChainTable, Changes, Command, Discards, Drops, Elsewhere, Entry, Event, Fit, FrameNo}
@@ -31,6 +32,7 @@ use Rattle.vm_kernel.proofs.memory.PageReturned.{controls_same}
 use Rattle.vm_kernel.proofs.memory.FramesWashed.{laundry_returned}
 use Rattle.vm_state.specs.Places.{known_local}
 use Rattle.vm_kernel.proofs.controls.WordTaken.{regions_of}
+use Rattle.vm_model.specs.Named.{named}
 use Rattle.vm_model.specs.declared.event.Event.TheVariants as event
 use Rattle.vm_model.specs.declared.message.Message.TheVariants as message
 
@@ -43,7 +45,7 @@ core_of m =
       setting = record { ranged = m.ranged; known = m.known; sized = m.size; numbered = m.host; objects = m.declared };
       fits = m.fits;
       spaces = record { tasks = m.tasks; entries = m.entries; shared = m.shared; uses = m.uses; homes = m.homes };
-      objects = record { regions = m.regions; kinds = m.kinds; files = m.files };
+      objects = record { regions = m.regions; kinds = m.kinds; files = m.files; sizes = m.sizes };
       controls = m.controls;
       pages = record { shown = m.pages; washed = m.laundry; counted = m.frames };
     }
@@ -82,6 +84,7 @@ matches_of other a settled replied =
       kinds = c.objects.kinds;
       homes = c.spaces.homes;
       files = c.objects.files;
+      sizes = c.objects.sizes;
       entries = c.spaces.entries;
       shared = c.spaces.shared;
       pages = c.pages.shown;
@@ -154,6 +157,7 @@ amidst_moved {header = header} {h = h} {k = k} {ids = ids} {gone = gone} {who = 
         regions = regions_of k.chains k.memory.objects memory.objects ids _ _ _ _ _ a.core.objects.regions moved.objects;
         kinds = moved.kinds;
         files = files_same header h k.memory.objects memory.objects _ moved.objects a.core.objects.files;
+        sizes = sizes_same (named header) k.memory.objects memory.objects _ moved.objects a.core.objects.sizes;
       };
       controls = controls_same k.memory.objects memory.objects _ _ _ a.core.controls moved.objects.at;
       pages = moved.pages;
@@ -281,6 +285,7 @@ objects_known {header = header} {h = h} {o = o} {row = row} {new = new} {chains 
       regions = regions_controlled o row new chains os os2 ids _ _ _ _ _ found put references pages has.regions;
       kinds = kinds_put header o new os os2 chains put marks is has.kinds;
       files = files_put header h o row new os os2 _ found put has.files;
+      sizes = sizes_put (named header) o row new os os2 _ found pages put has.sizes;
     }
 
 pub fits_known : {size o : ℕ} {row new : ObjectRow} {memory : HostParts} {os : ObjectTable} → object_at memory.objects o ≡ Some row

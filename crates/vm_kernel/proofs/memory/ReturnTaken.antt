@@ -113,6 +113,7 @@ rests_taken header h k ids past object control page dirty bytes f fs laundry res
             controls = was.controls;
             homes = was.homes;
             files = was.files;
+            sizes = was.sizes;
             settled = record { none_owed = refl; shut = λ region. refl };
             replied = replied_none refl;
             laundry =

@@ -1,4 +1,5 @@
 -- What a shadow leaves of the kernel, which a store's region gets first where that is marked.
+use Rattle.vm_state.proofs.KnownPages.{sizes_shadowed}
 use Rattle.vm_kernel.proofs.Common.{ChainTable, Event, HasEntries, Header, HostParts, Ids, Inside, IsInside, List, Matches, None, ObjectId, ObjectTable, Parts}
 use Rattle.vm_kernel.proofs.Common.{PutsObject, Region, RegionRow, SameMarks, Some, Works, [], ap, arith, false, has_region, home_of, inl, inr}
 use Rattle.vm_kernel.proofs.Common.{is_some, is_woken, local_of_row, marks_of, next_object, next_region, object_at, one_case, pages_in, refl, region_at}
@@ -122,6 +123,9 @@ shadowed_with header h outside doing past k ids region object row chains objects
             homes_put header h k.chains chains region.0 (record row { top = object; shift = 0; marked = false }) (e ∷ past) made.at
             (λ paged. m.homes.0 region.0 row paged there) (homes_caused header outside h k.chains e past (doing, cause) m.homes);
         files = files_temporary header h object.0 (Some (new_object row.pages)) k.memory.objects objects (λ o. home_of o past) new put m.files;
+        sizes =
+            sizes_shadowed header past (named header) region object row.top (new_object row.pages) k.memory.objects objects put
+            (sym (ap (λ (z : Region). z.pages) (m.regions.rows region.0 row there))) m.sizes;
         entries = entries_kept header.size k chains m.entries keeps;
         pages = record { shown = λ o p. m.pages.shown o p ∙ ap (λ b. local_of_row k.memory.frames (row_at k.memory.resident o p) b) (sym (same.at o p)) };
         uses = m.uses;

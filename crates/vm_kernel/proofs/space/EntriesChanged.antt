@@ -277,6 +277,7 @@ ran_protect header h outside task address bytes prot past events k ids maps chai
             controls = m.controls;
             homes = c.homes;
             files = m.files;
+            sizes = m.sizes;
             settled = record { none_owed = refl; shut = λ region. refl };
             replied = replied_behind tt m.replied;
             laundry = m.laundry;
@@ -378,6 +379,7 @@ ran_inherit header h outside task address bytes inherit past events k ids maps c
             controls = m.controls;
             homes = c.homes;
             files = m.files;
+            sizes = m.sizes;
             settled = record { none_owed = refl; shut = λ region. refl };
             replied = replied_behind tt m.replied;
             laundry = m.laundry;

@@ -90,6 +90,7 @@ runs_less header h outside doing past k ids entry rest events chains s put =
         controls = m.controls;
         homes = recount_homes count header h k.chains chains moment is m.homes;
         files = m.files;
+        sizes = m.sizes;
         settled = m.settled;
         replied = m.replied;
         laundry = m.laundry;

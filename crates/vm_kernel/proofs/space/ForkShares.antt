@@ -218,6 +218,7 @@ rests_shared header h outside doing task row past k k2 ids before after rests ma
                 rw s.memory (regions_recounted k.chains k2.chains k.memory.objects ids _ _ _ _ _ recount m.regions);
             files =
                 rw s.memory (files_entered header h task row k.memory.objects past (λ file. m.homes.0 r there.0 (file_paged header r file) there.1) m.files);
+            sizes = rw s.memory m.sizes;
             homes =
                 homes_caused header outside h k2.chains e past (doing, share_enters header h task row past k ids rests may)
                 (recount_homes _ header h k.chains k2.chains past (recounts_put r (region_entries k.chains r + 1) k.chains k2.chains s.counts) m.homes);

@@ -1,4 +1,5 @@
 -- An object to which nothing refers: its pages go, its control ends, where one lives, and what stood under it has one reference less.
+use Rattle.vm_state.proofs.KnownPages.{sizes_put}
 use Rattle.vm_kernel.proofs.Common.{AllEntriesInside, Below, Bool, CausedInTurn, ChainTable, Changes, Command, Does, Elsewhere, EndsObject, Entry, Event}
 use Rattle.vm_kernel.proofs.Common.{FrameTable, HasControls, HasEntries, HasPages, HasSlow, HaveHomes, Header, HostParts, Ids, Inside, IsAmid, IsInside}
 use Rattle.vm_kernel.proofs.Common.{IsOfKind, IsSettled, IsWhole, LaundryList, LegalEvents, List, Local, Mapped, Matches, None, ObjectId, ObjectRow}
@@ -555,6 +556,8 @@ inside_dropped header h past who k ids rest o left row known chains objects e le
               (kind_referred header under known left (let less = leaves.less in omega (arith, less)) (core.objects.kinds.kinds under known leaves.under))
               (kinds_dropped header o k.memory.objects k.chains chains leaves.drops core.objects.kinds);
           files = files_put header h under known (record known { references = left }) k.memory.objects objects _ leaves.under leaves.put core.objects.files;
+          sizes = sizes_put (named header) under known (record known { references = left }) k.memory.objects objects _ leaves.under refl leaves.put
+              core.objects.sizes;
         };
         controls = controls_referred under left known k.memory.objects objects _ _ _ leaves.under leaves.put core.controls;
         pages = record {

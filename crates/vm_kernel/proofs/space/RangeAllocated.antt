@@ -1,4 +1,5 @@
 -- A range is allocated: a region over a new object, and an entry on the whole of it.
+use Rattle.vm_state.proofs.KnownPages.{sizes_made}
 use Rattle.vm_kernel.proofs.Common.{AllInTurn, AllReferred, Bool, ChainTable, ChangesOnly, EachIn, Enters, Entry, Event, Fit, HasCause, HasEntries}
 use Rattle.vm_kernel.proofs.Common.{HasRegions, HasSlow, HasUse, HasWaits, Header, HostParts, Ids, IfSome, IsFilledIn, IsInside, IsLined, IsMine}
 use Rattle.vm_kernel.proofs.Common.{IsUsed, List, MadeRange, MapChange, Mapped, None, ObjectId, ObjectRow, ObjectTable, Outside, Parts, PutsObject}
@@ -511,6 +512,9 @@ rests_range header h outside task address bytes past k k2 ids maps lined rests m
                 (λ o file. ap (is_on h) (range_homes past lined o (record { 0 = n }) object pages)
                 ∙ files_temporary header h ids.next_object (Some (new_object pages)) k.memory.objects k2.memory.objects (λ z. home_of z past)
                 (first_temporary header h past k ids rests).object made.object_row m.files o file);
+            sizes =
+                sizes_made header past (named header) (record { 0 = n }) object pages (new_object pages) k.memory.objects k2.memory.objects made.object_row refl
+                m.sizes;
             homes =
                 homes_put header h k.chains k2.chains n (new_region object pages) (ranged task ids address bytes pages ++ past) made.region_row.at
                 (λ paged. range_home header h task address bytes past k ids lined rests may)

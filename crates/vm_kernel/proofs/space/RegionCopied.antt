@@ -1,4 +1,5 @@
 -- A task gets an entry on a symmetric copy of a region.
+use Rattle.vm_state.proofs.KnownPages.{sizes_put}
 use Rattle.vm_kernel.specs.Changes.{CanEnter}
 use Rattle.vm_kernel.proofs.Common.{Access, AllReferred, AllRows, ArePlain, Backing, Bool, ChainTable, ChangesOnly, Command, Enters, Entry, Event, Fit}
 use Rattle.vm_kernel.proofs.Common.{HasEntries, HasKinds, HasRegions, HasSlow, HasWaiters, HasWaits, Header, HostParts, Ids, Inside, IsAllowed, IsFilledIn}
@@ -67,7 +68,7 @@ use Rattle.vm_kernel.proofs.space.RegionEnds.{controls_referred}
 use Rattle.vm_kernel.proofs.controls.LockReplied.{replied_behind}
 use Rattle.std.proofs.lemmas.Bool.{and_parts, not-false, or_parts}
 use Rattle.vm_state.specs.Passed.{IsUnmet, StaysAway}
-use Rattle.vm_model.specs.Regions.{marked_regions}
+use Rattle.vm_model.specs.Regions.{marked_regions, object_pages}
 use Rattle.vm_kernel.proofs.memory.PageReturned.{controls_stay}
 use Rattle.vm_kernel.proofs.Common.{KnowsHomes}
 use Rattle.vm_kernel.proofs.space.RegionHomes.{homes_caused}
@@ -563,6 +564,9 @@ rests_copied header h outside doing task source offset row past k k2 ids ids2 be
                 (no_file header s.copy.0 (let more = named_regions header past in omega (arith, number, more)) file))
                 (files_put header h top s.known (record s.known { references = s.known.references + 1 }) k.memory.objects k2.memory.objects
                 (λ o. home_of o past) s.object s.refers m.files);
+            sizes =
+                sizes_put (named header) top s.known (record s.known { references = s.known.references + 1 }) k.memory.objects k2.memory.objects
+                (λ o. object_pages header o past) s.object refl s.refers m.sizes;
             homes = (
               λ r found_row paged found. by_row number knows r found_row paged (row_now source.0 s.copy.0 offset pages s.region k.chains s.mid k2.chains once r
                   found_row found),

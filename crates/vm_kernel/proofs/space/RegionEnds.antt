@@ -1,4 +1,7 @@
 -- No entry leads to a region any more: it goes, and its top has one reference less.
+use Rattle.vm_model.specs.Named.{named}
+use Rattle.vm_model.specs.Regions.{object_pages}
+use Rattle.vm_state.proofs.KnownPages.{sizes_put}
 use Rattle.vm_kernel.proofs.Common.{AllEntriesInside, AllRows, Bool, ChainTable, EndsObject, EndsRegion, Entry, Event, HasControls, HasEntries, Header, Ids}
 use Rattle.vm_kernel.proofs.Common.{IfSome, Inside, IsAmid, IsReferred, IsWhole, List, Mapped, Matches, None, ObjectId, ObjectRow, ObjectTable, Option}
 use Rattle.vm_kernel.proofs.Common.{Parts, PutsObject, PutsRegion, RegionRow, SameMarks, Some, UsesAll, Woken, [], all_tasks, ap, arith, backing_of, count_by}
@@ -231,6 +234,9 @@ runs_gone header h past who k ids rest r left events object chains objects e los
             m.regions;
         homes = (λ r2 row paged found. m.homes.0 r2 row paged (other_row r k.chains chains loses.region r2 row found).1, m.homes.1);
         files = files_put header h top was (record was { references = left }) k.memory.objects objects (λ o. home_of o moment) loses.known loses.put m.files;
+        sizes =
+            sizes_put (named header) top was (record was { references = left }) k.memory.objects objects (λ o. object_pages header o moment) loses.known refl
+            loses.put m.sizes;
         entries = entries_without header.size r k.maps k.chains chains rest loses.region m.entries e.there e.none;
         pages = record { shown = λ o p. m.pages.shown o p ∙ ap (local_of_row k.memory.frames (row_at k.memory.resident o p)) (sym (loses.marks.at o p)) };
         uses = m.uses;

@@ -93,6 +93,7 @@ rests_made header h task past k ids maps rests changes free below =
             controls = m.controls;
             homes = m.homes;
             files = m.files;
+            sizes = m.sizes;
             settled = record { none_owed = refl; shut = λ region. refl };
             replied = replied_behind tt m.replied;
             laundry = m.laundry;

@@ -111,6 +111,7 @@ sweeps_exit header h outside task past events k ids maps gone s value changes =
           controls = m.controls;
           homes = homes_caused header outside h k.chains (event.TaskEnded task) past (command.Exit task, idle) c.homes;
           files = m.files;
+          sizes = m.sizes;
           settled = record { none_owed = refl; shut = λ region. refl };
           replied = replied_behind tt m.replied;
           laundry = m.laundry;
@@ -204,6 +205,7 @@ sweeps_removed header h outside task address bytes past events k ids maps chains
           controls = m.controls;
           homes = homes_caused header outside h chains (event.Removed task address bytes) past (command.Deallocate task address bytes, idle) c.homes;
           files = m.files;
+          sizes = m.sizes;
           settled = record { none_owed = refl; shut = λ region. refl };
           replied = replied_behind tt m.replied;
           laundry = m.laundry;

@@ -156,6 +156,7 @@ begun_matches header h k ids past waits task (Loads address size) rows same m li
       controls = m.controls;
       homes = m.homes;
       files = m.files;
+      sizes = m.sizes;
       settled = record { none_owed = refl; shut = λ region. refl };
       replied = replied_behind tt m.replied;
       laundry = m.laundry;
@@ -181,6 +182,7 @@ begun_matches header h k ids past waits task (Stores address size value) rows sa
       controls = m.controls;
       homes = m.homes;
       files = m.files;
+      sizes = m.sizes;
       settled = record { none_owed = refl; shut = λ region. refl };
       replied = replied_behind tt m.replied;
       laundry = m.laundry;

@@ -139,6 +139,7 @@ first_rests header h k count ranged known size host declared hosts start maps re
                 };
             homes = (λ r row paged is. none_of (region_at k.chains r) row (regions r) is, homes_start header);
             files = λ o file. sym (ap is_some (objects o));
+            sizes = record { at = λ o row least is. none_of (object_at k.memory.objects o) row (objects o) is };
             settled = record { none_owed = refl; shut = λ region. refl };
             replied = replied_none refl;
             laundry =
@@ -208,6 +209,7 @@ rests_line header h k ids line past rests =
             controls = m.controls;
             homes = m.homes;
             files = m.files;
+            sizes = m.sizes;
             settled = record { none_owed = refl; shut = λ region. refl };
             replied = replied_none refl;
             laundry = m.laundry;

@@ -1,4 +1,5 @@
 -- A slow copy begins: its region is there at once, over an object of its own, and its task waits.
+use Rattle.vm_state.proofs.KnownPages.{sizes_made}
 use Rattle.vm_kernel.proofs.Common.{AllUsed, BeganInOrder, Bool, ChainTable, Command, EachOf, Entry, Event, Grows, HasEntries, HasRegions, HasUse, HasWaiters}
 use Rattle.vm_kernel.proofs.Common.{Header, Ids, InOrder, IsAllowed, IsDoneInTurn, IsFilledIn, IsInUse, IsInside, IsLined, LegalEvents, List}
 use Rattle.vm_kernel.proofs.Common.{MadeRange, Mapped, Matches, None, ObjectId, ObjectRow, Option, Outside, PageRow, Parts, Place, PutsEntry, PutsRegion}
@@ -587,6 +588,8 @@ module _ (header : Header) (h : ℕ) (outside : Outside) (task : TaskId) (addres
             ap (is_on h) (home_made o region target pages front (λ same. no_file header n least (subst (λ (z : ℕ). is_file header z ≡ true) (sym same) file)))
             ∙ files_temporary header h ids.next_object (Some (new_object pages)) k.memory.objects k2.memory.objects (λ z. home_of z past) temporary.object
             made.object_row m.files o file;
+        sizes =
+            sizes_made header front (named header) region target pages (new_object pages) k.memory.objects k2.memory.objects made.object_row refl m.sizes;
         entries = entries_now;
         shared = m.shared;
         pages =

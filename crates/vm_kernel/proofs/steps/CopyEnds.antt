@@ -399,6 +399,7 @@ matches_ended header h outside doing k ids past w address pages target next c la
       files =
           files_entered header h w.task row k.memory.objects (first ∷ past) (λ file. m.homes.0 r (filled_row target pages) (file_paged header r file)
           c.slow.region) m.files;
+      sizes = m.sizes;
       entries =
           entries_share size k.maps k2.maps k.chains k2.chains t row m.entries e.inside counts_more changes
           (lives_below size t k.maps k.chains [] m.entries e.lives) room;

@@ -113,6 +113,7 @@ matches_copied header h k ids past task low target next row frame memory m lives
       regions = rw plan.objects m.regions;
       homes = m.homes;
       files = rw plan.objects m.files;
+      sizes = rw plan.objects m.sizes;
       entries = m.entries;
       pages = rw (plan.objects, lives, own_host h) pages2;
       uses = m.uses;
