@@ -1,5 +1,5 @@
 -- What the calls of one merge make together.
-use Rattle.std.proofs.Common.{◌≡◌, ◌∙◌, ℕ, ◌+◌, ◌≤◌, List, ◌∷◌, Option, Some, IfSome, refl, sym, ap, subst, arith}
+use Rattle.std.proofs.Common.{◌≡◌, ◌∙◌, ℕ, ◌+◌, ◌≤◌, List, ◌∷◌, Some, IfSome, refl, sym, ap, subst, arith}
 use Rattle.std.proofs.lemmas.Option.{MatchOption-at_some}
 use Rattle.vm_base.specs.declared.ids.ObjectId.{ObjectId}
 use Rattle.vm_merge.specs.Merges.{CanMerge, MergesInto}
@@ -7,7 +7,6 @@ use Rattle.vm_merge.specs.Standing.{merge_state}
 use Rattle.vm_model.specs.declared.event.Event.{Event}
 use Rattle.vm_model.specs.declared.event.Event.TheVariants as event
 use Rattle.vm_objects.specs.Objects.{ObjectTable, PutsObject, SameMarks, object_at}
-use Rattle.vm_objects.specs.declared.row.ObjectRow.{ObjectRow}
 use Rattle.vm_parts.proofs.Fitting.{fit_objects, same_pages}
 use Rattle.vm_parts.specs.Fits.{Fit, object_pages, pages_of_row}
 use Rattle.vm_parts.specs.Merging.{PagesMerge}

@@ -1,13 +1,11 @@
 -- The one shadow over an object that can be merged.
 use Rattle.std.proofs.Common.{◌≡◌, ℕ, Option, Some, None, refl, sym}
 use Rattle.std.specs.Prelude.{IsSomeAnd}
-use Rattle.std.specs.Prelude.{◌≢◌}
 use Rattle.vm_merge.specs.Merges.{CanMerge}
 use Rattle.vm_merge.specs.Standing.{CountsFit}
 use Rattle.vm_objects.specs.Objects.{ObjectTable, object_at}
 use Rattle.vm_objects.specs.declared.row.ObjectRow.{ObjectRow}
 use Rattle.vm_shadow.specs.Chains.{ChainTable, StandsAlone, shadow_at}
-use Rattle.vm_shadow.specs.declared.shadow_row.ShadowRow.{ShadowRow}
 
 record Found {A : Type 0} (o : Option A) (P : A → Type 0) : Type 0 where
   value : A
