@@ -88,7 +88,8 @@ could_merge upper lower old new merges u l can =
   where
     low : (l ≢ lower.0) × (object_at old.parts.objects l ≡ Some can.lower_row)
     low =
-        referred lower.0 merges.can.lower_row old.parts.objects l can.lower_row (known_from upper lower old new merges l can.lower_row can.lower_known) can.sole
+        referred lower.0 merges.can.lower_row old.parts.objects l can.lower_row
+        (known_from upper lower old new merges l can.lower_row can.lower_known) can.sole
 
     by : ComesFrom upper.0 lower.0 merges.can.link old.chains u can.link → CouldMerge upper lower old u l
     by (Joins link is over sum) =

@@ -31,7 +31,8 @@ none_left upper lower link left parts moved objects old new can calls =
     let one = MatchOption-at_some _ (λ row. left + 1 ≡ row.references) can.lower_row known calls.left_is in
     let sole = can.sole in
     let none : left ≡ 0 = omega (arith, one, sole) in
-    let put = MatchOption-at_some _ (λ row. PutsObject lower.0 (Some (record row { references = left })) moved.objects objects) can.lower_row known calls.put in
+    let put = MatchOption-at_some _ (λ row. PutsObject lower.0 (Some (record row { references = left })) moved.objects objects)
+    can.lower_row known calls.put in
     subst (λ (z : ObjectTable). PutsObject lower.0 (Some (record can.lower_row { references = 0 })) z objects) calls.same
     (subst (λ (n : ℕ). PutsObject lower.0 (Some (record can.lower_row { references = n })) moved.objects objects) none put)
 
