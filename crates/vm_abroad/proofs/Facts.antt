@@ -19,7 +19,7 @@ use Rattle.vm_abroad.specs.Sound.{IsAbroad, IsAmong, IsHeldOn, IsMade, IsRegionO
 use Rattle.vm_abroad.proofs.Chains.{below_was}
 use Rattle.vm_abroad.proofs.Home.{home_on}
 use Rattle.vm_abroad.proofs.Pages.{pages_abroad}
-use Rattle.vm_abroad.proofs.Regions.{backing_abroad, region_abroad, used_abroad}
+use Rattle.vm_abroad.proofs.Regions.{backing_abroad, region_abroad, sizes_abroad, used_abroad}
 use Rattle.vm_abroad.proofs.Sounds.{objects_rise, regions_rise, sound_next, use_of}
 use Rattle.vm_abroad.proofs.Tasks.{lives_abroad, more_tasks, task_abroad}
 
@@ -38,6 +38,7 @@ same_one header outside h e past sound knows abroad = record {
   region = region_abroad header outside h e past sound abroad;
   home = λ o own temporary. home_on h o e past (own temporary);
   backing = backing_abroad header outside h e past sound abroad;
+  sizes = sizes_abroad header outside h e past abroad;
 }
 
 -- and behind several
@@ -54,6 +55,7 @@ same_none header h past = record {
   region = λ r small own. refl;
   home = λ o own. own;
   backing = λ o small own. refl;
+  sizes = λ o small. refl;
 }
 
 more_pages : (header : Header) (h : ℕ) (old mid new : List Event) → SamePages header h old mid → SamePages header h mid new → SamePages header h old new
@@ -98,6 +100,7 @@ same_more header h old mid new one two = record {
       λ r small own. two.region r (let first = one.regions in omega (arith, first, small)) (region_of_host header h r old mid one own) ∙ one.region r small own;
   home = λ o own. two.home o (one.home o own);
   backing = λ o small own. two.backing o (let first = one.objects in omega (arith, first, small)) (one.home o own) ∙ one.backing o small own;
+  sizes = λ o small. two.sizes o (let first = one.objects in omega (arith, first, small)) ∙ one.sizes o small;
 }
 
 -- a host's tables say as much as before

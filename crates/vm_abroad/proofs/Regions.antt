@@ -9,7 +9,7 @@ use Rattle.vm_model.specs.declared.script.Header.{Header}
 use Rattle.vm_model.specs.Homes.{object_home}
 use Rattle.vm_model.specs.Local.{is_on}
 use Rattle.vm_model.specs.Named.{named}
-use Rattle.vm_model.specs.Regions.{backing_of, next_object, next_region, region_of}
+use Rattle.vm_model.specs.Regions.{backing_of, next_object, next_region, object_pages, region_of}
 use Rattle.vm_model.specs.Tasks.{entries_of, has_entry}
 use Rattle.vm_model.specs.Waiting.{copy_target, fills, waiting}
 use Rattle.vm_legal.specs.Homes.{EntersNext, begins_here, enters, is_home, is_open, is_used, starts_copy}
@@ -210,3 +210,16 @@ backing_abroad header outside h (event.Merged upper lower) past sound abroad o s
     ] in
     rw other refl
 backing_abroad header outside h other past sound abroad o small own = refl
+
+-- objects have the pages that they were made with
+pub sizes_abroad : (header : Header) (outside : Outside) (h : ℕ) (e : Event) (past : List Event) → IsAbroad header outside h e past
+    → (o : ℕ) → o < next_object header past → object_pages header o (e ∷ past) ≡ object_pages header o past
+sizes_abroad header outside h (event.RegionMade region new pages) past abroad o small =
+    let number = abroad.cause.1.1 in
+    let other : (o == new.0) ≡ false = unlike o new.0 (λ same. omega (arith, same, number, small)) in
+    rw other refl
+sizes_abroad header outside h (event.Shadowed region new old) past abroad o small =
+    let number = abroad.cause.1.next in
+    let other : (o == new.0) ≡ false = unlike o new.0 (λ same. omega (arith, same, number, small)) in
+    rw other refl
+sizes_abroad header outside h other past abroad o small = refl

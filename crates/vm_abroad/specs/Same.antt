@@ -5,7 +5,7 @@ use Rattle.vm_model.specs.declared.script.Header.{Header}
 use Rattle.vm_model.specs.Controls.{last_control, live_control}
 use Rattle.vm_model.specs.Local.{Place, local}
 use Rattle.vm_model.specs.Named.{named}
-use Rattle.vm_model.specs.Regions.{backing_of, next_object, next_region, region_of}
+use Rattle.vm_model.specs.Regions.{backing_of, next_object, next_region, object_pages, region_of}
 use Rattle.vm_model.specs.Tasks.{entries_of, host_of}
 use Rattle.vm_model.specs.Waiting.{copy_target, next_page, waiting}
 use Rattle.vm_legal.specs.Accesses.{begun_at, is_ready}
@@ -50,6 +50,7 @@ pub record SameFacts (header : Header) (h : ℕ) (old new : List Event) : Type 0
   pub region : (r : ℕ) → r < next_region header old → IsRegionOf header h r old → region_of header r new ≡ region_of header r old
   pub home : (o : ℕ) → IsObjectOf header h o old → IsObjectOf header h o new
   pub backing : (o : ℕ) → o < next_object header old → IsObjectOf header h o old → backing_of header o new ≡ backing_of header o old
+  pub sizes : (o : ℕ) → o < next_object header old → object_pages header o new ≡ object_pages header o old
 
 -- Nothing of it has changed for a host, whose tables say as much as before
 pub record SameForHost (header : Header) (h : ℕ) (old new : List Event) : Type 0 where

@@ -12,17 +12,17 @@ use Rattle.vm_objects.specs.declared.row.ObjectRow.{ObjectRow}
 use Rattle.vm_parts.proofs.Rows.{one_case, some_is}
 use Rattle.vm_state.proofs.Fresh.{other_test, same_test}
 use Rattle.vm_state.proofs.Knowing.{known_cases}
-use Rattle.vm_state.specs.Merging.{KnowsPages}
+use Rattle.vm_state.specs.Stands.{KnowsPages}
 
 -- all objects are known as they were
-pub pages_same : (least : ℕ) (os os2 : ObjectTable) (pages_from : ℕ → ℕ) → SameObjects os os2
+pub sizes_same : (least : ℕ) (os os2 : ObjectTable) (pages_from : ℕ → ℕ) → SameObjects os os2
     → KnowsPages least os pages_from → KnowsPages least os2 pages_from
-pages_same least os os2 pages_from same has = record { at = λ o known le found. has.at o known le (sym (same.at o) ∙ found) }
+sizes_same least os os2 pages_from same has = record { at = λ o known le found. has.at o known le (sym (same.at o) ∙ found) }
 
 -- one object is known otherwise, and has as many pages
-pub pages_put : (least o : ℕ) (row new : ObjectRow) (os os2 : ObjectTable) (pages_from : ℕ → ℕ) → object_at os o ≡ Some row → new.pages ≡ row.pages
+pub sizes_put : (least o : ℕ) (row new : ObjectRow) (os os2 : ObjectTable) (pages_from : ℕ → ℕ) → object_at os o ≡ Some row → new.pages ≡ row.pages
     → PutsObject o (Some new) os os2 → KnowsPages least os pages_from → KnowsPages least os2 pages_from
-pages_put least o row new os os2 pages_from found same put has = record {
+sizes_put least o row new os os2 pages_from found same put has = record {
   at = λ x known le is. elim (known_cases o new os os2 put x) [
     | inl this ↦
         sym (ap (λ (z : ObjectRow). z.pages) (some_is new known (sym this.1 ∙ is)))
@@ -32,9 +32,9 @@ pages_put least o row new os os2 pages_from found same put has = record {
 }
 
 -- an object comes that has so many, or is none of these
-pub pages_new : (least o : ℕ) (new : ObjectRow) (os os2 : ObjectTable) (pages_from pages2 : ℕ → ℕ) → PutsObject o (Some new) os os2
+pub sizes_new : (least o : ℕ) (new : ObjectRow) (os os2 : ObjectTable) (pages_from pages2 : ℕ → ℕ) → PutsObject o (Some new) os os2
     → (least ≤ o → new.pages ≡ pages2 o) → ((x : ℕ) → (o ≡ x → ⊥) → pages2 x ≡ pages_from x) → KnowsPages least os pages_from → KnowsPages least os2 pages2
-pages_new least o new os os2 pages_from pages2 put its others has = record {
+sizes_new least o new os os2 pages_from pages2 put its others has = record {
   at = λ x known le is. elim (known_cases o new os os2 put x) [
     | inl this ↦
         sym (ap (λ (z : ObjectRow). z.pages) (some_is new known (sym this.1 ∙ is)))
@@ -44,9 +44,9 @@ pages_new least o new os os2 pages_from pages2 put its others has = record {
 }
 
 -- an object goes
-pub pages_gone : (least o : ℕ) (os os2 : ObjectTable) (pages_from : ℕ → ℕ) → PutsObject o None os os2 → KnowsPages least os pages_from
+pub sizes_gone : (least o : ℕ) (os os2 : ObjectTable) (pages_from : ℕ → ℕ) → PutsObject o None os os2 → KnowsPages least os pages_from
     → KnowsPages least os2 pages_from
-pages_gone least o os os2 pages_from put has = record {
+sizes_gone least o os os2 pages_from put has = record {
   at = λ x known le is. elim (one_case o x None (object_at os x) (object_at os2 x) (put.at x)) [
     | inl this ↦ absurd (let bad : None ≡ Some known = sym this.1 ∙ is in cc)
     | inr other ↦ has.at x known le (sym other.1 ∙ is)
@@ -54,19 +54,19 @@ pages_gone least o os os2 pages_from put has = record {
 }
 
 -- a region is made over a new object
-pub pages_made : (header : Header) (past : List Event) (least : ℕ) (region : RegionId) (object : ObjectId) (pages : ℕ) (new : ObjectRow) (os os2 : ObjectTable)
+pub sizes_made : (header : Header) (past : List Event) (least : ℕ) (region : RegionId) (object : ObjectId) (pages : ℕ) (new : ObjectRow) (os os2 : ObjectTable)
     → PutsObject object.0 (Some new) os os2 → new.pages ≡ pages → KnowsPages least os (λ o. object_pages header o past)
     → KnowsPages least os2 (λ o. object_pages header o (event.RegionMade region object pages ∷ past))
-pages_made header past least region object pages new os os2 put is has =
-    pages_new least object.0 new os os2 (λ o. object_pages header o past) (λ o. object_pages header o (event.RegionMade region object pages ∷ past)) put
+sizes_made header past least region object pages new os os2 put is has =
+    sizes_new least object.0 new os os2 (λ o. object_pages header o past) (λ o. object_pages header o (event.RegionMade region object pages ∷ past)) put
     (λ le. is ∙ sym (ap (λ b. if b then pages else object_pages header object.0 past) (same_test object.0 object.0 refl)))
     (λ x apart. ap (λ b. if b then pages else object_pages header x past) (other_test x object.0 (λ e. apart (sym e)))) has
 
 -- a region gets a new object of its own over its old top
-pub pages_shadowed : (header : Header) (past : List Event) (least : ℕ) (region : RegionId) (object old : ObjectId) (new : ObjectRow) (os os2 : ObjectTable)
+pub sizes_shadowed : (header : Header) (past : List Event) (least : ℕ) (region : RegionId) (object old : ObjectId) (new : ObjectRow) (os os2 : ObjectTable)
     → PutsObject object.0 (Some new) os os2 → new.pages ≡ (region_of header region.0 past).pages → KnowsPages least os (λ o. object_pages header o past)
     → KnowsPages least os2 (λ o. object_pages header o (event.Shadowed region object old ∷ past))
-pages_shadowed header past least region object old new os os2 put is has =
-    pages_new least object.0 new os os2 (λ o. object_pages header o past) (λ o. object_pages header o (event.Shadowed region object old ∷ past)) put
+sizes_shadowed header past least region object old new os os2 put is has =
+    sizes_new least object.0 new os os2 (λ o. object_pages header o past) (λ o. object_pages header o (event.Shadowed region object old ∷ past)) put
     (λ le. is ∙ sym (ap (λ b. if b then (region_of header region.0 past).pages else object_pages header object.0 past) (same_test object.0 object.0 refl)))
     (λ x apart. ap (λ b. if b then (region_of header region.0 past).pages else object_pages header x past) (other_test x object.0 (λ e. apart (sym e)))) has

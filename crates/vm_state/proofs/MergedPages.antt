@@ -26,11 +26,11 @@ use Rattle.vm_state.proofs.Declared.{shadow_temporary}
 use Rattle.vm_state.proofs.Fresh.{other_test, same_test}
 use Rattle.vm_state.proofs.Merging.{lower_quiet, merged_apart, upper_quiet}
 use Rattle.vm_state.proofs.Moving.{IsBeyond, IsGone, IsMoved, IsOwn, IsSame, RowNow, row_now}
-use Rattle.vm_state.specs.Merging.{CanMerge, KeepsBytes, KnowsPages, MergesObjects, MergesRows}
+use Rattle.vm_state.specs.Merging.{CanMerge, KeepsBytes, MergesObjects, MergesRows}
 use Rattle.vm_state.specs.Pagers.{has_pager, is_ready_state, ready_in}
 use Rattle.vm_state.specs.Places.{known_local, local_of_row, place_of}
 use Rattle.vm_state.specs.References.{AllReferred}
-use Rattle.vm_state.specs.Stands.{HasKinds, HasPages, HasRegions}
+use Rattle.vm_state.specs.Stands.{HasKinds, HasPages, HasRegions, KnowsPages}
 
 -- whose pager isn't told has none that is ready
 untold_unready : (s : PagerState) → has_pager s ≡ false → is_ready_state s ≡ false

@@ -36,12 +36,12 @@ use Rattle.vm_state.proofs.Passing.{IsQuiet, calm_of, effect_at, only_before, ov
 use Rattle.vm_state.proofs.Referring.{sole_region, sole_shadow}
 use Rattle.vm_state.proofs.Told.{ready_referred, told_referred}
 use Rattle.vm_state.proofs.Waiting.{IsAwaitedBy, awaited_elsewhere}
-use Rattle.vm_state.specs.Merging.{KnowsPages, MergesObjects, MergesRows}
+use Rattle.vm_state.specs.Merging.{MergesObjects, MergesRows}
 use Rattle.vm_state.specs.Pagers.{has_pager, ready_in}
 use Rattle.vm_state.specs.Passed.{IsPlaceBehind, IsUnmet, LeadsOver, Passed, StaysAway}
 use Rattle.vm_state.specs.Places.{place_of}
 use Rattle.vm_state.specs.References.{AllReferred, is_live_in}
-use Rattle.vm_state.specs.Stands.{HasKinds, HasRegions}
+use Rattle.vm_state.specs.Stands.{HasKinds, HasRegions, KnowsPages}
 use Rattle.vm_state.specs.Waiters.{Asker, HasWaiters, IsPagerTold, IsPlaceOf, LeadsTo, Reason, is_awaited}
 use Rattle.vm_waits.specs.declared.waiting.On.{On}
 use Rattle.vm_waits.specs.declared.waiting.On.TheVariants as on

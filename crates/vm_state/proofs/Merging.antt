@@ -25,13 +25,13 @@ use Rattle.vm_state.proofs.Files.{files_put}
 use Rattle.vm_state.proofs.Fresh.{other_test, same_test}
 use Rattle.vm_state.proofs.Going.{one_other, one_own}
 use Rattle.vm_state.proofs.Knowing.{counts_still, fits_still, known_apart, known_cases, known_still, referred_before, unknown_still}
-use Rattle.vm_state.proofs.KnownPages.{pages_put}
+use Rattle.vm_state.proofs.KnownPages.{sizes_put}
 use Rattle.vm_state.proofs.Referring.{below_all, small_shadow}
 use Rattle.vm_state.proofs.Tallies.{tally_put, tally_same}
-use Rattle.vm_state.specs.Merging.{CanMerge, KnowsPages, MergesObjects}
+use Rattle.vm_state.specs.Merging.{CanMerge, MergesObjects}
 use Rattle.vm_state.specs.Pagers.{has_pager, last_in, live_in, ready_in}
 use Rattle.vm_state.specs.References.{is_backing, is_over, references_to}
-use Rattle.vm_state.specs.Stands.{HasControls, HasHomes, HasKinds, HasRegions, IsOfKind, KnowsFiles}
+use Rattle.vm_state.specs.Stands.{HasControls, HasHomes, HasKinds, HasRegions, IsOfKind, KnowsFiles, KnowsPages}
 use Rattle.vm_terminate.specs.Finishes.{IsReferred}
 
 -- what stands under an object behind the merge
@@ -397,7 +397,7 @@ files_merged header h upper lower cs cs2 os os2 home_from merges files =
 pub pages_merged : (least upper lower : ℕ) (cs cs2 : ChainTable) (os os2 : ObjectTable) (pages_from : ℕ → ℕ) → MergesObjects upper lower cs cs2 os os2
     → KnowsPages least os pages_from → KnowsPages least os2 pages_from
 pages_merged least upper lower cs cs2 os os2 pages_from merges has =
-    pages_put least lower merges.can.lower_row (record merges.can.lower_row { references = 0 }) os os2 pages_from merges.can.lower_known refl merges.object has
+    sizes_put least lower merges.can.lower_row (record merges.can.lower_row { references = 0 }) os os2 pages_from merges.can.lower_known refl merges.object has
 
 -- What can be merged behind it could be before, into another object it may be, and isn't the lower, which has no reference any more.
 pub record CouldMerge (chains : ChainTable) (objects : ObjectTable) (gone lower : ℕ) : Type 0 where

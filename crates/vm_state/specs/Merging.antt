@@ -1,14 +1,11 @@
 -- Which objects of a host can be merged, by its tables, and what that does to the pages that are here.
-use Rattle.std.specs.Prelude.{ℕ, ◌+◌, ◌≡◌, ◌≤◌, ◌==◌, List, Contains, Option, Some, None, if◌then◌else◌, nat_lt}
-use Rattle.vm_base.specs.declared.ids.ObjectId.{ObjectId}
+use Rattle.std.specs.Prelude.{ℕ, ◌+◌, ◌≡◌, ◌==◌, Option, Some, None, if◌then◌else◌, nat_lt}
 use Rattle.vm_frames.specs.Frames.{FrameTable, page_in}
-use Rattle.vm_objects.specs.Objects.{ObjectTable, PutsObject, SameMarks, object_at}
-use Rattle.vm_objects.specs.declared.row.ObjectRow.{ObjectRow}
+use Rattle.vm_objects.specs.Objects.{ObjectTable, PutsObject, SameMarks}
 pub use Rattle.vm_merge.specs.Merges.{CanMerge, IsThin, IsThinBut}
 use Rattle.vm_resident.specs.Resident.{ResidentTable, row_at}
 use Rattle.vm_resident.specs.declared.page_row.PageRow.{PageRow}
-use Rattle.vm_shadow.specs.Chains.{ChainTable, MergesShadow, shadow_at}
-use Rattle.vm_shadow.specs.declared.shadow_row.ShadowRow.{ShadowRow}
+use Rattle.vm_shadow.specs.Chains.{ChainTable, MergesShadow}
 
 -- a page's own row, or the one that it gets where it has none
 abbrev pub its_own_or : Option PageRow → Option PageRow → Option PageRow
@@ -25,10 +22,6 @@ pub record MergesRows (upper lower shift pages : ℕ) (old new : ResidentTable) 
 -- the frames of the pages that are left hold the same bytes
 pub record KeepsBytes (resident : ResidentTable) (old new : FrameTable) : Type 0 where
   pub at : (o p : ℕ) (row : PageRow) → row_at resident o p ≡ Some row → page_in new row.frame.0 ≡ page_in old row.frame.0
-
--- each object with a number from this one on has as many pages as it was made with, if it is known
-pub record KnowsPages (least : ℕ) (objects : ObjectTable) (pages_from : ℕ → ℕ) : Type 0 where
-  pub at : (o : ℕ) (known : ObjectRow) → least ≤ o → object_at objects o ≡ Some known → known.pages ≡ pages_from o
 
 -- a merge by the tables: the lower's shadow row is the upper's, by the sum of both shifts, nothing refers to the lower any more, and all else is as it was
 pub record MergesObjects (upper lower : ℕ) (chains chains2 : ChainTable) (objects objects2 : ObjectTable) : Type 0 where

@@ -102,6 +102,10 @@ HasHomes header h chains home_from = (r : ℕ) (row : RegionRow) → is_paged he
 abbrev pub KnowsFiles : Header → ℕ → ObjectTable → (ℕ → Option ℕ) → Type 0
 KnowsFiles header h objects home_from = (o : ℕ) → is_file header o ≡ true → is_on h (home_from o) ≡ is_some (object_at objects o)
 
+-- each object with a number from this one on has as many pages as it was made with, if it is known
+pub record KnowsPages (least : ℕ) (objects : ObjectTable) (pages_from : ℕ → ℕ) : Type 0 where
+  pub at : (o : ℕ) (known : ObjectRow) → least ≤ o → object_at objects o ≡ Some known → known.pages ≡ pages_from o
+
 -- an entry lies within its region
 pub record IsInside (size : ℕ) (chains : ChainTable) (row : Entry) : Type 0 where
   pub region : has_region chains row.region.0 ≡ true
