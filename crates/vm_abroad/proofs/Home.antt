@@ -1,5 +1,5 @@
 -- The home of a region stays what it is, and so does that of an object; what wasn't made has none; and a region is in use on its home alone.
-use Rattle.std.proofs.Common.{◌≡◌, ◌≤◌, ◌<◌, ◌&&◌, ◌||◌, not, ℕ, ◌==◌, Bool, true, false, List, [], ◌∷◌, ◌++◌, Option, Some, None, ap, refl, subst, sym, ◌∙◌}
+use Rattle.std.proofs.Common.{◌≡◌, ◌+◌, ◌≤◌, ◌<◌, ◌&&◌, ◌||◌, not, ℕ, ◌==◌, Bool, true, false, List, [], ◌∷◌, ◌++◌, Option, Some, None, ap, refl, subst, sym, ◌∙◌}
 use Rattle.std.proofs.Common.{arith, ◌⊎◌, inl, inr}
 use Rattle.std.proofs.lemmas.Bool.Decides.{eqb_tells, nat_tests}
 use Rattle.std.specs.Prelude.{if◌then◌else◌, nat_lt, unwrap_or}
@@ -14,7 +14,7 @@ use Rattle.vm_model.specs.declared.script.Header.{Header}
 use Rattle.vm_model.specs.Homes.{copying_host, first_of, home_in, home_of, object_home, region_for}
 use Rattle.vm_model.specs.Local.{is_on}
 use Rattle.vm_model.specs.Named.{declared_pages, named}
-use Rattle.vm_model.specs.Regions.{backing_of, next_object, next_region, region_of}
+use Rattle.vm_model.specs.Regions.{backing_of, joined, next_object, next_region, over, region_of}
 use Rattle.vm_model.specs.Tasks.{host_of}
 use Rattle.vm_model.specs.Waiting.{Target, begins_copy, copy_target}
 use Rattle.vm_legal.specs.Homes.{begins_here, is_home}
@@ -386,6 +386,56 @@ fills_next header outside (event.RegionMade region object pages) past cause home
     by_test false was = homes.fills task target was
 fills_next header outside other past cause homes task target is = homes.fills task target is
 
+-- the object that a slow copy fills was made, and stands on nothing
+
+target_made_next : (header : Header) (outside : Outside) (e : Event) (past : List Event) → HasCause header outside e past → HaveHomes header past
+    → (task : ℕ) (target : Target) → copy_target task (e ∷ past) ≡ Some target → target.object < next_object header (e ∷ past)
+target_made_next header outside (event.BegunCopy owner address bytes to) past cause homes task target is = by_test (owner.0 == task) is
+  where
+    by_test : (b : Bool) → (if b then None else copy_target task past) ≡ Some target → target.object < next_object header past
+    by_test true none = absurd (let bad : None ≡ Some target = none in cc)
+    by_test false was = homes.target_made task target was
+target_made_next header outside (event.RegionMade region object pages) past cause homes task target is = by_test (begins_copy task past) is
+  where
+    by_test : (b : Bool) → (if b then Some (record { region = region.0; object = object.0 }) else copy_target task past) ≡ Some target
+        → target.object < next_object header past + 1
+    by_test true now =
+        let same : object.0 ≡ target.object = ap (λ z. (unwrap_or z target).object) now in
+        let number = cause.1.1 in
+        omega (arith, same, number)
+    by_test false was = let less = homes.target_made task target was in omega (arith, less)
+target_made_next header outside (event.Shadowed changed new old) past cause homes task target is =
+    let less = homes.target_made task target is in omega (arith, less)
+target_made_next header outside other past cause homes task target is = homes.target_made task target is
+
+target_bare_next : (header : Header) (outside : Outside) (e : Event) (past : List Event) → HasCause header outside e past → HaveHomes header past
+    → (task : ℕ) (target : Target) → copy_target task (e ∷ past) ≡ Some target → (backing_of header target.object (e ∷ past)).backed ≡ false
+target_bare_next header outside (event.BegunCopy owner address bytes to) past cause homes task target is = by_test (owner.0 == task) is
+  where
+    by_test : (b : Bool) → (if b then None else copy_target task past) ≡ Some target → (backing_of header target.object past).backed ≡ false
+    by_test true none = absurd (let bad : None ≡ Some target = none in cc)
+    by_test false was = homes.target_bare task target was
+target_bare_next header outside (event.RegionMade region object pages) past cause homes task target is = by_test (begins_copy task past) is
+  where
+    by_test : (b : Bool) → (if b then Some (record { region = region.0; object = object.0 }) else copy_target task past) ≡ Some target
+        → (backing_of header target.object past).backed ≡ false
+    by_test true now =
+        let same : object.0 ≡ target.object = ap (λ z. (unwrap_or z target).object) now in
+        let number = cause.1.1 in
+        homes.unmade target.object (omega (arith, same, number))
+    by_test false was = homes.target_bare task target was
+target_bare_next header outside (event.Shadowed changed new old) past cause homes task target is =
+    let number = cause.1.next in
+    let less = homes.target_made task target is in
+    let other : (target.object == new.0) ≡ false = unlike target.object new.0 (λ same. omega (arith, same, number, less)) in
+    ap (λ b. (over b (region_of header changed.0 past) (backing_of header target.object past)).backed) other ∙ homes.target_bare task target is
+target_bare_next header outside (event.Merged upper lower) past cause homes task target is =
+    let bare = homes.target_bare task target is in
+    let other : (target.object == upper.0) ≡ false = unlike target.object upper.0
+    (λ same. (let bad : false ≡ true = sym bare ∙ (ap (λ z. (backing_of header z past).backed) same ∙ cause.1.pair.backed) in cc)) in
+    ap (λ b. (joined b (backing_of header lower.0 past) (backing_of header target.object past)).backed) other ∙ bare
+target_bare_next header outside other past cause homes task target is = homes.target_bare task target is
+
 -- what has a home was made, whatever is added with its cause
 pub homes_next : (header : Header) (outside : Outside) (e : Event) (past : List Event) → HasCause header outside e past → HaveHomes header past
     → HaveHomes header (e ∷ past)
@@ -399,6 +449,8 @@ homes_next header outside e past cause homes =
       bare = bare_next header outside e past cause homes;
       unmade = unmade_next header outside e past cause homes;
       fills = fills_next header outside e past cause homes;
+      target_made = target_made_next header outside e past cause homes;
+      target_bare = target_bare_next header outside e past cause homes;
     }
 
 pub homes_start : (header : Header) → HaveHomes header []
@@ -412,4 +464,6 @@ homes_start header =
       bare = λ o declared. refl;
       unmade = λ o high. refl;
       fills = λ task target is. absurd (let bad : None ≡ Some target = is in cc);
+      target_made = λ task target is. absurd (let bad : None ≡ Some target = is in cc);
+      target_bare = λ task target is. absurd (let bad : None ≡ Some target = is in cc);
     }

@@ -11,7 +11,7 @@ use Rattle.vm_legal.specs.Used.{in_use}
 
 -- No region has a home that wasn't made, and no object has a region; and a region that has a home is in use nowhere else. A file's region is in use everywhere
 -- until it has a home, and then there. The declared regions and objects are as they were declared, no slow copy fills one, and what isn't made yet
--- stands on nothing.
+-- stands on nothing; nor does what a slow copy fills.
 pub record AreHomes (header : Header) (regions_made objects_made : ℕ) (home_from made_for : ℕ → Option ℕ) (used_at : ℕ → ℕ → Bool) (region_from : ℕ → Region)
     (backing_from : ℕ → Backing) (target_from : ℕ → Option Target) : Type 0 where
   pub regions : (r : ℕ) → regions_made ≤ r → home_from r ≡ None
@@ -22,6 +22,8 @@ pub record AreHomes (header : Header) (regions_made objects_made : ℕ) (home_fr
   pub bare : (o : ℕ) → o < named header → (backing_from o).backed ≡ false
   pub unmade : (o : ℕ) → objects_made ≤ o → (backing_from o).backed ≡ false
   pub fills : (task : ℕ) (target : Target) → target_from task ≡ Some target → named header ≤ target.region
+  pub target_made : (task : ℕ) (target : Target) → target_from task ≡ Some target → target.object < objects_made
+  pub target_bare : (task : ℕ) (target : Target) → target_from task ≡ Some target → (backing_from target.object).backed ≡ false
 
 -- so it is with those of a history
 abbrev pub HaveHomes : Header → List Event → Type 0

@@ -1,5 +1,5 @@
 -- What a merge leaves to the merges behind it.
-use Rattle.std.proofs.Common.{◌≡◌, ◌∙◌, ℕ, ◌+◌, ◌<◌, ◌≤◌, ◌==◌, ◌⊎◌, Bool, true, false, List, Contains, Option, Some, None, inl, inr, refl, sym, ap, subst}
+use Rattle.std.proofs.Common.{◌≡◌, ◌∙◌, ℕ, ◌+◌, ◌≤◌, ◌==◌, ◌⊎◌, List, Contains, Option, Some, None, inl, inr, refl, sym, ap, subst}
 use Rattle.std.proofs.Common.{arith}
 use Rattle.std.specs.Prelude.{◌≢◌, if◌then◌else◌}
 use Rattle.vm_base.specs.declared.ids.ObjectId.{ObjectId}
@@ -13,8 +13,7 @@ use Rattle.vm_parts.proofs.Rows.{one_case}
 use Rattle.vm_parts.specs.Fits.{Fit, object_pages}
 use Rattle.vm_parts.specs.Merging.{NoneAsked}
 use Rattle.vm_resident.specs.Resident.{row_at}
-use Rattle.vm_resident.specs.declared.page_row.PageRow.{PageRow}
-use Rattle.vm_shadow.specs.Chains.{ChainTable, IsOnlyShadow, MergesShadow, joined, region_at, shadow_at}
+use Rattle.vm_shadow.specs.Chains.{ChainTable, IsOnlyShadow, MergesShadow, joined, shadow_at}
 use Rattle.vm_shadow.specs.declared.region_row.RegionRow.{RegionRow}
 use Rattle.vm_shadow.specs.declared.shadow_row.ShadowRow.{ShadowRow}
 
@@ -89,7 +88,8 @@ could_merge upper lower old new merges u l can =
   where
     low : (l ≢ lower.0) × (object_at old.parts.objects l ≡ Some can.lower_row)
     low =
-        referred lower.0 merges.can.lower_row old.parts.objects l can.lower_row (known_from upper lower old new merges l can.lower_row can.lower_known) can.sole
+        referred lower.0 merges.can.lower_row old.parts.objects l can.lower_row
+        (known_from upper lower old new merges l can.lower_row can.lower_known) can.sole
 
     by : ComesFrom upper.0 lower.0 merges.can.link old.chains u can.link → CouldMerge upper lower old u l
     by (Joins link is over sum) =

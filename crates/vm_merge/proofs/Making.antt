@@ -1,5 +1,5 @@
 -- What the calls of one merge make together.
-use Rattle.std.proofs.Common.{◌≡◌, ◌∙◌, ℕ, ◌+◌, ◌≤◌, List, ◌∷◌, Option, Some, IfSome, refl, sym, ap, subst, arith}
+use Rattle.std.proofs.Common.{◌≡◌, ◌∙◌, ℕ, ◌+◌, ◌≤◌, List, ◌∷◌, Some, IfSome, refl, ap, subst, arith}
 use Rattle.std.proofs.lemmas.Option.{MatchOption-at_some}
 use Rattle.vm_base.specs.declared.ids.ObjectId.{ObjectId}
 use Rattle.vm_merge.specs.Merges.{CanMerge, MergesInto}
@@ -7,9 +7,7 @@ use Rattle.vm_merge.specs.Standing.{merge_state}
 use Rattle.vm_model.specs.declared.event.Event.{Event}
 use Rattle.vm_model.specs.declared.event.Event.TheVariants as event
 use Rattle.vm_objects.specs.Objects.{ObjectTable, PutsObject, SameMarks, object_at}
-use Rattle.vm_objects.specs.declared.row.ObjectRow.{ObjectRow}
-use Rattle.vm_parts.proofs.Fitting.{fit_objects, same_pages}
-use Rattle.vm_parts.specs.Fits.{Fit, object_pages, pages_of_row}
+use Rattle.vm_parts.specs.Fits.{object_pages, pages_of_row}
 use Rattle.vm_parts.specs.Merging.{PagesMerge}
 use Rattle.vm_parts.specs.declared.parts.HostParts.{HostParts}
 use Rattle.vm_shadow.specs.Chains.{ChainTable, MergesShadow, shadow_at}
@@ -33,7 +31,8 @@ none_left upper lower link left parts moved objects old new can calls =
     let one = MatchOption-at_some _ (λ row. left + 1 ≡ row.references) can.lower_row known calls.left_is in
     let sole = can.sole in
     let none : left ≡ 0 = omega (arith, one, sole) in
-    let put = MatchOption-at_some _ (λ row. PutsObject lower.0 (Some (record row { references = left })) moved.objects objects) can.lower_row known calls.put in
+    let put = MatchOption-at_some _ (λ row. PutsObject lower.0 (Some (record row { references = left })) moved.objects objects)
+    can.lower_row known calls.put in
     subst (λ (z : ObjectTable). PutsObject lower.0 (Some (record can.lower_row { references = 0 })) z objects) calls.same
     (subst (λ (n : ℕ). PutsObject lower.0 (Some (record can.lower_row { references = n })) moved.objects objects) none put)
 
@@ -61,13 +60,3 @@ merges_into upper lower link left parts moved objects old new before after can c
       rest = refl;
       told = told;
     }
-
-pub fit_merged : (upper lower : ObjectId) (link : ShadowRow) (left : ℕ) (parts moved : HostParts) (objects : ObjectTable) (old new : ChainTable)
-    → CanMerge old parts.objects upper.0 lower.0 → Calls upper lower link left parts moved objects old new → Fit moved
-    → Fit (record moved { objects = objects })
-fit_merged upper lower link left parts moved objects old new can calls fit =
-    let known : object_at moved.objects lower.0 ≡ Some can.lower_row = ap (λ z. object_at z lower.0) calls.same ∙ can.lower_known in
-    let put = subst (λ (z : ObjectTable). PutsObject lower.0 (Some (record can.lower_row { references = 0 })) z objects) (sym calls.same)
-    (none_left upper lower link left parts moved objects old new can calls) in
-    fit_objects moved objects fit
-    (same_pages moved.objects objects lower.0 can.lower_row (record can.lower_row { references = 0 }) known refl put)

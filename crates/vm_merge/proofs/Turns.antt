@@ -1,5 +1,5 @@
 -- What a turn of the merges asks and leaves.
-use Rattle.std.proofs.Common.{◌≡◌, ◌∙◌, ℕ, ◌+◌, ◌*◌, ◌<◌, ◌≤◌, ◌^◌, List, [], length, Contains, Option, Some, None, IfSome, refl, sym, ap, subst, arith}
+use Rattle.std.proofs.Common.{◌≡◌, ◌∙◌, ℕ, ◌+◌, ◌*◌, ◌<◌, ◌^◌, List, [], Contains, Option, Some, None, IfSome, refl, sym, ap, subst, arith}
 use Rattle.vm_base.specs.declared.ids.ObjectId.{ObjectId}
 use Rattle.vm_merge.proofs.Heaps.{in_none}
 use Rattle.vm_merge.specs.Merges.{CanMerge, IsThin, IsThinBut}

@@ -1,5 +1,5 @@
 -- What the merges of a host stand on.
-use Rattle.std.specs.Prelude.{ℕ, ◌≡◌, ◌+◌, ◌*◌, ◌<◌, ◌≤◌, ◌^◌, List, Some}
+use Rattle.std.specs.Prelude.{ℕ, ◌≡◌, ◌+◌, ◌<◌, ◌≤◌, ◌^◌, List, Some}
 use Rattle.vm_merge.specs.Merges.{CanMerge, MergeState}
 use Rattle.vm_model.specs.declared.event.Event.{Event}
 use Rattle.vm_objects.specs.Objects.{ObjectTable, object_at}

@@ -1,14 +1,11 @@
 -- Which objects of a host can be merged, by its tables, and what that does to the pages that are here.
-use Rattle.std.specs.Prelude.{ℕ, ◌+◌, ◌≡◌, ◌≤◌, ◌==◌, List, Contains, Option, Some, None, if◌then◌else◌, nat_lt}
-use Rattle.vm_base.specs.declared.ids.ObjectId.{ObjectId}
+use Rattle.std.specs.Prelude.{ℕ, ◌+◌, ◌≡◌, ◌==◌, Option, Some, None, if◌then◌else◌, nat_lt}
 use Rattle.vm_frames.specs.Frames.{FrameTable, page_in}
-use Rattle.vm_objects.specs.Objects.{ObjectTable, PutsObject, SameMarks, object_at}
-use Rattle.vm_objects.specs.declared.row.ObjectRow.{ObjectRow}
+use Rattle.vm_objects.specs.Objects.{ObjectTable, PutsObject, SameMarks}
 pub use Rattle.vm_merge.specs.Merges.{CanMerge, IsThin, IsThinBut}
 use Rattle.vm_resident.specs.Resident.{ResidentTable, row_at}
 use Rattle.vm_resident.specs.declared.page_row.PageRow.{PageRow}
-use Rattle.vm_shadow.specs.Chains.{ChainTable, MergesShadow, shadow_at}
-use Rattle.vm_shadow.specs.declared.shadow_row.ShadowRow.{ShadowRow}
+use Rattle.vm_shadow.specs.Chains.{ChainTable, MergesShadow}
 
 -- a page's own row, or the one that it gets where it has none
 abbrev pub its_own_or : Option PageRow → Option PageRow → Option PageRow

@@ -1,4 +1,4 @@
-use Rattle.std.proofs.Common.{◌∙◌, ℕ, ◌*◌, length, ap, arith}
+use Rattle.std.proofs.Common.{◌∙◌, length, ap, arith}
 use Rattle.vm_merge.proofs.Behind.{may_go_on, thin_behind, thin_past}
 use Rattle.vm_merge.proofs.Turns.{none_of_none, one_of, shift_fits}
 use Rattle.vm_merge.proofs.merging.merge_losers.Given.{Over}

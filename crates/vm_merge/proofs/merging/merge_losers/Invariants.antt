@@ -1,4 +1,4 @@
-use Rattle.std.proofs.Common.{ℕ, ◌≡◌, ◌+◌, ◌*◌, ◌≤◌, length}
+use Rattle.std.proofs.Common.{◌≡◌, ◌+◌, ◌*◌, ◌≤◌, length}
 use Rattle.vm_merge.proofs.merging.merge_losers.Given as goal
 use Rattle.vm_merge.specs.Merges.{IsThinBut, MergeInTurn, MergeState}
 use Rattle.vm_merge.specs.Standing.{MayMerge, merge_state}

@@ -1,4 +1,4 @@
-use Rattle.vm_merge.proofs.Uppers.{can_merge, stands_alone}
+use Rattle.vm_merge.proofs.Uppers.{stands_alone}
 use Rattle.vm_merge.proofs.merging.upper_of.Goals as goal
 
 pub returns-in_err-upper-clause-none : goal.returns-in_err-upper-clause-none
