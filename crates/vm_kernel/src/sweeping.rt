@@ -124,6 +124,7 @@ impl Parts {
             &mut self.chains,
             &mut self.laundry,
             log,
-        )
+        )?;
+        Ok(())
     }
 }

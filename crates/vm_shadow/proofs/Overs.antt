@@ -1,6 +1,6 @@
 -- The tallies of the shadows after a write, and the one shadow that they tell.
 use Rattle.std.proofs.Common.{◌≡◌, ◌≢◌, ◌∙◌, sym, ap, subst, ℕ, ◌+◌, ◌<◌, ◌==◌, ◌^◌, Bool, true, false, List, [], ◌∷◌, Some, None, if◌then◌else◌}
-use Rattle.std.proofs.Common.{Result, Ok, Err, OnOk, IsOk, IfNone, IfSome, IsSome, IsSomeAnd, Option, arith, refl}
+use Rattle.std.proofs.Common.{Result, Ok, Err, OnOk, IsOk, IfNone, IfSome, IsSomeAnd, Option, arith, refl}
 use Rattle.std.proofs.lemmas.Bool.Decides.{nat_tests}
 use Rattle.std.proofs.lemmas.List.Sums.{sum_by-cons}
 use Rattle.std.proofs.lemmas.Map.Keys.{IsDistinct-head, IsDistinct-tail}
@@ -45,14 +45,6 @@ tally_put old new object row write written at o = by (object == o) refl
     by false is =
         let found : lookup (λ id. o == id.0) new.rows ≡ lookup (λ id. o == id.0) old.rows = rw is at (at o) in
         rw is (ap (λ (x : Option Tally). unwrap_or x no_tally) found)
-
--- what is tallied has a row
-pub tally_there : (table : TallyTable) (o : ℕ) → 0 < (tally_at table o).count → IsSome (lookup (λ id. o == id.0) table.rows)
-tally_there table o some = by (lookup (λ id. o == id.0) table.rows) refl
-  where
-    by : (x : Option Tally) → lookup (λ id. o == id.0) table.rows ≡ x → IsSome (lookup (λ id. o == id.0) table.rows)
-    by None is = absurd (let none : (tally_at table o).count ≡ 0 = rw is refl in omega (arith, some, none))
-    by (Some tally) is = rw is refl
 
 -- the row that is there is the tally
 pub tally_found : (table : TallyTable) (o : ℕ) (tally : Tally) → lookup (λ id. o == id.0) table.rows ≡ Some tally → tally_at table o ≡ tally

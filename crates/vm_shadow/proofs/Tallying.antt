@@ -20,10 +20,6 @@ use Rattle.vm_shadow.specs.Standing.{no_tally, renumbered, with_shadow, without_
 use Rattle.vm_shadow.specs.declared.shadow_row.ShadowRow.{ShadowRow}
 use Rattle.vm_shadow.specs.declared.tally.Tally.{Tally}
 
-pub tallied_same : (tallies next : ℕ → Tally) (old new : List (ObjectId × ShadowRow)) → next ≡ tallies → new ≡ old → AreTallied tallies old
-    → AreTallied next new
-tallied_same tallies next old new told same t = rw (told, same) t
-
 -- where one was made
 pub tallied_made : (tallies next : ℕ → Tally) (old new : List (ObjectId × ShadowRow)) (object : ObjectId) (row : ShadowRow)
     → lookup (same_object object) old ≡ None → new ≡ insert_entry same_object old object row → IsDistinct same_object (keys_of new)

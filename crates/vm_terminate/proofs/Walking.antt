@@ -1,5 +1,6 @@
 -- Objects end down a shadow chain.
 use Rattle.std.proofs.Common.{◌≡◌, ◌⊎◌, ◌∙◌, ℕ, suc, ◌<◌, ◌≤◌, Option, Some, None, inl, inr, refl, ap, sym, subst, arith}
+use Rattle.std.specs.Option.{option_map}
 use Rattle.vm_base.specs.declared.ids.HostId.{HostId}
 use Rattle.vm_base.specs.declared.ids.ObjectId.{ObjectId}
 use Rattle.vm_objects.specs.Objects.{object_at}
@@ -14,7 +15,7 @@ use Rattle.vm_shadow.specs.declared.shadow_row.ShadowRow.{ShadowRow}
 use Rattle.vm_terminate.proofs.Leaving.{HasGone, has_gone}
 use Rattle.vm_terminate.specs.Finishes.{CanFinish, ControlEnds, EndsWith, FinishState, Finishes, Further, IsReferred, IsTold, Itself, LosesUnder, Next}
 use Rattle.vm_terminate.specs.Finishes.{NoControl, NoMore, PagesLeave}
-use Rattle.vm_terminate.specs.Finishes.{Alone, Downward, OverOne}
+use Rattle.vm_terminate.specs.Finishes.{Alone, Downward, OverOne, left_of}
 use Rattle.vm_terminate.specs.Steps.{AllHere, Ends, LeavesUnder, Nothing, Stays}
 
 -- what the pages of an object leave as it was
@@ -220,16 +221,22 @@ come_down host object ending known under row start now bare quiet next come ends
           rw (queues, rooms) ((pages_have_left host ending known 0 now bare ends.pages).room come.room);
     }
 
--- the end stops at an object
-pub ends_there : (host : HostId) (object : ObjectId) (known : ObjectRow) (next : Option ObjectId) (now bare quiet new : FinishState)
+-- the end stops at an object: what it stands on has references left, if there is something
+pub ends_there : (host : HostId) (object : ObjectId) (known : ObjectRow) (next left : Option ObjectId) (now bare quiet new : FinishState)
     → IsBare host object known now bare quiet → LeavesUnder object next quiet new → next ≡ None
-    → Finishes host object now new
-ends_there host object known next now bare quiet new ends (Nothing none no_shadow same) stops =
-    Alone object known now bare new ends.known_is ends.pages (subst (λ (z : FinishState). ControlEnds host object known bare z) (sym same) ends.control)
-    (ap (λ z. shadow_at z.chains object.0) same ∙ no_shadow)
-ends_there host object known next now bare quiet new ends (Stays row under left none loses some) stops =
-    OverOne object known under row left now bare quiet new ends.known_is ends.pages ends.control loses some
-ends_there host object known next now bare quiet new ends (Ends row under goes loses ranked) stops =
+    → left ≡ option_map (λ (row : ShadowRow). row.under) (shadow_at now.chains object.0) → (f : Finishes host object now new) × (left ≡ left_of f)
+ends_there host object known next left now bare quiet new ends (Nothing none no_shadow same) stops is =
+    let before = sym (ap (λ z. shadow_at z object.0) (chains_are host object known now bare quiet ends)) ∙ no_shadow in (
+      Alone object known now bare new ends.known_is ends.pages (subst (λ (z : FinishState). ControlEnds host object known bare z) (sym same) ends.control)
+          (ap (λ z. shadow_at z.chains object.0) same ∙ no_shadow),
+      is ∙ ap (option_map (λ (row : ShadowRow). row.under)) before,
+    )
+ends_there host object known next left now bare quiet new ends (Stays row under count none loses some) stops is =
+    let before = sym (ap (λ z. shadow_at z object.0) (chains_are host object known now bare quiet ends)) ∙ loses.found in (
+      OverOne object known under row count now bare quiet new ends.known_is ends.pages ends.control loses some,
+      is ∙ ap (option_map (λ (row : ShadowRow). row.under)) before,
+    )
+ends_there host object known next left now bare quiet new ends (Ends row under goes loses ranked) stops is =
     absurd (let bad : None ≡ Some row.under = sym stops ∙ goes in cc)
 
 -- the end goes on with what stood under the object
@@ -263,7 +270,7 @@ come_on host object ending next known start now bare quiet new come ends on fit 
     on.loses on.ranked fit)
 
 pub ends_further : (host : HostId) (ending next : ObjectId) (known : ObjectRow) (now bare quiet new end : FinishState) → IsBare host ending known now bare quiet
-    → GoesOn ending next quiet new → Finishes host next new end → Finishes host ending now end
+    → GoesOn ending next quiet new → (more : Finishes host next new end) → (f : Finishes host ending now end) × (left_of f ≡ left_of more)
 ends_further host ending next known now bare quiet new end ends on more =
-    Downward ending known on.known on.row now bare quiet new end ends.known_is ends.pages ends.control on.loses
-    (subst (λ (z : ObjectId). Finishes host z new end) on.is more)
+    let moved = subst (λ (z : ObjectId). (f : Finishes host z new end) × (left_of f ≡ left_of more)) on.is (more, refl) in
+    (Downward ending known on.known on.row now bare quiet new end ends.known_is ends.pages ends.control on.loses moved.0, moved.1)

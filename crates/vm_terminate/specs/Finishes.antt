@@ -1,5 +1,5 @@
 -- What the end of a memory object on a host changes: its pages, its control, and what stood under it.
-use Rattle.std.specs.Prelude.{ℕ, suc, ◌≡◌, ◌≢◌, ◌+◌, ◌<◌, ◌≤◌, ◌⊎◌, ◌||◌, true, false, List, [], ◌∷◌, ◌++◌, length, Some, None}
+use Rattle.std.specs.Prelude.{ℕ, suc, ◌≡◌, ◌≢◌, ◌+◌, ◌<◌, ◌≤◌, ◌⊎◌, ◌||◌, true, false, List, [], ◌∷◌, ◌++◌, length, Option, Some, None}
 use Rattle.vm_base.specs.declared.ids.FrameNo.{FrameNo}
 use Rattle.vm_base.specs.declared.ids.HostId.{HostId}
 use Rattle.vm_base.specs.declared.ids.ObjectId.{ObjectId}
@@ -110,3 +110,9 @@ pub data Finishes (host : HostId) : ObjectId → FinishState → FinishState →
       → object_at old.parts.objects object.0 ≡ Some known
       → PagesLeave host object known 0 old bare → ControlEnds host object known bare quiet → LosesUnder object row under 0 quiet next
       → Finishes host row.under next new → Finishes host object old new
+
+-- the object that lost a reference by these ends and has some left; None where they came to the bottom
+abbrev pub left_of : {host : HostId} → {object : ObjectId} → {old new : FinishState} → Finishes host object old new → Option ObjectId
+left_of (Alone object known old bare new found pages control bottom) = None
+left_of (OverOne object known under row left old bare quiet new found pages control loses some) = Some row.under
+left_of (Downward object known under row old bare quiet next new found pages control loses rest) = left_of rest

@@ -1,5 +1,6 @@
 // An object ends, and what loses its last reference by that.
-ghost use Rattle.std.specs.Prelude.{ℕ, ◌≡◌, ◌+◌, ◌<◌, ◌≤◌, false, List, length, Some, IsOk, OnOk};
+ghost use Rattle.std.specs.Option.{option_map};
+ghost use Rattle.std.specs.Prelude.{ℕ, ◌≡◌, ◌+◌, ◌<◌, ◌≤◌, false, List, length, Some, IfOk, IsOk, OnOk};
 ghost use Rattle.vm_base.specs.declared.ids.FrameNo.{FrameNo};
 ghost use Rattle.vm_base.specs.declared.ids.ObjectKind.TheVariants.{Temp};
 ghost use Rattle.vm_model.specs.declared.event.Event.{Event};
@@ -9,7 +10,7 @@ ghost use Rattle.vm_parts.specs.Listed.{listed_pages};
 ghost use Rattle.vm_shadow.specs.Chains.{ChainTable, IsRanked, shadow_at};
 ghost use Rattle.vm_shadow.specs.declared.shadow_row.ShadowRow.{ShadowRow};
 ghost use Rattle.vm_terminate.specs.Counts.{EndBelow, HasBuffers, UsesRoom, live_below};
-ghost use Rattle.vm_terminate.specs.Finishes.{CanFinish, ControlEnds, EndsWith, Finishes, IsReferred};
+ghost use Rattle.vm_terminate.specs.Finishes.{CanFinish, ControlEnds, EndsWith, Finishes, IsReferred, left_of};
 ghost use Rattle.vm_terminate.specs.Steps.{LeavesUnder, finish_state};
 
 use crate::pages::end_pages;
@@ -23,7 +24,8 @@ use vm_shadow::Chains;
 ///
 /// Its pages leave the host first, by rising number; then its control ends, where one lives, and its
 /// pager is told by memory_object_terminate. What stands under it loses a reference, and ends in the
-/// same way if that was the last. It fails for want of memory alone; what was done by then was told.
+/// same way if that was the last. It gives the object at which this stops, which has references left;
+/// None at the bottom. It fails for want of memory alone; what was done by then was told.
 pub fn finish<L: Holder>(
     host: HostId,
     object: ObjectId,
@@ -31,12 +33,13 @@ pub fn finish<L: Holder>(
     chains: &mut Chains,
     laundry: &mut L,
     log: &mut Events,
-) -> Result<(), NoMemory>
+) -> Result<Option<ObjectId>, NoMemory>
     requires { CanFinish (record { parts = parts.old; chains = chains.old; held = L.held laundry.old; room = L.room laundry.old; events = log.old.items })
         object.0 }
-    ensures finished { OnOk result (Finishes host object
+    ensures finished { IfOk result (λ left. (f : Finishes host object
         (record { parts = parts.old; chains = chains.old; held = L.held laundry.old; room = L.room laundry.old; events = log.old.items })
-        (record { parts = parts.new; chains = chains.new; held = L.held laundry.new; room = L.room laundry.new; events = log.new.items })) }
+        (record { parts = parts.new; chains = chains.new; held = L.held laundry.new; room = L.room laundry.new; events = log.new.items }))
+        × (left ≡ left_of f)) }
     ensures fit { OnOk result (Fit parts.new) }
     ensures size { OnOk result (parts.new.buffers.size ≡ parts.old.buffers.size) }
     ensures uses { (n : ℕ) → EndBelow n chains.old parts.old.objects object.0
@@ -57,8 +60,9 @@ pub fn finish<L: Holder>(
         };
         end_pages(host, ending, known, parts, laundry, log)?;
         end_control(host, ending, known, parts, log)?;
+        let below = stands_on(ending, chains);
         let Some(under) = leave_under(ending, parts, chains) else {
-            return Ok(());
+            return Ok(below);
         };
         ending = under;
     }
@@ -96,6 +100,14 @@ fn end_control(
             control: known.control,
         },
     })
+}
+
+// What an object stands on, where it is a shadow.
+fn stands_on(object: ObjectId, chains: &Chains) -> Option<ObjectId>
+    ensures { result ≡ option_map (λ row. row.under) (shadow_at chains.now object.0) }
+{
+    let row = chains.backing(object)?;
+    Some(row.under)
 }
 
 // Takes the reference of an object that has ended from what stands under it, and gives that where it

@@ -21,7 +21,7 @@ pub down-init : goal.down-init
 down-init g c =
     record {
       come = at_first _ _ c.requires;
-      so_far = λ end more. more;
+      so_far = λ end more. (more, refl);
       uses = λ n less. uses_none n _ _ _;
       saved = λ each. omega arith;
       told = λ n less. omega arith;
@@ -108,10 +108,12 @@ returns-in_default-leave_under-clause-finished g c =
     let turn = (goal.at.returns-in_default-leave_under-clause-finished g c).In_ok-end_control in
     let new = finish_state c.leave_under.new.parts c.leave_under.new.chains (g.L.Holder.held c.end_pages.new.laundry) (g.L.Holder.room c.end_pages.new.laundry)
     c.end_control.new.log.items in
-    c.down.invariant.so_far new (ends_there c.args.host c.down.ending c.in-Some.known c.leave_under.result (now g turn) (bare g turn) (quiet g turn) new
+    let there = ends_there c.args.host c.down.ending c.in-Some.known c.leave_under.result c.stands_on-below.result (now g turn) (bare g turn) (quiet g turn) new
     (is_bare g turn)
     (c.leave_under.ensures.under (g.L.Holder.held c.end_pages.new.laundry) (g.L.Holder.room c.end_pages.new.laundry) c.end_control.new.log.items)
-    c.in_default-leave_under.is)
+    c.in_default-leave_under.is c.stands_on-below.ensures in
+    let whole = c.down.invariant.so_far new there.0 in
+    (whole.0, there.1 ∙ sym whole.1)
 
 -- the state behind a turn
 abbrev behind : (g : Over) → After-leave_under g → FinishState
@@ -209,9 +211,11 @@ down-preserved g c =
       come =
           come_on c.args.host c.args.object.0 c.down.ending c.in-Some-leave_under.under c.in-Some.known (start g turn) (now g turn) (bare g turn) (quiet g turn)
           (next g c) c.down.invariant.come (is_bare g turn) (on g c) c.leave_under.ensures.fit;
-      so_far = λ end more. c.down.invariant.so_far end
-          (ends_further c.args.host c.down.ending c.in-Some-leave_under.under c.in-Some.known (now g turn) (bare g turn) (quiet g turn) (next g c) end
-          (is_bare g turn) (on g c) more);
+      so_far = λ end more.
+          let further = ends_further c.args.host c.down.ending c.in-Some-leave_under.under c.in-Some.known (now g turn) (bare g turn) (quiet g turn)
+          (next g c) end (is_bare g turn) (on g c) more in
+          let whole = c.down.invariant.so_far end further.0 in
+          (whole.0, whole.1 ∙ further.1);
       uses =
           λ n less. turn_uses c.args.host c.down.ending c.leave_under.result c.in-Some.known c.args.parts.now c.args.chains.now (now g turn) (bare g turn)
           (quiet g turn) (next g c)
