@@ -239,7 +239,7 @@ matches_roomier header h rooms k ids gone past was = record {
   kinds = kinds_roomier k.memory.objects rooms.objects rooms.marks header k.chains rooms.shadows was.kinds;
   homes = was.homes;
   files = was.files;
-  sizes = was.sizes;
+  sizes = record { at = was.sizes.at };
   entries = entries_roomier k.chains rooms.shadows header.size k.maps gone was.entries;
   shared = was.shared;
   pages = pages_roomier k.memory.objects rooms.objects rooms.marks k.memory.frames k.memory.resident rooms.rows _ was.pages;
