@@ -8,6 +8,7 @@ pub mod Counting
 pub mod Declared
 pub mod Files
 pub mod Filling
+pub mod FramesMerged
 pub mod Fresh
 pub mod Going
 pub mod Knowing
@@ -19,6 +20,7 @@ pub mod MergedPages
 pub mod MergedWaits
 pub mod Merging
 pub mod Moving
+pub mod PagesMerged
 pub mod Pairs
 pub mod Passing
 pub mod Places
