@@ -10,8 +10,10 @@ pub mod EntriesGone
 pub mod EntriesLeave
 pub mod EntriesRewritten
 pub mod ForkShares
+pub mod NothingLeft
 pub mod ObjectEnds
 pub mod ObjectsEnd
+pub mod ObjectsMerged
 pub mod RangeAllocated
 pub mod RegionCases
 pub mod RegionCopied

@@ -5,6 +5,7 @@ use Rattle.vm_model.specs.declared.event.Event.{Event}
 use Rattle.vm_model.specs.declared.event.Event.TheVariants as event
 use Rattle.vm_objects.specs.Objects.{ObjectTable, PutsObject, SameMarks, object_at}
 use Rattle.vm_objects.specs.declared.row.ObjectRow.{ObjectRow}
+use Rattle.vm_parts.specs.Fits.{Fit}
 use Rattle.vm_parts.specs.Merging.{PagesMerge}
 use Rattle.vm_parts.specs.declared.parts.HostParts.{HostParts}
 use Rattle.vm_shadow.specs.Chains.{ChainTable, MergesShadow, shadow_at}
@@ -51,7 +52,8 @@ pub record MergesInto (upper lower : ObjectId) (old new : MergeState) : Type 0 w
   pub rest : new.parts ≡ record moved { objects = new.parts.objects }
   pub told : new.events ≡ event.Merged upper lower ∷ old.events
 
--- objects are merged, one at a time, until none can be
+-- objects are merged, one at a time, until none can be; the parts fit each other all the time
 pub data MergeInTurn : MergeState → MergeState → Type 0 where
   NoneLeft : (s : MergeState) → IsThin s.chains s.parts.objects → MergeInTurn s s
-  OneFirst : (upper lower : ObjectId) → (old mid new : MergeState) → MergesInto upper lower old mid → MergeInTurn mid new → MergeInTurn old new
+  OneFirst : (upper lower : ObjectId) → (old mid new : MergeState) → MergesInto upper lower old mid → Fit mid.parts
+      → mid.parts.buffers ≡ old.parts.buffers → MergeInTurn mid new → MergeInTurn old new

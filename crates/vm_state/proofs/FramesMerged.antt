@@ -1,10 +1,10 @@
 -- The frames of a host behind a merge, those of returns that are out, and what the history says of them.
-use Rattle.std.proofs.Common.{◌≡◌, ◌∙◌, ℕ, ◌+◌, ◌<◌, ◌≤◌, ◌&&◌, Bool, List, ◌∷◌, Option, Some, None, ap, arith, get_or, not, refl, subst, suc, sym, zero}
-use Rattle.std.specs.Prelude.{◌-◌, if◌then◌else◌, length, nat_lt}
+use Rattle.std.proofs.Common.{◌≡◌, ◌∙◌, ℕ, ◌+◌, ◌≤◌, ◌&&◌, Bool, List, ◌∷◌, Option, Some, None, ap, arith, get_or, not, refl, subst, suc, sym, zero}
+use Rattle.std.specs.Prelude.{◌-◌, if◌then◌else◌, nat_lt}
 use Rattle.vm_abroad.proofs.Home.{on_own}
 use Rattle.vm_abroad.specs.Home.{HaveHomes}
 use Rattle.vm_base.specs.declared.ids.ObjectId.{ObjectId}
-use Rattle.vm_frames.specs.Frames.{FrameTable, claimed, frame_count}
+use Rattle.vm_frames.specs.Frames.{FrameTable, claimed}
 use Rattle.vm_legal.specs.Frames.{FrameChange, GivesSome, Keeps, frames_after, frames_held, pages_gone}
 use Rattle.vm_model.specs.declared.event.Event.{Event}
 use Rattle.vm_model.specs.declared.event.Event.TheVariants as event

@@ -3,7 +3,7 @@ use Rattle.std.proofs.Common.{length-set}
 use Rattle.std.proofs.Common.{◌≡◌, ◌∙◌, ℕ, suc, zero, ◌+◌, ◌<◌, ◌≤◌, ◌==◌, ◌&&◌, Bool, true, false, not, Option, Some, None, ap, arith, inl, inr, refl, subst, sym}
 use Rattle.std.proofs.lemmas.Bool.{cases_lt}
 use Rattle.std.proofs.lemmas.Bool.Decides.{eqb_tells, nat_tests}
-use Rattle.std.specs.Prelude.{IsSome, ◌-◌, ◌⊎◌, if◌then◌else◌, length, nat_lt}
+use Rattle.std.specs.Prelude.{IsSome, ◌-◌, if◌then◌else◌, length, nat_lt}
 use Rattle.vm_base.specs.declared.ids.FrameNo.{FrameNo}
 use Rattle.vm_base.specs.declared.ids.ObjectId.{ObjectId}
 use Rattle.vm_base.specs.declared.ids.PageKey.{PageKey}
@@ -250,14 +250,14 @@ clear_next upper lower shift pages from page row old mid apart clear none merges
           ]
     ]
 
-pub pages_merged : (upper lower : ObjectId) (shift pages from : ℕ) (old new : HostParts) → (upper.0 ≡ lower.0 → ⊥)
+pub tables_merged : (upper lower : ObjectId) (shift pages from : ℕ) (old new : HostParts) → (upper.0 ≡ lower.0 → ⊥)
     → ((p : ℕ) → p < from → row_at old.resident lower.0 p ≡ None) → PagesMerge upper lower shift pages from old new
     → PagesMerged upper.0 lower.0 shift pages old new
-pages_merged upper lower shift pages from old new apart clear (NoMore _ _ none) =
+tables_merged upper lower shift pages from old new apart clear (NoMore _ _ none) =
     none_merged upper lower shift pages old (λ p. elim (cases_lt p from) [ inl small ↦ clear p small | inr high ↦ none p high ])
-pages_merged upper lower shift pages from old new apart clear (Next _ page row _ mid _ least none found objects merges rest) =
+tables_merged upper lower shift pages from old new apart clear (Next _ page row _ mid _ least none found objects merges rest) =
     next_merged upper lower shift pages page row old mid new apart merges
-    (pages_merged upper lower shift pages (page.0 + 1) mid new apart (clear_next upper lower shift pages from page row old mid apart clear none merges) rest)
+    (tables_merged upper lower shift pages (page.0 + 1) mid new apart (clear_next upper lower shift pages from page row old mid apart clear none merges) rest)
 
 -- how many frames go free
 

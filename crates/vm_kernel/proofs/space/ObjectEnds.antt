@@ -498,7 +498,7 @@ ends_told header h outside doing past who k ids rest object events row objects s
 
 -- what stood under it goes
 
-entries_kept : (size : ℕ) (maps : Mapped) (cs cs2 : ChainTable) (rest : List Entry) → ((r : ℕ) → region_at cs2 r ≡ region_at cs r)
+pub entries_kept : (size : ℕ) (maps : Mapped) (cs cs2 : ChainTable) (rest : List Entry) → ((r : ℕ) → region_at cs2 r ≡ region_at cs r)
     → HasEntries size maps cs rest → HasEntries size maps cs2 rest
 entries_kept size maps cs cs2 rest same has =
     record {

@@ -35,7 +35,9 @@ losers-preserved-in-Some-upper_of g c =
       thin =
           thin_behind c.in-Some-upper_of.upper c.in-Some.lower (before g turn) (behind g turn) merges c.losers.losers.items c.pop.new.self.items so_far.thin
           c.in-Some.ensures.rest;
-      so_far = λ end more. so_far.so_far end (OneFirst c.in-Some-upper_of.upper c.in-Some.lower (before g turn) (behind g turn) end merges more);
+      so_far = λ end more.
+          so_far.so_far end (OneFirst c.in-Some-upper_of.upper c.in-Some.lower (before g turn) (behind g turn) end merges c.merge_into.ensures.fit
+          c.merge_into.ensures.buffers more);
       fewer = omega (arith, so_far.fewer, count);
       buffers = c.merge_into.ensures.buffers ∙ so_far.buffers;
       told = omega (arith, so_far.told, count, told);

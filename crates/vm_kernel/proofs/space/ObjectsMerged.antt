@@ -1,0 +1,215 @@
+-- An object is merged into its shadow inside a command's step: the kernel stands for the history with that told, and so it goes on until none can be merged.
+use Rattle.std.proofs.Common.{List, Some, [], ◌∷◌, ◌++◌, ◌∙◌, ◌≡◌, ◌<◌, ◌≤◌, ◌+◌, ℕ, ap, arith, false, inl, inr, refl, subst, sym, true}
+use Rattle.std.proofs.lemmas.Bool.Decides.{eqb_tells}
+use Rattle.vm_base.specs.declared.ids.ObjectId.{ObjectId}
+use Rattle.vm_kernel.proofs.controls.LockReplied.{replied_behind}
+use Rattle.vm_kernel.proofs.space.NothingLeft.{regions_used, swept}
+use Rattle.vm_kernel.proofs.space.ObjectEnds.{entries_kept, used_there}
+use Rattle.vm_kernel.proofs.space.RegionHomes.{homes_caused}
+use Rattle.vm_kernel.proofs.steps.EventsGrow.{grows_more, suffices}
+use Rattle.vm_kernel.specs.Fits.{IsPlainRow}
+use Rattle.vm_kernel.specs.Matches.{Matches}
+use Rattle.vm_kernel.specs.Sweeping.{IsWhole, Sweeps}
+use Rattle.vm_kernel.specs.declared.parts.Parts.{Parts}
+use Rattle.vm_legal.specs.Frames.{frames_held, frames_wired, pages_gone, returns_out}
+use Rattle.vm_legal.specs.Homes.{IsOnlyOfHost}
+use Rattle.vm_legal.specs.Licences.{HasCause}
+use Rattle.vm_legal.specs.Merges.{Merges}
+use Rattle.vm_legal.specs.Outside.{Outside}
+use Rattle.vm_merge.specs.Merges.{CanMerge, IsThin, MergeInTurn, MergeState, MergesInto, NoneLeft, OneFirst}
+use Rattle.vm_model.specs.Homes.{home_of, object_home}
+use Rattle.vm_model.specs.Local.{is_on}
+use Rattle.vm_model.specs.Named.{named}
+use Rattle.vm_model.specs.Regions.{next_object, next_region, object_pages}
+use Rattle.vm_model.specs.Waiting.{waiting}
+use Rattle.vm_model.specs.declared.command.Command.{Command}
+use Rattle.vm_model.specs.declared.event.Event.{Event}
+use Rattle.vm_model.specs.declared.event.Event.TheVariants as event
+use Rattle.vm_model.specs.declared.script.Header.{Header}
+use Rattle.vm_objects.specs.Objects.{ObjectTable}
+use Rattle.vm_parts.specs.Fits.{Fit, pages_of_row}
+use Rattle.vm_parts.specs.Merging.{PagesMerge}
+use Rattle.vm_parts.specs.declared.parts.HostParts.{HostParts}
+use Rattle.vm_resident.specs.declared.page_row.PageRow.{PageRow}
+use Rattle.vm_shadow.specs.Chains.{ChainTable}
+use Rattle.vm_shadow.specs.declared.ids.Ids.{Ids}
+use Rattle.vm_state.proofs.Declared.{shadow_temporary}
+use Rattle.vm_state.proofs.FramesMerged.{frames_merged, held_merged, laundry_merged}
+use Rattle.vm_state.proofs.MergedPages.{AreHere, all_here, shown_merged}
+use Rattle.vm_state.proofs.MergedWaits.{waits_merged}
+use Rattle.vm_state.proofs.Merging.{controls_merged, files_merged, homes_merged, kinds_merged, merged_apart, pages_merged, regions_merged}
+use Rattle.vm_state.proofs.Filling.{IsUnfilled}
+use Rattle.vm_state.proofs.Moving.{Rose, RowWas, Stayed, referred_merged, row_was, upper_unfilled, used_merged}
+use Rattle.vm_state.proofs.PagesMerged.{PagesMerged, claims_merged, here_at, tables_merged}
+use Rattle.vm_state.proofs.Pairs.{KnowsPairs, merges_told}
+use Rattle.vm_state.proofs.Targets.{target_unshadowed}
+use Rattle.vm_state.specs.Counts.{marks_of}
+use Rattle.vm_state.specs.Merging.{MergesObjects}
+use Rattle.vm_state.specs.Waiters.{is_woken}
+use Rattle.vm_supply.specs.declared.woken.Woken.TheVariants as woken
+
+-- the kernel with these parts and chains
+abbrev pub with_state : Parts → MergeState → Parts
+with_state k s = record k { memory = s.parts; chains = s.chains }
+
+-- one merge, of a kernel that sweeps and has nothing left to sweep
+module _ {header : Header} {h : ℕ} {outside : Outside} {doing : Command} {past : List Event} {ids : Ids} {upper lower : ObjectId} (k : Parts) (old : MergeState)
+    (moved : HostParts) (os2 : ObjectTable) (cs2 : ChainTable) (sweeps : Sweeps header h outside doing past (with_state k old) ids [] old.events)
+    (merges : MergesObjects upper.0 lower.0 old.chains cs2 old.parts.objects os2)
+    (pages : PagesMerge upper lower merges.can.link.shift merges.can.upper_row.pages 0 old.parts moved)
+    (fit : Fit (record moved { objects = os2 })) (buffers : moved.buffers ≡ old.parts.buffers) where
+  m : Matches header h (with_state k old) ids [] (old.events ++ past)
+  m = sweeps.runs.matches
+
+  apart : upper.0 ≡ lower.0 → ⊥
+  apart = merged_apart m.regions.ranked merges.can
+
+  temporary : named header ≤ upper.0
+  temporary = shadow_temporary m.regions m.homes.1 upper.0 merges.can.link merges.can.over
+
+  home : object_home upper.0 (old.events ++ past) ≡ Some h
+  home = m.controls.home upper.0 merges.can.upper_row temporary merges.can.upper_known
+
+  here : AreHere old.parts.resident upper.0 lower.0
+  here = all_here m.kinds temporary sweeps.referred sweeps.runs.waits.ready merges.can
+
+  tables : PagesMerged upper.0 lower.0 merges.can.link.shift merges.can.upper_row.pages old.parts moved
+  tables = tables_merged upper lower merges.can.link.shift merges.can.upper_row.pages 0 old.parts moved apart (λ p small. absurd (omega (arith, small))) pages
+
+  whole : IsWhole header h woken.Nobody (with_state k old) ids [] (old.events ++ past)
+  whole = record {
+    runs = record { matches = m; waits = sweeps.runs.waits; order = sweeps.runs.order };
+    used = sweeps.used;
+    referred = sweeps.referred;
+  }
+
+  knows : KnowsPairs header h old.chains old.parts.objects ids (next_region header (old.events ++ past)) (next_object header (old.events ++ past))
+      (marks_of header (old.events ++ past)) (old.events ++ past)
+  knows = record {
+    regions = m.regions;
+    kinds = m.kinds;
+    homes = m.homes.1;
+    last = m.controls.last;
+    shadows = sweeps.referred.shadows;
+    all = λ r row least found. regions_used header h (with_state k old) ids (old.events ++ past) whole r row least found;
+    there = λ r least used. used_there header h (with_state k old) ids [] (old.events ++ past) r m sweeps.used.copies least used;
+  }
+
+  cause : ((u l : ℕ) → CanMerge old.chains old.parts.objects u l → lower.0 ≤ l) → Merges header upper.0 lower.0 (old.events ++ past)
+  cause least =
+      merges_told knows (λ o row less found. m.controls.home o row less found) (swept header h (with_state k old) ids (old.events ++ past) whole) upper.0 lower.0
+      merges.can least
+
+  plain_row : (o p : ℕ) (row : PageRow)
+      → RowWas upper.0 lower.0 merges.can.link.shift merges.can.upper_row.pages old.parts.resident o p row → row.here ≡ false → IsPlainRow row
+  plain_row o p row (Stayed off was) away = m.fits.plain o p row was away
+  plain_row o p row (Rose same none less was) away = m.fits.plain lower.0 (merges.can.link.shift + p) row was away
+
+  own : IsOnlyOfHost header h (event.Merged upper lower) (old.events ++ past)
+  own g on = elim (eqb_tells h g) [
+    | inl same ↦ sym same.1
+    | inr other ↦ absurd (let bad : false ≡ true = sym other.0 ∙ (ap (is_on g) (sym home) ∙ on) in cc)
+  ]
+
+  matches_now : HasCause header outside (event.Merged upper lower) (old.events ++ past)
+      → Matches header h (record k { memory = record moved { objects = os2 }; chains = cs2 }) ids [] (event.Merged upper lower ∷ (old.events ++ past))
+  matches_now why = record {
+    ranged = m.ranged;
+    known = m.known;
+    size = m.size;
+    host = m.host;
+    declared = m.declared;
+    fits = record {
+      parts = fit;
+      plain = λ o p row found away. plain_row o p row (row_was apart tables.rows o p row found) away;
+      buffers = ap (λ z. z.size) buffers ∙ m.fits.buffers;
+    };
+    tasks = m.tasks;
+    regions = regions_merged header (old.events ++ past) upper lower old.chains cs2 old.parts.objects os2 ids _ _ _ merges m.regions;
+    kinds = kinds_merged header upper.0 lower.0 old.chains cs2 old.parts.objects os2 merges m.kinds;
+    homes =
+        homes_caused header outside h cs2 (event.Merged upper lower) (old.events ++ past) why
+        (homes_merged header h upper.0 lower.0 old.chains cs2 old.parts.objects os2 (λ r. home_of r (old.events ++ past)) merges m.homes.0, m.homes.1);
+    files = files_merged header h upper.0 lower.0 old.chains cs2 old.parts.objects os2 (λ o. home_of o (old.events ++ past)) merges m.files;
+    sizes = pages_merged (named header) upper.0 lower.0 old.chains cs2 old.parts.objects os2 (λ o. object_pages header o (old.events ++ past)) merges m.sizes;
+    entries = entries_kept header.size k.maps old.chains cs2 [] (λ r. ap (λ f. f r) merges.chain.regions) m.entries;
+    shared = m.shared;
+    pages =
+        shown_merged header h (old.events ++ past) upper lower old.chains cs2 old.parts.objects os2 old.parts.resident moved.resident old.parts.frames
+        moved.frames merges tables.rows (record { at = λ o p row found. tables.bytes row.frame.0 }) m.regions m.kinds m.homes.1 m.sizes home here
+        m.fits.parts.inside m.pages;
+    uses = m.uses;
+    controls = controls_merged upper.0 lower.0 old.chains cs2 old.parts.objects os2 merges m.controls;
+    settled = record { none_owed = refl; shut = λ region. refl };
+    replied = replied_behind tt m.replied;
+    laundry =
+        laundry_merged upper lower merges.can.link.shift merges.can.upper_row.pages 0 old.parts moved k.laundry (returns_out h (old.events ++ past)) apart
+        m.fits.parts.owned pages tables m.laundry;
+    frames =
+        frames_merged (frames_held header h (old.events ++ past)) (frames_held header h (event.Merged upper lower ∷ (old.events ++ past)))
+        (frames_wired h (old.events ++ past))
+        (pages_gone (here_at old.parts.resident) upper.0 lower.0 merges.can.link.shift merges.can.upper_row.pages merges.can.lower_row.pages) old.parts moved tables
+        (claims_merged upper lower merges.can.link.shift merges.can.upper_row.pages 0 merges.can.lower_row.pages old.parts moved apart
+        (λ p small. absurd (omega (arith, small)))
+        (λ p row found. subst (λ (z : ℕ). p < z) (ap pages_of_row merges.can.lower_known) (m.fits.parts.inside lower.0 p row found)) here pages)
+        (held_merged header h (old.events ++ past) upper lower old.chains old.parts.objects old.parts.resident old.parts.frames merges.can m.regions m.kinds
+        m.homes.1 m.sizes home m.pages) m.frames;
+  }
+
+  unfilled : IsUnfilled old.chains upper.0
+  unfilled =
+      upper_unfilled upper.0 merges.can.link merges.can.over
+      (λ t w target found is. target_unshadowed (old.events ++ past) m.regions m.homes.1 t target is) sweeps.used
+
+  pub sweeps_now : ((u l : ℕ) → CanMerge old.chains old.parts.objects u l → lower.0 ≤ l)
+      → Sweeps header h outside doing past (record k { memory = record moved { objects = os2 }; chains = cs2 }) ids [] (event.Merged upper lower ∷ old.events)
+  sweeps_now least =
+      let after = matches_now (doing, cause least) in
+      record {
+        runs = record {
+          begins = sweeps.runs.begins;
+          matches = after;
+          waits =
+              waits_merged header h (old.events ++ past) upper lower k.maps old.chains cs2 old.parts.objects os2 old.parts.resident moved.resident k.waits.rows
+              (is_woken woken.Nobody) (λ task. waiting task (old.events ++ past)) merges tables.rows m.regions m.kinds m.homes.1 sweeps.referred m.sizes home
+              (λ why. refl) sweeps.runs.waits;
+          order = sweeps.runs.order;
+          idle = sweeps.runs.idle;
+          grows =
+              grows_more header h outside doing past old.events (event.Merged upper lower) sweeps.runs.grows m.settled (record {
+                consequence = tt;
+                cause = cause least;
+                own_bytes = tt;
+                frames = suffices header h moved.frames (event.Merged upper lower ∷ (old.events ++ past)) after.frames;
+                inner = tt;
+                said = tt;
+                own = own;
+                creates = tt;
+              });
+        };
+        used =
+            used_merged upper.0 lower.0 merges.can.link.shift merges.can.upper_row.pages old.chains cs2 old.parts.objects os2 old.parts.resident moved.resident
+            merges tables.rows m.regions.ranked unfilled sweeps.used;
+        referred =
+            referred_merged header upper.0 lower.0 merges.can.link.shift merges.can.upper_row.pages old.chains cs2 old.parts.objects os2 old.parts.resident
+            moved.resident merges tables.rows m.regions.ranked m.kinds sweeps.referred;
+      }
+
+-- one after the other, until none can be
+
+pub one_merged : {header : Header} {h : ℕ} {outside : Outside} {doing : Command} {past : List Event} {ids : Ids} (k : Parts) (upper lower : ObjectId)
+    (old new : MergeState) → Sweeps header h outside doing past (with_state k old) ids [] old.events → MergesInto upper lower old new → Fit new.parts
+    → new.parts.buffers ≡ old.parts.buffers → Sweeps header h outside doing past (with_state k new) ids [] new.events
+one_merged {header = header} {h = h} {outside = outside} {doing = doing} {past = past} {ids = ids} k upper lower old new sweeps merges fit buffers =
+    subst (λ (z : HostParts). Sweeps header h outside doing past (record k { memory = z; chains = new.chains }) ids [] new.events) (sym merges.rest)
+    (subst (λ (z : List Event). Sweeps header h outside doing past (record k { memory = record merges.moved { objects = new.parts.objects };
+    chains = new.chains }) ids [] z) (sym merges.told)
+    (sweeps_now k old merges.moved new.parts.objects new.chains sweeps (record { can = merges.can; chain = merges.chain; object = merges.object; marks = merges.marks }) merges.pages
+    (subst Fit merges.rest fit) (sym (ap (λ (z : HostParts). z.buffers) merges.rest) ∙ buffers) merges.least))
+
+pub all_merged : {header : Header} {h : ℕ} {outside : Outside} {doing : Command} {past : List Event} {ids : Ids} (k : Parts) (old new : MergeState)
+    → MergeInTurn old new → Sweeps header h outside doing past (with_state k old) ids [] old.events
+    → Sweeps header h outside doing past (with_state k new) ids [] new.events × IsThin new.chains new.parts.objects
+all_merged k old new (NoneLeft _ thin) sweeps = (sweeps, thin)
+all_merged k old new (OneFirst upper lower _ mid _ merges fit buffers more) sweeps =
+    all_merged k mid new more (one_merged k upper lower old mid sweeps merges fit buffers)
