@@ -34,9 +34,9 @@ gone_by : (a b : ℕ → ℕ → Bool) (upper lower shift pages n : ℕ) → ((o
 gone_by a b upper lower shift pages zero same = refl
 gone_by a b upper lower shift pages (suc n) same =
     ap (λ t. if t && not (not (nat_lt n shift) && (nat_lt (n - shift) pages && not (a upper (n - shift))))
-      then pages_gone a upper lower shift pages n + 1 else pages_gone a upper lower shift pages n) (same lower n)
+    then pages_gone a upper lower shift pages n + 1 else pages_gone a upper lower shift pages n) (same lower n)
     ∙ (ap (λ t. if b lower n && not (not (nat_lt n shift) && (nat_lt (n - shift) pages && not t))
-      then pages_gone a upper lower shift pages n + 1 else pages_gone a upper lower shift pages n) (same upper (n - shift))
+    then pages_gone a upper lower shift pages n + 1 else pages_gone a upper lower shift pages n) (same upper (n - shift))
     ∙ ap (λ g. if b lower n && not (not (nat_lt n shift) && (nat_lt (n - shift) pages && not (b upper (n - shift)))) then g + 1 else g)
     (gone_by a b upper lower shift pages n same))
 

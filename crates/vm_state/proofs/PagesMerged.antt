@@ -1,6 +1,7 @@
 -- What the merge of an object's pages comes to in the tables of its host.
 use Rattle.std.proofs.Common.{length-set}
-use Rattle.std.proofs.Common.{◌≡◌, ◌∙◌, ℕ, suc, zero, ◌+◌, ◌<◌, ◌≤◌, ◌==◌, ◌&&◌, Bool, true, false, not, Option, Some, None, ap, arith, inl, inr, refl, subst, sym}
+use Rattle.std.proofs.Common.{◌≡◌, ◌∙◌, ℕ, suc, zero, ◌+◌, ◌<◌, ◌≤◌, ◌==◌, ◌&&◌, Bool, true, false, not, Option, Some, None, ap, arith, inl, inr, refl, subst}
+use Rattle.std.proofs.Common.{sym}
 use Rattle.std.proofs.lemmas.Bool.{cases_lt}
 use Rattle.std.proofs.lemmas.Bool.Decides.{eqb_tells, nat_tests}
 use Rattle.std.specs.Prelude.{IsSome, ◌-◌, if◌then◌else◌, length, nat_lt}
@@ -123,7 +124,8 @@ gone_away upper lower shift pages page row old new apart why discards =
 pub one_merges : (upper lower : ObjectId) (shift pages : ℕ) (page : PageNo) (row : PageRow) (old new : HostParts) → (upper.0 ≡ lower.0 → ⊥)
     → PageMerges upper shift pages (record { object = lower; page = page }) row old new
     → OneMerges upper.0 lower.0 shift pages page.0 old.resident new.resident
-one_merges upper lower shift pages page row old new apart (MovesUp to is less shifts) = moved_up upper lower shift pages page to row old new apart is less shifts
+one_merges upper lower shift pages page row old new apart (MovesUp to is less shifts) =
+    moved_up upper lower shift pages page to row old new apart is less shifts
 one_merges upper lower shift pages page row old new apart (Goes why discards) = gone_away upper lower shift pages page row old new apart why discards
 
 -- and all of them, once none of the lower's pages has a row in front
@@ -187,9 +189,9 @@ none_merged upper lower shift pages s empty =
         at = λ o p. rows_by upper.0 lower.0 o (row_at s.resident o p)
             (its_own_or (row_at s.resident upper.0 p) (under_row s.resident lower.0 shift pages p)) None (row_at s.resident o p)
             (λ same.
-              ap (λ z. row_at s.resident z p) (sym same)
-              ∙ sym (ap (its_own_or (row_at s.resident upper.0 p)) (ap (λ x. if nat_lt p pages then x else None) (empty (shift + p))
-              ∙ either_same (nat_lt p pages) None) ∙ own_alone (row_at s.resident upper.0 p)))
+            ap (λ z. row_at s.resident z p) (sym same)
+            ∙ sym (ap (its_own_or (row_at s.resident upper.0 p)) (ap (λ x. if nat_lt p pages then x else None) (empty (shift + p))
+            ∙ either_same (nat_lt p pages) None) ∙ own_alone (row_at s.resident upper.0 p)))
             (λ above same. ap (λ z. row_at s.resident z p) (sym same) ∙ empty p)
             (λ above below. refl);
       };
@@ -209,13 +211,13 @@ next_merged upper lower shift pages page row old mid new apart merges all =
             (λ same. behind o p ∙ (ap (λ b. if b then above_mid p else (if lower.0 == o then None else row_at mid.resident o p)) (same_test upper.0 o same)
             ∙ one.up p))
             (λ above same.
-              behind o p
-              ∙ (ap (λ b. if b then above_mid p else (if lower.0 == o then None else row_at mid.resident o p)) (other_test upper.0 o above)
-              ∙ ap (λ b. if b then None else row_at mid.resident o p) (same_test lower.0 o same)))
+            behind o p
+            ∙ (ap (λ b. if b then above_mid p else (if lower.0 == o then None else row_at mid.resident o p)) (other_test upper.0 o above)
+            ∙ ap (λ b. if b then None else row_at mid.resident o p) (same_test lower.0 o same)))
             (λ above below.
-              behind o p
-              ∙ (ap (λ b. if b then above_mid p else (if lower.0 == o then None else row_at mid.resident o p)) (other_test upper.0 o above)
-              ∙ (ap (λ b. if b then None else row_at mid.resident o p) (other_test lower.0 o below) ∙ one.others o p above below)));
+            behind o p
+            ∙ (ap (λ b. if b then above_mid p else (if lower.0 == o then None else row_at mid.resident o p)) (other_test upper.0 o above)
+            ∙ (ap (λ b. if b then None else row_at mid.resident o p) (other_test lower.0 o below) ∙ one.others o p above below)));
       };
       bytes = λ g. all.bytes g ∙ same.bytes g;
       many = all.many ∙ same.many;
@@ -271,7 +273,8 @@ gone_same : (a b : ℕ → ℕ → Bool) (upper lower shift pages n : ℕ)
 gone_same a b upper lower shift pages zero same = refl
 gone_same a b upper lower shift pages (suc n) same =
     ap (λ t. if t then pages_gone a upper lower shift pages n + 1 else pages_gone a upper lower shift pages n) (same n (omega arith))
-    ∙ ap (λ g. if stays_below b upper lower shift pages n then g + 1 else g) (gone_same a b upper lower shift pages n (λ k small. same k (omega (arith, small))))
+    ∙ ap (λ g. if stays_below b upper lower shift pages n then g + 1 else g) (gone_same a b upper lower shift pages n
+    (λ k small. same k (omega (arith, small))))
 
 gone_less : (a b : ℕ → ℕ → Bool) (upper lower shift pages n k : ℕ) → k < n → stays_below a upper lower shift pages k ≡ true
     → stays_below b upper lower shift pages k ≡ false
@@ -380,15 +383,15 @@ one_claims upper lower shift pages page row old new n apart here small (Goes why
         ap (λ b. b && not (moves_up (here_at old.resident) upper.0 shift pages page.0)) (ap is_here discards.found ∙ here.below page.0 row discards.found)
         ∙ going (nat_lt page.0 shift) (nat_lt (page.0 - shift) pages) (here_at old.resident upper.0 (page.0 - shift))
         (λ high inside. is_here_some (row_at old.resident upper.0 (page.0 - shift))
-          (why (page.0 - shift) (elim (cases_lt page.0 shift) [
-            | inl front ↦ absurd (let bad : true ≡ false = sym (lt_true page.0 shift front) ∙ high in cc)
-            | inr above ↦ omega (arith, above)
-          ]) (elim (cases_lt (page.0 - shift) pages) [
-            | inl less ↦ less
-            | inr more ↦ absurd (let off : nat_lt (page.0 - shift) pages ≡ false = grind (arith, nat_tests, more) in
-                let bad : true ≡ false = sym inside ∙ off in cc)
-          ]))
-          (λ found is. here.above (page.0 - shift) found is))
+        (why (page.0 - shift) (elim (cases_lt page.0 shift) [
+          | inl front ↦ absurd (let bad : true ≡ false = sym (lt_true page.0 shift front) ∙ high in cc)
+          | inr above ↦ omega (arith, above)
+        ]) (elim (cases_lt (page.0 - shift) pages) [
+          | inl less ↦ less
+          | inr more ↦ absurd (let off : nat_lt (page.0 - shift) pages ≡ false = grind (arith, nat_tests, more) in
+              let bad : true ≡ false = sym inside ∙ off in cc)
+        ]))
+        (λ found is. here.above (page.0 - shift) found is))
       where
         lt_true : (a b : ℕ) → a < b → nat_lt a b ≡ true
         lt_true a b small_one = grind (arith, nat_tests, small_one)
@@ -445,17 +448,19 @@ one_owned : (upper lower : ObjectId) (shift pages : ℕ) (page : PageNo) (row : 
     → row_at old.resident lower.0 page.0 ≡ Some row → PageMerges upper shift pages (record { object = lower; page = page }) row old new
     → IsOwned old.resident → IsOwned new.resident
 one_owned upper lower shift pages page row old new apart found (MovesUp to is less shifts) owned =
-    record { at = λ o p other there. elim (eqb_tells to.0 p) [
-      | inl same ↦ elim (eqb_tells upper.0 o) [
-        | inl also ↦
-            let its : row ≡ other = some_is row other (sym (shifts.rows o p ∙ rw (also.0, same.0) refl) ∙ there) in
-            ap (λ (z : PageRow). owner_of new.resident z.frame.0) (sym its)
-            ∙ (shifts.owner.at row.frame.0 ∙ (ap (λ b. if b then Some (page_key upper.0 to.0) else owner_of old.resident row.frame.0)
-            (same_test row.frame.0 row.frame.0 refl) ∙ rw (also.1, same.1) refl))
-        | inr off ↦ still o p other (sym (shifts.rows o p ∙ rw off.0 refl) ∙ there)
-      ]
-      | inr off ↦ still o p other (sym (shifts.rows o p ∙ ap (λ b. if b then Some row else was o p) (both_off (upper.0 == o) off.0)) ∙ there)
-    ] }
+    record {
+      at = λ o p other there. elim (eqb_tells to.0 p) [
+        | inl same ↦ elim (eqb_tells upper.0 o) [
+          | inl also ↦
+              let its : row ≡ other = some_is row other (sym (shifts.rows o p ∙ rw (also.0, same.0) refl) ∙ there) in
+              ap (λ (z : PageRow). owner_of new.resident z.frame.0) (sym its)
+              ∙ (shifts.owner.at row.frame.0 ∙ (ap (λ b. if b then Some (page_key upper.0 to.0) else owner_of old.resident row.frame.0)
+              (same_test row.frame.0 row.frame.0 refl) ∙ rw (also.1, same.1) refl))
+          | inr off ↦ still o p other (sym (shifts.rows o p ∙ rw off.0 refl) ∙ there)
+        ]
+        | inr off ↦ still o p other (sym (shifts.rows o p ∙ ap (λ b. if b then Some row else was o p) (both_off (upper.0 == o) off.0)) ∙ there)
+      ];
+    }
   where
     was : (o p : ℕ) → Option PageRow
     was o p = if lower.0 == o && page.0 == p then None else row_at old.resident o p
@@ -479,8 +484,11 @@ one_owned upper lower shift pages page row old new apart found (MovesUp to is le
             apart_keys : Some (page_key lower.0 page.0) ≡ Some (page_key o p) → ⊥
             apart_keys same =
                 let key : page_key lower.0 page.0 ≡ page_key o p = some_is (page_key lower.0 page.0) (page_key o p) same in
-                let bad : true ≡ false = sym (rw (same_test lower.0 o (ap (λ (z : PageKey). z.object.0) key), same_test page.0 p
-                (ap (λ (z : PageKey). z.page.0) key)) refl) ∙ its in cc
+                let bad : true ≡ false = sym (rw (
+                  same_test lower.0 o (ap (λ (z : PageKey). z.object.0) key),
+                  same_test page.0 p
+                      (ap (λ (z : PageKey). z.page.0) key),
+                ) refl) ∙ its in cc
 one_owned upper lower shift pages page row old new apart found (Goes why discards) owned =
     record { at = λ o p other there. by o p other (lower.0 == o && page.0 == p) refl (sym (discards.row.at o p) ∙ there) }
   where
@@ -496,8 +504,11 @@ one_owned upper lower shift pages page row old new apart found (Goes why discard
         apart_keys : Some (page_key lower.0 page.0) ≡ Some (page_key o p) → ⊥
         apart_keys same =
             let key : page_key lower.0 page.0 ≡ page_key o p = some_is (page_key lower.0 page.0) (page_key o p) same in
-            let bad : true ≡ false = sym (rw (same_test lower.0 o (ap (λ (z : PageKey). z.object.0) key), same_test page.0 p
-            (ap (λ (z : PageKey). z.page.0) key)) refl) ∙ its in cc
+            let bad : true ≡ false = sym (rw (
+              same_test lower.0 o (ap (λ (z : PageKey). z.object.0) key),
+              same_test page.0 p
+                  (ap (λ (z : PageKey). z.page.0) key),
+            ) refl) ∙ its in cc
 
 -- the frame of a return that is out is no page's still
 one_washed : (upper lower : ObjectId) (shift pages : ℕ) (page : PageNo) (row : PageRow) (old new : HostParts) (f : FrameNo)

@@ -1,6 +1,6 @@
 -- Inside a command's step, where nothing is left to be swept: what is referred to is reached, and nothing else is on the host.
-use Rattle.std.proofs.Common.{is_some}
-use Rattle.vm_kernel.proofs.Common.{Bool, Event, FrameTable, Header, Ids, IsSwept, List, Matches, None, ObjectRow, Option, PageRow, Parts, Reach, RegionRow, Rests}
+use Rattle.vm_kernel.proofs.Common.{Bool, Event, FrameTable, Header, Ids, IsSwept, List, Matches, None, ObjectRow, Option, PageRow, Parts, Reach, RegionRow}
+use Rattle.vm_kernel.proofs.Common.{Rests}
 use Rattle.vm_kernel.proofs.Common.{Some, [], absent_at, all_tasks, ap, arith, count_by, entries_in, false, has_entry, if◌then◌else◌, in_use, inl, inr, live_in}
 use Rattle.vm_kernel.proofs.Common.{local_of_row, named, object_at, page_on, refl, region_at, row_at, rows_in, subst, sym, true, ℕ, ◌<◌, ◌≤◌, ◌∙◌, ◌≡◌}
 use Rattle.vm_kernel.proofs.abroad.OthersEvents.{with_entry}
@@ -29,14 +29,16 @@ here_row fs None lacked bad = absurd (let no : false ≡ true = bad in cc)
 here_row fs (Some row) lacked is = (row, refl)
 
 -- the temporary regions that a kernel knows are in use
-pub regions_used : (header : Header) (h : ℕ) (k : Parts) (ids : Ids) (past : List Event) → IsWhole header h woken.Nobody k ids [] past → (r : ℕ) (row : RegionRow) → named header ≤ r
+pub regions_used : (header : Header) (h : ℕ) (k : Parts) (ids : Ids) (past : List Event) → IsWhole header h woken.Nobody k ids [] past
+    → (r : ℕ) (row : RegionRow) → named header ≤ r
     → region_at k.chains r ≡ Some row → in_use header h r past ≡ true
 regions_used header h k ids past whole r row temporary found =
     let m = whole.runs.matches in
     (m.uses.used r temporary).is (row_use r row m.entries found whole.used)
 
 -- a temporary object to which something refers is in the chain of one of them
-reaches : (header : Header) (h : ℕ) (k : Parts) (ids : Ids) (past : List Event) (object : ℕ) → IsWhole header h woken.Nobody k ids [] past → named header ≤ object
+reaches : (header : Header) (h : ℕ) (k : Parts) (ids : Ids) (past : List Event) (object : ℕ) → IsWhole header h woken.Nobody k ids [] past
+    → named header ≤ object
     → IsReferred k.memory.objects object → Reach header h object past
 reaches header h k ids past object whole temporary referred =
     temporary_up whole.runs.matches.regions whole.runs.matches.homes.1 whole.referred.shadows (λ r. in_use header h r past)

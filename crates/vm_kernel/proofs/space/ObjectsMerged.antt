@@ -97,7 +97,8 @@ module _ {header : Header} {h : ℕ} {outside : Outside} {doing : Command} {past
 
   cause : ((u l : ℕ) → CanMerge old.chains old.parts.objects u l → lower.0 ≤ l) → Merges header upper.0 lower.0 (old.events ++ past)
   cause least =
-      merges_told knows (λ o row less found. m.controls.home o row less found) (swept header h (with_state k old) ids (old.events ++ past) whole) upper.0 lower.0
+      merges_told knows (λ o row less found. m.controls.home o row less found) (swept header h (with_state k old) ids (old.events ++ past) whole) upper.0
+      lower.0
       merges.can least
 
   plain_row : (o p : ℕ) (row : PageRow)
@@ -148,7 +149,8 @@ module _ {header : Header} {h : ℕ} {outside : Outside} {doing : Command} {past
     frames =
         frames_merged (frames_held header h (old.events ++ past)) (frames_held header h (event.Merged upper lower ∷ (old.events ++ past)))
         (frames_wired h (old.events ++ past))
-        (pages_gone (here_at old.parts.resident) upper.0 lower.0 merges.can.link.shift merges.can.upper_row.pages merges.can.lower_row.pages) old.parts moved tables
+        (pages_gone (here_at old.parts.resident) upper.0 lower.0 merges.can.link.shift merges.can.upper_row.pages merges.can.lower_row.pages) old.parts moved
+        tables
         (claims_merged upper lower merges.can.link.shift merges.can.upper_row.pages 0 merges.can.lower_row.pages old.parts moved apart
         (λ p small. absurd (omega (arith, small)))
         (λ p row found. subst (λ (z : ℕ). p < z) (ap pages_of_row merges.can.lower_known) (m.fits.parts.inside lower.0 p row found)) here pages)
@@ -202,9 +204,16 @@ pub one_merged : {header : Header} {h : ℕ} {outside : Outside} {doing : Comman
     → new.parts.buffers ≡ old.parts.buffers → Sweeps header h outside doing past (with_state k new) ids [] new.events
 one_merged {header = header} {h = h} {outside = outside} {doing = doing} {past = past} {ids = ids} k upper lower old new sweeps merges fit buffers =
     subst (λ (z : HostParts). Sweeps header h outside doing past (record k { memory = z; chains = new.chains }) ids [] new.events) (sym merges.rest)
-    (subst (λ (z : List Event). Sweeps header h outside doing past (record k { memory = record merges.moved { objects = new.parts.objects };
-    chains = new.chains }) ids [] z) (sym merges.told)
-    (sweeps_now k old merges.moved new.parts.objects new.chains sweeps (record { can = merges.can; chain = merges.chain; object = merges.object; marks = merges.marks }) merges.pages
+    (subst (λ (z : List Event). Sweeps header h outside doing past (record k {
+      memory = record merges.moved { objects = new.parts.objects };
+      chains = new.chains;
+    }) ids [] z) (sym merges.told)
+    (sweeps_now k old merges.moved new.parts.objects new.chains sweeps (record {
+      can = merges.can;
+      chain = merges.chain;
+      object = merges.object;
+      marks = merges.marks;
+    }) merges.pages
     (subst Fit merges.rest fit) (sym (ap (λ (z : HostParts). z.buffers) merges.rest) ∙ buffers) merges.least))
 
 pub all_merged : {header : Header} {h : ℕ} {outside : Outside} {doing : Command} {past : List Event} {ids : Ids} (k : Parts) (old new : MergeState)

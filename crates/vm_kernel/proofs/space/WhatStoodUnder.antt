@@ -1,7 +1,7 @@
 -- What ends with an object is of it, or of what stands under it.
 use Rattle.vm_kernel.proofs.Common.{Below, ChainTable, EndsObject, EndsRegion, Entry, Event, Header, HostId, HostParts, IfSome, Ids, LaundryList, List, None}
 use Rattle.vm_kernel.proofs.Common.{ObjectId, ObjectRow, PageKey, PageRow, Parts, ShadowRow, Some, Woken, [], ap, append_assoc, backing_of, eqb_tells}
-use Rattle.vm_kernel.proofs.Common.{if◌then◌else◌, inl, inr, of_both, refl, region_at, region_of, shadow_at, subst, suc, sym, true, zero, ℕ, ◌++◌, ◌∙◌, ◌∷◌}
+use Rattle.vm_kernel.proofs.Common.{if◌then◌else◌, inl, inr, of_both, refl, region_at, region_of, shadow_at, subst, suc, sym, true, ℕ, ◌++◌, ◌∙◌, ◌∷◌}
 use Rattle.vm_kernel.proofs.Common.{◌≡◌}
 use Rattle.vm_kernel.proofs.space.ObjectsEnd.{state_of}
 use Rattle.vm_kernel.proofs.space.RegionRows.{region_row}

@@ -1,22 +1,15 @@
 -- At the end of a step nobody waits in vain, and nothing is left behind.
-use Rattle.vm_kernel.proofs.Common.{Access, Bool, Event, FrameTable, HasQueue, HasWaits, Header, HostIsFull, Ids, IsPagerTold, IsSwept, List}
-use Rattle.vm_kernel.proofs.Common.{Matches, None, NoneInVain, ObjectRow, On, Option, PageRow, Parts, PromptAt, QueueIsServed, Reach, Reason, RegionRow, Rests}
-use Rattle.vm_kernel.proofs.Common.{Some, Waiting, Waits, WaitsForPager, Want, [], absent_at, access_in, all_tasks, ap, arith, copies_to, count_by}
-use Rattle.vm_kernel.proofs.Common.{entries_in, entry, false, has_entry, if◌then◌else◌, in_use, inl, inr, is_again, is_frame, is_on, is_store, live_in}
-use Rattle.vm_kernel.proofs.Common.{local_of_row, named, none_again, none_queued, object_at}
-use Rattle.vm_kernel.proofs.Common.{page_on, refl, region_at, row_at, rows_in, subst, sym, true, waiting, waiting_in, ℕ, ◌<◌, ◌≤◌, ◌∙◌, ◌≡◌}
+use Rattle.vm_kernel.proofs.Common.{Access, Event, HasQueue, HasWaits, Header, HostIsFull, Ids, IsPagerTold, List}
+use Rattle.vm_kernel.proofs.Common.{Matches, None, NoneInVain, On, Option, Parts, PromptAt, QueueIsServed, Reason, Rests}
+use Rattle.vm_kernel.proofs.Common.{Some, Waiting, Waits, WaitsForPager, Want, [], access_in, ap, copies_to}
+use Rattle.vm_kernel.proofs.Common.{entries_in, entry, false, inl, inr, is_again, is_frame, is_on, is_store}
+use Rattle.vm_kernel.proofs.Common.{none_again, none_queued}
+use Rattle.vm_kernel.proofs.Common.{refl, subst, sym, true, waiting, waiting_in, ℕ, ◌∙◌, ◌≡◌}
 use Rattle.vm_kernel.proofs.Common.{◌⊎◌}
 use Rattle.vm_kernel.proofs.space.NothingLeft.{swept, whole_of}
 use Rattle.std.proofs.Common.{is_some}
-use Rattle.vm_legal.specs.Swept.{IsUnheld}
-use Rattle.vm_kernel.proofs.abroad.OthersEvents.{with_entry}
-use Rattle.vm_kernel.proofs.space.EntriesCounted.{by_some}
-use Rattle.vm_state.proofs.Declared.{over_declared}
-use Rattle.vm_state.proofs.Reaching.{temporary_up}
-use Rattle.vm_state.proofs.Referring.{OfRegion, OfShadow, referrer_of}
 use Rattle.vm_state.proofs.Locks.{awaits_word}
 use Rattle.vm_state.proofs.Shown.{awaits_ready}
-use Rattle.vm_terminate.specs.Finishes.{IsReferred}
 use Rattle.vm_supply.specs.declared.woken.Woken.TheVariants as woken
 use Rattle.vm_waits.specs.declared.waiting.On.TheVariants as on
 use Rattle.vm_kernel.proofs.abroad.OwnHost.{own_host}
@@ -108,4 +101,8 @@ queue_of header h k past (inr full) = inr full.none
 pub prompt_of : (header : Header) (h : ℕ) (k : Parts) (ids : Ids) (past : List Event) → Rests header h k ids past → QueueIsServed header h k past
     → PromptAt header h past
 prompt_of header h k ids past rests served =
-    record { leads = each_leads header h k ids past rests; waits = none_in_vain header h k ids past rests served; swept = swept header h k ids past (whole_of rests) }
+    record {
+      leads = each_leads header h k ids past rests;
+      waits = none_in_vain header h k ids past rests served;
+      swept = swept header h k ids past (whole_of rests);
+    }
