@@ -25,6 +25,7 @@ rests_skip header h new old ids past was =
             kinds = m.kinds;
             homes = m.homes;
             files = m.files;
+            sizes = m.sizes;
             entries = m.entries;
             shared = m.shared;
             pages = m.pages;

@@ -166,6 +166,7 @@ module _ (header : Header) (hosts new : HostTable) (line : ℕ) (past : List Eve
         kinds = m.kinds;
         homes = m.homes;
         files = m.files;
+        sizes = m.sizes;
         entries = m.entries;
         shared = m.shared;
         pages = m.pages;
