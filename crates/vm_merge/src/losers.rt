@@ -39,6 +39,13 @@ impl Losers {
         Ok(Losers { heap })
     }
 
+    /// How many there are.
+    pub fn len(&self) -> usize
+        ensures { result ≡ length self.now.items }
+    {
+        self.heap.len()
+    }
+
     /// Adds an object.
     pub fn push(&mut self, object: ObjectId)
         requires { 0 < self.old.room }

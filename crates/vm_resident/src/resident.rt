@@ -1,6 +1,6 @@
 // The table of resident pages.
 ghost use Rattle.indexmap.specs.IndexMap.{get_by};
-ghost use Rattle.std.specs.Prelude.{ℕ, ◌≡◌, ◌+◌, ◌≤◌, ◌<◌, ◌==◌, ◌&&◌, [], Some, None, IfSome, IsOk, IsSomeAnd, MatchOption, OnErr, OnOk};
+ghost use Rattle.std.specs.Prelude.{ℕ, ◌≡◌, ◌+◌, ◌≤◌, ◌<◌, ◌==◌, ◌&&◌, [], Some, None, IfSome, IsOk, IsSomeAnd, MatchOption, OnErr, OnOk, min};
 ghost use Rattle.vm_resident.specs.Resident.{IsNextPage, IsOwned, NoRowHas, NoRowsFrom, PutsOwner, PutsRow, owner_of, row_at};
 
 use crate::PageRow;
@@ -71,6 +71,20 @@ impl Resident {
         self.owners.reserve(n)?;
         self.promised = n;
         Ok(())
+    }
+
+    /// For how many further inserts there is room.
+    pub fn promised(&self) -> u32
+        ensures { result ≡ self.now.spare }
+    {
+        self.promised
+    }
+
+    /// Promises room for so many further inserts at most.
+    pub fn keep(&mut self, n: u32)
+        ensures { self.new ≡ record self.old { spare = min n self.old.spare } }
+    {
+        self.promised = self.promised.min(n);
     }
 
     /// Puts in the row of a page that has none, where there is room.
