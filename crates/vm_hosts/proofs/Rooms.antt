@@ -38,6 +38,7 @@ rests_skip header h new old ids past was =
           };
       used = was.used;
       referred = was.referred;
+      thin = was.thin;
       waits = was.waits;
       order = was.order;
       idle = was.idle;

@@ -2,5 +2,6 @@
 pub mod FramesSkipped
 pub mod ListsAsTold
 pub mod PageJoins
+pub mod PagesJoined
 pub mod PageoutReclaims
 pub mod PagesSpared

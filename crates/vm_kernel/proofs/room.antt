@@ -3,6 +3,7 @@ pub mod CallsSpend
 pub mod EndsSpend
 pub mod KernelReady
 pub mod MappingSpends
+pub mod MergesSpend
 pub mod OtherRoom
 pub mod PartsOfStep
 pub mod QueueRoom

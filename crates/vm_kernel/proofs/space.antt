@@ -10,6 +10,7 @@ pub mod EntriesGone
 pub mod EntriesLeave
 pub mod EntriesRewritten
 pub mod ForkShares
+pub mod LosersMerge
 pub mod NothingLeft
 pub mod ObjectEnds
 pub mod ObjectsEnd
@@ -23,7 +24,9 @@ pub mod RegionRows
 pub mod RegionsFilled
 pub mod RegionsInUse
 pub mod SharedEntries
+pub mod StillThin
 pub mod TaskMade
 pub mod TaskTables
 pub mod TasksEnd
+pub mod ThinAbroad
 pub mod WhatStoodUnder

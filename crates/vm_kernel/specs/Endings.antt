@@ -63,11 +63,30 @@ pub record EndsSoFar (header : Header) (past : List Event) (gone left : List Ent
   pub is : new ≡ more ++ old
   pub turns : EndInTurn header past gone left more
 
--- behind the event by which entries go, their regions end in turn
+-- the event says that objects are merged
+abbrev pub IsMerge : Event → Type 0
+IsMerge (event.Merged upper lower) = Unit {0}
+IsMerge other = ⊥
+
+-- all events that were added are such
+pub record MergesOnly (old new : List Event) : Type 0 where
+  pub more : List Event
+  pub is : new ≡ more ++ old
+  pub each : EachOf IsMerge more
+
+-- entries are counted out and their regions end in turn, and then objects are merged
+pub record EndsAndMerges (header : Header) (past : List Event) (gone : List Entry) (old new : List Event) : Type 0 where
+  pub mid : List Event
+  pub ends : EndsSoFar header past gone [] old mid
+  pub merges : MergesOnly mid new
+
+-- behind the event by which entries go their regions end in turn, and then objects are merged
 pub record EndBehind (header : Header) (past : List Event) (first : Event) (gone : List Entry) (events : List Event) : Type 0 where
   pub ended : List Event
-  pub is : events ≡ ended ++ first ∷ []
+  pub merged : List Event
+  pub is : events ≡ merged ++ (ended ++ first ∷ [])
   pub turns : EndInTurn header past gone [] ended
+  pub merges : EachOf IsMerge merged
 
 -- what a command says of that: a task that ends loses its entries, and a range that is unmapped the parts in it
 abbrev pub EndsByAddress : Header → List Event → Command → List Event → Type 0

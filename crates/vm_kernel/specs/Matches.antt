@@ -3,7 +3,7 @@ use Rattle.std.specs.Prelude.{ℕ, All, ◌≡◌, ◌≢◌, ◌<◌, ◌≤◌
 use Rattle.vm_base.specs.declared.entry.Entry.{Entry}
 use Rattle.vm_base.specs.declared.ids.HostId.{HostId}
 use Rattle.vm_base.specs.declared.ids.ObjectKind.TheVariants.{Temp}
-use Rattle.vm_base.specs.Limits.{most_objects}
+use Rattle.vm_base.specs.Limits.{most_objects, most_pages}
 use Rattle.vm_base.specs.Pages.{IsPageSize}
 use Rattle.vm_model.specs.declared.event.Event.{Event}
 use Rattle.vm_model.specs.declared.script.Declared.{Declared}
@@ -23,6 +23,7 @@ use Rattle.vm_legal.specs.Living.{tasks as made_tasks}
 use Rattle.vm_legal.specs.Steps.{completes, since}
 use Rattle.vm_legal.specs.Used.{in_use}
 use Rattle.vm_abroad.specs.Home.{HaveHomes}
+use Rattle.vm_merge.specs.Merges.{IsThin}
 use Rattle.vm_state.specs.References.{AllReferred}
 use Rattle.vm_state.specs.Filling.{AllUsed, HasCopies}
 use Rattle.vm_state.specs.Stands.{AreShared, HasControls, HasEntries, HasFrames, HasHomes, HasKinds, HasLaundry, HasPages, HasRegions, HasTasks, HasUse}
@@ -52,6 +53,7 @@ pub record IsRanged (header : Header) : Type 0 where
   pub few : All (λ frames. frames < 2 ^ 32) header.frames.items
   pub objects : named header ≤ most_objects
   pub kinds : All (λ (object : Declared). object.kind ≢ Temp) header.objects.items
+  pub pages : All (λ (object : Declared). object.pages ≤ most_pages) header.objects.items
 
 -- the numbers of the first region and object, behind those of the declared ones
 abbrev pub first_ids : Header → Ids
@@ -120,6 +122,7 @@ pub record Works (header : Header) (h : ℕ) (k : Parts) (ids : Ids) (who : Woke
   pub matches : Matches header h k ids [] past
   pub used : UsesAll header k past
   pub referred : AllReferred k.chains k.memory.objects k.memory.resident
+  pub thin : IsThin k.chains k.memory.objects
   pub waits : HasWaits header h k who past
   pub order : HasOrder k past
 
@@ -128,6 +131,7 @@ pub record Rests (header : Header) (h : ℕ) (k : Parts) (ids : Ids) (past : Lis
   pub matches : Matches header h k ids [] past
   pub used : UsesAll header k past
   pub referred : AllReferred k.chains k.memory.objects k.memory.resident
+  pub thin : IsThin k.chains k.memory.objects
   pub waits : HasWaits header h k woken.Nobody past
   pub order : HasOrder k past
   pub idle : count_again k.waits.rows ≡ 0

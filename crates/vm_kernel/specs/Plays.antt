@@ -1,5 +1,5 @@
 -- What happens to the lists of a host's pages over a call: what its events say, one after another.
-use Rattle.std.specs.Prelude.{ℕ, ◌<◌, ◌⊎◌, ◌≡◌, ◌==◌, ◌&&◌, true, false, List, [], ◌∷◌, ◌++◌, Option, Some, None, if◌then◌else◌}
+use Rattle.std.specs.Prelude.{ℕ, ◌+◌, ◌<◌, ◌≤◌, ◌⊎◌, ◌≡◌, ◌==◌, ◌&&◌, true, false, List, [], ◌∷◌, ◌++◌, IsSome, Option, Some, None, if◌then◌else◌}
 use Rattle.vm_base.specs.declared.ids.FrameNo.{FrameNo}
 use Rattle.vm_base.specs.declared.ids.ObjectId.{ObjectId}
 use Rattle.vm_base.specs.declared.ids.TaskId.{TaskId}
@@ -11,6 +11,7 @@ use Rattle.vm_model.specs.declared.message.Channel.TheVariants.{Up}
 use Rattle.vm_model.specs.declared.message.Message.TheVariants as message
 use Rattle.vm_model.specs.declared.script.Header.{Header}
 use Rattle.vm_model.specs.Named.{named}
+use Rattle.vm_model.specs.Regions.{backing_of, object_pages}
 use Rattle.vm_model.specs.Words.{in_range}
 use Rattle.vm_legal.specs.Accesses.{WaitsUnlocked}
 use Rattle.vm_legal.specs.Licences.{LockRequest, lock_taken}
@@ -156,6 +157,24 @@ pub record CopiesBoth (object page target index : ℕ) (old new : Paging) : Type
   pub marks : Marks target index come marked
   pub source : Marks object page marked new
 
+-- the next page of an object that is here, from one on
+pub record IsNextHere (object from page : ℕ) (frame : FrameNo) (s : Paging) : Type 0 where
+  pub least : from ≤ page
+  pub none : (p : ℕ) → from ≤ p → p < page → s.frame_at object p ≡ None
+  pub here : s.frame_at object page ≡ Some frame
+
+-- The pages of an object that is merged into another go up or go, by rising number, from one on. One that goes up keeps its frame, and its place on the lists;
+-- the frame of one that goes is off them.
+pub data PagesJoin (upper lower shift pages : ℕ) : ℕ → Paging → Paging → Type 0 where
+  NoneHere : (from : ℕ) → (s : Paging) → ((p : ℕ) → from ≤ p → s.frame_at lower p ≡ None) → PagesJoin upper lower shift pages from s s
+  GoesUp : (from page to : ℕ) → (frame : FrameNo) → (old mid new : Paging) → IsNextHere lower from page frame old → page ≡ shift + to → to < pages
+      → old.frame_at upper to ≡ None
+      → mid ≡ record old { frame_at = places_with_frame upper to (Some frame) (places_with_frame lower page None old.frame_at) }
+      → PagesJoin upper lower shift pages (page + 1) mid new → PagesJoin upper lower shift pages from old new
+  GoesAway : (from page : ℕ) → (frame : FrameNo) → (old mid new : Paging) → IsNextHere lower from page frame old
+      → ((p : ℕ) → page ≡ shift + p → p < pages → IsSome (old.frame_at upper p)) → Departs lower page old.queues old mid
+      → PagesJoin upper lower shift pages (page + 1) mid new → PagesJoin upper lower shift pages from old new
+
 -- what an event behind a history says of the lists
 abbrev pub DoesBy : Header → Sparing → List Event → Event → Paging → Paging → Type 0
 DoesBy header by past (event.Loaded task object page value) old new = Marks object.0 page.0 old new
@@ -167,6 +186,8 @@ DoesBy header by past (event.Dropped host object page) old new = DepartsFrom hea
 DoesBy header by past (event.Sent (Up host object) (message.Return control page dirty false bytes)) old new =
     IsVictim header host.0 by (uncreated past) object.0 page.0 old new
     ⊎ (DepartsUnheld header host.0 past object.0 page.0 old new ⊎ DepartsLocked host.0 past object.0 page.0 old new)
+DoesBy header by past (event.Merged upper lower) old new =
+    PagesJoin upper.0 lower.0 (backing_of header upper.0 past).shift (object_pages header upper.0 past) 0 old new
 DoesBy header by past other old new = new ≡ old
 
 -- a victim was looked for, and there is none: each page on the lists is spared

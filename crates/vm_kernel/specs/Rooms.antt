@@ -2,6 +2,7 @@
 use Rattle.std.specs.Prelude.{ℕ, zero, suc, ◌+◌, ◌*◌, ◌-◌, ◌<◌, ◌≤◌, ◌≡◌, ◌==◌, ◌&&◌, ◌||◌, Bool, false, true, List, length, Option, Some, None, if◌then◌else◌}
 use Rattle.std.specs.Prelude.{vec_capacity, min, nat_lt}
 use Rattle.vm_base.specs.declared.ids.PageKey.{PageKey}
+use Rattle.vm_base.specs.Limits.{most_pages}
 use Rattle.vm_base.specs.Listing.{Listed}
 use Rattle.vm_frames.specs.Frames.{FrameTable, frame_count, free}
 use Rattle.vm_maps.specs.Maps.{rows_in}
@@ -109,8 +110,8 @@ HasBuffers k = returning k + 1 ≤ k.memory.buffers.count
 -- how much a command may tell
 abbrev pub breadth_of : Command → Breadth
 breadth_of (command.Fork task child) = breadth.Entries task
-breadth_of (command.Exit task) = breadth.Pages
-breadth_of (command.Deallocate task address bytes) = breadth.Pages
+breadth_of (command.Exit task) = breadth.Ends task
+breadth_of (command.Deallocate task address bytes) = breadth.Ends task
 breadth_of (command.Pageout host count) = breadth.Pages
 breadth_of (command.Copy task address bytes target to) = breadth.Frames
 breadth_of other = breadth.Few
@@ -126,13 +127,14 @@ abbrev pub of_entries : ℕ → Parts → ℕ
 of_entries task k = 1 + 4 * length (rows_in task k.maps)
 
 -- What is told at most in front of the accesses that are run: some events; a fork makes a task and copies entries; a copy may wait for its pages, and then each
--- frame counts twice; an end takes each page and each control, a pageout reclaims each page, of which a new pager may be told, a lock request may have each
--- page given back, and an error may end slow copies.
+-- frame counts twice; an end takes each page and each control, and then one object may be merged for each entry of the task; a pageout reclaims each page, of
+-- which a new pager may be told, a lock request may have each page given back, and an error may end slow copies.
 abbrev pub front : Breadth → Parts → ℕ
 front breadth.Few k = 5
 front (breadth.Entries task) k = of_entries task.0 k
 front breadth.Frames k = 2 * frame_count k.memory.frames + 5
 front breadth.Pages k = 2 * frame_count k.memory.frames + length k.memory.objects.entries + 1
+front (breadth.Ends task) k = 2 * frame_count k.memory.frames + length k.memory.objects.entries + 1 + length (rows_in task.0 k.maps)
 
 -- what the word itself tells at most: a lock request has each page given back, and has its reply
 abbrev pub heeding : Message → Parts → ℕ
@@ -156,6 +158,7 @@ making breadth.Few k = 5
 making (breadth.Entries task) k = of_entries task.0 k
 making breadth.Frames k = 2 * frame_count k.memory.frames + 5
 making breadth.Pages k = 0
+making (breadth.Ends task) k = 0
 
 -- how many events a step adds on the host at most
 abbrev pub most : Breadth → Parts → ℕ
@@ -285,6 +288,14 @@ with_rooms_of new old = record (with_rooms (rooms_of new) old) { skip = new.skip
 -- the kernel with so many buffers
 abbrev pub with_buffers : ℕ → Parts → Parts
 with_buffers count k = record k { memory = record k.memory { buffers = record k.memory.buffers { count = count } } }
+
+-- the kernel with room for so many further rows of pages
+abbrev pub with_rows : ℕ → Parts → Parts
+with_rows n k = record k { memory = record k.memory { resident = record k.memory.resident { spare = n } } }
+
+-- there is room for the pages of so many objects, beside so many rows
+abbrev pub HasRowsFor : ℕ → ℕ → Parts → Type 0
+HasRowsFor objects n k = n + objects * most_pages ≤ k.memory.resident.spare
 
 -- there are buffers for the pages that a command returns in front of the accesses that are run, and for one more
 abbrev pub HasReturns : Command → Parts → Type 0

@@ -1,8 +1,10 @@
 -- The counts of entries go up and down, and what no entry leads to goes.
-use Rattle.std.specs.Prelude.{ℕ, ◌≡◌, ◌≢◌, ◌&&◌, ◌+◌, ◌<◌, ◌≤◌, ◌⊎◌, ◌++◌, false, nat_lt, true, List, [], ◌∷◌, length, Option, Some, None}
+use Rattle.std.specs.Prelude.{ℕ, ◌≡◌, ◌≢◌, ◌&&◌, ◌+◌, ◌<◌, ◌≤◌, ◌⊎◌, ◌++◌, false, nat_lt, true, Contains, List, [], ◌∷◌, length, Option, Some, None}
 use Rattle.std.specs.List.{filter}
 use Rattle.vm_base.specs.declared.entry.Entry.{Entry}
+use Rattle.vm_base.specs.declared.ids.ObjectId.{ObjectId}
 use Rattle.vm_base.specs.declared.ids.RegionId.{RegionId}
+use Rattle.vm_merge.specs.Merges.{IsThinBut}
 use Rattle.vm_model.specs.declared.event.Event.{Event}
 use Rattle.vm_model.specs.declared.event.Event.TheVariants as event
 use Rattle.vm_model.specs.declared.message.Channel.TheVariants.{Up}
@@ -133,3 +135,18 @@ pub record EndsObject (header : Header) (h : ℕ) (who : Woken) (k : Parts) (ids
   pub known : object_at k.memory.objects object ≡ Some row
   pub none : row.references ≡ 0
   pub referred : AllReferredBut object k.chains k.memory.objects k.memory.resident
+
+-- the top of a region is no shadow, and the region is all that refers to it
+pub record IsBareTop (region : ℕ) (k : Parts) : Type 0 where
+  pub row : RegionRow
+  pub found : region_at k.chains region ≡ Some row
+  pub known : ObjectRow
+  pub top : object_at k.memory.objects row.top.0 ≡ Some known
+  pub one : known.references ≡ 1
+  pub bare : shadow_at k.chains row.top.0 ≡ None
+
+-- what could be merged but for some can be but for them, and for this one
+abbrev pub LeavesLoser : Option ObjectId → Parts → Parts → Type 0
+LeavesLoser left old new =
+    (losers more : List ObjectId) → ((x : ObjectId) → Contains losers x → Contains more x) → ((o : ObjectId) → left ≡ Some o → Contains more o)
+    → IsThinBut losers old.chains old.memory.objects → IsThinBut more new.chains new.memory.objects

@@ -15,9 +15,11 @@ pub enum Breadth {
     Entries(TaskId),
     /// Each frame of a host twice: a copy may wait for its pages.
     Frames,
-    /// The pages and the controls of a host, which go with a task, a range or a slow copy, or are paged
-    /// out or given back.
+    /// The pages and the controls of a host, which go with a slow copy, or are paged out or given back.
     Pages,
+    /// These, as they go with a task or a range of it, and an object for each of its entries, which may be
+    /// merged then.
+    Ends(TaskId),
 }
 
 impl Breadth {
@@ -28,9 +30,8 @@ impl Breadth {
         match command {
             Command::Fork { task, .. } => Breadth::Entries(*task),
             Command::Copy { .. } => Breadth::Frames,
-            Command::Exit { .. } | Command::Deallocate { .. } | Command::Pageout { .. } => {
-                Breadth::Pages
-            }
+            Command::Exit { task } | Command::Deallocate { task, .. } => Breadth::Ends(*task),
+            Command::Pageout { .. } => Breadth::Pages,
             _ => Breadth::Few,
         }
     }

@@ -1,5 +1,5 @@
 // The commands that change a task's entries.
-ghost use Rattle.std.specs.Prelude.{◌≡◌, ◌+◌, IsOk, OnErr, OnOk};
+ghost use Rattle.std.specs.Prelude.{◌≡◌, ◌+◌, OnErr, OnOk, length};
 ghost use Rattle.vm_model.specs.declared.command.Command.TheVariants as command;
 ghost use Rattle.vm_kernel.specs.Begun.{Ran, Doing, Given, Starts};
 ghost use Rattle.vm_kernel.specs.Changes.{enter, inheritance, protection, removal};
@@ -7,6 +7,7 @@ ghost use Rattle.vm_kernel.specs.Endings.{EndsByAddress};
 ghost use Rattle.vm_kernel.specs.Plays.{Plays, paging};
 ghost use Rattle.vm_kernel.specs.Rooms.{HasBuffers, IsRoomy, KeepsSkip, KeepsSpare, Spends, leaving};
 ghost use Rattle.vm_kernel.specs.Turns.{QueueIsStill};
+ghost use Rattle.vm_maps.specs.Maps.{rows_in};
 
 use crate::counting::{count_cuts, cuts_of};
 use crate::parts::Parts;
@@ -86,14 +87,16 @@ impl Parts {
         ensures plays { OnOk result (Plays given.header given.past log.old.items (paging self.old) log.new.items (paging self.new)) }
         ensures quiet { OnOk result (QueueIsStill self.old.waits.queue self.new.waits.queue log.old.items log.new.items) }
         ensures ends { OnOk result (EndsByAddress given.header given.past given.command log.new.items) }
-        ensures spends { OnOk result (Spends (1 + leaving self.old ids.now) 0 0 self.old log.old self.new log.new) }
-        ensures succeeds { IsRoomy (1 + leaving self.old ids.now) 0 self.old log.old.room → HasBuffers self.old → IsOk result }
+        ensures spends { OnOk result (Spends (1 + leaving self.old ids.now + length (rows_in task.0 self.old.maps)) 0 0 self.old log.old self.new log.new) }
+        ensures err { IsRoomy (1 + leaving self.old ids.now + length (rows_in task.0 self.old.maps)) 0 self.old log.old.room → HasBuffers self.old
+            → OnErr result ((self.new ≡ self.old) × (log.new.items ≡ log.old.items)) }
         ensures buffers { OnOk result (HasBuffers self.old → HasBuffers self.new) }
         ensures skip { OnOk result (KeepsSkip self.old self.new) }
     {
+        let mut losers = self.room_to_merge(self.entry_count(task))?;
         let gone = self.maps.end_task(task);
         log.push(Event::TaskEnded { task })?;
-        self.sweep(ids, &gone, log)
+        self.sweep_and_merge(ids, &gone, &mut losers, log)
     }
 
     // The range is unmapped.
@@ -112,21 +115,26 @@ impl Parts {
         ensures plays { OnOk result (Plays given.header given.past log.old.items (paging self.old) log.new.items (paging self.new)) }
         ensures quiet { OnOk result (QueueIsStill self.old.waits.queue self.new.waits.queue log.old.items log.new.items) }
         ensures ends { OnOk result (EndsByAddress given.header given.past given.command log.new.items) }
-        ensures spends { OnOk result (Spends (1 + leaving self.old ids.now) 0 0 self.old log.old self.new log.new) }
-        ensures err { IsRoomy (1 + leaving self.old ids.now) 0 self.old log.old.room → HasBuffers self.old
+        ensures spends { OnOk result (Spends (1 + leaving self.old ids.now + length (rows_in task.0 self.old.maps)) 0 0 self.old log.old self.new log.new) }
+        ensures err { IsRoomy (1 + leaving self.old ids.now + length (rows_in task.0 self.old.maps)) 0 self.old log.old.room → HasBuffers self.old
             → OnErr result ((self.new ≡ self.old) × (log.new.items ≡ log.old.items)) }
         ensures buffers { OnOk result (HasBuffers self.old → HasBuffers self.new) }
         ensures skip { OnOk result (KeepsSkip self.old self.new) }
     {
+        let promised = self.memory.resident.promised();
+        let mut losers = self.room_to_merge(self.entry_count(task))?;
         let cuts = cuts_of(&self.maps, task, address, bytes);
-        let gone = self.maps.remove(task, &removal(address, bytes))?;
+        let Ok(gone) = self.maps.remove(task, &removal(address, bytes)) else {
+            self.memory.resident.keep(promised);
+            return Err(NoMemory);
+        };
         count_cuts(&mut self.chains, cuts);
         log.push(Event::Removed {
             task,
             address,
             bytes,
         })?;
-        self.sweep(ids, &gone, log)
+        self.sweep_and_merge(ids, &gone, &mut losers, log)
     }
 
     // The range gets a protection.

@@ -12,6 +12,7 @@ mod dropping;
 mod forking;
 mod kernel;
 mod mapping;
+mod merging;
 mod obeying;
 mod others;
 mod parts;

@@ -1,5 +1,7 @@
 // Room for a step.
-ghost use Rattle.std.specs.Prelude.{◌≡◌, ◌+◌, ◌<◌, ◌≤◌, ◌^◌, OnOk, length, true, vec_capacity};
+ghost use Rattle.std.specs.Prelude.{◌≡◌, ◌+◌, ◌*◌, ◌<◌, ◌≤◌, ◌^◌, OnOk, length, true, vec_capacity};
+ghost use Rattle.vm_frames.specs.Frames.{frame_count};
+ghost use Rattle.vm_maps.specs.Maps.{rows_in};
 ghost use Rattle.vm_kernel.specs.Rooms.{HasReturns, IsReady, front, full_dues, making, most, of_entries, returning, with_buffers, with_rooms_of};
 ghost use Rattle.vm_kernel.specs.Taking.{is_lock_request};
 ghost use Rattle.vm_parts.specs.Listed.{listed_pages};
@@ -48,7 +50,8 @@ impl Parts {
             Breadth::Few => u64::from(OF_FEW),
             Breadth::Entries(task) => self.of_entries(task),
             Breadth::Frames => 2 * frames + u64::from(OF_FEW),
-            Breadth::Pages => 2 * frames + self.memory.objects.count() as u64 + 1,
+            Breadth::Pages => self.of_pages(),
+            Breadth::Ends(task) => self.of_pages() + u64::from(self.entry_count(task)),
         }
     }
 
@@ -57,10 +60,26 @@ impl Parts {
         ensures entries { result ≡ of_entries task.0 self.now }
         ensures small { result ≤ 1025 }
     {
+        4 * u64::from(self.entry_count(task)) + 1
+    }
+
+    // How many entries a task has; none where it isn't on the host.
+    pub fn entry_count(&self, task: TaskId) -> u32
+        ensures count { result ≡ length (rows_in task.0 self.now.maps) }
+        ensures few { result ≤ 256 }
+    {
         if !self.maps.has(task) {
-            return 1;
+            return 0;
         }
-        4 * self.maps.entries(task).len() as u64 + 1
+        self.maps.entries(task).len()
+    }
+
+    // What goes where each page and each control of the host does.
+    fn of_pages(&self) -> u64
+        ensures pages { result ≡ 2 * frame_count self.now.memory.frames + length self.now.memory.objects.entries + 1 }
+        ensures small { result < 2 ^ 63 + 2 ^ 33 }
+    {
+        2 * u64::from(self.memory.frames.count()) + self.memory.objects.count() as u64 + 1
     }
 
     // The most rows that it takes in each table.
@@ -73,7 +92,7 @@ impl Parts {
             Breadth::Few => u64::from(OF_FEW),
             Breadth::Entries(task) => self.of_entries(task),
             Breadth::Frames => 2 * frames + u64::from(OF_FEW),
-            Breadth::Pages => 0,
+            Breadth::Pages | Breadth::Ends(_) => 0,
         }
     }
 
@@ -90,6 +109,8 @@ impl Parts {
             return Err(NoMemory);
         };
         self.memory.resident.reserve(pages)?;
+        // What an earlier step was promised for merges isn't wanted any more.
+        self.memory.resident.keep(pages);
         self.memory.objects.reserve(shadows, 1)?;
         self.chains.reserve(shadows)?;
         self.waits.reserve(1)?;

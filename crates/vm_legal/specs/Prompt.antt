@@ -1,4 +1,4 @@
--- Nobody waits in vain, and nothing is left behind: what holds whenever a step has ended.
+-- Nobody waits in vain, nothing is left behind, and no chain is longer than it must be: what holds whenever a step has ended.
 use Rattle.std.specs.Prelude.{ℕ, ◌<◌, ◌≡◌, ◌⊎◌, List, length, Bool, true, false, IfSome, Option, Some}
 use Rattle.vm_model.specs.declared.event.Event.{Event}
 use Rattle.vm_model.specs.declared.script.Header.{Header}
@@ -10,6 +10,7 @@ use Rattle.vm_model.specs.Waiting.{Access, is_store, waiting}
 use Rattle.vm_legal.specs.Accesses.{Comes, HasPlace, Waits, WaitsUnlocked, WantsFrame, is_ready, names, page_of}
 use Rattle.vm_legal.specs.Frames.{frames_free, returns_out}
 use Rattle.vm_legal.specs.Living.{lives_on}
+use Rattle.vm_legal.specs.Merges.{IsThin}
 use Rattle.vm_legal.specs.Outside.{is_shared}
 use Rattle.vm_legal.specs.Swept.{IsSwept}
 use Rattle.vm_legal.specs.Walks.{page_on}
@@ -68,6 +69,7 @@ pub record PromptAt (header : Header) (host : ℕ) (past : List Event) : Type 0 
   pub leads : EachLeads header host past
   pub waits : NoneInVain header host past
   pub swept : IsSwept header host past
+  pub thin : IsThin header host past
 
 -- each host has seen to it
 abbrev pub Prompt : Header → List Event → Type 0

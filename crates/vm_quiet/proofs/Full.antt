@@ -122,6 +122,7 @@ full_prompt h below =
             declared_pages = λ o p ours unheld. refl;
             declared_controls = λ o ours unheld. refl;
           };
+      thin = λ upper lower pair. never pair.backed;
     }
 
 pub full_delivered : undelivered history ≡ []

@@ -325,7 +325,8 @@ swept_1 = record {
 }
 
 pub wild_prompt : Prompt header history
-wild_prompt h below = record { leads = wild_leads h; waits = wild_none h; swept = by (0 == h) refl }
+wild_prompt h below =
+    record { leads = wild_leads h; waits = wild_none h; swept = by (0 == h) refl; thin = λ upper lower pair. never pair.backed }
   where
     by : (b : Bool) → (0 == h) ≡ b → IsSwept header h history
     by true first = let is : 0 ≡ h = grind (arith, nat_tests, first) in subst (λ (k : ℕ). IsSwept header k history) is swept_0

@@ -39,7 +39,7 @@ untold_unready state.Sent told = refl
 untold_unready state.Ready told = told
 
 -- its pages that have rows are here
-here_untold : (rs : ResidentTable) (os : ObjectTable) (o : ℕ) (known : ObjectRow) → object_at os o ≡ Some known → has_pager known.state ≡ false
+pub here_untold : (rs : ResidentTable) (os : ObjectTable) (o : ℕ) (known : ObjectRow) → object_at os o ≡ Some known → has_pager known.state ≡ false
     → ((o p : ℕ) (row : PageRow) → row_at rs o p ≡ Some row → row.here ≡ false → ready_in (object_at os o) ≡ true) → (p : ℕ) (row : PageRow)
     → row_at rs o p ≡ Some row → row.here ≡ true
 here_untold rs os o known is untold ready p row found = by row.here refl

@@ -316,7 +316,7 @@ kinds_merged header upper lower cs cs2 os os2 merges has =
     by o row found (IsOther above below is) = has.unders o row (sym is ∙ found)
 
 -- an object that is referred to and never had a control has no pager
-never_told : (header : Header) (o : ℕ) (known : ObjectRow) → named header ≤ o → IsOfKind header o known → 0 < known.references → known.control ≡ 0
+pub never_told : (header : Header) (o : ℕ) (known : ObjectRow) → named header ≤ o → IsOfKind header o known → 0 < known.references → known.control ≡ 0
     → has_pager known.state ≡ false
 never_told header o known least is some never = by (has_pager known.state) refl
   where

@@ -410,7 +410,7 @@ one_claims upper lower shift pages page row old new n apart here small (Goes why
 
 -- what goes on behind each page
 
-one_here : (upper lower : ObjectId) (shift pages : ℕ) (page : PageNo) (row : PageRow) (old new : HostParts) → (upper.0 ≡ lower.0 → ⊥)
+pub one_here : (upper lower : ObjectId) (shift pages : ℕ) (page : PageNo) (row : PageRow) (old new : HostParts) → (upper.0 ≡ lower.0 → ⊥)
     → row_at old.resident lower.0 page.0 ≡ Some row → PageMerges upper shift pages (record { object = lower; page = page }) row old new
     → AreHere old.resident upper.0 lower.0 → AreHere new.resident upper.0 lower.0
 one_here upper lower shift pages page row old new apart found merges here = record { above = above merges; below = below }

@@ -6,7 +6,7 @@ use Rattle.vm_base.specs.declared.ids.FrameNo.{FrameNo}
 use Rattle.vm_base.specs.declared.ids.Inherit.TheVariants.{Copy}
 use Rattle.vm_base.specs.declared.ids.ObjectKind.TheVariants.{Temp}
 use Rattle.vm_base.specs.Entries.{most_entries}
-use Rattle.vm_base.specs.Limits.{most_objects}
+use Rattle.vm_base.specs.Limits.{most_objects, most_pages}
 use Rattle.vm_fault.specs.Walks.{ChainsFit}
 use Rattle.vm_frames.specs.Frames.{FrameTable, claimed, frame_count, is_claimed}
 use Rattle.vm_maps.specs.Maps.{Mapped, entries_in, rows_in}
@@ -47,11 +47,12 @@ pub record IsTemporary (known : ObjectRow) : Type 0 where
   pub kind : known.kind ≡ Temp
   pub number : 0 < known.references → known.control ≡ (if has_pager known.state then 1 else 0)
 
--- a declared object, as it was declared; while something refers to it, its pager knows it
+-- a declared object, as it was declared; it had a control, and while something refers to it, its pager knows it
 pub record IsDeclared (header : Header) (o : ℕ) (known : ObjectRow) : Type 0 where
   pub kind : known.kind ≡ kind_of header o
   pub pages : known.pages ≡ declared_pages header o
   pub told : 0 < known.references → known.live ≡ true
+  pub number : 0 < known.control
 
 -- an object is of the kind that its number says, and a control of it lives while it has a pager
 pub record IsOfKind (header : Header) (o : ℕ) (known : ObjectRow) : Type 0 where
@@ -102,9 +103,10 @@ HasHomes header h chains home_from = (r : ℕ) (row : RegionRow) → is_paged he
 abbrev pub KnowsFiles : Header → ℕ → ObjectTable → (ℕ → Option ℕ) → Type 0
 KnowsFiles header h objects home_from = (o : ℕ) → is_file header o ≡ true → is_on h (home_from o) ≡ is_some (object_at objects o)
 
--- each object with a number from this one on has as many pages as it was made with, if it is known
+-- each object with a number from this one on has as many pages as it was made with, if it is known, and none has more than an object may have
 pub record KnowsPages (least : ℕ) (objects : ObjectTable) (pages_from : ℕ → ℕ) : Type 0 where
   pub at : (o : ℕ) (known : ObjectRow) → least ≤ o → object_at objects o ≡ Some known → known.pages ≡ pages_from o
+  pub few : (o : ℕ) (known : ObjectRow) → object_at objects o ≡ Some known → known.pages ≤ most_pages
 
 -- an entry lies within its region
 pub record IsInside (size : ℕ) (chains : ChainTable) (row : Entry) : Type 0 where

@@ -180,7 +180,15 @@ module _ (header : Header) (hosts new : HostTable) (line : ℕ) (past : List Eve
 
   rests_unlined : (h : ℕ) (k : Parts) → Rests header h k new.ids (event.Line line ∷ past) → Rests header h k new.ids past
   rests_unlined h k r =
-      record { matches = matches_unlined h k r.matches; used = r.used; referred = r.referred; waits = r.waits; order = r.order; idle = r.idle }
+      record {
+        matches = matches_unlined h k r.matches;
+        used = r.used;
+        referred = r.referred;
+        thin = r.thin;
+        waits = r.waits;
+        order = r.order;
+        idle = r.idle;
+      }
 
   pub all_unlined : AllRest header new past
   all_unlined = record {

@@ -115,6 +115,17 @@ prompt_line header line h prompt host below = record {
         declared_pages = swept.declared_pages;
         declared_controls = swept.declared_controls;
       };
+  thin = λ upper lower pair.
+      (prompt host below).thin upper lower (record {
+        temporary = pair.temporary;
+        reached = pair.reached;
+        backed = pair.backed;
+        under = pair.under;
+        no_top = pair.no_top;
+        sole = pair.sole;
+        upper_never = pair.upper_never;
+        lower_never = pair.lower_never;
+      });
 }
 
 pub awake_line : (header : Header) (line : ℕ) (h : List Event) → NoneSleeps header h → NoneSleeps header (event.Line line ∷ h)
@@ -259,6 +270,17 @@ prompt_code header why h prompt host below = record {
         declared_pages = swept.declared_pages;
         declared_controls = swept.declared_controls;
       };
+  thin = λ upper lower pair.
+      (prompt host below).thin upper lower (record {
+        temporary = pair.temporary;
+        reached = pair.reached;
+        backed = pair.backed;
+        under = pair.under;
+        no_top = pair.no_top;
+        sole = pair.sole;
+        upper_never = pair.upper_never;
+        lower_never = pair.lower_never;
+      });
 }
 
 -- no create waits for its return

@@ -10,6 +10,8 @@ use Rattle.std.proofs.lemmas.Bool.Decides.{nat_tests}
 use Rattle.vm_model.specs.declared.event.Event.{Event}
 use Rattle.vm_model.specs.declared.fault.ScriptFault.{ScriptFault}
 use Rattle.vm_model.specs.declared.fault.ScriptFault.TheVariants as fault
+use Rattle.vm_base.specs.Limits.{most_pages}
+use Rattle.vm_model.specs.declared.script.Declared.{Declared}
 use Rattle.vm_model.specs.declared.script.Header.{Header}
 use Rattle.vm_model.specs.declared.script.Script.{Script}
 use Rattle.vm_model.specs.Named.{named}
@@ -141,6 +143,10 @@ tells_start told status text before after (inr wrote) = wrote.1
 few_frames : (frames : List ℕ) → All (IsBetween 2 4096) frames → All (λ f. f < 2 ^ 32) frames
 few_frames frames within i d below = let most = (within i d below).1 in omega arith
 
+few_pages : (objects : List Declared) → All (λ object. IsBetween 1 most_pages object.pages) objects
+    → All (λ (object : Declared). object.pages ≤ most_pages) objects
+few_pages objects within i d below = (within i d below).1
+
 -- a script that keeps its ranges, and declares no temporary object, can be run
 pub runnable : (script : Script) → KeepsRanges script → DeclaresNoTemporary script.header → IsRunnable script
 runnable script keeps declares = record {
@@ -151,6 +157,7 @@ runnable script keeps declares = record {
       few = few_frames script.header.frames.items keeps.frames;
       objects = keeps.objects;
       kinds = declares;
+      pages = few_pages script.header.objects.items keeps.pages;
     };
     names =
         λ one other first second same. named_once script.header name_kept (λ object. refl) keeps.names one other (file_named script.header one first)

@@ -74,6 +74,7 @@ legal_start header outside = record {
             declared_pages = λ object page below unheld. refl;
             declared_controls = λ object below unheld. refl;
           };
+          thin = λ upper lower pair. absurd (let bad : false ≡ true = pair.backed in cc);
         };
     paid = start_paid header;
     served = λ object page shared some. absurd (some refl);

@@ -15,6 +15,7 @@ use Rattle.vm_model.specs.Controls.{live_control}
 use Rattle.vm_model.specs.Local.{CanRead, Elsewhere, Local, Raises, local_after}
 use Rattle.vm_model.specs.Moments.{BeforeSteps, EachEvent, EachMoment}
 use Rattle.vm_model.specs.Waiting.{Access, Copying, waiting}
+use Rattle.vm_model.specs.Regions.{backing_of}
 use Rattle.vm_legal.specs.Accesses.{Waits}
 use Rattle.vm_legal.specs.Bytes.{FlatBytes, OwnBytes}
 use Rattle.vm_legal.specs.Debts.{IsPaid}
@@ -34,7 +35,8 @@ use Rattle.vm_quiet.proofs.Letters.{never}
 use Rattle.vm_quiet.specs.Unended.{copied, down, file, filled, host, mapped, page, task, up, zero_page}
 use Rattle.vm_quiet.specs.Unended as unended
 use Rattle.vm_worked.specs.Worked.{both, commands, header, history, outside}
-use Rattle.vm_worked.proofs.Steps.{awake_bare, awake_idle, clash, each_step, ends_nobody, nobody, number_is, one_host, one_writer, owes_nothing, recalls}
+use Rattle.vm_worked.proofs.Steps.{awake_bare, awake_idle, bare_thin, clash, each_step, ends_nobody, nobody, number_is, one_host, one_writer, owes_nothing}
+use Rattle.vm_worked.proofs.Steps.{recalls}
 use Rattle.vm_worked.proofs.Steps.{neither, not_shared, one_suffices, served, suffice}
 
 -- the moments at which a step has ended
@@ -175,12 +177,13 @@ only t access is = by (0 == t) refl is
 -- it waits for the page of the file, which is asked
 copying : (past : List Event) → ((t : ℕ) (access : Access) → waiting t past ≡ Some access → (0 ≡ t) × (Copying 0 16 32 ≡ access))
     → Waits header 0 (Copying 0 16 32) past → WaitsForPager header 0 0 (Copying 0 16 32) past
-    → IsSwept header 0 past → PromptAt header 0 past
-copying past one waits pager swept =
+    → IsSwept header 0 past → ((o : ℕ) → (backing_of header o past).backed ≡ false) → PromptAt header 0 past
+copying past one waits pager swept bare =
     record {
       leads = λ t access is lives. of (λ k a. Waits header k a past) t access (one t access is) waits;
       waits = λ t access w on. inl (of (λ k a. WaitsForPager header 0 k a past) t access (one t access w.waits) pager);
       swept = swept;
+      thin = bare_thin header past bare;
     }
   where
     of : (P : ℕ → Access → Type 0) (t : ℕ) (access : Access) → (0 ≡ t) × (Copying 0 16 32 ≡ access) → P 0 (Copying 0 16 32) → P t access
@@ -209,7 +212,7 @@ prompt_asked =
       place = record { top = 0; top_page = 0; steps = 0; is_top = record { object = refl; page = refl }; leads = (refl, refl) };
       what = AnAnswer refl;
     })
-    nothing_asked)
+    nothing_asked (λ o. refl))
 
 prompt_settles_again : Prompt header settles_again
 prompt_settles_again =
@@ -223,7 +226,7 @@ prompt_settles_again =
       place = record { top = 0; top_page = 0; steps = 0; is_top = record { object = refl; page = refl }; leads = (refl, refl) };
       what = AnAnswer refl;
     })
-    nothing_settles_again)
+    nothing_settles_again (λ o. refl))
 
 prompt_supplied : Prompt header supplied
 prompt_supplied =
@@ -237,7 +240,7 @@ prompt_supplied =
       place = record { top = 0; top_page = 0; steps = 0; is_top = record { object = refl; page = refl }; leads = (refl, refl) };
       what = AnAnswer refl;
     })
-    nothing_supplied)
+    nothing_supplied (λ o. refl))
 
 prompts : BeforeSteps (Prompt header) history
 prompts = (
@@ -247,16 +250,16 @@ prompts = (
     (
       prompt_asked,
       (
-        nobody header refl settled (λ t. neither (0 == t)) nothing_settled,
+        nobody header refl settled (λ t. neither (0 == t)) nothing_settled (λ o. refl),
         (
-          nobody header refl readied (λ t. neither (0 == t)) nothing_readied,
+          nobody header refl readied (λ t. neither (0 == t)) nothing_readied (λ o. refl),
           (
-            nobody header refl settles (λ t. neither (0 == t)) nothing_settles,
+            nobody header refl settles (λ t. neither (0 == t)) nothing_settles (λ o. refl),
             (
-              nobody header refl opened (λ t. neither (0 == t)) nothing_opened,
+              nobody header refl opened (λ t. neither (0 == t)) nothing_opened (λ o. refl),
               (
-                nobody header refl made (λ t. neither (0 == t)) (bare made (λ o p. refl) (λ o. refl)),
-                (nobody header refl [] (λ t. refl) (bare [] (λ o p. refl) (λ o. refl)), tt),
+                nobody header refl made (λ t. neither (0 == t)) (bare made (λ o p. refl) (λ o. refl)) (λ o. refl),
+                (nobody header refl [] (λ t. refl) (bare [] (λ o p. refl) (λ o. refl)) (λ o. refl), tt),
               ),
             ),
           ),
@@ -267,7 +270,7 @@ prompts = (
 )
 
 prompt_now : Prompt header history
-prompt_now = nobody header refl history (λ t. ended (0 == t)) nothing_left
+prompt_now = nobody header refl history (λ t. ended (0 == t)) nothing_left (λ o. refl)
 
 -- what steps owe
 

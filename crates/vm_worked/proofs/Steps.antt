@@ -9,6 +9,8 @@ use Rattle.vm_model.specs.declared.message.Channel.TheVariants.{Up, Down}
 use Rattle.vm_model.specs.declared.script.Header.{Header}
 use Rattle.vm_model.specs.Moments.{BeforeSteps, EachMoment}
 use Rattle.vm_model.specs.Waiting.{Access, waiting}
+use Rattle.vm_model.specs.Regions.{backing_of}
+use Rattle.vm_legal.specs.Merges.{IsThin}
 use Rattle.vm_legal.specs.Debts.{IsPaid}
 use Rattle.vm_legal.specs.Frames.{FramesSuffice, frames_used}
 use Rattle.vm_legal.specs.InTurn.{AllRecalled, EndsAll, NoneSleeps}
@@ -125,6 +127,10 @@ pub one_host : (header : Header) → length header.frames.items ≡ 1 → (past 
 one_host header one past at zero below = at
 one_host header one past at (suc h) below = absurd (omega (arith, below, one))
 
+-- where nothing stands on an object none can be merged
+pub bare_thin : (header : Header) (past : List Event) → ((o : ℕ) → (backing_of header o past).backed ≡ false) → IsThin header 0 past
+bare_thin header past bare upper lower pair = let bad : false ≡ true = sym (bare upper) ∙ pair.backed in absurd (cc)
+
 -- whichever way a test goes, nobody waits
 pub neither : (b : Bool) → ◌≡◌ {A = Option Access} (if b then None else None) None
 neither true = refl
@@ -132,13 +138,14 @@ neither false = refl
 
 -- where nobody waits nobody waits in vain
 pub nobody : (header : Header) → length header.frames.items ≡ 1 → (past : List Event) → ((task : ℕ) → waiting task past ≡ None) → IsSwept header 0 past
-    → Prompt header past
-nobody header one past none swept =
+    → ((o : ℕ) → (backing_of header o past).backed ≡ false) → Prompt header past
+nobody header one past none swept bare =
     one_host header one past
     (record {
       leads = λ t access is lives. no_access access (sym (none t) ∙ is);
       waits = λ t access waits on. no_access access (sym (none t) ∙ waits.waits);
       swept = swept;
+      thin = bare_thin header past bare;
     })
 
 -- nobody sleeps beside its page

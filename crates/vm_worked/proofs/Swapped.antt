@@ -174,21 +174,21 @@ idle_ended false = refl
 
 prompts : BeforeSteps (Prompt header) history
 prompts = (
-  nobody header refl loaded_both (λ t. idle_both (0 == t)) nothing_loaded_both,
+  nobody header refl loaded_both (λ t. idle_both (0 == t)) nothing_loaded_both (λ o. refl),
   (
-    nobody header refl loaded (λ t. idle_loaded (0 == t)) nothing_loaded,
+    nobody header refl loaded (λ t. idle_loaded (0 == t)) nothing_loaded (λ o. refl),
     (
-      nobody header refl allocated (λ t. neither (0 == t)) (swept allocated (λ o p unreached. refl) (λ o. refl)),
+      nobody header refl allocated (λ t. neither (0 == t)) (swept allocated (λ o p unreached. refl) (λ o. refl)) (λ o. refl),
       (
-        nobody header refl made (λ t. neither (0 == t)) (swept made (λ o p unreached. refl) (λ o. refl)),
-        (nobody header refl [] (λ t. refl) (swept [] (λ o p unreached. refl) (λ o. refl)), tt),
+        nobody header refl made (λ t. neither (0 == t)) (swept made (λ o p unreached. refl) (λ o. refl)) (λ o. refl),
+        (nobody header refl [] (λ t. refl) (swept [] (λ o p unreached. refl) (λ o. refl)) (λ o. refl), tt),
       ),
     ),
   ),
 )
 
 prompt_now : Prompt header history
-prompt_now = nobody header refl history (λ t. idle_ended (0 == t)) nothing_left
+prompt_now = nobody header refl history (λ t. idle_ended (0 == t)) nothing_left (λ o. refl)
 
 -- no step took anything
 

@@ -49,6 +49,7 @@ use Rattle.vm_state.proofs.Bypassing.{waits_beyond}
 use Rattle.vm_state.proofs.Passing.{only_before}
 use Rattle.vm_state.specs.Passed.{IsAway, IsUnmet, StaysAway}
 use Rattle.vm_state.specs.Counts.{marks_of}
+use Rattle.vm_kernel.proofs.space.ThinAbroad.{thin_abroad}
 
 -- what a kernel says of all hosts
 
@@ -350,6 +351,7 @@ module _ (header : Header) (h : ℕ) (k : Parts) (ids next : Ids) (past new : Li
           files = λ o file. known o ∙ rests.matches.files o file;
           sizes = record {
             at = λ o row least found. rests.matches.sizes.at o row least found ∙ sym (same.sizes o (small_object rests.matches.regions o row found));
+            few = rests.matches.sizes.few;
           };
           entries = rests.matches.entries;
           pages = pages_same;
@@ -362,6 +364,7 @@ module _ (header : Header) (h : ℕ) (k : Parts) (ids next : Ids) (past new : Li
         };
     used = used_told rests.used (λ t w found. let it = same.task t (living t (ap is_some (rests.waits.allowed t w found).lives)) in (it.next, it.target));
     referred = rests.referred;
+    thin = rests.thin;
     waits = waits_same returns;
     order = order_same;
     idle = rests.idle;
@@ -415,6 +418,7 @@ module _ (header : Header) (outside : Outside) (h : ℕ) (k : Parts) (ids : Ids)
         leads = leads_now header h past (events ++ past) sound knows stay.same prompt.leads;
         waits = vain_now header h past (events ++ past) sound knows stay.same prompt.waits;
         swept = swept_now header h past (events ++ past) sound knows stay.same rests.matches.settled.shut prompt.swept;
+        thin = thin_abroad header outside h events past sound knows rests.matches.homes.1 abroad rests.matches.settled.shut prompt.thin;
       }
 
 suffice_next : (header : Header) (h : ℕ) (e : Event) (past : List Event) → is_home header h e past ≡ false → Suffice header h past → Suffice header h (e ∷ past)

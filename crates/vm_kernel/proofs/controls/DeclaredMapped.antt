@@ -1,4 +1,5 @@
 -- A declared object is mapped: a task gets an entry on its region, which counts one more or is made, and then the object's pager is told of it.
+use Rattle.vm_kernel.proofs.controls.DeclaredKinds.{declared_few}
 use Rattle.vm_model.specs.Regions.{object_pages}
 use Rattle.vm_state.proofs.KnownPages.{sizes_new}
 use Rattle.vm_kernel.specs.Changes.{CanEnter}
@@ -43,6 +44,7 @@ use Rattle.vm_state.proofs.Fresh.{other_test}
 use Rattle.vm_state.proofs.Knowing.{known_cases, known_put}
 use Rattle.vm_state.proofs.Places.{keeps_made}
 use Rattle.vm_state.proofs.Referred.{referred_put}
+use Rattle.vm_kernel.proofs.space.StillThin.{keeps_same, thin_paged}
 use Rattle.vm_state.proofs.Referring.{refers_region}
 use Rattle.vm_state.proofs.Waited.{told_changed, waits_changed}
 use Rattle.vm_state.specs.Places.{known_local}
@@ -352,6 +354,7 @@ rests_opened header h outside doing task address bytes object offset pages new p
             ];
             sizes =
                 sizes_new (named header) object.0 new k.memory.objects objects (λ x. object_pages header x past) (λ x. object_pages header x past) o.put
+                (let pages = o.known.pages in let most = declared_few header object.0 m.ranged may.declared in omega (arith, pages, most))
                 (λ least. let declared = may.declared in absurd (omega (arith, least, declared))) (λ x apart. refl) m.sizes;
             entries =
                 entries_declared size k.maps maps k.chains chains task.0 object pages row m.entries o.free o.region o.changes refl below may.whole may.some
@@ -383,6 +386,9 @@ rests_opened header h outside doing task address bytes object offset pages new p
       referred =
           referred_put object.0 new object.0 (Some (own_region object pages)) k.chains chains k.memory.objects objects k.memory.resident o.region o.put
           (let single = o.known.references in omega (arith, single)) (λ is. o.known.live) rests.referred;
+      thin =
+          thin_paged object.0 new k.chains chains k.memory.objects objects (keeps_same k.chains chains (λ x. ap (λ f. f x) o.region.shadows))
+          (λ never. let number = o.known.control in omega (arith, number, never)) o.put rests.thin;
       waits =
           waits_quiet header h begins (enters ∷ past) (λ place. quiet_if (h == h && object.0 == place.object.0) Begins Elsewhere tt tt)
           (waits_declared header maps chains k.memory.resident k.memory.objects objects k.waits.rows (is_woken woken.Nobody) waits_at object.0 new

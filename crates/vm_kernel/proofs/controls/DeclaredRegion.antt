@@ -188,7 +188,12 @@ kinds_declared header o new pages cs cs2 os os2 declared known put putting marks
     (record {
       lives = known.live ∙ sym (ap has_pager known.state);
       temporary = λ least. absurd (omega (arith, least, declared));
-      declared = λ less. record { kind = known.kind; pages = known.pages; told = λ some. known.live };
+      declared = λ less. record {
+        kind = known.kind;
+        pages = known.pages;
+        told = λ some. known.live;
+        number = let number = known.control in omega (arith, number);
+      };
     })
     has)
 

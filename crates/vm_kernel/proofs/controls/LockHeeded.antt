@@ -135,6 +135,7 @@ works_roomier k memory laundry works fit size =
       matches = matches_with memory.queues memory.buffers k.waits (λ t r. refl) fit size works.matches;
       used = works.used;
       referred = works.referred;
+      thin = works.thin;
       waits = works.waits;
       order = works.order;
     }

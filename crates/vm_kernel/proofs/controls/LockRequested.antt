@@ -90,6 +90,7 @@ mid_rows header h k ids rs2 past m same =
             locks = λ o p row found. m.referred.locks o p row (was o p row found);
             shadows = m.referred.shadows;
           };
+      thin = m.thin;
     }
   where
     was : (o p : ℕ) (row : PageRow) → row_at rs2 o p ≡ Some row → row_at k.memory.resident o p ≡ Some row
@@ -370,6 +371,7 @@ mid_taken header h k ids past object control page count returns lock flush reply
         locks = λ o p row there. locks o p row (row_back (pended a) k.memory.resident o p row there);
         shadows = rests.referred.shadows;
       };
+      thin = rests.thin;
     }
   where
     its : Ahead

@@ -110,6 +110,7 @@ works_asked header h past k ids w key object access frame memory waits2 works is
           (place_unfilled header.size w.task.0 w.want key k.maps k.chains [] works.matches.entries (behind_place place)) c.row) is put.entry;
       referred =
           page_referred key frame _ _ _ _ _ k memory c plan referred (λ row same. inl (ap (λ (z : PageRow). z.lock) (sym (some_is _ row same)))) works.referred;
+      thin = rw plan.objects works.thin;
       waits =
           subst (λ (z : ObjectTable). HasWaiters k.maps k.chains memory.resident z waits2.rows (is_woken woken.Nobody) (λ u. waiting u past)
           (StaysAway header h (requesting h key object.control access ∷ past)) (IsUnmet header h (requesting h key object.control access ∷ past)))
@@ -136,6 +137,7 @@ works_turned header h past k ids w reason waits2 works is now holds passed put =
           refl works.matches;
       used = used_turned w.task.0 w reason k.waits.rows waits2.rows works.used is put.entry;
       referred = works.referred;
+      thin = works.thin;
       waits =
           waiters_turned k.maps k.chains k.memory.resident k.memory.objects k.waits.rows waits2.rows (λ u. waiting u past) w.task.0 w reason works.waits is
           (asks_none_now k w.on now) put.entry holds passed;

@@ -12,8 +12,10 @@ use Rattle.vm_kernel.proofs.controls.WordTaken.{may_lock}
 use Rattle.vm_kernel.proofs.memory.PagesShown.{bytes_now, frames_changed, laundry_changed, pages_changed, shown_same}
 use Rattle.vm_kernel.proofs.lists.ListsAsTold.{frames_kept, same_paging}
 use Rattle.vm_kernel.proofs.space.ObjectEnds.{leaves_lists}
+use Rattle.vm_kernel.proofs.space.StillThin.{thin_same}
 use Rattle.vm_kernel.specs.Plays.{AsLocked, DepartsLocked}
 use Rattle.vm_legal.specs.Licences.{Flushed, IsLocked, Wanted, gives_back}
+use Rattle.vm_merge.specs.Merges.{IsThin}
 use Rattle.vm_parts.specs.Changes.{Relocks, Removes, relocked}
 use Rattle.vm_state.proofs.Declared.{kinds_marked}
 use Rattle.vm_state.proofs.Referred.{referred_gone, referred_row}
@@ -33,12 +35,20 @@ pub record Mid (header : Header) (h : ℕ) (k : Parts) (ids : Ids) (past : List 
   pub runs : Amidst header h k ids [] woken.Nobody past
   pub settled : IsSettled past
   pub referred : AllReferred k.chains k.memory.objects k.memory.resident
+  pub thin : IsThin k.chains k.memory.objects
 
 -- with the reply it is as it was
 pub works_mid : {header : Header} {h : ℕ} {k : Parts} {ids : Ids} {past : List Event} → Mid header h k ids past → IsReplied past
     → Works header h k ids woken.Nobody past
 works_mid {k = k} m replied =
-    record { matches = matches_of k m.runs m.settled replied; used = m.runs.used; referred = m.referred; waits = m.runs.waits; order = m.runs.order }
+    record {
+      matches = matches_of k m.runs m.settled replied;
+      used = m.runs.used;
+      referred = m.referred;
+      thin = m.thin;
+      waits = m.runs.waits;
+      order = m.runs.order;
+    }
 
 -- the pager is told that all is done
 abbrev pub completed : ℕ → ObjectId → ℕ → PageNo → ℕ → Event
@@ -80,6 +90,7 @@ comes_dropped header h outside doing ids k memory key row past returns m locked 
         runs = after;
         settled = record { none_owed = refl; shut = λ region. refl };
         referred = rw objects (referred_gone key.object.0 key.page.0 k.chains k.memory.objects k.memory.resident memory.resident c.row m.referred);
+        thin = rw objects m.thin;
       };
       follows = drop_follows key seen.here after (Flushed returns locked (rw (seen.dirty, seen.precious) spared)) tt;
       does = AsLocked (departs k key row false _ memory k.laundry locked here c);
@@ -134,6 +145,7 @@ comes_returned header h outside doing ids k memory laundry key row known past re
         referred =
             referred_same k.chains k.memory.objects memory.objects memory.resident objects
             (referred_gone key.object.0 key.page.0 k.chains k.memory.objects k.memory.resident memory.resident c.row m.referred);
+        thin = thin_same k.chains k.memory.objects memory.objects objects m.thin;
       };
       follows =
           return_follows key known.control m.runs c.found here (changed_due returns _ _ wanted) (live_at k.memory.objects key.object.0 object live) after
@@ -215,6 +227,7 @@ comes_saved header h outside doing ids k memory key row known past returns m loc
             runs = after;
             settled = record { none_owed = refl; shut = λ region. refl };
             referred = referred_relocked k key row true memory c objects m.referred;
+            thin = thin_same k.chains k.memory.objects memory.objects objects m.thin;
           };
       follows =
           return_follows key known.control m.runs c.found here (changed_due returns _ _ wanted) (live_at k.memory.objects key.object.0 object live) after
@@ -256,6 +269,7 @@ comes_still header h ids k memory key row past m here unsent c objects buffers =
             }) m.runs.waits);
         settled = m.settled;
         referred = referred_relocked k key row false memory c same m.referred;
+        thin = rw objects m.thin;
       };
       same = lists_stay k key row false memory k.laundry c;
     }

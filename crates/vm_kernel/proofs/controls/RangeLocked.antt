@@ -744,6 +744,7 @@ completed_rests r k past rests =
           });
       settled = record { none_owed = refl; shut = λ region. refl };
       referred = rests.referred;
+      thin = rests.thin;
     }
 
 completed_cause : (r : Request) (s : LockState) → IsTaken r → AllObeyed r s → r.reply ≡ true

@@ -112,6 +112,7 @@ works_unlocked header h past k ids w key row object access memory waits2 works i
       referred =
           page_referred key row.frame _ _ _ _ _ k memory c plan (works.referred.pages o p row c.found)
           (λ r same. same_lock k.memory.objects o row row2 r refl same (works.referred.locks o p row c.found)) works.referred;
+      thin = rw plan.objects works.thin;
       waits =
           subst (λ (z : ObjectTable). HasWaiters k.maps k.chains memory.resident z waits2.rows (is_woken woken.Nobody) (λ u. waiting u past)
           (StaysAway header h (unlocking h key object.control access ∷ past)) (IsUnmet header h (unlocking h key object.control access ∷ past)))

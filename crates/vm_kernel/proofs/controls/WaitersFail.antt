@@ -16,7 +16,7 @@ use Rattle.vm_model.specs.Waiting.{Target}
 use Rattle.vm_model.specs.declared.event.Event.TheVariants as event
 use Rattle.vm_model.specs.declared.message.Channel.TheVariants.{Up}
 use Rattle.vm_model.specs.declared.message.Message.TheVariants as message
-use Rattle.vm_state.specs.Filling.{is_destination}
+use Rattle.vm_state.specs.Filling.{filled_row, is_destination}
 use Rattle.vm_waits.specs.declared.waiting.Destination.{Destination}
 use Rattle.vm_legal.specs.Living.{tasks as made_tasks}
 use Rattle.vm_supply.specs.declared.woken.Woken.TheVariants as who
@@ -32,6 +32,13 @@ use Rattle.vm_state.proofs.Filling.{copies_next}
 use Rattle.vm_base.specs.Pages.{page_positive}
 use Rattle.vm_legal.specs.InTurn.{FailsInTurn}
 use Rattle.vm_kernel.proofs.space.RegionHomes.{homes_caused}
+use Rattle.vm_kernel.specs.Sweeping.{IsBareTop}
+use Rattle.vm_merge.specs.Merges.{IsThin}
+use Rattle.vm_objects.specs.Objects.{object_at}
+use Rattle.vm_objects.specs.declared.row.ObjectRow.{ObjectRow}
+use Rattle.vm_shadow.specs.declared.region_row.RegionRow.{RegionRow}
+use Rattle.vm_state.proofs.Referring.{only_one, row_of}
+use Rattle.vm_state.proofs.Targets.{target_unshadowed}
 
 -- who waits for the page
 pub waits_for : (key : PageKey) (reason : On) → woken_page key reason ≡ true → reason ≡ on.Page key
@@ -192,6 +199,7 @@ pub record FailedOne (header : Header) (h : ℕ) (outside : Outside) (doing : Co
   pub runs : IsAmid header h (who.Fails key) k ids [] (events ++ past)
   pub copies : HasSlow header k (events ++ past)
   pub referred : AllReferred k.chains k.memory.objects k.memory.resident
+  pub thin : IsThin k.chains k.memory.objects
   pub fails : FailsNow header h (who.Fails key) (events ++ past)
   pub answered : IsAnswered (who.Fails key) k.memory.resident
   pub before : EndsBefore key k.waits.rows (events ++ past)
@@ -255,6 +263,7 @@ failed_one header h outside doing past old events key k ids w waits f found pass
       };
       copies = copies;
       referred = f.works.referred;
+      thin = f.works.thin;
       fails = f.fails;
       answered = f.answered;
       before = ends_before key w k.waits.rows waits.rows moment f.before f.works.order first puts;
@@ -297,6 +306,7 @@ failed_plain header h outside doing past old events key k ids w waits f found no
             matches = one.runs.matches;
             used = used_over w.task.0 w k.waits.rows waits.rows f.works.used found none puts;
             referred = one.referred;
+            thin = one.thin;
             waits = one.runs.waits;
             order = one.runs.order;
           };
@@ -352,6 +362,37 @@ ends_filled header h outside doing past old events key k ids w to waits f found 
         let was = fills_apart w.task.0 task to.region.0 k.waits.rows waits.rows puts is in
         absurd (was.0 (f.works.used.copies.apart w.task.0 task to.region.0 mine was.1))
 
+-- its top is no shadow, and it is all that refers to that
+pub bare_filled : (header : Header) (h : ℕ) (outside : Outside) (doing : Command) (past old events : List Event) (key : PageKey) (k : Parts) (ids : Ids)
+    (w : Waiting) (to : Destination) (waits : WaitTable)
+    → Failing header h outside doing past old events key k ids → entry k.waits.rows w.task.0 ≡ Some w → w.destination ≡ Some to
+    → IsBareTop to.region.0 (record k { waits = waits })
+bare_filled header h outside doing past old events key k ids w to waits f found goes =
+    record {
+      row = row;
+      found = there.region;
+      known = known.0;
+      top = known.1;
+      one = only_one m.regions to.region.0 row known.0 there.region known.1 (record { tops = there.alone.tops; bare = there.alone.unders });
+      bare = target_unshadowed (events ++ past) m.regions m.homes.1 w.task.0 (record { region = to.region.0; object = there.object.0 }) there.made;
+    }
+  where
+    m : Matches header h k ids [] (events ++ past)
+    m = f.works.matches
+
+    mine : fills_in to.region.0 (entry k.waits.rows w.task.0) ≡ true
+    mine = ap (fills_in to.region.0) found ∙ (ap (is_destination to.region.0) goes
+        ∙ elim (eqb_tells to.region.0 to.region.0) [ inl same ↦ same.0 | inr apart ↦ absurd (apart.1 refl) ])
+
+    there : Filled k.chains (copy_target w.task.0 (events ++ past)) to.region.0
+    there = filled_there f.works.used.copies w.task.0 to.region.0 mine
+
+    row : RegionRow
+    row = filled_row there.object there.pages
+
+    known : (known : ObjectRow) × (object_at k.memory.objects there.object.0 ≡ Some known)
+    known = row_of (object_at k.memory.objects there.object.0) (m.regions.tops to.region.0 row there.region)
+
 -- what ends pages and controls ends no access
 
 since_ended : (u o p : ℕ) (more past : List Event) → EachOf IsEnding more → since (fails_task u o p) (more ++ past) ≡ since (fails_task u o p) past
@@ -397,10 +438,18 @@ pub failed_ended : (header : Header) (h : ℕ) (outside : Outside) (doing : Comm
     (ids : Ids)
     → FailedOne header h outside doing past old events key k ids → IsWhole header h (who.Fails key) k2 ids [] (after ++ past)
     → LegalEvents header h outside doing past events after → k2.waits ≡ k.waits → OnlyLoses k.memory.resident k2.memory.resident → EndsOnly events after
-    → Failing header h outside doing past old after key k2 ids
-failed_ended header h outside doing past old events after key k k2 ids one whole goes same pages only =
+    → IsThin k2.chains k2.memory.objects → Failing header h outside doing past old after key k2 ids
+failed_ended header h outside doing past old events after key k k2 ids one whole goes same pages only thin =
     record {
-      works = record { matches = whole.runs.matches; used = whole.used; referred = whole.referred; waits = whole.runs.waits; order = whole.runs.order };
+      works =
+          record {
+            matches = whole.runs.matches;
+            used = whole.used;
+            referred = whole.referred;
+            thin = thin;
+            waits = whole.runs.waits;
+            order = whole.runs.order;
+          };
       fails = error_goes header h outside doing past events after goes ∙ one.fails;
       answered = record { at = λ o p row found awaits. one.answered.at o p row (pages o p row found) awaits };
       before = subst (λ (z : WaitTable). EndsBefore key z.rows (after ++ past)) (sym same) (before_ended key k.waits.rows past events after only one.before);

@@ -25,6 +25,8 @@ use Rattle.vm_parts.specs.Fits.{object_pages, pages_of_row}
 use Rattle.vm_model.specs.Waiting.{copy_target}
 use Rattle.vm_state.proofs.Changing.{regions_controlled}
 use Rattle.vm_state.proofs.Referred.{referred_controlled, referred_gone, referred_row}
+use Rattle.vm_kernel.proofs.space.StillThin.{references_put, thin_objects, thin_same}
+use Rattle.vm_merge.specs.Merges.{IsThin}
 use Rattle.std.proofs.lemmas.Bool.{and_from}
 use Rattle.vm_kernel.proofs.steps.EventsGrow.{Follows, suffices}
 use Rattle.vm_kernel.proofs.memory.WhatIsKnown.{known_at, known_on, nothing_known}
@@ -117,6 +119,7 @@ pub record Changed (header : Header) (h : ℕ) (k : Parts) (ids : Ids) (who : Wo
   pub laundry : HasLaundry new.frames new.resident k.laundry (returns_out h past)
   pub frames : HasFrames (slice_get (reverse header.frames.items) h) new.frames (frames_held header h now) (frames_wired h past)
   pub referred : AllReferred k.chains new.objects new.resident
+  pub thin : IsThin k.chains new.objects
   pub waits : HasWaiters k.maps k.chains new.resident new.objects k.waits.rows (is_woken who) (λ t. waiting t past) (StaysAway header h now)
       (IsUnmet header h now)
   pub fails : FailsNow header h who now
@@ -219,7 +222,7 @@ works_of header h k ids who new past now rests stays fit same c =
             controls = stays.controls c.controls;
             homes = stays.homes;
             files = λ o file. ap (is_on h) (stays.home o) ∙ c.files o file;
-            sizes = record { at = λ o known least is. c.sizes.at o known least is ∙ sym (stays.sizes o) };
+            sizes = record { at = λ o known least is. c.sizes.at o known least is ∙ sym (stays.sizes o); few = c.sizes.few };
             settled = stays.settled;
             replied = stays.replied;
             laundry = subst (λ (z : ℕ). HasLaundry new.frames new.resident k.laundry z) (sym stays.returned) c.laundry;
@@ -229,6 +232,7 @@ works_of header h k ids who new past now rests stays fit same c =
           };
       used = used_away k.memory.resident new.resident (used_told rests.used (λ t w found. (stays.next t, stays.target t))) c.away;
       referred = c.referred;
+      thin = c.thin;
       order = stays.order;
       waits = waits_retold stays.waits c.waits;
     }
@@ -338,6 +342,7 @@ changed_none header h k ids past object control m rests nothing =
       laundry = was.laundry;
       frames = subst (λ (z : ℕ). HasFrames (slice_get (reverse header.frames.items) h) k.memory.frames z (frames_wired h past)) (sym nothing.held) was.frames;
       referred = rests.referred;
+      thin = rests.thin;
       waits = waits_taken header h (host_id h) object control m past rests.waits;
       fails = nothing.error;
       fresh = tt;
@@ -358,7 +363,7 @@ kind_ready header o known was live =
             number = λ some. its.number some
                 ∙ ap (λ b. if b then 1 else 0) (sym was.lives ∙ live);
           };
-      declared = λ less. let its = was.declared less in record { kind = its.kind; pages = its.pages; told = λ some. live };
+      declared = λ less. let its = was.declared less in record { kind = its.kind; pages = its.pages; told = λ some. live; number = its.number };
     }
 
 controls_ready : {d h : ℕ} {home_at : ℕ → Option ℕ} (os os2 : ObjectTable) (last_at : ℕ → ℕ) (live_at : ℕ → Option ℕ) (ready_at : ℕ → Bool) (o control : ℕ)
@@ -474,6 +479,10 @@ changed_ready header h k ids events after past object control cache strategy who
       referred =
           referred_controlled object.0 known (record known { state = state.Ready }) k.chains k.memory.objects new.objects k.memory.resident readies.found
           readies.ready refl (λ lives. rests.referred.live object.0 known readies.found live) (λ is. is) rests.referred;
+      thin =
+          thin_objects k.chains k.memory.objects new.objects
+          (references_put object.0 known (record known { state = state.Ready }) k.memory.objects new.objects readies.found refl (λ none. none) readies.ready)
+          rests.thin;
       waits = waits_taken header h (host_id h) object control (message.Ready cache strategy) past
           (waits_heard k.maps k.chains k.memory.resident k.memory.resident k.memory.objects new.objects k.waits.rows (woken.ReadyOf object)
           (λ t. waiting t past) rests.waits
@@ -615,6 +624,7 @@ changed_supplied header h k ids events after past object control page lock preci
             inr (live_is control (object_at k.memory.objects object.0) (subst (λ (z : Option ℕ). is_control control z ≡ true) (was.controls.live object.0)
                 lives_now)),
           )) rests.referred) same;
+      thin = thin_same k.chains k.memory.objects new.objects same rests.thin;
       waits = waits_taken header h (host_id h) object control (message.Supply page lock precious bytes) past waits.waits;
       fails = refl;
       fresh = tt;
@@ -682,6 +692,7 @@ changed_ended header h k ids past object control page m effect who row new rests
       referred =
           referred_of k.chains k.memory.objects new.objects new.resident (referred_gone object.0 page.0 k.chains k.memory.objects k.memory.resident new.resident
           ends.row rests.referred) same;
+      thin = thin_same k.chains k.memory.objects new.objects same rests.thin;
       waits = waits_taken header h (host_id h) object control m past waits.waits;
       fails = is.fails;
       fresh = is.fresh;
@@ -840,6 +851,7 @@ changed_zeroed header h k ids host after past object control page who new rests 
           referred_of k.chains k.memory.objects new.objects new.resident (referred_row object.0 page.0 (Some now) k.chains k.memory.objects k.memory.resident
           new.resident comes.row (λ r is. (rests.referred.pages object.0 page.0 row asked.0, inl (ap (λ (z : PageRow). z.lock) (sym (some_is now r is)))))
           rests.referred) same;
+      thin = thin_same k.chains k.memory.objects new.objects same rests.thin;
       waits = waits_blank header h k.chains new.objects (hears h object control (message.Unavailable page) ∷ past) object page declared
           (λ told. told_unready new.objects object.0 told (ap ready_in (same.at object.0) ∙ rests.waits.ready object.0 page.0 row asked.0 asked.1))
           (waits_taken header h (host_id h) object control (message.Unavailable page) past waits.waits);

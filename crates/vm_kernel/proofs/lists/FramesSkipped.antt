@@ -53,6 +53,7 @@ rests_skip {header} {h} {ids} {past} {k} {k2} is rests =
           };
       used = rests.used;
       referred = rests.referred;
+      thin = rests.thin;
       waits = rests.waits;
       order = rests.order;
       idle = rests.idle;

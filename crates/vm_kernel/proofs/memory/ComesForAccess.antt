@@ -116,6 +116,7 @@ works_zeroed header h past k ids key frame memory works sinks apart is c plan =
       used = used_page key.object.0 key.page.0 _ k.memory.resident memory.resident works.used apart c.row;
       referred =
           page_referred key frame _ _ _ _ _ k memory c plan is (λ row same. inl (ap (λ (z : PageRow). z.lock) (sym (some_is _ row same)))) works.referred;
+      thin = rw plan.objects works.thin;
       waits =
           page_waits key frame _ _ _ _ _ k memory (is_woken woken.Nobody) (λ u. waiting u past) c plan (none_unawaited None refl)
           (here_unawaited _ _ refl refl refl)
@@ -181,6 +182,7 @@ works_raised header h past k ids steps low top row frame memory works walks apar
       used = used_page top.object.0 top.page.0 _ k.memory.resident memory.resident works.used apart c.row;
       referred =
           page_referred top frame _ _ _ _ _ k memory c plan is (λ row same. inl (ap (λ (z : PageRow). z.lock) (sym (some_is _ row same)))) works.referred;
+      thin = rw plan.objects works.thin;
       waits =
           page_waits top frame _ _ _ _ _ k memory (is_woken woken.Nobody) (λ u. waiting u past) c plan (none_unawaited None refl)
           (here_unawaited _ _ refl refl refl)
@@ -206,6 +208,7 @@ works_touched header h past k ids who frame memory touched works =
               refl m;
           used = works.used;
           referred = works.referred;
+          thin = works.thin;
           waits = works.waits;
           order = works.order;
         }
@@ -258,6 +261,7 @@ works_loaded header h past k ids w key value waits2 number works is now put =
       };
       used = used_over w.task.0 w k.waits.rows waits2.rows works.used is none_filled put.entry;
       referred = works.referred;
+      thin = works.thin;
       waits =
           waiters_over k.maps k.chains k.memory.resident k.memory.objects k.waits.rows waits2.rows (λ u. waiting u past) (λ u. waiting u (e ∷ past)) w.task.0 w
           works.waits is (asks_none_now k w.on now) put.entry (λ u. refl);
@@ -338,6 +342,7 @@ works_stored header h past k ids w key frame at size value row memory waits2 num
           used_over w.task.0 w k.waits.rows waits2.rows (used_away k.memory.resident memory.resident works.used
           (away_put o p (Some row2) was k.memory.resident memory.resident c.found c.row)) is none_filled put.entry;
       referred = referred2;
+      thin = rw plan.objects works.thin;
       waits =
           waiters_over k.maps k.chains memory.resident memory.objects k.waits.rows waits2.rows (λ u. waiting u past) (λ u. waiting u (e ∷ past)) w.task.0 w
           waits3 is (asks_none_now (record k { memory = memory }) w.on now) put.entry (λ u. refl);

@@ -105,6 +105,7 @@ ran_wired header h outside doing past k ids wired rests few first done =
           };
       used = rests.used;
       referred = rests.referred;
+      thin = rests.thin;
       waits = rests.waits;
       order = rests.order;
       idle = rests.idle;

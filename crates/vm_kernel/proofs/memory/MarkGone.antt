@@ -6,6 +6,7 @@ use Rattle.vm_kernel.proofs.Common.{subst, sym, true, waiting, ℕ, ◌+◌, ◌
 use Rattle.vm_kernel.proofs.controls.LockReplied.{replied_behind}
 use Rattle.vm_kernel.proofs.memory.ShadowMade.{KeepsRegions, entries_kept, keeps_put}
 use Rattle.vm_kernel.proofs.space.RegionsFilled.{unmarked_filled}
+use Rattle.vm_kernel.proofs.space.StillThin.{thin_chains}
 use Rattle.vm_kernel.proofs.Common.{Command, Outside, []}
 use Rattle.vm_kernel.proofs.space.RegionHomes.{homes_caused, homes_put}
 use Rattle.vm_legal.specs.Licences.{Unmarks}
@@ -71,6 +72,7 @@ unmarked_with header h outside doing past k ids region row chains works there co
             (rows_unmade k.chains k.memory.resident);
       };
       referred = referred_unmarked region.0 row k.chains chains k.memory.objects k.memory.resident put works.referred;
+      thin = thin_chains k.chains chains k.memory.objects (λ o. ap (λ z. z o) put.shadows) works.thin;
       waits =
           waits_unmarked k.maps k.chains chains k.memory.resident k.memory.objects k.waits.rows (is_woken woken.Nobody) (λ u. waiting u past) region.0 row
           works.waits there put;

@@ -16,8 +16,11 @@ use Rattle.vm_kernel.proofs.steps.EventsGrow.{Follows, free_is, goes_none, goes_
 use Rattle.vm_kernel.proofs.memory.WhatIsKnown.{other_if, pages_known}
 use Rattle.vm_legal.proofs.Owing.{behind_none}
 use Rattle.vm_kernel.proofs.memory.PageReturned.{controls_begun, controls_told, counts_controlled, first_of_object, kind_controlled, pages_created}
-use Rattle.vm_kernel.proofs.memory.PageReturned.{ready_controlled, told_controlled, unasked, untold_temporary}
+use Rattle.vm_kernel.proofs.memory.PageReturned.{never_controlled, ready_controlled, told_controlled, unasked}
+use Rattle.vm_kernel.proofs.memory.PageReturned.{untold_temporary}
 use Rattle.vm_legal.specs.Prompt.{IsSource}
+use Rattle.vm_kernel.proofs.space.StillThin.{references_put, thin_objects}
+use Rattle.vm_merge.specs.Merges.{IsThin}
 use Rattle.vm_parts.proofs.Rows.{stood}
 use Rattle.vm_state.specs.Places.{known_local}
 use Rattle.vm_kernel.specs.Serving.{FreesBut, IsToCopy, SkipLocked}
@@ -87,16 +90,17 @@ inside : {header : Header} {h : ℕ} {k : Parts} {ids : Ids} {past : List Event}
 inside rests = amidst_of rests.matches rests.used rests.waits rests.order
 
 rests_of : {header : Header} {h : ℕ} {k : Parts} {ids : Ids} {past : List Event} (other : Parts) → Amidst header h k ids [] woken.Nobody past
-    → IsSettled past → IsReplied past → AllReferred k.chains k.memory.objects k.memory.resident → count_again k.waits.rows ≡ 0
-    → Rests header h (with_tables k other) ids past
-rests_of other a settled replied referred idle =
-    record { matches = matches_of other a settled replied; used = a.used; referred = referred; waits = a.waits; order = a.order; idle = idle }
+    → IsSettled past → IsReplied past → AllReferred k.chains k.memory.objects k.memory.resident → IsThin k.chains k.memory.objects
+    → count_again k.waits.rows ≡ 0 → Rests header h (with_tables k other) ids past
+rests_of other a settled replied referred thin idle =
+    record { matches = matches_of other a settled replied; used = a.used; referred = referred; thin = thin; waits = a.waits; order = a.order; idle = idle }
 
 rests_beside : {header : Header} {h : ℕ} {k k2 : Parts} {ids : Ids} {past : List Event} → Beside k k2
     → Amidst header h (record k { memory = k2.memory; laundry = k2.laundry }) ids [] woken.Nobody past → IsSettled past → IsReplied past
-    → AllReferred k.chains k2.memory.objects k2.memory.resident → count_again k.waits.rows ≡ 0 → Rests header h k2 ids past
-rests_beside {header = header} {h = h} {k = k} {k2 = k2} {ids = ids} {past = past} beside a settled replied referred idle =
-    subst (λ (z : Parts). Rests header h z ids past) (sym same) (rests_of k2 a settled replied referred idle)
+    → AllReferred k.chains k2.memory.objects k2.memory.resident → IsThin k.chains k2.memory.objects → count_again k.waits.rows ≡ 0
+    → Rests header h k2 ids past
+rests_beside {header = header} {h = h} {k = k} {k2 = k2} {ids = ids} {past = past} beside a settled replied referred thin idle =
+    subst (λ (z : Parts). Rests header h z ids past) (sym same) (rests_of k2 a settled replied referred thin idle)
   where
     same : k2 ≡ with_tables (record k { memory = k2.memory; laundry = k2.laundry }) k2
     same = λ i. record k2 {
@@ -151,7 +155,8 @@ took_nothing header h outside doing past ids skip k k2 before after rests beside
             pages = rw (is.objects, is.frames, is.resident, is.laundry) core.pages;
             waits = rw (is.objects, is.resident) rests.waits;
           }))
-          rests.matches.settled rests.matches.replied (rw (is.objects, is.resident) rests.referred) rests.idle;
+          rests.matches.settled rests.matches.replied (rw (is.objects, is.resident) rests.referred) (rw is.objects rests.thin)
+          rests.idle;
       goes = goes_none header h outside doing past before;
       gone = record { more = []; is = refl; each = tt };
       reclaimed =
@@ -197,7 +202,8 @@ took_freed header h outside doing past ids skip k k2 before after rests beside l
       rests =
           rests_beside beside (subst (λ (z : LaundryList). Amidst header h (record k { memory = k2.memory; laundry = z }) ids [] woken.Nobody (e ∷ moment))
           (sym freed.laundry) gone) (record { none_owed = refl; shut = λ region. refl }) (replied_behind tt m.replied) (rw freed.objects
-          (referred_gone key.object.0 key.page.0 k.chains k.memory.objects k.memory.resident k2.memory.resident page.row rests.referred)) rests.idle;
+          (referred_gone key.object.0 key.page.0 k.chains k.memory.objects k.memory.resident k2.memory.resident page.row rests.referred))
+          (rw freed.objects rests.thin) rests.idle;
       goes = goes_one header h outside doing past before e m.settled follows;
       gone = record { more = e ∷ []; is = refl; each = (refl, tt) };
       reclaimed =
@@ -291,6 +297,14 @@ referred_returned {o = o} {p = p} {object = object} k k2 all known put live is r
     (referred_controlled o object (controlled object) k.chains k.memory.objects k2.memory.objects k.memory.resident known put counts.references
     (λ lives. some) (λ lives. live) all)
 
+-- so nothing can be merged still
+thin_returned : {o : ℕ} {object : ObjectRow} (k k2 : Parts) → IsThin k.chains k.memory.objects → object_at k.memory.objects o ≡ Some object
+    → PutsObject o (Some (controlled object)) k.memory.objects k2.memory.objects → IsThin k.chains k2.memory.objects
+thin_returned {o = o} {object = object} k k2 thin known put =
+    let counts = counts_controlled object.state object in
+    thin_objects k.chains k.memory.objects k2.memory.objects
+    (references_put o object (controlled object) k.memory.objects k2.memory.objects known counts.references (never_controlled object.state object) put) thin
+
 -- what is said where a page goes back
 abbrev sent_back : PageKey → Bool → ObjectRow → List ℕ → List Event → ℕ → PagerState → HostId → List Event
 sent_back key dirty object bytes events size pager host =
@@ -331,7 +345,7 @@ took_told header h outside doing past ids skip k k2 before after rests beside lo
       rests =
           rests_beside beside back (record { none_owed = refl; shut = λ region. refl }) (replied_behind tt m.replied)
           (referred_returned k k2 rests.referred is.known is.objects is.live
-          (rests.referred.pages o p row page.found) page.row) rests.idle;
+          (rests.referred.pages o p row page.found) page.row) (thin_returned k k2 rests.thin is.known is.objects) rests.idle;
       goes = goes_one header h outside doing past before e m.settled follows;
       gone = record { more = e ∷ []; is = refl; each = (refl, tt) };
       reclaimed =
@@ -396,7 +410,7 @@ took_first header h outside doing past ids skip k k2 before after rests beside l
       rests =
           rests_beside beside back (record { none_owed = refl; shut = λ region. refl }) (replied_behind tt (replied_behind tt m.replied))
           (referred_returned k k2 rests.referred is.known is.objects is.live referred
-          page.row) rests.idle;
+          page.row) (thin_returned k k2 rests.thin is.known is.objects) rests.idle;
       goes =
           record {
             more = e2 ∷ e1 ∷ [];
@@ -464,7 +478,7 @@ pub rests_touched : (header : Header) (h : ℕ) (ids : Ids) (k : Parts) (queues 
 rests_touched header h ids k queues past rests keeps count =
     rests_of (record k { memory = record k.memory { queues = queues } }) (inside_touched queues (inside rests) keeps count) rests.matches.settled
     rests.matches.replied
-    rests.referred rests.idle
+    rests.referred rests.thin rests.idle
 
 pub reclaimed_touched : (h : ℕ) (answer : Reclaim) (skip : List FrameNo) (k k2 : Parts) (queues : Queues) (before after : List Event)
     → FreesBut h skip answer (record k { memory = record k.memory { queues = queues } }) k2 before after → FreesBut h skip answer k k2 before after

@@ -153,7 +153,7 @@ kind_controlled header o state.Without row is has =
             kind = its.kind;
             number = λ some. ap (λ z. z + 1) (its.number some ∙ ap (λ z. if has_pager z then 1 else 0) is);
           };
-      declared = λ less. let its = has.declared less in record { kind = its.kind; pages = its.pages; told = λ some. refl };
+      declared = λ less. let its = has.declared less in record { kind = its.kind; pages = its.pages; told = λ some. refl; number = omega arith };
     }
 
 -- the kinds of objects, where one has a pager now, and a page of it isn't known to be missing
@@ -192,6 +192,12 @@ pub counts_controlled : (pager : PagerState) (row : ObjectRow) → KeepsCounts r
 counts_controlled state.Sent row = record { references = refl; pages = refl }
 counts_controlled state.Ready row = record { references = refl; pages = refl }
 counts_controlled state.Without row = record { references = refl; pages = refl }
+
+-- where it has no control now, it had none
+pub never_controlled : (pager : PagerState) (row : ObjectRow) → (row_with_control pager row).control ≡ 0 → row.control ≡ 0
+never_controlled state.Sent row none = none
+never_controlled state.Ready row none = none
+never_controlled state.Without row none = absurd (let bad : row.control + 1 ≡ 0 = none in omega (arith, bad))
 
 -- those whose pagers were told of them are told still
 pub told_controlled : (os os2 : ObjectTable) (o : ℕ) (row : ObjectRow) → object_at os o ≡ Some row → PutsObject o (Some (row_with_control row.state row)) os os2

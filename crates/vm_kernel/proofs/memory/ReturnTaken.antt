@@ -125,6 +125,7 @@ rests_taken header h k ids past object control page dirty bytes f fs laundry res
           };
       used = rests.used;
       referred = rests.referred;
+      thin = rests.thin;
       waits = rests.waits;
       order = rests.order;
       idle = rests.idle;

@@ -1,5 +1,5 @@
 -- What a shadow leaves of the kernel, which a store's region gets first where that is marked.
-use Rattle.vm_state.proofs.KnownPages.{sizes_shadowed}
+use Rattle.vm_state.proofs.KnownPages.{object_few, sizes_shadowed}
 use Rattle.vm_kernel.proofs.Common.{ChainTable, Event, HasEntries, Header, HostParts, Ids, Inside, IsInside, List, Matches, None, ObjectId, ObjectTable, Parts}
 use Rattle.vm_kernel.proofs.Common.{PutsObject, Region, RegionRow, SameMarks, Some, Works, [], ap, arith, false, has_region, home_of, inl, inr}
 use Rattle.vm_kernel.proofs.Common.{is_some, is_woken, local_of_row, marks_of, next_object, next_region, object_at, one_case, pages_in, refl, region_at}
@@ -7,11 +7,12 @@ use Rattle.vm_kernel.proofs.Common.{region_pages, row_at, rows_in, rows_map, som
 use Rattle.vm_kernel.proofs.Common.{◌⊎◌}
 use Rattle.vm_kernel.proofs.Common.{if◌then◌else◌, ◌==◌}
 use Rattle.vm_kernel.proofs.space.RegionsFilled.{shadowed_filled, unknown_unfilled}
+use Rattle.vm_kernel.proofs.space.StillThin.{thin_shadowed}
 use Rattle.vm_state.proofs.Filling.{copies_kept, rows_unmade}
 use Rattle.vm_abroad.proofs.Home.{home_shadowed, named_objects, object_stays}
 use Rattle.vm_base.specs.Limits.{most_objects}
 use Rattle.vm_base.specs.declared.ids.RegionId.{RegionId}
-use Rattle.vm_fault.specs.Faults.{FaultState, MakesShadow}
+use Rattle.vm_fault.specs.Faults.{FaultState, MakesShadow, has_one}
 use Rattle.vm_fault.specs.Walks.{ChainsFit}
 use Rattle.vm_model.specs.declared.event.Event.TheVariants as event
 use Rattle.vm_parts.specs.Fits.{Fit}
@@ -90,16 +91,17 @@ entries_kept size k new has keeps =
       counts = λ r row is. let was = keeps.row r row is in was.2 ∙ has.counts r was.0 was.1;
     }
 
--- a region gets an object of its own, over its old top
+-- a region gets an object of its own, over its old top, which has another reference
 pub shadowed_with : (header : Header) (h : ℕ) (outside : Outside) (doing : Command) (past : List Event) (k : Parts) (ids : Ids) (region : RegionId)
     (object : ObjectId) (row : RegionRow) (chains : ChainTable) (objects : ObjectTable) → Works header h k ids woken.Nobody past
-    → region_at k.chains region.0 ≡ Some row → 0 < row.entries → row.marked ≡ true → object.0 ≡ ids.next_object
+    → region_at k.chains region.0 ≡ Some row → 0 < row.entries → row.marked ≡ true → has_one (object_at k.memory.objects row.top.0) ≡ false
+    → object.0 ≡ ids.next_object
     → ShadowsRegion region.0 object row k.chains chains → PutsObject object.0 (Some (new_object row.pages)) k.memory.objects objects
     → SameMarks k.memory.objects objects → Fit (record k.memory { objects = objects }) → ChainsFit chains objects
     → Shadows header region.0 object.0 row.top.0 past
     → Works header h (record k { memory = record k.memory { objects = objects }; chains = chains })
     (record ids { next_object = ids.next_object + 1; marks = ids.marks - 1 }) woken.Nobody (event.Shadowed region object row.top ∷ past)
-shadowed_with header h outside doing past k ids region object row chains objects works there counted marked next made put same fit fits cause =
+shadowed_with header h outside doing past k ids region object row chains objects works there counted marked shared next made put same fit fits cause =
     record {
       matches = record {
         ranged = m.ranged;
@@ -125,6 +127,7 @@ shadowed_with header h outside doing past k ids region object row chains objects
         files = files_temporary header h object.0 (Some (new_object row.pages)) k.memory.objects objects (λ o. home_of o past) new put m.files;
         sizes =
             sizes_shadowed header past (named header) region object row.top (new_object row.pages) k.memory.objects objects put
+            (let within = m.regions.fits.tops region.0 row there in let most = object_few m.sizes row.top.0 in omega (arith, within, most))
             (sym (ap (λ (z : Region). z.pages) (m.regions.rows region.0 row there))) m.sizes;
         entries = entries_kept header.size k chains m.entries keeps;
         pages = record { shown = λ o p. m.pages.shown o p ∙ ap (λ b. local_of_row k.memory.frames (row_at k.memory.resident o p) b) (sym (same.at o p)) };
@@ -151,10 +154,12 @@ shadowed_with header h outside doing past k ids region object row chains objects
       referred =
           referred_shadowed region.0 object row (new_object row.pages) k.chains chains k.memory.objects objects k.memory.resident made put (omega arith)
           (λ is. absurd (let bad : false ≡ true = sym (ap is_live_in unknown) ∙ is in cc)) works.referred;
+      thin =
+          thin_shadowed region.0 object row (new_object row.pages) k.chains chains k.memory.objects objects there below shared made put works.thin;
       waits =
           waits_shadowed k.maps k.chains chains k.memory.resident k.memory.objects objects k.waits.rows (is_woken woken.Nobody) (λ u. waiting u past) region.0
           object row works.waits there made
-          (subst (λ (z : ℕ). ObjectsBelow z k.chains) (sym number) (objects_below m.regions))
+          below
           (fresh_away header h k ids past m works.referred object new unknown)
           (knows_made k.memory.objects objects object.0 (new_object row.pages) unknown put);
       order = works.order;
@@ -180,6 +185,9 @@ shadowed_with header h outside doing past k ids region object row chains objects
 
     unknown : object_at k.memory.objects object.0 ≡ None
     unknown = m.regions.unknown object.0 at_least
+
+    below : ObjectsBelow object.0 k.chains
+    below = subst (λ (z : ℕ). ObjectsBelow z k.chains) (sym number) (objects_below m.regions)
 
     keeps : KeepsRegions k.chains chains
     keeps = keeps_shadowed region.0 object row k.chains chains made there
@@ -211,6 +219,7 @@ works_shadowed header h outside doing past k ids region row old new works memory
     (subst (λ (z : HostParts). Works header h (record k { memory = z; chains = new.chains })
     (record ids { next_object = ids.next_object + 1; marks = ids.marks - 1 }) woken.Nobody (e ∷ past)) (sym parts)
     (shadowed_with header h outside doing past k ids region made.object row new.chains objects works there counted marked
+    (subst (λ (z : HostParts). has_one (object_at z.objects row.top.0) ≡ false) memory made.shared)
     (made.next ∙ ap (λ (z : Ids). z.next_object) numbers)
     (subst (λ (z : ChainTable). ShadowsRegion region.0 made.object row z new.chains) chains made.chains)
     (subst (λ (z : HostParts). PutsObject made.object.0 (Some (new_object row.pages)) z.objects objects) memory made.objects)

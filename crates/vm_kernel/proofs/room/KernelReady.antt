@@ -18,6 +18,8 @@ front_same wide.Few k new maps frames known = refl
 front_same (wide.Entries task) k new maps frames known = ap (λ (z : Mapped). 1 + 4 * length (rows_in task.0 z)) maps
 front_same wide.Frames k new maps frames known = omega (arith, frames)
 front_same wide.Pages k new maps frames known = omega (arith, frames, known)
+front_same (wide.Ends task) k new maps frames known =
+    let rows = ap (λ (z : Mapped). length (rows_in task.0 z)) maps in omega (arith, frames, known, rows)
 
 -- and as much is made
 pub making_same : (breadth : Breadth) (k new : Parts) → new.maps ≡ k.maps → frame_count new.memory.frames ≡ frame_count k.memory.frames
@@ -26,6 +28,7 @@ making_same wide.Few k new maps frames = refl
 making_same (wide.Entries task) k new maps frames = ap (λ (z : Mapped). 1 + 4 * length (rows_in task.0 z)) maps
 making_same wide.Frames k new maps frames = omega (arith, frames)
 making_same wide.Pages k new maps frames = refl
+making_same (wide.Ends task) k new maps frames = refl
 
 -- a frame that is given back leaves the room
 module _ (breadth : Breadth) (k new : Parts) (is : new ≡ record k { memory = record k.memory { frames = new.memory.frames }; laundry = new.laundry })

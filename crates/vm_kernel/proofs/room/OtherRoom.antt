@@ -1,5 +1,7 @@
 -- What a kernel stands for doesn't depend on how much room its tables have.
 use Rattle.vm_kernel.proofs.Common.{refl}
+use Rattle.vm_kernel.proofs.space.StillThin.{references_same, thin_kept}
+use Rattle.vm_merge.specs.Merges.{IsThin}
 use Rattle.vm_kernel.proofs.Common.{All, Bool, Entry, Event, FrameTable, Header, List, Option, PageKey, Parts, [], inl, inr, rows_map, suc, zero, ℕ}
 use Rattle.vm_base.specs.declared.ids.FrameNo.{FrameNo}
 use Rattle.vm_fault.specs.Walks.{ChainsFit, IsAt, IsUnder}
@@ -155,6 +157,10 @@ module _ (objects : ObjectTable) (n m : ℕ) where
     shadows = λ o row there. referred_roomier o (was.shadows o row there);
   }
 
+  thin_roomier : (chains : ChainTable) (spare : ℕ) → IsThin chains objects → IsThin (record chains { spare = spare }) more_objects
+  thin_roomier chains spare was =
+      thin_kept chains (record chains { spare = spare }) objects more_objects (λ o row is. is) (references_same objects more_objects (λ o. refl)) was
+
   regions_roomier : (chains : ChainTable) (spare : ℕ) (ids : Ids) (region_from : ℕ → _) (backing_from : ℕ → _) (regions_made objects_made marked : ℕ)
       → HasRegions chains objects ids region_from backing_from regions_made objects_made marked
       → HasRegions (record chains { spare = spare }) more_objects ids region_from backing_from regions_made objects_made marked
@@ -239,7 +245,7 @@ matches_roomier header h rooms k ids gone past was = record {
   kinds = kinds_roomier k.memory.objects rooms.objects rooms.marks header k.chains rooms.shadows was.kinds;
   homes = was.homes;
   files = was.files;
-  sizes = record { at = was.sizes.at };
+  sizes = record { at = was.sizes.at; few = was.sizes.few };
   entries = entries_roomier k.chains rooms.shadows header.size k.maps gone was.entries;
   shared = was.shared;
   pages = pages_roomier k.memory.objects rooms.objects rooms.marks k.memory.frames k.memory.resident rooms.rows _ was.pages;
@@ -260,6 +266,7 @@ rests_roomier header h rooms k ids past was = record {
   matches = matches_roomier header h rooms k ids [] past was.matches;
   used = uses_roomier header rooms k past was.used;
   referred = all_referred_roomier k.memory.objects rooms.objects rooms.marks k.chains k.memory.resident rooms.shadows rooms.rows was.referred;
+  thin = thin_roomier k.memory.objects rooms.objects rooms.marks k.chains rooms.shadows was.thin;
   waits = waiters_roomier header h rooms k woken.Nobody past was.waits;
   order = was.order;
   idle = was.idle;

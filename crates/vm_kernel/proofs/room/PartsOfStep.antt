@@ -1,6 +1,7 @@
 -- What the parts of a step spend in front of the accesses that are run, and what they leave for those.
-use Rattle.vm_kernel.proofs.Common.{Bool, Command, Err, Event, Header, Ids, List, Matches, ObjectTable, Ok, OnOk, On, PageKey, Parts, Result, WaitTable}
-use Rattle.vm_kernel.proofs.Common.{Waiting, [], ap, arith, false, frame_count, length, length-append, one_again, one_frame, refl, returns_out, subst, sym}
+use Rattle.vm_kernel.proofs.Common.{Bool, Command, Err, Event, Header, Ids, List, Matches, ObjectTable, Ok, OnOk, On, PageKey, Parts, Result, TaskId, WaitTable}
+use Rattle.vm_kernel.proofs.Common.{Waiting, [], ap, arith, false, frame_count, length, length-append, one_again, one_frame, refl, returns_out, rows_in, subst}
+use Rattle.vm_kernel.proofs.Common.{sym}
 use Rattle.vm_kernel.proofs.Common.{true, ℕ, ◌++◌, ◌+◌}
 use Rattle.vm_kernel.proofs.Common.{◌*◌, ◌<◌, ◌∙◌, ◌∷◌, ◌≡◌, ◌≤◌}
 use Rattle.std.specs.Prelude.{IsOk, OnErr, vec_capacity}
@@ -96,6 +97,15 @@ leaving_few {header} {h} {k} {ids} {past} m once =
   where
     by : (listed live frames known : ℕ) → listed ≤ frames → live ≤ known → 1 + (listed + live) ≤ 2 * frames + known + 1
     by listed live frames known few fewer = omega (arith, few, fewer)
+
+-- and with an object for each entry of a task less than where these may be merged
+pub ending_few : {header : Header} {h : ℕ} {k : Parts} {ids : Ids} {past : List Event} (task : TaskId) → Matches header h k ids [] past
+    → EachOnce (k.memory.queues.inactive ++ k.memory.queues.active) → 1 + leaving k ids + length (rows_in task.0 k.maps) ≤ front (wide.Ends task) k
+ending_few {k = k} {ids = ids} task m once =
+    by (leaving k ids) (2 * frame_count k.memory.frames) (length k.memory.objects.entries) (length (rows_in task.0 k.maps)) (leaving_few m once)
+  where
+    by : (leave frames known rows : ℕ) → 1 + leave ≤ frames + known + 1 → 1 + leave + rows ≤ frames + known + 1 + rows
+    by leave frames known rows few = omega (arith, few)
 
 -- room for some is room for fewer
 pub more_fewer : (a i n j more : ℕ) (k : Parts) (room : ℕ) → HasMore a i more k room → n ≤ a → j ≤ i → HasMore n j more k room

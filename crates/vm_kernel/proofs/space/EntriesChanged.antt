@@ -36,6 +36,8 @@ use Rattle.vm_kernel.proofs.space.SharedEntries.{kinds_recounted, shared_changed
 use Rattle.vm_kernel.proofs.controls.LockReplied.{replied_behind}
 use Rattle.vm_state.specs.Passed.{IsUnmet, StaysAway}
 use Rattle.vm_kernel.proofs.Common.{KnowsHomes}
+use Rattle.vm_kernel.proofs.space.StillThin.{thin_chains}
+use Rattle.vm_merge.specs.Merges.{IsThin}
 
 -- how many entries lead to a region
 
@@ -108,6 +110,7 @@ pub record Changed (header : Header) (h : ℕ) (past : List Event) (k : Parts) (
     pub pages : HasPages k.memory.frames k.memory.resident k.memory.objects (λ o p. known_local header o p (local header h (place_of o p) past))
     pub used : AllUsed header maps chains k.memory.resident k.waits.rows (λ t. next_page t past) (λ t. copy_target t past)
     pub referred : AllReferred chains k.memory.objects k.memory.resident
+    pub thin : IsThin chains k.memory.objects
     pub waits : HasWaiters maps chains k.memory.resident k.memory.objects k.waits.rows (is_woken woken.Nobody) (λ t. waiting t past) (StaysAway header h past)
         (IsUnmet header h past)
 
@@ -138,6 +141,7 @@ changed_by header h past k ids maps chains task rows lost more rests idle change
             (recount_filled count k.chains chains is none_counted) (rows_unmade k.chains k.memory.resident);
       };
       referred = recount_referred count k.chains chains k.memory.objects k.memory.resident is rests.referred;
+      thin = thin_chains k.chains chains k.memory.objects up.shadows rests.thin;
       waits =
           waits_changed k.maps maps k.chains chains k.memory.resident k.memory.objects k.waits.rows (is_woken woken.Nobody) (λ t. waiting t past) task rows
           rests.waits changes (not_there header h past k ids task old rests lives idle) (tops_recounted count k.chains chains is)
@@ -285,6 +289,7 @@ ran_protect header h outside task address bytes prot past events k ids maps chai
           };
       used = c.used;
       referred = c.referred;
+      thin = c.thin;
       waits = c.waits;
       order = s.rests.order;
       idle = s.rests.idle;
@@ -387,6 +392,7 @@ ran_inherit header h outside task address bytes inherit past events k ids maps c
           };
       used = c.used;
       referred = c.referred;
+      thin = c.thin;
       waits = c.waits;
       order = s.rests.order;
       idle = s.rests.idle;

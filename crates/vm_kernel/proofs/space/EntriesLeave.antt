@@ -5,7 +5,8 @@ use Rattle.vm_kernel.proofs.Common.{region_entries, region_of, slice_get, Some, 
 use Rattle.vm_kernel.proofs.memory.PagesShown.{itself}
 use Rattle.vm_kernel.proofs.space.CountsChanged.{next_row}
 use Rattle.vm_kernel.proofs.space.RegionRows.{region_row}
-use Rattle.vm_kernel.specs.Endings.{CountsOut, EndBehind, EndInTurn, EndsBelow, EndsInRegion, EndsSoFar, EndsUnder, NoneCounted, RegionEnds, RegionStays}
+use Rattle.vm_kernel.specs.Endings.{CountsOut, EndBehind, EndInTurn, EndsAndMerges, EndsBelow, EndsInRegion, EndsSoFar, EndsUnder, NoneCounted, RegionEnds}
+use Rattle.vm_kernel.specs.Endings.{RegionStays}
 use Rattle.vm_model.specs.Regions.{Backing, Region}
 use Rattle.vm_model.specs.declared.event.Event.TheVariants as event
 use Rattle.vm_model.specs.declared.message.Message.TheVariants as message
@@ -144,13 +145,19 @@ out_last header h outside doing past k ids rows rest i entry events after found 
       ends = inr (record { alone = last_alone header h outside doing past k ids entry rest events s last; below = below });
     }
 
--- all of them, behind the event by which they went
+-- all of them, behind the event by which they went, and then merges
 pub ends_behind : (header : Header) (past : List Event) (first : Event) (gone were : List Entry) (start events : List Event) → start ≡ first ∷ [] → gone ≡ were
-    → SameChains header (first ∷ past) past → EndsSoFar header (start ++ past) gone [] start events → EndBehind header past first were events
-ends_behind header past first gone were start events begun same still so =
-    let its = subst (λ (z : List Event). EndsSoFar header (z ++ past) gone [] z events) begun so in
-    let all = subst (λ (z : List Entry). EndsSoFar header (first ∷ past) z [] (first ∷ []) events) same its in
-    record { ended = all.more; is = all.is; turns = turns_as header (first ∷ past) past were [] all.more still all.turns }
+    → SameChains header (first ∷ past) past → EndsAndMerges header (start ++ past) gone start events → EndBehind header past first were events
+ends_behind header past first gone were start events begun same still both =
+    let its = subst (λ (z : List Event). EndsSoFar header (z ++ past) gone [] z both.mid) begun both.ends in
+    let all = subst (λ (z : List Entry). EndsSoFar header (first ∷ past) z [] (first ∷ []) both.mid) same its in
+    record {
+      ended = all.more;
+      merged = both.merges.more;
+      is = both.merges.is ∙ ap (λ z. both.merges.more ++ z) all.is;
+      turns = turns_as header (first ∷ past) past were [] all.more still all.turns;
+      merges = both.merges.each;
+    }
 
 pub still_ended : (header : Header) (task : TaskId) (past : List Event) → SameChains header (event.TaskEnded task ∷ past) past
 still_ended header task past = record { regions = λ r. refl; backings = λ o. refl }

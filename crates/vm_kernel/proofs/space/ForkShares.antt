@@ -57,6 +57,7 @@ use Rattle.vm_kernel.proofs.controls.LockReplied.{replied_behind}
 use Rattle.vm_state.specs.Passed.{IsUnmet, StaysAway}
 use Rattle.vm_kernel.proofs.memory.PageReturned.{controls_stay}
 use Rattle.vm_kernel.proofs.space.RegionHomes.{homes_caused}
+use Rattle.vm_kernel.proofs.space.StillThin.{thin_chains}
 
 -- One entry is shared.
 
@@ -245,6 +246,7 @@ rests_shared header h outside doing task row past k k2 ids before after rests ma
             (rows_unmade k.chains k.memory.resident);
       });
       referred = rw s.memory (referred_recounted k.chains k2.chains k.memory.objects k.memory.resident recount rests.referred);
+      thin = rw s.memory (thin_chains k.chains k2.chains k.memory.objects recount.recounts.shadows rests.thin);
       waits = rw (s.memory, s.waits) now_waits;
       order = rw s.waits rests.order;
       idle = ap (λ z. count_again z.rows) s.waits ∙ rests.idle;

@@ -433,7 +433,12 @@ ends_told header h outside doing past who k ids rest object events row objects s
           lives = refl;
           temporary = λ least. record { kind = (its.temporary least).kind; number = λ some. absurd (omega (arith, some, unreferred)) };
           declared =
-              λ less. record { kind = (its.declared less).kind; pages = (its.declared less).pages; told = λ some. absurd (omega (arith, some, unreferred)) };
+              λ less. record {
+                kind = (its.declared less).kind;
+                pages = (its.declared less).pages;
+                told = λ some. absurd (omega (arith, some, unreferred));
+                number = (its.declared less).number;
+              };
         }
 
     alive : live_control h object.0 (events ++ past) ≡ Some row.control

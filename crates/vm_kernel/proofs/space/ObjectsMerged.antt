@@ -1,14 +1,21 @@
 -- An object is merged into its shadow inside a command's step: the kernel stands for the history with that told, and so it goes on until none can be merged.
 use Rattle.std.proofs.Common.{List, Some, [], ◌∷◌, ◌++◌, ◌∙◌, ◌≡◌, ◌<◌, ◌≤◌, ◌+◌, ℕ, ap, arith, false, inl, inr, refl, subst, sym, true}
+use Rattle.std.proofs.lemmas.Bool.{cases_lt}
 use Rattle.std.proofs.lemmas.Bool.Decides.{eqb_tells}
+use Rattle.vm_base.specs.Limits.{most_pages}
 use Rattle.vm_base.specs.declared.ids.ObjectId.{ObjectId}
+use Rattle.vm_kernel.proofs.Common.{append_assoc, of_both}
 use Rattle.vm_kernel.proofs.controls.LockReplied.{replied_behind}
+use Rattle.vm_kernel.proofs.lists.ListsAsTold.{paging_in, plays_both, plays_told}
+use Rattle.vm_kernel.proofs.lists.PagesJoined.{pages_join}
 use Rattle.vm_kernel.proofs.space.NothingLeft.{regions_used, swept}
 use Rattle.vm_kernel.proofs.space.ObjectEnds.{entries_kept, used_there}
 use Rattle.vm_kernel.proofs.space.RegionHomes.{homes_caused}
 use Rattle.vm_kernel.proofs.steps.EventsGrow.{grows_more, suffices}
+use Rattle.vm_kernel.specs.Endings.{IsMerge, MergesOnly}
 use Rattle.vm_kernel.specs.Fits.{IsPlainRow}
 use Rattle.vm_kernel.specs.Matches.{Matches}
+use Rattle.vm_kernel.specs.Plays.{Does, PagesJoin, Plays, Still}
 use Rattle.vm_kernel.specs.Sweeping.{IsWhole, Sweeps}
 use Rattle.vm_kernel.specs.declared.parts.Parts.{Parts}
 use Rattle.vm_legal.specs.Frames.{frames_held, frames_wired, pages_gone, returns_out}
@@ -16,17 +23,20 @@ use Rattle.vm_legal.specs.Homes.{IsOnlyOfHost}
 use Rattle.vm_legal.specs.Licences.{HasCause}
 use Rattle.vm_legal.specs.Merges.{Merges}
 use Rattle.vm_legal.specs.Outside.{Outside}
+use Rattle.vm_merge.specs.Standing.{MayMerge}
 use Rattle.vm_merge.specs.Merges.{CanMerge, IsThin, MergeInTurn, MergeState, MergesInto, NoneLeft, OneFirst}
 use Rattle.vm_model.specs.Homes.{home_of, object_home}
 use Rattle.vm_model.specs.Local.{is_on}
 use Rattle.vm_model.specs.Named.{named}
-use Rattle.vm_model.specs.Regions.{next_object, next_region, object_pages}
+use Rattle.vm_model.specs.Regions.{Backing, next_object, next_region, object_pages}
 use Rattle.vm_model.specs.Waiting.{waiting}
 use Rattle.vm_model.specs.declared.command.Command.{Command}
 use Rattle.vm_model.specs.declared.event.Event.{Event}
 use Rattle.vm_model.specs.declared.event.Event.TheVariants as event
 use Rattle.vm_model.specs.declared.script.Header.{Header}
-use Rattle.vm_objects.specs.Objects.{ObjectTable}
+use Rattle.vm_objects.specs.Objects.{ObjectTable, object_at}
+use Rattle.vm_objects.specs.declared.row.ObjectRow.{ObjectRow}
+use Rattle.vm_parts.proofs.Rows.{some_is}
 use Rattle.vm_parts.specs.Fits.{Fit, pages_of_row}
 use Rattle.vm_parts.specs.Merging.{PagesMerge}
 use Rattle.vm_parts.specs.declared.parts.HostParts.{HostParts}
@@ -35,18 +45,22 @@ use Rattle.vm_shadow.specs.Chains.{ChainTable}
 use Rattle.vm_shadow.specs.declared.ids.Ids.{Ids}
 use Rattle.vm_state.proofs.Declared.{shadow_temporary}
 use Rattle.vm_state.proofs.FramesMerged.{frames_merged, held_merged, laundry_merged}
-use Rattle.vm_state.proofs.MergedPages.{AreHere, all_here, shown_merged}
+use Rattle.vm_state.proofs.KnownPages.{object_few}
+use Rattle.vm_state.proofs.MergedPages.{AreHere, all_here, here_untold, shown_merged}
 use Rattle.vm_state.proofs.MergedWaits.{waits_merged}
-use Rattle.vm_state.proofs.Merging.{controls_merged, files_merged, homes_merged, kinds_merged, merged_apart, pages_merged, regions_merged}
+use Rattle.vm_state.proofs.Merging.{controls_merged, files_merged, homes_merged, kinds_merged, merged_apart, never_told, pages_merged, regions_merged}
 use Rattle.vm_state.proofs.Filling.{IsUnfilled}
 use Rattle.vm_state.proofs.Moving.{Rose, RowWas, Stayed, referred_merged, row_was, upper_unfilled, used_merged}
 use Rattle.vm_state.proofs.PagesMerged.{PagesMerged, claims_merged, here_at, tables_merged}
 use Rattle.vm_state.proofs.Pairs.{KnowsPairs, merges_told}
+use Rattle.vm_state.proofs.Referring.{sole_region, sole_shadow}
 use Rattle.vm_state.proofs.Targets.{target_unshadowed}
 use Rattle.vm_state.specs.Counts.{marks_of}
 use Rattle.vm_state.specs.Merging.{MergesObjects}
+use Rattle.vm_state.specs.Pagers.{has_pager}
 use Rattle.vm_state.specs.Waiters.{is_woken}
 use Rattle.vm_supply.specs.declared.woken.Woken.TheVariants as woken
+use Rattle.vm_terminate.specs.Finishes.{IsReferred}
 
 -- the kernel with these parts and chains
 abbrev pub with_state : Parts → MergeState → Parts
@@ -216,9 +230,74 @@ one_merged {header = header} {h = h} {outside = outside} {doing = doing} {past =
     }) merges.pages
     (subst Fit merges.rest fit) (sym (ap (λ (z : HostParts). z.buffers) merges.rest) ∙ buffers) merges.least))
 
+-- what it does to the lists of pages
+one_does : {header : Header} {h : ℕ} {outside : Outside} {doing : Command} {past : List Event} {ids : Ids} (k : Parts) (upper lower : ObjectId)
+    (old new : MergeState) → Sweeps header h outside doing past (with_state k old) ids [] old.events → MergesInto upper lower old new
+    → Does header (old.events ++ past) (event.Merged upper lower) (paging_in old.parts) (paging_in new.parts)
+one_does {header = header} {past = past} k upper lower old new sweeps merges =
+    let m = sweeps.runs.matches in
+    let can = merges.can in
+    let temporary = shadow_temporary m.regions m.homes.1 upper.0 can.link can.over in
+    subst (λ (z : HostParts). Does header (old.events ++ past) (event.Merged upper lower) (paging_in old.parts) (paging_in z)) (sym merges.rest)
+    (subst (λ (n : ℕ). PagesJoin upper.0 lower.0 n (object_pages header upper.0 (old.events ++ past)) 0 (paging_in old.parts) (paging_in merges.moved))
+    (sym (ap (λ (z : Backing). z.shift) (m.regions.shadows upper.0 can.link can.over)))
+    (subst (λ (n : ℕ). PagesJoin upper.0 lower.0 can.link.shift n 0 (paging_in old.parts) (paging_in merges.moved))
+    (m.sizes.at upper.0 can.upper_row temporary can.upper_known)
+    (pages_join upper lower can.link.shift can.upper_row.pages 0 old.parts merges.moved (merged_apart m.regions.ranked can)
+    (all_here m.kinds temporary sweeps.referred sweeps.runs.waits.ready can) merges.pages)))
+
+-- what has happened once none can be merged any more
+pub record AllMerged (header : Header) (h : ℕ) (outside : Outside) (doing : Command) (past : List Event) (k : Parts) (ids : Ids) (old new : MergeState) : Type 0
+  where
+    pub sweeps : Sweeps header h outside doing past (with_state k new) ids [] new.events
+    pub thin : IsThin new.chains new.parts.objects
+    pub plays : Plays header past old.events (paging_in old.parts) new.events (paging_in new.parts)
+    pub only : MergesOnly old.events new.events
+
 pub all_merged : {header : Header} {h : ℕ} {outside : Outside} {doing : Command} {past : List Event} {ids : Ids} (k : Parts) (old new : MergeState)
     → MergeInTurn old new → Sweeps header h outside doing past (with_state k old) ids [] old.events
-    → Sweeps header h outside doing past (with_state k new) ids [] new.events × IsThin new.chains new.parts.objects
-all_merged k old new (NoneLeft _ thin) sweeps = (sweeps, thin)
+    → AllMerged header h outside doing past k ids old new
+all_merged k old new (NoneLeft _ thin) sweeps =
+    record { sweeps = sweeps; thin = thin; plays = Still; only = record { more = []; is = refl; each = tt } }
 all_merged k old new (OneFirst upper lower _ mid _ merges fit buffers more) sweeps =
-    all_merged k mid new more (one_merged k upper lower old mid sweeps merges fit buffers)
+    let rest = all_merged k mid new more (one_merged k upper lower old mid sweeps merges fit buffers) in
+    record {
+      sweeps = rest.sweeps;
+      thin = rest.thin;
+      plays = plays_both (plays_told merges.told (one_does k upper lower old mid sweeps merges)) rest.plays;
+      only = record {
+        more = rest.only.more ++ event.Merged upper lower ∷ [];
+        is = rest.only.is ∙ (ap (λ z. rest.only.more ++ z) merges.told ∙ sym (append_assoc rest.only.more (event.Merged upper lower ∷ []) old.events));
+        each = of_both IsMerge rest.only.more (event.Merged upper lower ∷ []) rest.only.each (tt, tt);
+      };
+    }
+
+-- such a kernel may merge
+
+pub may_merge : {header : Header} {h : ℕ} {outside : Outside} {doing : Command} {past : List Event} {ids : Ids} (k : Parts) (events : List Event)
+    → Sweeps header h outside doing past k ids [] events → MayMerge most_pages k.memory k.chains
+may_merge {header = header} {h = h} {past = past} {ids = ids} k events sweeps =
+    record {
+      fit = m.fits.parts;
+      here = λ o known found never p row there. here_untold k.memory.resident k.memory.objects o known found
+          (quiet o known found never (elim (cases_lt o (named header)) [
+            | inl declared ↦ absurd (let number = ((m.kinds.kinds o known found).declared declared).number in omega (arith, number, never))
+            | inr least ↦ least
+          ]) (sweeps.referred.pages o p row there)) sweeps.runs.waits.ready p row there;
+      most = object_few m.sizes;
+      few = omega arith;
+      shadows = m.regions.fits.unders;
+      counts = λ u l can. record {
+        bare = λ r row found top. sole_region m.regions l can.lower_row can.lower_known can.sole u can.link can.over can.under r row found top;
+        shadows = λ o row found under. sole_shadow m.regions l can.lower_row can.lower_known can.sole u can.link can.over can.under o row found under;
+      };
+    }
+  where
+    m : Matches header h k ids [] (events ++ past)
+    m = sweeps.runs.matches
+
+    quiet : (o : ℕ) (known : ObjectRow) → object_at k.memory.objects o ≡ Some known → known.control ≡ 0 → named header ≤ o → IsReferred k.memory.objects o
+        → has_pager known.state ≡ false
+    quiet o known found never least referred =
+        never_told header o known least (m.kinds.kinds o known found)
+        (subst (λ (z : ObjectRow). 0 < z.references) (some_is referred.row known (sym referred.known ∙ found)) referred.some) never

@@ -53,6 +53,7 @@ use Rattle.vm_state.specs.References.{is_live_in}
 use Rattle.vm_state.specs.Counts.{marks_of}
 use Rattle.vm_kernel.proofs.Common.{KnowsHomes}
 use Rattle.vm_kernel.proofs.space.RegionHomes.{homes_caused, homes_put}
+use Rattle.vm_kernel.proofs.space.StillThin.{thin_made}
 
 -- what an allocation that isn't refused has
 pub record MayRange (size : ℕ) (k : Parts) (ids : Ids) (task address bytes : ℕ) : Type 0 where
@@ -513,8 +514,8 @@ rests_range header h outside task address bytes past k k2 ids maps lined rests m
                 ∙ files_temporary header h ids.next_object (Some (new_object pages)) k.memory.objects k2.memory.objects (λ z. home_of z past)
                 (first_temporary header h past k ids rests).object made.object_row m.files o file);
             sizes =
-                sizes_made header past (named header) (record { 0 = n }) object pages (new_object pages) k.memory.objects k2.memory.objects made.object_row refl
-                m.sizes;
+                sizes_made header past (named header) (record { 0 = n }) object pages (new_object pages) k.memory.objects k2.memory.objects made.object_row
+                may.few refl m.sizes;
             homes =
                 homes_put header h k.chains k2.chains n (new_region object pages) (ranged task ids address bytes pages ++ past) made.region_row.at
                 (λ paged. range_home header h task address bytes past k ids lined rests may)
@@ -537,6 +538,9 @@ rests_range header h outside task address bytes past k k2 ids maps lined rests m
           referred_put ids.next_object (new_object pages) n (Some (new_region object pages)) k.chains k2.chains k.memory.objects k2.memory.objects
           k.memory.resident made.region_row made.object_row (omega arith) (λ is. absurd (let bad : false ≡ true = sym (ap is_live_in unknown) ∙ is in cc))
           rests.referred;
+      thin =
+          thin_made ids.next_object (new_object pages) k.chains k2.chains k.memory.objects k2.memory.objects m.regions.unders
+          (λ o shadow found. sym (ap (λ f. f o) made.region_row.shadows) ∙ found) unknown made.object_row rests.thin;
       waits =
           waits_known maps k2.chains k.memory.resident k.memory.objects k2.memory.objects k.waits.rows _ (λ t. waiting t past)
           (waits_changed k.maps maps k.chains k2.chains k.memory.resident k.memory.objects k.waits.rows _ (λ t. waiting t past) task.0 _ rests.waits changes

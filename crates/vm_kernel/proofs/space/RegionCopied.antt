@@ -72,6 +72,7 @@ use Rattle.vm_model.specs.Regions.{marked_regions, object_pages}
 use Rattle.vm_kernel.proofs.memory.PageReturned.{controls_stay}
 use Rattle.vm_kernel.proofs.Common.{KnowsHomes}
 use Rattle.vm_kernel.proofs.space.RegionHomes.{homes_caused}
+use Rattle.vm_kernel.proofs.space.StillThin.{thin_chains, thin_grown}
 
 -- regions that count other entries
 
@@ -606,6 +607,11 @@ rests_copied header h outside doing task source offset row past k k2 ids ids2 be
             (filled_copy source.0 s.copy.0 offset pages s.region k.chains s.mid k2.chains once counted) (rows_unmade k.chains k.memory.resident);
       });
       referred = subst (λ (z : ResidentTable). AllReferred k2.chains k2.memory.objects z) (sym rows_are) referred;
+      thin =
+          thin_chains s.mid k2.chains k2.memory.objects recount.recounts.shadows (thin_grown top s.known
+          (record s.known { references = s.known.references + 1 }) k.chains s.mid k.memory.objects k2.memory.objects
+          (λ o shadow found. sym (ap (λ f. f o) copies.shadows) ∙ found) s.object (λ none. none)
+          (λ one. let some = referred_source m.regions source.0 s.region s.known s.there s.object in omega (arith, one, some)) s.refers rests.thin);
       waits = rw (rows_are, s.waits) now_waits;
       order = rw s.waits rests.order;
       idle = ap (λ z. count_again z.rows) s.waits ∙ rests.idle;

@@ -108,6 +108,7 @@ rests_made header h task past k ids maps rests changes free below =
                 rests.waits free)) (chains_filled k.chains) (rows_unmade k.chains k.memory.resident);
           };
       referred = rests.referred;
+      thin = rests.thin;
       waits = waits_made k.maps maps k.chains k.memory.resident k.memory.objects k.waits.rows _ task (host_id h) past rests.waits free changes;
       order = rests.order;
       idle = rests.idle;

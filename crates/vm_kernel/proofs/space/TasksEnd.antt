@@ -22,6 +22,7 @@ use Rattle.vm_kernel.proofs.controls.LockReplied.{replied_behind}
 use Rattle.vm_state.specs.Passed.{IsUnmet, StaysAway}
 use Rattle.vm_base.specs.declared.ids.PageKey.{PageKey}
 use Rattle.vm_kernel.proofs.space.RegionHomes.{homes_caused}
+use Rattle.vm_merge.specs.Merges.{IsThin}
 
 -- a task ends
 
@@ -233,12 +234,14 @@ sweeps_removed header h outside task address bytes past events k ids maps chains
 
 -- once all that has gone is swept
 pub ran_swept : (header : Header) (h : ℕ) (outside : Outside) (doing : Command) (past events : List Event) (k : Parts) (ids : Ids)
-    → Sweeps header h outside doing past k ids [] events → IsDoneInTurn header doing events past → Ran header h outside doing past k ids events
-ran_swept header h outside doing past events k ids s done =
+    → Sweeps header h outside doing past k ids [] events → IsThin k.chains k.memory.objects → IsDoneInTurn header doing events past
+    → Ran header h outside doing past k ids events
+ran_swept header h outside doing past events k ids s thin done =
     let rests : Rests header h k ids (events ++ past) = record {
       matches = s.runs.matches;
       used = s.used;
       referred = s.referred;
+      thin = thin;
       waits = s.runs.waits;
       order = s.runs.order;
       idle = s.runs.idle;

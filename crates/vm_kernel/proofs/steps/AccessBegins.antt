@@ -346,6 +346,7 @@ begun_works header h doing task what past k ids before log reserved waits is sta
           s.rests.matches can.allowed.lives;
       used = used_begun header k.maps k.chains k.memory.resident past k.waits.rows waits.rows task what s.rests.used puts_here absent;
       referred = s.rests.referred;
+      thin = s.rests.thin;
       order = order;
       waits =
           waits_after header h task what past (waits_begun k.maps k.chains k.memory.resident k.memory.objects k.waits.rows waits.rows task what

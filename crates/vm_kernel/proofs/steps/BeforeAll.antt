@@ -139,7 +139,10 @@ first_rests header h k count ranged known size host declared hosts start maps re
                 };
             homes = (λ r row paged is. none_of (region_at k.chains r) row (regions r) is, homes_start header);
             files = λ o file. sym (ap is_some (objects o));
-            sizes = record { at = λ o row least is. none_of (object_at k.memory.objects o) row (objects o) is };
+            sizes = record {
+              at = λ o row least is. none_of (object_at k.memory.objects o) row (objects o) is;
+              few = λ o row is. none_of (object_at k.memory.objects o) row (objects o) is;
+            };
             settled = record { none_owed = refl; shut = λ region. refl };
             replied = replied_none refl;
             laundry =
@@ -170,6 +173,7 @@ first_rests header h k count ranged known size host declared hosts start maps re
         locks = λ o p row is. none_of (row_at k.memory.resident o p) row (rows o p) is;
         shadows = λ o row is. none_of (shadow_at k.chains o) row (shadows o) is;
       };
+      thin = λ upper lower can. none_of (shadow_at k.chains upper) can.link (shadows upper) can.over;
       waits =
           record {
             is = λ t here. sym (ap (λ z. waiting_in k.maps.size (entry z t)) waits);
@@ -217,6 +221,7 @@ rests_line header h k ids line past rests =
           };
       used = rests.used;
       referred = rests.referred;
+      thin = rests.thin;
       waits = rests.waits;
       order = rests.order;
       idle = rests.idle;

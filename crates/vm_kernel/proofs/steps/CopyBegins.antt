@@ -14,7 +14,7 @@ use Rattle.std.proofs.Math.Nat.{mul-lt-mul_of_pos_right}
 use Rattle.std.proofs.lemmas.Bool.{or_parts}
 use Rattle.std.specs.Prelude.{IsSome}
 use Rattle.vm_abroad.proofs.Home.{home_made, objects_stay, region_made}
-use Rattle.vm_base.specs.Limits.{most_objects, most_regions}
+use Rattle.vm_base.specs.Limits.{most_objects, most_pages, most_regions}
 use Rattle.vm_base.specs.Pages.{page_positive}
 use Rattle.vm_base.specs.declared.ids.Inherit.TheVariants.{Copy}
 use Rattle.vm_base.specs.declared.ids.Access.TheVariants as need
@@ -66,6 +66,7 @@ use Rattle.vm_state.specs.Passed.{IsUnmet, StaysAway}
 use Rattle.vm_state.specs.Counts.{marks_of}
 use Rattle.vm_kernel.proofs.Common.{KnowsHomes}
 use Rattle.vm_kernel.proofs.space.RegionHomes.{homes_caused, homes_put}
+use Rattle.vm_kernel.proofs.space.StillThin.{thin_made}
 
 -- An address behind another in its entry is in the same entry.
 
@@ -112,6 +113,7 @@ pub record MayBegin (header : Header) (task address bytes to : ℕ) (past : List
   pub even : address % header.size ≡ 0
   pub whole : bytes / header.size * header.size ≡ bytes
   pub some : 0 < bytes / header.size
+  pub short : bytes / header.size ≤ most_pages
   pub below : address + bytes ≤ 2 ^ 32
   pub place : IsFreeFor k.maps task to (bytes / header.size)
   pub idle : waiting task past ≡ None
@@ -176,6 +178,7 @@ may_begin header h task address bytes to past k ids before s is_declared order =
       even = grind (arith, nat_tests);
       whole = whole;
       some = some_pages pages size bytes whole some_bytes;
+      short = p.short;
       below = grind (arith, nat_tests);
       place =
           record {
@@ -589,7 +592,8 @@ module _ (header : Header) (h : ℕ) (outside : Outside) (task : TaskId) (addres
             ∙ files_temporary header h ids.next_object (Some (new_object pages)) k.memory.objects k2.memory.objects (λ z. home_of z past) temporary.object
             made.object_row m.files o file;
         sizes =
-            sizes_made header front (named header) region target pages (new_object pages) k.memory.objects k2.memory.objects made.object_row refl m.sizes;
+            sizes_made header front (named header) region target pages (new_object pages) k.memory.objects k2.memory.objects made.object_row may.short
+            refl m.sizes;
         entries = entries_now;
         shared = m.shared;
         pages =
@@ -615,6 +619,9 @@ module _ (header : Header) (h : ℕ) (outside : Outside) (task : TaskId) (addres
             referred_put ids.next_object (new_object pages) n (Some (filled_row target pages)) k.chains k2.chains k.memory.objects k2.memory.objects
             k.memory.resident made.region_row made.object_row (omega arith) (λ is. absurd (let bad : false ≡ true = sym (ap is_live_in unknown) ∙ is in cc))
             rests.referred;
+        thin =
+            thin_made ids.next_object (new_object pages) k.chains k2.chains k.memory.objects k2.memory.objects rests.matches.regions.unders
+            (λ o shadow found. sym (ap (λ f. f o) made.region_row.shadows) ∙ found) unknown made.object_row rests.thin;
         waits = waits_now;
         order = order_now pushed lined;
       }

@@ -51,6 +51,7 @@ use Rattle.vm_kernel.proofs.controls.WaitersFail.{fills_apart}
 use Rattle.vm_state.specs.Passed.{IsUnmet, StaysAway}
 use Rattle.vm_kernel.proofs.memory.PageReturned.{controls_stay}
 use Rattle.vm_kernel.proofs.space.RegionHomes.{homes_caused}
+use Rattle.vm_kernel.proofs.space.StillThin.{thin_chains}
 
 -- so many whole pages are so many
 counted_pages : (size pages : ℕ) → 0 < size → pages * size / size ≡ pages
@@ -436,6 +437,7 @@ works_ended header h outside doing k ids past w address pages target next c last
             copies = copies_ended c waits2.rows put.entry k2.maps _ changes k2.chains counts;
           };
       referred = referred_recounted k.chains k2.chains k.memory.objects k.memory.resident recount c.referred;
+      thin = thin_chains k.chains k2.chains k.memory.objects recount.recounts.shadows c.thin;
       waits =
           waits_changed k.maps k2.maps k.chains k2.chains k.memory.resident k.memory.objects waits2.rows (is_woken woken.Nobody) (λ u. waiting u (first ∷ past))
           t (Some (entered row (rows_in t k.maps))) left changes (row_gone t k.waits.rows waits2.rows put.entry)

@@ -49,6 +49,7 @@ use Rattle.vm_waits.specs.declared.waiting.Want.TheVariants as want
 use Rattle.vm_kernel.proofs.memory.PlacesPassed.{waits_filled}
 use Rattle.vm_state.specs.Passed.{IsUnmet, Passed, StaysAway}
 use Rattle.vm_kernel.proofs.space.RegionsFilled.{place_unfilled}
+use Rattle.vm_merge.specs.Merges.{IsThin}
 
 -- a slow copy has made its next page, which its row doesn't say yet
 pub record Copying (header : Header) (h : ℕ) (k : Parts) (ids : Ids) (past : List Event) (w : Waiting) (address pages : ℕ) (target : ObjectId) (next : ℕ) : Type
@@ -63,6 +64,7 @@ pub record Copying (header : Header) (h : ℕ) (k : Parts) (ids : Ids) (past : L
       → FitsCopy header k.maps k.chains k.memory.resident t v.want v.destination (next_page t past) (copy_target t past)
   pub apart : (t u r : ℕ) → fills_in r (entry k.waits.rows t) ≡ true → fills_in r (entry k.waits.rows u) ≡ true → t ≡ u
   pub referred : AllReferred k.chains k.memory.objects k.memory.resident
+  pub thin : IsThin k.chains k.memory.objects
   pub waits : HasWaits header h k woken.Nobody past
   pub order : HasOrder k past
 
@@ -215,6 +217,7 @@ page_made header h past k ids w address pages target next key row frame memory w
       referred =
           page_referred top frame _ _ _ _ _ k memory c plan (refers_region m.regions to (filled_row target pages) slow.region)
           (λ row2 same. inl (ap (λ (z : PageRow). z.lock) (sym (some_is _ row2 same)))) works.referred;
+      thin = rw plan.objects works.thin;
       waits =
           page_waits top frame _ _ _ _ _ k memory (is_woken woken.Nobody) (λ u. waiting u past) c plan (none_unawaited None refl)
           (here_unawaited _ _ refl refl refl)
@@ -246,6 +249,7 @@ copying_touched header h past k ids w address pages target next frame memory tou
           others = copying.others;
           apart = copying.apart;
           referred = copying.referred;
+          thin = copying.thin;
           waits = copying.waits;
           order = copying.order;
         }
@@ -295,6 +299,7 @@ copy_goes_on header h past k ids w address pages target next waits2 c more now p
         };
       };
       referred = c.referred;
+      thin = c.thin;
       waits =
           waiters_put k.maps k.chains k.memory.resident k.memory.resident k.memory.objects k.waits.rows waits2.rows (λ u. waiting u past) (λ u. waiting u past)
           w.task.0 (Some w2) c.waits put.entry told

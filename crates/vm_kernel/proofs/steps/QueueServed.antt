@@ -27,7 +27,15 @@ served_ok (Err e) header h outside doing past old k ids new rests goes queue pro
 pub rests_of : (header : Header) (h : ℕ) (k : Parts) (ids : Ids) (past : List Event) → Works header h k ids woken.Nobody past → count_again k.waits.rows ≡ 0
     → Rests header h k ids past
 rests_of header h k ids past works idle =
-    record { matches = works.matches; used = works.used; referred = works.referred; waits = works.waits; order = works.order; idle = idle }
+    record {
+      matches = works.matches;
+      used = works.used;
+      referred = works.referred;
+      thin = works.thin;
+      waits = works.waits;
+      order = works.order;
+      idle = idle;
+    }
 
 -- running an access leaves no other to be run again
 pub attempts_idle : (header : Header) (h : ℕ) (was : Waiting) (may_claim : Bool) (answer : Attempt) (old new : Parts) (before after : List Event)

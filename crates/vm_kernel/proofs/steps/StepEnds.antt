@@ -6,7 +6,8 @@ use Rattle.vm_kernel.proofs.Common.{entries_in, entry, false, inl, inr, is_again
 use Rattle.vm_kernel.proofs.Common.{none_again, none_queued}
 use Rattle.vm_kernel.proofs.Common.{refl, subst, sym, true, waiting, waiting_in, ℕ, ◌∙◌, ◌≡◌}
 use Rattle.vm_kernel.proofs.Common.{◌⊎◌}
-use Rattle.vm_kernel.proofs.space.NothingLeft.{swept, whole_of}
+use Rattle.vm_kernel.proofs.space.NothingLeft.{regions_used, swept, whole_of}
+use Rattle.vm_kernel.proofs.space.ObjectEnds.{used_there}
 use Rattle.std.proofs.Common.{is_some}
 use Rattle.vm_state.proofs.Locks.{awaits_word}
 use Rattle.vm_state.proofs.Shown.{awaits_ready}
@@ -15,7 +16,11 @@ use Rattle.vm_waits.specs.declared.waiting.On.TheVariants as on
 use Rattle.vm_kernel.proofs.abroad.OwnHost.{own_host}
 use Rattle.vm_kernel.proofs.memory.WalksShown.{shown_at, waiting_place}
 use Rattle.vm_kernel.proofs.lists.PagesSpared.{here_waits}
+use Rattle.vm_legal.specs.Merges.{IsThin}
 use Rattle.vm_legal.specs.Prompt.{EachLeads}
+use Rattle.vm_model.specs.Regions.{next_object, next_region}
+use Rattle.vm_state.proofs.Pairs.{KnowsPairs, thin_told}
+use Rattle.vm_state.specs.Counts.{marks_of}
 use Rattle.vm_state.proofs.Filling.{AgreesNext, copies_next}
 use Rattle.vm_model.specs.Waiting.{next_page}
 
@@ -98,6 +103,21 @@ pub queue_of : (header : Header) (h : ℕ) (k : Parts) (past : List Event) → Q
 queue_of header h k past (inl empty) = inl empty
 queue_of header h k past (inr full) = inr full.none
 
+-- no object can be merged, so there is no pair
+no_pair : (header : Header) (h : ℕ) (k : Parts) (ids : Ids) (past : List Event) → Rests header h k ids past → IsThin header h past
+no_pair header h k ids past rests upper lower pair =
+    let m = rests.matches in
+    let knows : KnowsPairs header h k.chains k.memory.objects ids (next_region header past) (next_object header past) (marks_of header past) past = record {
+      regions = m.regions;
+      kinds = m.kinds;
+      homes = m.homes.1;
+      last = m.controls.last;
+      shadows = rests.referred.shadows;
+      all = λ r row least found. regions_used header h k ids past (whole_of rests) r row least found;
+      there = λ r least used. used_there header h k ids [] past r m rests.used.copies least used;
+    } in
+    thin_told knows rests.thin upper lower pair
+
 pub prompt_of : (header : Header) (h : ℕ) (k : Parts) (ids : Ids) (past : List Event) → Rests header h k ids past → QueueIsServed header h k past
     → PromptAt header h past
 prompt_of header h k ids past rests served =
@@ -105,4 +125,5 @@ prompt_of header h k ids past rests served =
       leads = each_leads header h k ids past rests;
       waits = none_in_vain header h k ids past rests served;
       swept = swept header h k ids past (whole_of rests);
+      thin = no_pair header h k ids past rests;
     }

@@ -1,8 +1,8 @@
 use Rattle.vm_kernel.proofs.steps.CommandsBuilt.{none_else}
 use Rattle.vm_kernel.proofs.steps.EventsGrow.{on_ok}
 use Rattle.vm_kernel.proofs.steps.FramesInTurn.{restarts_quiet}
-use Rattle.vm_kernel.proofs.Common.{arith, refl, ◌+◌}
-use Rattle.vm_kernel.proofs.room.PartsOfStep.{ended_ok, few_in, few_ok, kept_ok, leaving_few, made_in, on_err}
+use Rattle.vm_kernel.proofs.Common.{arith, length, refl, rows_in, ◌+◌}
+use Rattle.vm_kernel.proofs.room.PartsOfStep.{ended_ok, few_in, few_ok, kept_ok, ending_few, made_in, on_err}
 use Rattle.vm_kernel.proofs.room.EndsSpend.{roomy_fewer}
 use Rattle.vm_kernel.proofs.room.CallsSpend.{never_err}
 use Rattle.vm_kernel.specs.Rooms.{leaving}
@@ -51,20 +51,23 @@ returns-in-Allocate-clause-err g c =
 
 pub returns-in-Deallocate-clause-few : goal.returns-in-Deallocate-clause-few
 returns-in-Deallocate-clause-few g c =
-    few_ok c.deallocate.result c.args.self.now c.deallocate.new.self c.args.log.now c.deallocate.new.log (1 + leaving c.args.self.now c.args.ids.now) 0 _
-    (few_in c.args.command.now _ c.args.self.now _ c.in-Deallocate.is (leaving_few c.requires.0.rests.matches c.stand_once.ensures)) c.deallocate.ensures.spends
+    few_ok c.deallocate.result c.args.self.now c.deallocate.new.self c.args.log.now c.deallocate.new.log
+    (1 + leaving c.args.self.now c.args.ids.now + length (rows_in c.in-Deallocate.task.0 c.args.self.now.maps)) 0 _
+    (few_in c.args.command.now _ c.args.self.now _ c.in-Deallocate.is (ending_few c.in-Deallocate.task c.requires.0.rests.matches c.stand_once.ensures))
+    c.deallocate.ensures.spends
 
 pub returns-in-Deallocate-clause-room : goal.returns-in-Deallocate-clause-room
 returns-in-Deallocate-clause-room g c = λ more had access has skip.
-    ended_ok c.deallocate.result c.args.self.now c.deallocate.new.self c.args.log.now c.deallocate.new.log (1 + leaving c.args.self.now c.args.ids.now) _ _ more
-    (few_in c.args.command.now _ c.args.self.now _ c.in-Deallocate.is (leaving_few c.requires.0.rests.matches c.stand_once.ensures))
+    ended_ok c.deallocate.result c.args.self.now c.deallocate.new.self c.args.log.now c.deallocate.new.log
+    (1 + leaving c.args.self.now c.args.ids.now + length (rows_in c.in-Deallocate.task.0 c.args.self.now.maps)) _ _ more
+    (few_in c.args.command.now _ c.args.self.now _ c.in-Deallocate.is (ending_few c.in-Deallocate.task c.requires.0.rests.matches c.stand_once.ensures))
     c.deallocate.ensures.spends c.deallocate.ensures.buffers c.deallocate.ensures.skip had has skip
 
 pub returns-in-Deallocate-clause-err : goal.returns-in-Deallocate-clause-err
 returns-in-Deallocate-clause-err g c =
     λ had access has skip. on_err c.deallocate.result _ _ (λ same. (same.0, (refl, same.1)))
     (c.deallocate.ensures.err (roomy_fewer _ _ _ 0 c.args.self.now _ had.tables (few_in c.args.command.now _ c.args.self.now _ c.in-Deallocate.is
-    (leaving_few c.requires.0.rests.matches c.stand_once.ensures)) (omega arith)) has)
+    (ending_few c.in-Deallocate.task c.requires.0.rests.matches c.stand_once.ensures)) (omega arith)) has)
 
 pub returns-in-Protect-clause-few : goal.returns-in-Protect-clause-few
 returns-in-Protect-clause-few g c =

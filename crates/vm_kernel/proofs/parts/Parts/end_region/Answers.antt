@@ -1,7 +1,9 @@
-use Rattle.vm_kernel.proofs.Common.{Still, arith}
+use Rattle.std.specs.Prelude.{Err, IfOk, Ok, Result}
+use Rattle.vm_kernel.proofs.Common.{Still, arith, refl}
+use Rattle.vm_kernel.proofs.space.LosersMerge.{bare_behind, last_reference, thin_region}
 use Rattle.vm_kernel.proofs.space.ObjectsEnd.{only_none, pager_knows}
 use Rattle.vm_kernel.proofs.steps.EventsGrow.{goes_none, on_ok}
-use Rattle.vm_kernel.proofs.space.RegionEnds.{ends_top, loses_region, top_referred, whole_region}
+use Rattle.vm_kernel.proofs.space.RegionEnds.{LosesRegion, ends_top, loses_region, top_referred, whole_region}
 use Rattle.vm_terminate.proofs.Under.{referred_some, referred_there}
 use Rattle.vm_kernel.proofs.space.WhatStoodUnder.{below_none}
 use Rattle.vm_kernel.proofs.room.EndsSpend.{region_spends, roomy_on}
@@ -10,6 +12,10 @@ use Rattle.vm_kernel.specs.Rooms.{Spends, leaving}
 use Rattle.vm_kernel.proofs.parts.Parts.end_region.Given as given
 use Rattle.vm_kernel.proofs.parts.Parts.end_region.Goals as goal
 use Rattle.vm_kernel.proofs.parts.Parts.end_region.Goals.{After-unrefer}
+
+ok_map : {A E : Type 0} {P Q : A → Type 0} (x : Result A E) → ((a : A) → P a → Q a) → IfOk x P → IfOk x Q
+ok_map (Ok a) f is = f a is
+ok_map (Err e) f is = tt
 
 pub unrefer-requires-clause-there : goal.unrefer-requires-clause-there
 unrefer-requires-clause-there g c =
@@ -91,3 +97,35 @@ returns-clause-succeeds g c = λ room buffers.
     c.end_object.ensures.succeeds (roomy_on c.args.self.now (record c.args.self.now
     { memory = record c.args.self.now.memory { objects = c.unrefer.new.self }; chains = c.drop_region-object.new.self }) c.args.log.now c.args.log.now _ _
     (first_spends g (goal.at.returns-clause-succeeds g c).After-unrefer) room) buffers
+
+-- what the end of the region alone leaves
+lost : (g : given.Over) (c : After-unrefer g) → LosesRegion c.args.self.now c.args.region.0 c.unrefer.result c.drop_region-object.result
+    c.drop_region-object.new.self c.unrefer.new.self
+lost g c =
+    loses_region g.given.header g.given.host g.given.past g.given.who c.args.self.now c.args.ids.now g.given.rest c.args.region.0 c.unrefer.result
+    c.args.log.now.items c.drop_region-object.result c.drop_region-object.new.self c.unrefer.new.self c.requires c.drop_region-object.ensures.top
+    c.drop_region-object.ensures.dropped c.unrefer.ensures.left c.unrefer.ensures.object c.unrefer.ensures.marks
+
+pub returns-then-unrefer-gt0-clause-loser : goal.returns-then-unrefer-gt0-clause-loser
+returns-then-unrefer-gt0-clause-loser g c = λ losers more all own thin.
+    let turn = (goal.at.returns-then-unrefer-gt0-clause-loser g c).After-unrefer in
+    thin_region c.args.self.now c.args.region.0 c.unrefer.result c.drop_region-object.result c.drop_region-object.new.self c.unrefer.new.self losers more
+    (lost g turn) all (λ one. own c.drop_region-object.result refl) thin
+
+pub returns-clause-loser : goal.returns-clause-loser
+returns-clause-loser g c =
+    let turn = (goal.at.returns-clause-loser g c).After-unrefer in
+    ok_map c.end_object.result (λ left so losers more all own thin. so losers more all own
+    (thin_region c.args.self.now c.args.region.0 c.unrefer.result c.drop_region-object.result c.drop_region-object.new.self c.unrefer.new.self losers losers
+    (lost g turn) (λ x has. has) (λ one. let none = c.if-unrefer-gt0.false in absurd (omega (arith, one, none))) thin))
+    c.end_object.ensures.loser
+
+-- the region was all that referred to its top, which is no shadow
+pub returns-then-unrefer-gt0-clause-bare : goal.returns-then-unrefer-gt0-clause-bare
+returns-then-unrefer-gt0-clause-bare g c = λ bare.
+    let none = last_reference (lost g (goal.at.returns-then-unrefer-gt0-clause-bare g c).After-unrefer) bare in
+    let some = c.if-unrefer-gt0.true in
+    absurd (omega (arith, none, some))
+
+pub returns-clause-bare : goal.returns-clause-bare
+returns-clause-bare g c = λ bare. c.end_object.ensures.bare (bare_behind (lost g (goal.at.returns-clause-bare g c).After-unrefer) bare)

@@ -1,4 +1,4 @@
 use Rattle.vm_kernel.proofs.parts.Parts.exit.Given as goal
 
-abbrev pub ghost-sweep : goal.ghost-sweep
-ghost-sweep g a = g.given
+abbrev pub ghost-sweep_and_merge : goal.ghost-sweep_and_merge
+ghost-sweep_and_merge g a = g.given

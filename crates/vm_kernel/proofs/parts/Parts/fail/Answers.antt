@@ -3,8 +3,10 @@ use Rattle.vm_kernel.proofs.Common.{since, subst, sym, true, ◌++◌, ◌∷◌
 use Rattle.vm_model.specs.declared.event.Event.TheVariants as event
 use Rattle.vm_supply.specs.declared.woken.Woken.TheVariants as who
 use Rattle.vm_kernel.proofs.space.EntriesGone.{ends_nobody, nobody_both}
+use Rattle.vm_kernel.proofs.space.LosersMerge.{leaves_none}
 use Rattle.vm_kernel.proofs.lists.ListsAsTold.{plays_both, plays_one}
-use Rattle.vm_kernel.proofs.controls.WaitersFail.{EndsOr, FailedOne, Failing, before_none, ends_all, ends_filled, ends_or, failed_ended, failed_one}
+use Rattle.vm_kernel.proofs.controls.WaitersFail.{EndsOr, FailedOne, Failing, bare_filled, before_none, ends_all, ends_filled, ends_or, failed_ended}
+use Rattle.vm_kernel.proofs.controls.WaitersFail.{failed_one}
 use Rattle.vm_kernel.proofs.controls.WaitersFail.{failed_plain, or_ended, since_goes, since_now}
 use Rattle.vm_kernel.proofs.steps.RowsInOrder.{without_keeps}
 use Rattle.vm_kernel.proofs.steps.FramesInTurn.{nobody_more, quiet_unlisted}
@@ -99,8 +101,8 @@ all-preserved g c =
     }
 
 -- one that filled a region, which has ended too
-pub all-preserved-in-Continue-branch-2 : goal.all-preserved-in-Continue-branch-2
-all-preserved-in-Continue-branch-2 g c =
+pub all-preserved-in_ok-end_region : goal.all-preserved-in_ok-end_region
+all-preserved-in_ok-end_region g c =
     let key = c.args.key in
     let w = c.in-Some.waiting in
     let was = c.all.invariant in
@@ -115,9 +117,12 @@ all-preserved-in-Continue-branch-2 g c =
     (c.end_region.new.log.items ++ g.given.past)) c.requires.0 ends.whole in
     let then = subst (λ (z : List Event). FailedOne g.given.header g.given.host g.given.outside g.given.command g.given.past c.args.log.now.items z key
     (record c.all.self { waits = c.remove.new.self }) c.args.ids.now) (sym c.in_ok-push.ensures.ok) one in
+    let bare = bare_filled g.given.header g.given.host g.given.outside g.given.command g.given.past c.args.log.now.items c.all.log.items key c.all.self
+    c.args.ids.now w c.in-Some-destination.destination c.remove.new.self all c.in-Some.ensures.row.0 c.in-Some-destination.is in
     let now = failed_ended g.given.header g.given.host g.given.outside g.given.command g.given.past c.args.log.now.items c.push.new.self.items
     c.end_region.new.log.items key (record c.all.self { waits = c.remove.new.self }) c.end_region.new.self c.args.ids.now then whole ends.goes ends.waits
-    ends.pages ends.only in
+    ends.pages ends.only
+    (leaves_none c.in_ok-end_region.field-0 (record c.all.self { waits = c.remove.new.self }) c.end_region.new.self ends.loser (ends.bare bare) then.thin) in
     record {
       works = now.works;
       fails = now.fails;

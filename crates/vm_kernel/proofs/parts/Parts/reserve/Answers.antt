@@ -1,10 +1,11 @@
-use Rattle.vm_kernel.proofs.Common.{Parts, ap, arith, frame_count, length, ◌∙◌}
+use Rattle.vm_kernel.proofs.Common.{Parts, ResidentTable, ap, arith, frame_count, length, ◌∙◌}
 use Rattle.vm_kernel.proofs.steps.EventsGrow.{on_ok}
 use Rattle.vm_kernel.proofs.room.KernelReady.{making_same}
 use Rattle.vm_kernel.specs.Rooms.{if_copies, returning}
 use Rattle.vm_waits.specs.Waits.{count_copies}
 use Rattle.vm_kernel.proofs.parts.Parts.reserve.Goals as goal
 use Rattle.std.specs.Prelude.{vec_capacity}
+use Rattle.std.proofs.Math.Nat.{min-eq_left}
 
 pub returns-clause-ready : goal.returns-clause-ready
 returns-clause-ready c =
@@ -22,6 +23,7 @@ returns-clause-ready c =
     let marked = ap (λ (z : Parts). z.chains.marked) is ∙ (ap (λ (z : Parts). z.chains.marked) skipped ∙ c.in_ok-reserve-3.ensures.marked) in
     let maps = ap (λ (z : Parts). z.maps) is ∙ ap (λ (z : Parts). z.maps) skipped in
     let first = making_same c.args.breadth c.args.self.now c.reserve_buffers.new.self maps frames in
+    let kept = ap (λ (z : ResidentTable). z.spare) c.keep.ensures ∙ min-eq_left c.in_ok-reserve.ensures.room in
     let spare = ap (λ (z : Parts). z.memory.resident.spare) is ∙ ap (λ (z : Parts). z.memory.resident.spare) skipped in
     let shadows = ap (λ (z : Parts). z.chains.spare) is ∙ ap (λ (z : Parts). z.chains.spare) skipped in
     let objects = ap (λ (z : Parts). z.memory.objects.rows) is ∙ ap (λ (z : Parts). z.memory.objects.rows) skipped in
@@ -36,7 +38,7 @@ returns-clause-ready c =
     let made = c.made-made.ensures.made in
     let told = c.returning.ensures in
     record {
-      rows = omega (arith, same, rows, rows2, copied, marked, spare, pages, behind, made, first, c.in_ok-reserve.ensures.room);
+      rows = omega (arith, same, rows, rows2, copied, marked, spare, kept, pages, behind, made, first);
       shadows = omega (arith, shadows, marked, count, sum, made, first, c.in_ok-reserve-3.ensures.room);
       objects = omega (arith, objects, marked, count, sum, made, first, c.in_ok-reserve-2.ensures.rows);
       mark = omega (arith, marks, c.in_ok-reserve-2.ensures.marks);

@@ -1,8 +1,8 @@
-use Rattle.vm_kernel.proofs.Common.{Command, OnOk, Ran, arith, length, refl, subst, sym, ◌+◌}
+use Rattle.vm_kernel.proofs.Common.{Command, OnOk, Ran, arith, length, refl, rows_in, subst, sym, ◌+◌}
 use Rattle.vm_kernel.proofs.steps.CommandsBuilt.{none_unknown, pageout_of, task_of}
 use Rattle.vm_kernel.proofs.steps.EventsGrow.{on_ok}
 use Rattle.vm_kernel.proofs.steps.FramesInTurn.{restarts_quiet}
-use Rattle.vm_kernel.proofs.room.PartsOfStep.{begun_leaves, ended_ok, few_behind, few_in, few_ok, kept_ok, leaving_few, listed_few, made_in, more_fewer, on_err}
+use Rattle.vm_kernel.proofs.room.PartsOfStep.{begun_leaves, ended_ok, few_behind, few_in, few_ok, kept_ok, ending_few, listed_few, made_in, more_fewer, on_err}
 use Rattle.vm_kernel.proofs.room.PartsOfStep.{out_few, room_behind, skip_fewer, up_to_front}
 use Rattle.vm_kernel.proofs.room.EndsSpend.{roomy_fewer}
 use Rattle.vm_kernel.proofs.steps.QueueServed.{three_ok}
@@ -122,20 +122,24 @@ returns-in-Fork-clause-err g c =
 
 pub returns-in-Exit-clause-few : goal.returns-in-Exit-clause-few
 returns-in-Exit-clause-few g c =
-    few_ok c.exit.result c.args.self.now c.exit.new.self c.args.log.now c.exit.new.log (1 + leaving c.args.self.now c.args.ids.now) 0 _
-    (few_in c.args.command.now _ c.args.self.now _ c.in-Exit.is (leaving_few c.requires.0.rests.matches c.stand_once.ensures)) c.exit.ensures.spends
+    few_ok c.exit.result c.args.self.now c.exit.new.self c.args.log.now c.exit.new.log
+    (1 + leaving c.args.self.now c.args.ids.now + length (rows_in c.in-Exit.task.0 c.args.self.now.maps)) 0 _
+    (few_in c.args.command.now _ c.args.self.now _ c.in-Exit.is (ending_few c.in-Exit.task c.requires.0.rests.matches c.stand_once.ensures))
+    c.exit.ensures.spends
 
 pub returns-in-Exit-clause-room : goal.returns-in-Exit-clause-room
 returns-in-Exit-clause-room g c = λ more had access has skip returns.
-    ended_ok c.exit.result c.args.self.now c.exit.new.self c.args.log.now c.exit.new.log (1 + leaving c.args.self.now c.args.ids.now) _ _ more
-    (few_in c.args.command.now _ c.args.self.now _ c.in-Exit.is (leaving_few c.requires.0.rests.matches c.stand_once.ensures)) c.exit.ensures.spends
+    ended_ok c.exit.result c.args.self.now c.exit.new.self c.args.log.now c.exit.new.log
+    (1 + leaving c.args.self.now c.args.ids.now + length (rows_in c.in-Exit.task.0 c.args.self.now.maps)) _ _ more
+    (few_in c.args.command.now _ c.args.self.now _ c.in-Exit.is (ending_few c.in-Exit.task c.requires.0.rests.matches c.stand_once.ensures))
+    c.exit.ensures.spends
     c.exit.ensures.buffers c.exit.ensures.skip had has (skip_fewer c.args.self.now skip)
 
 pub returns-in-Exit-clause-err : goal.returns-in-Exit-clause-err
 returns-in-Exit-clause-err g c =
-    λ had access has skip returns. never_err c.exit.result _ (c.exit.ensures.succeeds
-    (roomy_fewer _ _ _ 0 c.args.self.now _ had.tables (few_in c.args.command.now _ c.args.self.now _ c.in-Exit.is
-    (leaving_few c.requires.0.rests.matches c.stand_once.ensures)) (omega arith)) has)
+    λ had access has skip returns. on_err c.exit.result _ _ (λ same. (same.0, (refl, same.1)))
+    (c.exit.ensures.err (roomy_fewer _ _ _ 0 c.args.self.now _ had.tables (few_in c.args.command.now _ c.args.self.now _ c.in-Exit.is
+    (ending_few c.in-Exit.task c.requires.0.rests.matches c.stand_once.ensures)) (omega arith)) has)
 
 pub returns-in-Map-clause-few : goal.returns-in-Map-clause-few
 returns-in-Map-clause-few g c =

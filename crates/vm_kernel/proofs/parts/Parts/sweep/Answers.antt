@@ -1,4 +1,4 @@
-use Rattle.vm_kernel.proofs.Common.{Still, by_address, drop, false, true, ◌+◌, ◌≡◌}
+use Rattle.vm_kernel.proofs.Common.{Still, arith, by_address, drop, false, true, ◌+◌, ◌≡◌}
 use Rattle.vm_kernel.proofs.space.EntriesLeave.{next_out, none_so_far}
 use Rattle.vm_kernel.proofs.lists.ListsAsTold.{plays_both}
 use Rattle.vm_kernel.proofs.steps.FramesInTurn.{quiet_both, quiet_none}
@@ -10,7 +10,10 @@ use Rattle.vm_kernel.proofs.parts.Parts.sweep.Goals as goal
 pub all-init : goal.all-init
 all-init g c =
     record {
-      sweeps = c.requires;
+      sweeps = c.requires.0;
+      thin = c.requires.1.0;
+      count = omega arith;
+      room = omega arith;
       plays = Still;
       quiet = quiet_none c.args.self.now.waits.queue c.args.log.now.items;
       ends = none_so_far g.given.header _ (by_address c.args.gone.now) c.args.log.now.items;
@@ -23,6 +26,9 @@ pub all-preserved : goal.all-preserved
 all-preserved g c =
     record {
       sweeps = c.in_ok-release.ensures.sweeps;
+      thin = c.in_ok-release.ensures.thin;
+      count = omega (arith, c.all.invariant.count, c.in_ok-release.ensures.count);
+      room = omega (arith, c.all.invariant.room, c.in_ok-release.ensures.room);
       plays = plays_both c.all.invariant.plays c.in_ok-release.ensures.plays;
       quiet =
           quiet_both c.args.self.now.waits.queue c.all.self.waits.queue c.release.new.self.waits.queue c.args.log.now.items c.all.log.items

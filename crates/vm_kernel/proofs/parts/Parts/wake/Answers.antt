@@ -19,6 +19,7 @@ returns-in-ReadyOf-clause-works g c =
           c.requires.0.matches.fits.parts refl c.requires.0.matches;
       used = used_waked _ c.args.self.now.waits.rows c.wake_ready.new.self.rows c.requires.0.used c.wake_ready.ensures.entry;
       referred = search rules;
+      thin = c.requires.0.thin;
       waits =
           waits_woken _ _ _ _ c.args.self.now.waits.rows c.wake_ready.new.self.rows _ _ (rw c.in-ReadyOf.is at c.requires.0).waits c.wake_ready.ensures.entry
           (λ o p row found awaits. refl);
@@ -35,6 +36,7 @@ returns-in-Page-clause-works g c =
           c.requires.0.matches.fits.parts refl c.requires.0.matches;
       used = used_waked _ c.args.self.now.waits.rows c.wake_page.new.self.rows c.requires.0.used c.wake_page.ensures.entry;
       referred = search rules;
+      thin = c.requires.0.thin;
       waits =
           waits_woken _ _ _ _ c.args.self.now.waits.rows c.wake_page.new.self.rows _ _ (rw c.in-Page.is at c.requires.0).waits c.wake_page.ensures.entry
           (rw c.in-Page.is at c.requires.1.1.1.1).at;
