@@ -1,5 +1,5 @@
--- Where no object of a host can be merged, none can where the host's facts read the same.
-use Rattle.std.proofs.Common.{◌≡◌, ℕ, zero, suc, ◌<◌, ◌≤◌, true, false, List, ap, sym, ◌∙◌, subst, arith, inl, inr}
+-- Where no object of a host can be merged, none can where the host's facts read the same, and what a region that is made just then is over stands on nothing.
+use Rattle.std.proofs.Common.{◌≡◌, ℕ, zero, suc, ◌<◌, ◌≤◌, Bool, true, false, List, ap, refl, sym, ◌∙◌, subst, arith, inl, inr}
 use Rattle.std.proofs.lemmas.Bool.{cases_lt}
 use Rattle.vm_model.specs.declared.event.Event.{Event}
 use Rattle.vm_model.specs.declared.script.Header.{Header}
@@ -13,7 +13,7 @@ use Rattle.vm_abroad.specs.Same.{SameFacts}
 use Rattle.vm_abroad.specs.Sound.{IsObjectOf, IsRegionOf, Knows, Sound}
 use Rattle.vm_abroad.proofs.Chains.{below_was}
 use Rattle.vm_abroad.proofs.Facts.{small_region, use_same}
-use Rattle.vm_abroad.proofs.Sounds.{used_of}
+use Rattle.vm_abroad.proofs.Sounds.{use_of, used_of}
 use Rattle.vm_abroad.proofs.Waits.{reach_declared, reach_now, region_now}
 
 -- an object of the host that was made, and that a region led to
@@ -23,7 +23,8 @@ record WasReached (header : Header) (h o : ℕ) (old : List Event) : Type 0 wher
   own : IsObjectOf header h o old
 
 module _ (header : Header) (h : ℕ) (old new : List Event) (sound : Sound header old) (knows : Knows header h old) (same : SameFacts header h old new)
-    (shut : (r : ℕ) → is_open r old ≡ false) (still_shut : (r : ℕ) → is_open r new ≡ false) where
+    (shut : (r : ℕ) → is_open r old ≡ false)
+    (made_bare : (r : ℕ) → is_open r new ≡ true → (backing_of header (region_of header r new).top new).backed ≡ false) where
   -- nothing stands under a declared object
   bare_now : (o : ℕ) → o < named header → (backing_of header o new).backed ≡ true → ⊥
   bare_now o declared backed =
@@ -38,6 +39,13 @@ module _ (header : Header) (h : ℕ) (old new : List Event) (sound : Sound heade
       bare_now r declared (subst (λ (z : ℕ). (backing_of header z new).backed ≡ true) (sym is) backed)
   not_declared r (suc n) o declared backed is = bare_now r declared is.0
 
+  -- an object that stands on nothing leads to none that does
+  nothing_under : (top n o : ℕ) → (backing_of header top new).backed ≡ false → (backing_of header o new).backed ≡ true
+      → Below (λ k. backing_of header k new) n top o → ⊥
+  nothing_under top zero o bare backed is =
+      let bad : false ≡ true = sym bare ∙ subst (λ (z : ℕ). (backing_of header z new).backed ≡ true) (sym is) backed in cc
+  nothing_under top (suc n) o bare backed is = let bad : false ≡ true = sym bare ∙ is.0 in cc
+
   -- what stands on something and is reached now was so before
   reach_was : (o : ℕ) → Reach header h o new → (backing_of header o new).backed ≡ true → WasReached header h o old
   reach_was o reach backed = elim (cases_lt reach.0 (named header)) [
@@ -46,15 +54,20 @@ module _ (header : Header) (h : ℕ) (old new : List Event) (sound : Sound heade
         let top : (region_of header reach.0 new).top ≡ reach.0 = ap (λ (z : Region). z.top) (region_now header h old new sound knows same reach.0 own)
         ∙ sound.tops reach.0 declared in
         absurd (not_declared reach.0 reach.1 o declared backed (subst (λ (z : ℕ). Below (λ k. backing_of header k new) reach.1 z o) top reach.3))
-    | inr temporary ↦
-        let used : in_use header h reach.0 old ≡ true = sym (use_same header h reach.0 old new same temporary (shut reach.0) (still_shut reach.0)) ∙ reach.2 in
-        let own : IsRegionOf header h reach.0 old = λ is. used_of header h reach.0 old (shut reach.0) used in
-        let made = knows.chains reach.0 (small_region header h reach.0 old sound own) own in
-        let below : Below (λ k. backing_of header k old) reach.1 (region_of header reach.0 old).top o =
-        below_was header h old new same.backing reach.1 (region_of header reach.0 old).top o made
-        (subst (λ (z : Region). Below (λ k. backing_of header k new) reach.1 z.top o) (region_now header h old new sound knows same reach.0 own) reach.3) in
-        record { reach = (reach.0, reach.1, used, below); small = (made reach.1 o below).0; own = (made reach.1 o below).1 }
+    | inr temporary ↦ by_test temporary (is_open reach.0 new) refl
   ]
+    where
+      by_test : named header ≤ reach.0 → (b : Bool) → is_open reach.0 new ≡ b → WasReached header h o old
+      by_test temporary true opened =
+          absurd (nothing_under (region_of header reach.0 new).top reach.1 o (made_bare reach.0 opened) backed reach.3)
+      by_test temporary false closed =
+          let used : in_use header h reach.0 old ≡ true = sym (use_same header h reach.0 old new same temporary (shut reach.0) closed) ∙ reach.2 in
+          let own : IsRegionOf header h reach.0 old = λ is. used_of header h reach.0 old (shut reach.0) used in
+          let made = knows.chains reach.0 (small_region header h reach.0 old sound own) own in
+          let below : Below (λ k. backing_of header k old) reach.1 (region_of header reach.0 old).top o =
+          below_was header h old new same.backing reach.1 (region_of header reach.0 old).top o made
+          (subst (λ (z : Region). Below (λ k. backing_of header k new) reach.1 z.top o) (region_now header h old new sound knows same reach.0 own) reach.3) in
+          record { reach = (reach.0, reach.1, used, below); small = (made reach.1 o below).0; own = (made reach.1 o below).1 }
 
   backed_temporary : (o : ℕ) → (backing_of header o old).backed ≡ true → named header ≤ o
   backed_temporary o backed = elim (cases_lt o (named header)) [
@@ -73,7 +86,7 @@ module _ (header : Header) (h : ℕ) (old new : List Event) (sound : Sound heade
         under = ap (λ (z : Backing). z.under) (sym link) ∙ pair.under;
         no_top = λ r temporary used top.
             let own : IsRegionOf header h r old = λ is. used_of header h r old (shut r) used in
-            pair.no_top r temporary (use_same header h r old new same temporary (shut r) (still_shut r) ∙ used)
+            pair.no_top r temporary (use_of header h r new (same.used r temporary ∙ used_of header h r old (shut r) used))
             (ap (λ (z : Region). z.top) (region_now header h old new sound knows same r own) ∙ top);
         sole = λ other reach backed under. still other reach backed under;
         upper_never = sym (same.pages.last upper) ∙ pair.upper_never;

@@ -28,5 +28,4 @@ pub mod StillThin
 pub mod TaskMade
 pub mod TaskTables
 pub mod TasksEnd
-pub mod ThinAbroad
 pub mod WhatStoodUnder

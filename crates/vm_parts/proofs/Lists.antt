@@ -7,10 +7,11 @@ use Rattle.vm_parts.specs.Fits.{Fit}
 use Rattle.vm_parts.specs.Listed.{listed_pages}
 use Rattle.vm_parts.specs.declared.parts.HostParts.{HostParts}
 
-no_more : (f : ℕ) (pages : List Page) → length (pages_except f pages) ≤ length pages
-no_more f [] = omega arith
-no_more f (page ∷ pages) =
-    let rest = no_more f pages in
+-- without the pages of one frame a list is no longer
+pub except_fewer : (f : ℕ) (pages : List Page) → length (pages_except f pages) ≤ length pages
+except_fewer f [] = omega arith
+except_fewer f (page ∷ pages) =
+    let rest = except_fewer f pages in
     elim (page.frame == f) as (λ b. length (if b then pages_except f pages else page ∷ pages_except f pages) ≤ length (page ∷ pages))
     [ true ↦ omega arith | false ↦ omega arith ]
 
@@ -20,7 +21,7 @@ one_less f (page ∷ pages) has = at (page.frame == f) (one_less f pages) has
   where
     at : (is : Bool) → (has_page pages f ≡ true → length (pages_except f pages) + 1 ≤ length pages) → (is || has_page pages f) ≡ true
         → length (if is then pages_except f pages else page ∷ pages_except f pages) + 1 ≤ length (page ∷ pages)
-    at true less has = let rest = no_more f pages in omega arith
+    at true less has = let rest = except_fewer f pages in omega arith
     at false less has = let rest = less has in omega arith
 
 -- a page that isn't on the first of two lists is on both together exactly where it is on the other
@@ -40,12 +41,12 @@ listed_less f old new is out = rw out (at (has_page old.inactive f) refl)
     at : (first : Bool) → has_page old.inactive f ≡ first → listed_pages (queues_except f old) + 1 ≤ listed_pages old
     at true first =
         let less = one_less f old.inactive first in
-        let others = no_more f old.active in
+        let others = except_fewer f old.active in
         omega arith
     at false first =
         let other : has_page old.active f ≡ true = sym (on_other old.inactive old.active f first) ∙ is in
         let less = one_less f old.active other in
-        let others = no_more f old.inactive in
+        let others = except_fewer f old.inactive in
         omega arith
 
 -- where a page is listed there is one

@@ -1,5 +1,5 @@
 -- The pages of an object that is merged into another: what one of them leaves of the others.
-use Rattle.std.proofs.Common.{◌≡◌, ℕ, suc, ◌+◌, ◌<◌, ◌≤◌, ◌==◌, ◌&&◌, Bool, true, false, refl, ap, sym, ◌∙◌, subst, Some, None, Option, arith, inl, inr}
+use Rattle.std.proofs.Common.{◌≡◌, ℕ, ◌==◌, ◌&&◌, Bool, true, false, ap, sym, ◌∙◌, Some, None, Option, arith, inl, inr}
 use Rattle.std.proofs.lemmas.Bool.Decides.{eqb_tells, nat_tests}
 use Rattle.std.specs.Prelude.{if◌then◌else◌, IfSome, ◌≢◌}
 use Rattle.vm_base.specs.declared.ids.ObjectId.{ObjectId}
@@ -31,11 +31,12 @@ lower_rows upper lower shift pages page row old new apart (MovesUp to is less sh
 lower_rows upper lower shift pages page row old new apart (Goes why discards) p =
     discards.row.at lower.0 p ∙ ap (λ b. if b && page.0 == p then None else row_at old.resident lower.0 p) (same_test lower.0)
 
+-- a row that is left where one was taken out stood there before
+pub left_of : {A : Type 0} (b : Bool) {row : A} (was : Option A) → (if b then None else was) ≡ Some row → was ≡ Some row
+left_of true was none = absurd (let bad : None ≡ Some _ = none in cc)
+left_of false was is = is
+
 pub none_asked : (upper lower : ObjectId) (shift pages : ℕ) (page : PageNo) (row : PageRow) (old new : HostParts) → upper.0 ≢ lower.0
     → PageMerges upper shift pages (record { object = lower; page = page }) row old new → NoneAsked old lower.0 → NoneAsked new lower.0
 none_asked upper lower shift pages page row old new apart merges none p other is =
-    by (page.0 == p) (sym (lower_rows upper lower shift pages page row old new apart merges p) ∙ is)
-  where
-    by : (b : Bool) → (if b then None else row_at old.resident lower.0 p) ≡ Some other → other.here ≡ true
-    by true bad = absurd (let no_row : None ≡ Some other = bad in cc)
-    by false there = none p other there
+    none p other (left_of (page.0 == p) _ (sym (lower_rows upper lower shift pages page row old new apart merges p) ∙ is))

@@ -388,22 +388,23 @@ count_taken header host at object m past base head count = taken_same header hos
 
 -- a merge
 
+-- a page that isn't asked for has a frame where it is here
+unasked_framed : (page : Local) → page.asked ≡ false → has_frame page ≡ page.here
+unasked_framed page none = ap (λ x. page.here || x) none ∙ kept page.here
+  where
+    kept : (b : Bool) → (b || false) ≡ b
+    kept true = refl
+    kept false = refl
+
 -- the upper's place, to which a page moves up
 framed_up : (size : ℕ) (a b : Bool) (there page : Local) → there.asked ≡ false → page.asked ≡ false
     → has_frame (local_after size (if a && (b && (there.here && not page.here)) then Moves there else Elsewhere) page)
     ≡ (has_frame page || (a && (b && has_frame there)))
 framed_up size a b there page none none_here =
-    by a b there.here page.here refl (here_only page none_here)
-    ∙ ap (λ x. x || (a && (b && there.here))) (sym (here_only page none_here))
-    ∙ ap (λ x. has_frame page || (a && (b && x))) (sym (here_only there none))
+    by a b there.here page.here refl (unasked_framed page none_here)
+    ∙ ap (λ x. x || (a && (b && there.here))) (sym (unasked_framed page none_here))
+    ∙ ap (λ x. has_frame page || (a && (b && x))) (sym (unasked_framed there none))
   where
-    here_only : (page : Local) → page.asked ≡ false → has_frame page ≡ page.here
-    here_only page none = ap (λ x. page.here || x) none ∙ sym (kept page.here)
-      where
-        kept : (b : Bool) → b ≡ (b || false)
-        kept true = refl
-        kept false = refl
-
     by : (a b h w : Bool) → there.here ≡ h → has_frame page ≡ w
         → has_frame (local_after size (if a && (b && (h && not w)) then Moves there else Elsewhere) page) ≡ (w || (a && (b && h)))
     by true true true false here is = ap (λ x. x || page.asked) here
@@ -473,19 +474,12 @@ count_merged header host upper lower past base c count = by (is_on host (object_
     gone : ℕ
     gone = pages_gone here upper.0 lower.0 shift upper_pages lower_pages
 
-    here_only : (page : Local) → page.asked ≡ false → has_frame page ≡ page.here
-    here_only page none = ap (λ x. page.here || x) none ∙ kept page.here
-      where
-        kept : (b : Bool) → (b || false) ≡ b
-        kept true = refl
-        kept false = refl
-
     by : (on : Bool) → is_on host (object_home upper.0 past) ≡ on → Count header host (event.Merged upper lower ∷ past)
     by true on =
         let none = λ (q : ℕ). merged_unasked header host upper.0 lower.0 q past base c on in
         let same : pages_gone (framed header host past) upper.0 lower.0 shift upper_pages lower_pages ≡ gone =
         gone_same (framed header host past) here upper.0 lower.0 shift upper_pages lower_pages
-        (λ q. here_only (page_on header host upper.0 q past) (none q).0) (λ q. here_only (page_on header host lower.0 q past) (none q).1) in
+        (λ q. unasked_framed (page_on header host upper.0 q past) (none q).0) (λ q. unasked_framed (page_on header host lower.0 q past) (none q).1) in
         let left = held_merged (framed header host past) upper.0 lower.0 shift upper_pages count.number lower_pages
         (pair_apart header host upper.0 lower.0 past base.declared (merged_pair header host upper.0 lower.0 past c on)) count.held in
         record {

@@ -22,15 +22,24 @@ comes_up U lower shift pages k p = nat_lt p pages && (nat_lt (shift + p) k && U 
 abbrev pub place_left : (upper lower was up gone : Bool) → Bool
 place_left upper lower was up gone = if upper then was || up else if lower then not gone && was else was
 
--- what is left when the lower's first k pages are done
+-- what is left when the lower's first k pages are done, of the upper object, the lower or another
+abbrev pub left_by : (ℕ → ℕ → Bool) → ℕ → ℕ → ℕ → ℕ → ℕ → ℕ → Bool → Bool → Bool
+left_by U lower shift pages k o p upper_it lower_it = place_left upper_it lower_it (U o p) (comes_up U lower shift pages k p) (nat_lt p k)
+
 abbrev pub merged_below : (ℕ → ℕ → Bool) → ℕ → ℕ → ℕ → ℕ → ℕ → ℕ → ℕ → Bool
-merged_below U upper lower shift pages k o p =
-    place_left (upper == o) (lower == o) (U o p) (comes_up U lower shift pages k p) (nat_lt p k)
+merged_below U upper lower shift pages k o p = left_by U lower shift pages k o p (upper == o) (lower == o)
 
 pub record IsMerged (U : ℕ → ℕ → Bool) (upper lower shift pages n k : ℕ) : Type 0 where
   pub number : ℕ
   pub held : Held (merged_below U upper lower shift pages k) number
   pub sum : number + pages_gone U upper lower shift pages k ≡ n
+
+-- where nothing is there no test tells anything
+no_one : (a b c : Bool) → c ≡ false → (a && c) ≡ (b && c)
+no_one true true c is = refl
+no_one true false c is = is
+no_one false true c is = sym is
+no_one false false c is = refl
 
 -- of the lower's pages one more that isn't there changes nothing
 none_there : (U : ℕ → ℕ → Bool) (upper lower shift pages k o p : ℕ) → U lower k ≡ false
@@ -42,12 +51,6 @@ none_there U upper lower shift pages k o p none = by (upper == o) (lower == o) r
         let e : shift + p ≡ k = own_number (shift + p) k is in
         let dead : U lower (shift + p) ≡ false = subst (λ (q : ℕ). U lower q ≡ false) (sym e) none in
         ap (λ b. nat_lt p pages && b) (no_one (nat_lt (shift + p) (suc k)) (nat_lt (shift + p) k) (U lower (shift + p)) dead)
-      where
-        no_one : (a b c : Bool) → c ≡ false → (a && c) ≡ (b && c)
-        no_one true true c is = refl
-        no_one true false c is = is
-        no_one false true c is = sym is
-        no_one false false c is = refl
     up false is =
         let same : nat_lt (shift + p) (suc k) ≡ nat_lt (shift + p) k = grind (arith, nat_tests) in
         ap (λ b. nat_lt p pages && (b && U lower (shift + p))) same
@@ -57,18 +60,11 @@ none_there U upper lower shift pages k o p none = by (upper == o) (lower == o) r
         let dead : U o p ≡ false = subst (λ (q : ℕ). U o q ≡ false) (sym (own_number p k is))
         (subst (λ (x : ℕ). U x k ≡ false) (own_number lower o here) none) in
         no_one (not (nat_lt p (suc k))) (not (nat_lt p k)) (U o p) dead
-      where
-        no_one : (a b c : Bool) → c ≡ false → (a && c) ≡ (b && c)
-        no_one true true c is = refl
-        no_one true false c is = is
-        no_one false true c is = sym is
-        no_one false false c is = refl
     low false is here =
         let same : nat_lt p (suc k) ≡ nat_lt p k = grind (arith, nat_tests) in
         ap (λ b. not b && U o p) same
 
-    by : (s t : Bool) → (upper == o) ≡ s → (lower == o) ≡ t → place_left s t (U o p) (comes_up U lower shift pages (suc k) p) (nat_lt p (suc k))
-        ≡ place_left s t (U o p) (comes_up U lower shift pages k p) (nat_lt p k)
+    by : (s t : Bool) → (upper == o) ≡ s → (lower == o) ≡ t → left_by U lower shift pages (suc k) o p s t ≡ left_by U lower shift pages k o p s t
     by true t is too = ap (λ b. U o p || b) (up (shift + p == k) refl)
     by false true is too = low (p == k) refl too
     by false false is too = refl
@@ -110,19 +106,23 @@ goes U upper lower shift pages k o p apart stays = by (upper == o) (lower == o) 
         let same : nat_lt (shift + p) (suc k) ≡ nat_lt (shift + p) k = grind (arith, nat_tests) in
         ap (λ b. U o p || (nat_lt p pages && (b && U lower (shift + p)))) same
 
-    by : (s t : Bool) → (upper == o) ≡ s → (lower == o) ≡ t → place_left s t (U o p) (comes_up U lower shift pages (suc k) p) (nat_lt p (suc k))
-        ≡ (if t && k == p then false else place_left s t (U o p) (comes_up U lower shift pages k p) (nat_lt p k))
+    by : (s t : Bool) → (upper == o) ≡ s → (lower == o) ≡ t
+        → left_by U lower shift pages (suc k) o p s t ≡ (if t && k == p then false else left_by U lower shift pages k o p s t)
     by true true is too = never (sym (off_lower upper lower o apart is) ∙ too)
     by true false is too = up (shift + p == k) refl is
     by false true is too = gone_there U k o p
     by false false is too = refl
 
--- the parts of a test that a page moves
-moving : (a b c : Bool) → (not a && (b && not c)) ≡ true → (a ≡ false) × (b ≡ true) × (c ≡ false)
-moving false true false is = (refl, refl, refl)
-moving false true true is = never is
-moving false false c is = never is
-moving true b c is = never is
+-- a page that moves is none below the shift, and goes to a place of the upper that is free
+moving : (U : ℕ → ℕ → Bool) (upper shift pages k : ℕ) → moves_up U upper shift pages k ≡ true
+    → (nat_lt k shift ≡ false) × (nat_lt (k - shift) pages ≡ true) × (U upper (k - shift) ≡ false)
+moving U upper shift pages k does = parts (nat_lt k shift) (nat_lt (k - shift) pages) (U upper (k - shift)) does
+  where
+    parts : (a b c : Bool) → (not a && (b && not c)) ≡ true → (a ≡ false) × (b ≡ true) × (c ≡ false)
+    parts false true false is = (refl, refl, refl)
+    parts false true true is = never is
+    parts false false c is = never is
+    parts true b c is = never is
 
 -- a page that moves: it has gone, and has come
 comes : (U : ℕ → ℕ → Bool) (upper lower shift pages k o p : ℕ) → upper ≢ lower → U lower k ≡ true → moves_up U upper shift pages k ≡ true
@@ -130,11 +130,8 @@ comes : (U : ℕ → ℕ → Bool) (upper lower shift pages k o p : ℕ) → upp
     ≡ (if upper == o && (k - shift) == p then true else if lower == o && k == p then false else merged_below U upper lower shift pages k o p)
 comes U upper lower shift pages k o p apart there does = by (upper == o) (lower == o) refl refl
   where
-    part : (nat_lt k shift ≡ false) × (nat_lt (k - shift) pages ≡ true) × (U upper (k - shift) ≡ false)
-    part = moving (nat_lt k shift) (nat_lt (k - shift) pages) (U upper (k - shift)) does
-
     high : shift ≤ k
-    high = high_of (part.0)
+    high = high_of (moving U upper shift pages k does).0
       where
         high_of : nat_lt k shift ≡ false → shift ≤ k
         high_of is = grind (arith, nat_tests)
@@ -152,14 +149,16 @@ comes U upper lower shift pages k o p apart there does = by (upper == o) (lower 
         let e : k - shift ≡ p = own_number (k - shift) p is in
         let f : shift + p ≡ k = omega (arith, e, high) in
         let two : nat_lt (shift + p) (suc k) ≡ true = grind (arith, nat_tests, f) in
-        all (U o p) (nat_lt p pages) (nat_lt (shift + p) (suc k)) (U lower (shift + p)) (subst (λ (q : ℕ). nat_lt q pages ≡ true) e part.1) two
+        all (U o p) (nat_lt p pages) (nat_lt (shift + p) (suc k)) (U lower (shift + p))
+        (subst (λ (q : ℕ). nat_lt q pages ≡ true) e (moving U upper shift pages k does).1) two
         (subst (λ (q : ℕ). U lower q ≡ true) (sym f) there)
     up false is =
         let same : nat_lt (shift + p) (suc k) ≡ nat_lt (shift + p) k = grind (arith, nat_tests, high) in
         ap (λ b. U o p || (nat_lt p pages && (b && U lower (shift + p)))) same
 
-    by : (s t : Bool) → (upper == o) ≡ s → (lower == o) ≡ t → place_left s t (U o p) (comes_up U lower shift pages (suc k) p) (nat_lt p (suc k))
-        ≡ (if s && (k - shift) == p then true else if t && k == p then false else place_left s t (U o p) (comes_up U lower shift pages k p) (nat_lt p k))
+    by : (s t : Bool) → (upper == o) ≡ s → (lower == o) ≡ t
+        → left_by U lower shift pages (suc k) o p s t ≡ (if s && (k - shift) == p then true else if t && k == p then false
+        else left_by U lower shift pages k o p s t)
     by true true is too = never (sym (off_lower upper lower o apart is) ∙ too)
     by true false is too = up ((k - shift) == p) refl
     by false true is too = gone_there U k o p
@@ -183,12 +182,10 @@ start U upper lower shift pages o p =
 free : (U : ℕ → ℕ → Bool) (upper lower shift pages k : ℕ) → moves_up U upper shift pages k ≡ true
     → merged_below U upper lower shift pages k upper (k - shift) ≡ false
 free U upper lower shift pages k does =
+    let part = moving U upper shift pages k does in
     by (upper == upper) (lower == upper) (U upper (k - shift)) (nat_lt (k - shift) pages) (nat_lt (shift + (k - shift)) k) (U lower (shift + (k - shift)))
     (nat_lt (k - shift) k) own part.2 (late part.0)
   where
-    part : (nat_lt k shift ≡ false) × (nat_lt (k - shift) pages ≡ true) × (U upper (k - shift) ≡ false)
-    part = moving (nat_lt k shift) (nat_lt (k - shift) pages) (U upper (k - shift)) does
-
     own : (upper == upper) ≡ true
     own = grind (arith, nat_tests)
 

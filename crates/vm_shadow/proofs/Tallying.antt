@@ -20,40 +20,37 @@ use Rattle.vm_shadow.specs.Standing.{no_tally, renumbered, with_shadow, without_
 use Rattle.vm_shadow.specs.declared.shadow_row.ShadowRow.{ShadowRow}
 use Rattle.vm_shadow.specs.declared.tally.Tally.{Tally}
 
+-- all numbers are small, where that of one object is, and each other shadow was there before
+numbers_kept : (old new : List (ObjectId × ShadowRow)) (object : ℕ) → object < 2 ^ 32
+    → ((o : ℕ) (row : ShadowRow) → lookup (λ id. o == id.0) old ≡ Some row → o < 2 ^ 32)
+    → ((o : ℕ) (row : ShadowRow) → (object == o) ≡ false → lookup (λ id. o == id.0) new ≡ Some row → lookup (λ id. o == id.0) old ≡ Some row)
+    → (o : ℕ) (row : ShadowRow) → lookup (λ id. o == id.0) new ≡ Some row → o < 2 ^ 32
+numbers_kept old new object small before was o row found = elim (ℕ_discrete object o) [
+  | yes is ↦ omega (arith, is, small)
+  | no apart ↦ before o row (was o row (grind (arith, nat_tests)) found)
+]
+
 -- where one was made
 pub tallied_made : (tallies next : ℕ → Tally) (old new : List (ObjectId × ShadowRow)) (object : ObjectId) (row : ShadowRow)
     → lookup (same_object object) old ≡ None → new ≡ insert_entry same_object old object row → IsDistinct same_object (keys_of new)
     → ((o : ℕ) → lookup (λ id. o == id.0) new ≡ (if object.0 == o then Some row else lookup (λ id. o == id.0) old)) → object.0 < 2 ^ 32
     → ((o : ℕ) → next o ≡ (if row.under.0 == o then with_shadow object.0 (tallies o) else tallies o)) → AreTallied tallies old → AreTallied next new
 tallied_made tallies next old new object row none is unique at small told t =
-    record { unique = unique; numbers = numbers; tally = λ o. by o (row.under.0 == o) refl }
+    record {
+      unique = unique;
+      numbers = numbers_kept old new object.0 small t.numbers (λ o s apart found. sym (rw apart at (at o)) ∙ found);
+      tally = λ o. written o (row.under.0 == o)
+          (subst (λ (z : Tally). next o ≡ (if row.under.0 == o then with_shadow object.0 z else z)) (t.tally o) (told o))
+          (weighed_made (one o) old new object row none is) (weighed_made (number o) old new object row none is);
+    }
   where
-    numbers : (o : ℕ) (s : ShadowRow) → lookup (λ id. o == id.0) new ≡ Some s → o < 2 ^ 32
-    numbers o s found = elim (ℕ_discrete object.0 o) [
-      | yes same ↦ omega (arith, same, small)
-      | no apart ↦
-          let off : (object.0 == o) ≡ false = grind (arith, nat_tests) in
-          let kept : lookup (λ id. o == id.0) new ≡ lookup (λ id. o == id.0) old = rw off at (at o) in
-          t.numbers o s (sym kept ∙ found)
-    ]
-
-    by : (o : ℕ) (b : Bool) → (row.under.0 == o) ≡ b → next o ≡ tally_of new o
-    by o b is_over =
-        let counts : count_by (stands o) new ≡ count_by (stands o) old + (if b then 1 else 0) = rw (← is_over)
-        (weighed_made (one o) old new object row none is) in
-        let sums : sum_by (number o) new ≡ sum_by (number o) old + (if b then object.0 else 0) =
-        rw (← is_over) (weighed_made (number o) old new object row none is) in
-        let now : next o ≡ (if b then with_shadow object.0 (tally_of old o) else tally_of old o) = rw (← is_over)
-        (subst (λ (z : Tally). next o ≡ (if row.under.0 == o then with_shadow object.0 z else z)) (t.tally o) (told o)) in
-        written b now counts sums
-      where
-        written : (b : Bool) → next o ≡ (if b then with_shadow object.0 (tally_of old o) else tally_of old o)
-            → count_by (stands o) new ≡ count_by (stands o) old + (if b then 1 else 0)
-            → sum_by (number o) new ≡ sum_by (number o) old + (if b then object.0 else 0) → next o ≡ tally_of new o
-        written true now counts sums =
-            tally_is (next o) _ _ (ap (λ (z : Tally). z.count) now ∙ sym counts) (ap (λ (z : Tally). z.sum) now ∙ sym sums)
-        written false now counts sums =
-            tally_is (next o) _ _ (omega (arith, ap (λ (z : Tally). z.count) now, counts)) (omega (arith, ap (λ (z : Tally). z.sum) now, sums))
+    written : (o : ℕ) (b : Bool) → next o ≡ (if b then with_shadow object.0 (tally_of old o) else tally_of old o)
+        → count_by (stands o) new ≡ count_by (stands o) old + (if b then 1 else 0)
+        → sum_by (number o) new ≡ sum_by (number o) old + (if b then object.0 else 0) → next o ≡ tally_of new o
+    written o true now counts sums =
+        tally_is (next o) _ _ (ap (λ (z : Tally). z.count) now ∙ sym counts) (ap (λ (z : Tally). z.sum) now ∙ sym sums)
+    written o false now counts sums =
+        tally_is (next o) _ _ (omega (arith, ap (λ (z : Tally). z.count) now, counts)) (omega (arith, ap (λ (z : Tally). z.sum) now, sums))
 
 -- where one has gone
 pub tallied_dropped : (tallies next : ℕ → Tally) (old new : List (ObjectId × ShadowRow)) (object : ObjectId) (row : ShadowRow)
@@ -61,28 +58,24 @@ pub tallied_dropped : (tallies next : ℕ → Tally) (old new : List (ObjectId �
     → ((o : ℕ) → lookup (λ id. o == id.0) new ≡ (if object.0 == o then None else lookup (λ id. o == id.0) old))
     → ((o : ℕ) → next o ≡ (if row.under.0 == o then without_shadow object.0 (tallies o) else tallies o)) → AreTallied tallies old → AreTallied next new
 tallied_dropped tallies next old new object row there is unique at told t =
-    record { unique = unique; numbers = λ o s found. t.numbers o s (was o s found); tally = λ o. by o (row.under.0 == o) refl }
+    record {
+      unique = unique;
+      numbers = λ o s found. t.numbers o s (was o s found);
+      tally = λ o. written o (row.under.0 == o)
+          (subst (λ (z : Tally). next o ≡ (if row.under.0 == o then without_shadow object.0 z else z)) (t.tally o) (told o))
+          (weighed_dropped (one o) old new object row there is) (weighed_dropped (number o) old new object row there is);
+    }
   where
     was : (o : ℕ) (s : ShadowRow) → lookup (λ id. o == id.0) new ≡ Some s → lookup (λ id. o == id.0) old ≡ Some s
     was o s found = grind (arith, nat_tests, at o, found)
 
-    by : (o : ℕ) (b : Bool) → (row.under.0 == o) ≡ b → next o ≡ tally_of new o
-    by o b is_over =
-        let counts : count_by (stands o) new + (if b then 1 else 0) ≡ count_by (stands o) old = rw (← is_over)
-        (weighed_dropped (one o) old new object row there is) in
-        let sums : sum_by (number o) new + (if b then object.0 else 0) ≡ sum_by (number o) old =
-        rw (← is_over) (weighed_dropped (number o) old new object row there is) in
-        let now : next o ≡ (if b then without_shadow object.0 (tally_of old o) else tally_of old o) = rw (← is_over)
-        (subst (λ (z : Tally). next o ≡ (if row.under.0 == o then without_shadow object.0 z else z)) (t.tally o) (told o)) in
-        written b now counts sums
-      where
-        written : (b : Bool) → next o ≡ (if b then without_shadow object.0 (tally_of old o) else tally_of old o)
-            → count_by (stands o) new + (if b then 1 else 0) ≡ count_by (stands o) old
-            → sum_by (number o) new + (if b then object.0 else 0) ≡ sum_by (number o) old → next o ≡ tally_of new o
-        written true now counts sums =
-            tally_is (next o) _ _ (omega (arith, ap (λ (z : Tally). z.count) now, counts)) (omega (arith, ap (λ (z : Tally). z.sum) now, sums))
-        written false now counts sums =
-            tally_is (next o) _ _ (omega (arith, ap (λ (z : Tally). z.count) now, counts)) (omega (arith, ap (λ (z : Tally). z.sum) now, sums))
+    written : (o : ℕ) (b : Bool) → next o ≡ (if b then without_shadow object.0 (tally_of old o) else tally_of old o)
+        → count_by (stands o) new + (if b then 1 else 0) ≡ count_by (stands o) old
+        → sum_by (number o) new + (if b then object.0 else 0) ≡ sum_by (number o) old → next o ≡ tally_of new o
+    written o true now counts sums =
+        tally_is (next o) _ _ (omega (arith, ap (λ (z : Tally). z.count) now, counts)) (omega (arith, ap (λ (z : Tally). z.sum) now, sums))
+    written o false now counts sums =
+        tally_is (next o) _ _ (omega (arith, ap (λ (z : Tally). z.count) now, counts)) (omega (arith, ap (λ (z : Tally). z.sum) now, sums))
 
 -- where one is merged into another
 pub tallied_merged : (tallies between next : ℕ → Tally) (old mid new : List (ObjectId × ShadowRow)) (upper lower : ObjectId) (up low row : ShadowRow)
@@ -95,17 +88,12 @@ pub tallied_merged : (tallies between next : ℕ → Tally) (old mid new : List 
 tallied_merged tallies between next old mid new upper lower up low row there taken had found put over under apart unique at before told t =
     record {
       unique = rw put (rw (keys-set_value (same_object upper) mid row) unique);
-      numbers = numbers;
+      numbers = numbers_kept old new upper.0 (t.numbers upper.0 up had) t.numbers was;
       tally = λ o. by o (lower.0 == o) (low.under.0 == o) refl refl;
     }
   where
-    numbers : (o : ℕ) (s : ShadowRow) → lookup (λ id. o == id.0) new ≡ Some s → o < 2 ^ 32
-    numbers o s is = elim (ℕ_discrete upper.0 o) [
-      | yes same ↦ let small = t.numbers upper.0 up had in omega (arith, same, small)
-      | no apart ↦
-          let off : (upper.0 == o) ≡ false = grind (arith, nat_tests) in
-          t.numbers o s (grind (arith, nat_tests, at o, off, is))
-    ]
+    was : (o : ℕ) (s : ShadowRow) → (upper.0 == o) ≡ false → lookup (λ id. o == id.0) new ≡ Some s → lookup (λ id. o == id.0) old ≡ Some s
+    was o s off is = grind (arith, nat_tests, at o, off, is)
 
     by : (o : ℕ) (a b : Bool) → (lower.0 == o) ≡ a → (low.under.0 == o) ≡ b → next o ≡ tally_of new o
     by o a b is_lower is_under =

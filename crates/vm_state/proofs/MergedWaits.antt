@@ -30,7 +30,7 @@ use Rattle.vm_shadow.specs.declared.region_row.RegionRow.{RegionRow}
 use Rattle.vm_shadow.specs.declared.shadow_row.ShadowRow.{ShadowRow}
 use Rattle.vm_state.proofs.Declared.{shadow_temporary}
 use Rattle.vm_state.proofs.MergedPages.{AreHere, IsMerge, all_here, effect_else, effect_upper, places, table_effect, unmoved_away}
-use Rattle.vm_state.proofs.Merging.{IsLower, IsOther, IsUpper, StandsNow, lower_quiet, merged_apart, stands_now, upper_quiet}
+use Rattle.vm_state.proofs.Merging.{StandsNow, lower_quiet, merged_apart, others_stand, stands_now, upper_joined, upper_quiet}
 use Rattle.vm_state.proofs.Moving.{IsBeyond, IsGone, IsMoved, IsOwn, IsSame, Rose, RowNow, RowWas, Stayed, row_now, row_was}
 use Rattle.vm_state.proofs.Passing.{IsQuiet, calm_of, effect_at, only_before, over_leads, stays_quiet, unmet_calm}
 use Rattle.vm_state.proofs.Referring.{sole_region, sole_shadow}
@@ -80,12 +80,8 @@ module _ {upper lower : ℕ} {up : ShadowRow} {cs cs2 : ChainTable} {stays stays
 
   -- the place under a place of another object
   under_now : (from next : PageKey) → (upper ≡ from.object.0 → ⊥) → (lower ≡ from.object.0 → ⊥) → IsUnder cs from next → IsUnder cs2 from next
-  under_now from next above below under = by (still.chain from.object.0)
-    where
-      by : StandsNow upper lower up cs cs2 from.object.0 → IsUnder cs2 from next
-      by (IsUpper same is) = absurd (above same)
-      by (IsLower other same is) = absurd (below same)
-      by (IsOther other not_low is) = record { row = under.row; found = is ∙ under.found; is = under.is }
+  under_now from next above below under =
+      record { row = under.row; found = others_stand from.object.0 (still.chain from.object.0) above below ∙ under.found; is = under.is }
 
   -- the link of the upper
   link_is : (from next : PageKey) → upper ≡ from.object.0 → IsUnder cs from next → next ≡ record {
@@ -99,23 +95,18 @@ module _ {upper lower : ℕ} {up : ShadowRow} {cs cs2 : ChainTable} {stays stays
   -- two steps from the upper are one behind the merge
   under_joined : (from mid next : PageKey) → upper ≡ from.object.0
       → mid ≡ record { object = up.under; page = record { 0 = from.page.0 + up.shift } } → IsUnder cs mid next → IsUnder cs2 from next
-  under_joined from mid next same is under = by (still.chain from.object.0)
+  under_joined from mid next same is under =
+      record {
+        row = record { under = under.row.under; shift = up.shift + under.row.shift };
+        found = upper_joined from.object.0 (still.chain from.object.0) same ∙ ap (joined up) low;
+        is = under.is ∙ ap (λ n. record { object = under.row.under; page = record { 0 = n } }) sums;
+      }
     where
       sums : mid.page.0 + under.row.shift ≡ from.page.0 + (up.shift + under.row.shift)
       sums = let first : mid.page.0 ≡ from.page.0 + up.shift = ap (λ (z : PageKey). z.page.0) is in omega (arith, first)
 
       low : shadow_at cs lower ≡ Some under.row
       low = ap (shadow_at cs) (sym (ap (λ (z : PageKey). z.object.0) is ∙ still.under)) ∙ under.found
-
-      by : StandsNow upper lower up cs cs2 from.object.0 → IsUnder cs2 from next
-      by (IsUpper also there) =
-          record {
-            row = record { under = under.row.under; shift = up.shift + under.row.shift };
-            found = there ∙ ap (joined up) low;
-            is = under.is ∙ ap (λ n. record { object = under.row.under; page = record { 0 = n } }) sums;
-          }
-      by (IsLower other also there) = absurd (other same)
-      by (IsOther other not_low there) = absurd (other same)
 
   -- what is under the lower isn't the lower
   low_apart : (mid next : PageKey) → lower ≡ mid.object.0 → IsUnder cs mid next → lower ≡ next.object.0 → ⊥

@@ -51,6 +51,20 @@ stands_now {upper = upper} {lower = lower} {up = up} {cs = cs} {cs2 = cs2} merge
       ]
     ]
 
+-- the upper stands on what the lower stood on
+pub upper_joined : {upper lower : ℕ} {up : ShadowRow} {cs cs2 : ChainTable} (o : ℕ) → StandsNow upper lower up cs cs2 o → upper ≡ o
+    → shadow_at cs2 o ≡ joined up (shadow_at cs lower)
+upper_joined o (IsUpper same is) upper_it = is
+upper_joined o (IsLower above same is) upper_it = absurd (above upper_it)
+upper_joined o (IsOther above below is) upper_it = absurd (above upper_it)
+
+-- an object that is neither of the two stands on what it stood on
+pub others_stand : {upper lower : ℕ} {up : ShadowRow} {cs cs2 : ChainTable} (o : ℕ) → StandsNow upper lower up cs cs2 o → (upper ≡ o → ⊥) → (lower ≡ o → ⊥)
+    → shadow_at cs2 o ≡ shadow_at cs o
+others_stand o (IsUpper same is) not_upper not_lower = absurd (not_upper same)
+others_stand o (IsLower above same is) not_upper not_lower = absurd (not_lower same)
+others_stand o (IsOther above below is) not_upper not_lower = is
+
 -- what the upper stands on then, the lower stood on
 pub record IsJoined (up row : ShadowRow) (found : Option ShadowRow) : Type 0 where
   pub low : ShadowRow
@@ -90,7 +104,8 @@ references_merged cs cs2 os rm om upper lower can merges apart upper_less lower_
     let gone : one (without lower (lower == lower)) ≡ 0 = ap (λ b. one (without lower b)) (same_test lower lower refl) in
     let was : one (without upper (lower == upper)) ≡ one (lower == x) = ap (λ b. one (without upper b)) (other_test lower upper (λ e. apart (sym e)))
     ∙ (ap (λ z. one (is_backing x z)) can.over ∙ ap (λ n. one (n == x)) can.under) in
-    let now : one (is_backing x (shadow_at cs2 upper)) ≡ one (is_backing x (shadow_at cs lower)) = ap one (upper_now (stands_now merges upper)) in
+    let now : one (is_backing x (shadow_at cs2 upper)) ≡ one (is_backing x (shadow_at cs lower)) = ap one
+    (ap (is_backing x) (upper_joined upper (stands_now merges upper) refl) ∙ of_joined (shadow_at cs lower)) in
     omega (arith, tops, first, second, gone, was, now)
   where
     without : ℕ → Bool → Bool
@@ -105,11 +120,6 @@ references_merged cs cs2 os rm om upper lower can merges apart upper_less lower_
     of_joined : (found : Option ShadowRow) → is_backing x (joined can.link found) ≡ is_backing x found
     of_joined None = refl
     of_joined (Some low) = refl
-
-    upper_now : StandsNow upper lower can.link cs cs2 upper → is_backing x (shadow_at cs2 upper) ≡ is_backing x (shadow_at cs lower)
-    upper_now (IsUpper same is) = ap (is_backing x) is ∙ of_joined (shadow_at cs lower)
-    upper_now (IsLower above same is) = absurd (above refl)
-    upper_now (IsOther above below is) = absurd (above refl)
 
 -- the upper's link is the lower's, further on
 joined_seen : (up low row : ShadowRow) (above below : Backing) → above ≡ record { backed = true; under = up.under.0; shift = up.shift }
@@ -188,12 +198,7 @@ ranks_merged {upper = upper} {lower = lower} {cs = cs} {cs2 = cs2} merges ranked
         go (IsOther above below is) = sym is ∙ found
 
     here : shadow_at cs2 upper ≡ joined merges.can.link (shadow_at cs lower)
-    here = go (stands_now merges.chain upper)
-      where
-        go : StandsNow upper lower merges.can.link cs cs2 upper → shadow_at cs2 upper ≡ joined merges.can.link (shadow_at cs lower)
-        go (IsUpper same is) = is
-        go (IsLower above same is) = absurd (above refl)
-        go (IsOther above below is) = absurd (above refl)
+    here = upper_joined upper (stands_now merges.chain upper) refl
 
     by : (x : Option ShadowRow) → shadow_at cs lower ≡ x → IsRanked cs2
     by None none = ranked_fewer cs cs2 (λ o row found. elim (eqb_tells upper o) [

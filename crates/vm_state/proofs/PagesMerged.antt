@@ -12,6 +12,7 @@ use Rattle.vm_base.specs.declared.ids.PageNo.{PageNo}
 use Rattle.vm_frames.specs.Frames.{FrameTable, claimed, frame_count, is_claimed, page_in}
 use Rattle.vm_legal.specs.Frames.{pages_gone}
 use Rattle.vm_model.specs.Local.{moves_up}
+use Rattle.vm_parts.proofs.Merging.{left_of, lower_rows}
 use Rattle.vm_parts.proofs.Rows.{some_is}
 use Rattle.vm_parts.specs.Changes.{Discards, ShiftsPage, is_here}
 use Rattle.vm_parts.specs.Merging.{Goes, MovesUp, Next, NoMore, PageMerges, PagesMerge}
@@ -51,12 +52,9 @@ moved_up : (upper lower : ObjectId) (shift pages : ℕ) (page to : PageNo) (row 
     → page.0 ≡ shift + to.0 → to.0 < pages → ShiftsPage (record { object = lower; page = page }) (record { object = upper; page = to }) row old new
     → OneMerges upper.0 lower.0 shift pages page.0 old.resident new.resident
 moved_up upper lower shift pages page to row old new apart is less shifts =
+    let low_row = lower_rows upper lower shift pages page row old new apart (MovesUp to is less shifts) in
     record {
-      low = λ p.
-          shifts.rows lower.0 p
-          ∙ (ap (λ b. if b && to.0 == p then Some row else (if lower.0 == lower.0 && page.0 == p then None else row_at old.resident lower.0 p))
-          (other_test upper.0 lower.0 apart)
-          ∙ ap (λ b. if b && page.0 == p then None else row_at old.resident lower.0 p) (same_test lower.0 lower.0 refl));
+      low = low_row;
       up = λ p. elim (eqb_tells to.0 p) [
         | inl same ↦
             ap (λ x. its_own_or x (under_row new.resident lower.0 shift pages p))
@@ -84,17 +82,11 @@ moved_up upper lower shift pages page to row old new apart is less shifts =
     up_row : (p : ℕ) → row_at new.resident upper.0 p ≡ (if to.0 == p then Some row else row_at old.resident upper.0 p)
     up_row p = moved_row upper lower page to row old new apart shifts p
 
-    low_row : (p : ℕ) → row_at new.resident lower.0 p ≡ (if page.0 == p then None else row_at old.resident lower.0 p)
-    low_row p =
-        shifts.rows lower.0 p
-        ∙ (ap (λ b. if b && to.0 == p then Some row else (if lower.0 == lower.0 && page.0 == p then None else row_at old.resident lower.0 p))
-        (other_test upper.0 lower.0 apart)
-        ∙ ap (λ b. if b && page.0 == p then None else row_at old.resident lower.0 p) (same_test lower.0 lower.0 refl))
-
 gone_away : (upper lower : ObjectId) (shift pages : ℕ) (page : PageNo) (row : PageRow) (old new : HostParts) → (upper.0 ≡ lower.0 → ⊥)
     → ((p : ℕ) → page.0 ≡ shift + p → p < pages → IsSome (row_at old.resident upper.0 p)) → Discards (record { object = lower; page = page }) row old new
     → OneMerges upper.0 lower.0 shift pages page.0 old.resident new.resident
 gone_away upper lower shift pages page row old new apart why discards =
+    let low_row = lower_rows upper lower shift pages page row old new apart (Goes why discards) in
     record {
       low = low_row;
       up = λ p. ap (λ x. its_own_or x (under_row new.resident lower.0 shift pages p)) (up_row p) ∙ elim (cases_lt p pages) [
@@ -112,10 +104,6 @@ gone_away upper lower shift pages page row old new apart why discards =
       others = λ o p above below. discards.row.at o p ∙ ap (λ b. if b && page.0 == p then None else row_at old.resident o p) (other_test lower.0 o below);
     }
   where
-    low_row : (p : ℕ) → row_at new.resident lower.0 p ≡ (if page.0 == p then None else row_at old.resident lower.0 p)
-    low_row p =
-        discards.row.at lower.0 p ∙ ap (λ b. if b && page.0 == p then None else row_at old.resident lower.0 p) (same_test lower.0 lower.0 refl)
-
     up_row : (p : ℕ) → row_at new.resident upper.0 p ≡ row_at old.resident upper.0 p
     up_row p =
         discards.row.at upper.0 p
@@ -419,11 +407,7 @@ one_here upper lower shift pages page row old new apart found merges here = reco
     one = one_merges upper lower shift pages page row old new apart merges
 
     below : (p : ℕ) (other : PageRow) → row_at new.resident lower.0 p ≡ Some other → other.here ≡ true
-    below p other is = by (page.0 == p) (sym (one.low p) ∙ is)
-      where
-        by : (b : Bool) → (if b then None else row_at old.resident lower.0 p) ≡ Some other → other.here ≡ true
-        by true none = absurd (let bad : None ≡ Some other = none in cc)
-        by false was = here.below p other was
+    below p other is = here.below p other (left_of (page.0 == p) _ (sym (one.low p) ∙ is))
 
     above : PageMerges upper shift pages (record { object = lower; page = page }) row old new → (p : ℕ) (other : PageRow)
         → row_at new.resident upper.0 p ≡ Some other → other.here ≡ true
@@ -433,11 +417,8 @@ one_here upper lower shift pages page row old new apart found merges here = reco
         by : (b : Bool) → (if b then Some row else row_at old.resident upper.0 p) ≡ Some other → other.here ≡ true
         by true its = ap (λ (z : PageRow). z.here) (sym (some_is row other its)) ∙ here.below page.0 row found
         by false was = here.above p other was
-    above (Goes why discards) p other found_now = by (lower.0 == upper.0 && page.0 == p) (sym (discards.row.at upper.0 p) ∙ found_now)
-      where
-        by : (b : Bool) → (if b then None else row_at old.resident upper.0 p) ≡ Some other → other.here ≡ true
-        by true none = absurd (let bad : None ≡ Some other = none in cc)
-        by false was = here.above p other was
+    above (Goes why discards) p other found_now =
+        here.above p other (left_of (lower.0 == upper.0 && page.0 == p) _ (sym (discards.row.at upper.0 p) ∙ found_now))
 
 -- a frame that is no page's is another one than the row's
 unowned_apart : (rs : ResidentTable) (o p g : ℕ) (row : PageRow) → IsOwned rs → row_at rs o p ≡ Some row → owner_of rs g ≡ None → row.frame.0 ≡ g → ⊥

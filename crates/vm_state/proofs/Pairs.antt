@@ -27,7 +27,7 @@ use Rattle.vm_state.proofs.Referring.{refers_shadow, sole_region, sole_shadow}
 use Rattle.vm_state.proofs.Tallies.{tally_none}
 use Rattle.vm_state.specs.Merging.{CanMerge, IsThin, IsThinBut}
 use Rattle.vm_state.specs.Pagers.{last_in}
-use Rattle.vm_state.specs.References.{is_backing, is_over, references_to, tally}
+use Rattle.vm_state.specs.References.{AreShadowsReferred, is_backing, is_over, references_to, tally}
 use Rattle.vm_state.specs.Stands.{HasKinds, HasRegions}
 use Rattle.vm_terminate.specs.Finishes.{IsReferred}
 
@@ -42,7 +42,7 @@ pub record KnowsPairs (header : Header) (h : ℕ) (chains : ChainTable) (objects
   pub kinds : HasKinds header objects chains
   pub homes : HaveHomes header past
   pub last : (o : ℕ) → last_control h o past ≡ last_in (object_at objects o)
-  pub shadows : (s : ℕ) (row : ShadowRow) → shadow_at chains s ≡ Some row → IsReferred objects s
+  pub shadows : AreShadowsReferred chains objects
   pub all : (r : ℕ) (row : RegionRow) → named header ≤ r → region_at chains r ≡ Some row → in_use header h r past ≡ true
   pub there : (r : ℕ) → named header ≤ r → in_use header h r past ≡ true → (row : RegionRow) × (region_at chains r ≡ Some row)
 

@@ -38,17 +38,25 @@ is_live_in (Some known) = known.live
 abbrev pub MayLock : ObjectTable → ℕ → PageRow → Type 0
 MayLock objects o row = (row.lock ≡ unlocked) ⊎ (is_live_in (object_at objects o) ≡ true)
 
+-- no page is locked whose pager isn't told
+abbrev pub MayAllLock : ObjectTable → ResidentTable → Type 0
+MayAllLock objects resident = (o p : ℕ) (row : PageRow) → row_at resident o p ≡ Some row → MayLock objects o row
+
+-- something refers to each object that is a shadow
+abbrev pub AreShadowsReferred : ChainTable → ObjectTable → Type 0
+AreShadowsReferred chains objects = (o : ℕ) (row : ShadowRow) → shadow_at chains o ≡ Some row → IsReferred objects o
+
 -- something refers to each object whose control lives, that has a page or whose page is asked, or that is a shadow; and no page is locked whose pager isn't
 -- told
 pub record AllReferred (chains : ChainTable) (objects : ObjectTable) (resident : ResidentTable) : Type 0 where
   pub live : (o : ℕ) (known : ObjectRow) → object_at objects o ≡ Some known → known.live ≡ true → 0 < known.references
   pub pages : (o p : ℕ) (row : PageRow) → row_at resident o p ≡ Some row → IsReferred objects o
-  pub locks : (o p : ℕ) (row : PageRow) → row_at resident o p ≡ Some row → MayLock objects o row
-  pub shadows : (o : ℕ) (row : ShadowRow) → shadow_at chains o ≡ Some row → IsReferred objects o
+  pub locks : MayAllLock objects resident
+  pub shadows : AreShadowsReferred chains objects
 
 -- something refers to each object in use but one, which ends
 pub record AllReferredBut (o : ℕ) (chains : ChainTable) (objects : ObjectTable) (resident : ResidentTable) : Type 0 where
   pub live : (x : ℕ) (known : ObjectRow) → (o ≡ x → ⊥) → object_at objects x ≡ Some known → known.live ≡ true → 0 < known.references
   pub pages : (x p : ℕ) (row : PageRow) → (o ≡ x → ⊥) → row_at resident x p ≡ Some row → IsReferred objects x
-  pub locks : (x p : ℕ) (row : PageRow) → row_at resident x p ≡ Some row → MayLock objects x row
+  pub locks : MayAllLock objects resident
   pub shadows : (x : ℕ) (row : ShadowRow) → (o ≡ x → ⊥) → shadow_at chains x ≡ Some row → IsReferred objects x

@@ -1,6 +1,6 @@
 -- A system stands for its history behind the step of a command that takes no message.
 use Rattle.vm_system.proofs.Common.{AllFilesServe, AllInner, AllQueued, AllRest, AllServe, Arming, CanTell, CanTellAll, Channel, Code, Command, Device}
-use Rattle.vm_system.proofs.Common.{DevicesHaveCause, EachOf, Event, FilesAreKept, Header, HostTable, IfOk, IsOrderly, KeepsCanonical, Lawful, LeavesBacking}
+use Rattle.vm_system.proofs.Common.{DevicesHaveCause, EachOf, Event, FilesAreKept, Header, HostTable, IsOrderly, KeepsCanonical, Lawful, LeavesBacking}
 use Rattle.vm_system.proofs.Common.{List, Makes, None, Numbered, OnErr, OnOk, Outside, PagingIsKept, Posts, Prompt, Result, SameHosts, Some, Spares, State}
 use Rattle.vm_system.proofs.Common.{Stretch, SystemStands, Told, Went, [], all_lined, all_nobodys, all_refused, all_suffice, ap, append_assoc, arith, arms}
 use Rattle.vm_system.proofs.Common.{devices, false, get_or, head, inl, inner_both, is_idle, length, none-some, of_both, queued_lined, queued_refused, refl}
@@ -307,10 +307,6 @@ on_either (Err e) f g p q = g q
 pub on_errs : {A B : Type 0} {P Q R S : Type 0} (r : Result A B) → (P → Q → R → S) → OnErr r P → OnErr r Q → OnErr r R → OnErr r S
 on_errs (Ok x) f p q s = tt
 on_errs (Err e) f p q s = f p q s
-
-pub if_ok : {A E : Type 0} {P Q : A → Type 0} (r : Result A E) → ((x : A) → P x → Q x) → IfOk r P → IfOk r Q
-if_ok (Ok x) f p = f x p
-if_ok (Err e) f p = tt
 
 -- an entry of a list that is long enough
 pub there_at : {A : Type 0} (xs : List A) (n : ℕ) (x : A) (count : ℕ) → length xs ≡ count → n < count → x ≡ get_or xs n x → slice_get xs n ≡ Some x

@@ -37,11 +37,15 @@ pub record Added (channels : List Channel) (old new : State) : Type 0 where
   pub history : new.history ≡ old.history
   pub hosts : SameHosts old new
 
+-- behind the letters stands one more, in this channel, whose message is that of the event with this index
+abbrev pub AddsLetter : ChannelId → ℕ → State → State → Type 0
+AddsLetter number index old new = new.ports.letters ≡ old.ports.letters ++ record { channel = number; message = index } ∷ []
+
 -- the message of the event with this index was sent, and nothing else was changed
 pub record HasSent (channel : Channel) (index : ℕ) (old new : State) : Type 0 where
   pub number : ChannelId
   pub is : channel_number channel old.channels.made ≡ Some number.0
-  pub letters : new.ports.letters ≡ old.ports.letters ++ record { channel = number; message = index } ∷ []
+  pub letters : AddsLetter number index old new
   pub room : old.ports.room ≤ new.ports.room + 1
   pub count : new.ports.channels ≡ old.ports.channels
   pub channels : new.channels ≡ old.channels
@@ -56,7 +60,7 @@ pub record Delivered (channel : Channel) (m : Message) (index : ℕ) (old new : 
   pub room : old.channels.room ≤ new.channels.room + length (made_by old.channels.made channel m)
   pub number : ChannelId
   pub is : channel_number channel new.channels.made ≡ Some number.0
-  pub letters : new.ports.letters ≡ old.ports.letters ++ record { channel = number; message = index } ∷ []
+  pub letters : AddsLetter number index old new
   pub letter_room : old.ports.room ≤ new.ports.room + 1
   pub buffers : new.buffers ≡ old.buffers
   pub history : new.history ≡ old.history

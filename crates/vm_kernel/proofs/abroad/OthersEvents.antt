@@ -24,7 +24,10 @@ use Rattle.vm_abroad.proofs.Home.{homes_abroad, named_objects, objects_stay, on_
 use Rattle.vm_abroad.specs.Sound.{IsObjectOf}
 use Rattle.vm_objects.specs.Objects.{object_at}
 use Rattle.vm_objects.specs.declared.row.ObjectRow.{ObjectRow}
-use Rattle.vm_model.specs.Regions.{}
+use Rattle.vm_model.specs.Regions.{made}
+use Rattle.vm_abroad.proofs.Thin.{thin_now}
+use Rattle.vm_legal.specs.Homes.{is_open, starts_copy}
+use Rattle.vm_kernel.proofs.Common.{HaveHomes, both_left, homes_next, not}
 use Rattle.vm_parts.specs.Changes.{one}
 use Rattle.vm_shadow.specs.Chains.{ChainTable, shadow_at}
 use Rattle.vm_shadow.specs.declared.shadow_row.ShadowRow.{ShadowRow}
@@ -49,7 +52,6 @@ use Rattle.vm_state.proofs.Bypassing.{waits_beyond}
 use Rattle.vm_state.proofs.Passing.{only_before}
 use Rattle.vm_state.specs.Passed.{IsAway, IsUnmet, StaysAway}
 use Rattle.vm_state.specs.Counts.{marks_of}
-use Rattle.vm_kernel.proofs.space.ThinAbroad.{thin_abroad}
 
 -- what a kernel says of all hosts
 
@@ -389,6 +391,26 @@ waits_here header h k ids past rests task lives =
     as_some None = refl
     as_some (Some w) = refl
 
+-- regions and objects have their homes behind events that are nothing to a host
+homes_after : (header : Header) (outside : Outside) (h : ℕ) (events past : List Event) → EachIn (IsAbroad header outside h) events past
+    → HaveHomes header past → HaveHomes header (events ++ past)
+homes_after header outside h [] past abroad homes = homes
+homes_after header outside h (e ∷ events) past abroad homes =
+    homes_next header outside e (events ++ past) abroad.0.cause (homes_after header outside h events past abroad.1 homes)
+
+-- a region that is made just then is over a new object, which stands on nothing
+made_bare : (header : Header) (outside : Outside) (h : ℕ) (events past : List Event) → HaveHomes header past → IsShut past
+    → EachIn (IsAbroad header outside h) events past → (r : ℕ) → is_open r (events ++ past) ≡ true
+    → (backing_of header (region_of header r (events ++ past)).top (events ++ past)).backed ≡ false
+made_bare header outside h [] past homes shut abroad r opened = absurd (let bad : false ≡ true = sym (shut r) ∙ opened in cc)
+made_bare header outside h (event.RegionMade region object pages ∷ events) past homes shut abroad r opened =
+    let before = events ++ past in
+    let test : (r == region.0) ≡ true = both_left (r == region.0) (not (starts_copy before)) opened in
+    let next : object.0 ≡ next_object header before = abroad.0.cause.1.1 in
+    ap (λ b. (backing_of header (made b object.0 pages (region_of header r before)).top before).backed) test
+    ∙ (homes_after header outside h events past abroad.1 homes).unmade object.0 (omega (arith, next))
+made_bare header outside h (e ∷ events) past homes shut abroad r opened = absurd (let bad : false ≡ true = opened in cc)
+
 -- behind events that are nothing to its host
 
 module _ (header : Header) (outside : Outside) (h : ℕ) (k : Parts) (ids : Ids) (events past : List Event) (sound : Sound header past)
@@ -418,7 +440,8 @@ module _ (header : Header) (outside : Outside) (h : ℕ) (k : Parts) (ids : Ids)
         leads = leads_now header h past (events ++ past) sound knows stay.same prompt.leads;
         waits = vain_now header h past (events ++ past) sound knows stay.same prompt.waits;
         swept = swept_now header h past (events ++ past) sound knows stay.same rests.matches.settled.shut prompt.swept;
-        thin = thin_abroad header outside h events past sound knows rests.matches.homes.1 abroad rests.matches.settled.shut prompt.thin;
+        thin = thin_now header h past (events ++ past) sound knows stay.same rests.matches.settled.shut
+            (made_bare header outside h events past rests.matches.homes.1 rests.matches.settled.shut abroad) prompt.thin;
       }
 
 suffice_next : (header : Header) (h : ℕ) (e : Event) (past : List Event) → is_home header h e past ≡ false → Suffice header h past → Suffice header h (e ∷ past)

@@ -13,26 +13,18 @@ use Rattle.vm_kernel.proofs.room.CallsSpend.{never_err}
 use Rattle.vm_kernel.proofs.room.EndsSpend.{framed}
 use Rattle.vm_kernel.proofs.steps.EventsGrow.{on_ok}
 use Rattle.vm_kernel.proofs.room.OtherRoom.{rests_roomier}
+use Rattle.vm_kernel.proofs.space.EntriesAtBoundary.{one_at_most}
 use Rattle.vm_kernel.specs.Endings.{IsMerge, MergesOnly}
 use Rattle.vm_kernel.specs.Rooms.{HasBuffers, HasRowsFor, IsRoomy, Spends, full_dues, leaving, rooms_of, with_rows}
 use Rattle.vm_kernel.specs.Turns.{QueueIsStill, RunsNone}
 use Rattle.vm_merge.specs.Merges.{MergeInTurn, MergeState, NoneLeft, OneFirst}
 use Rattle.vm_model.specs.declared.event.Event.TheVariants as event
+use Rattle.vm_parts.proofs.Lists.{except_fewer}
 use Rattle.vm_parts.specs.Listed.{listed_pages}
 use Rattle.vm_parts.specs.Merging.{Goes, MovesUp, Next, NoMore, PageMerges, PagesMerge}
-use Rattle.vm_queues.specs.Queues.{Page, pages_except}
 use Rattle.vm_resident.specs.declared.page_row.PageRow.{PageRow}
 
 -- merges list no page more
-
-except_fewer : (f : ℕ) (pages : List Page) → length (pages_except f pages) ≤ length pages
-except_fewer f [] = omega arith
-except_fewer f (page ∷ pages) = by (page.frame == f) (except_fewer f pages)
-  where
-    by : (b : Bool) → length (pages_except f pages) ≤ length pages
-        → length (if b then pages_except f pages else page ∷ pages_except f pages) ≤ length (page ∷ pages)
-    by true rest = omega (arith, rest)
-    by false rest = omega (arith, rest)
 
 page_lists : {upper : ObjectId} {shift pages : ℕ} {key : PageKey} {row : PageRow} (old new : HostParts) → PageMerges upper shift pages key row old new
     → listed_pages new.queues ≤ listed_pages old.queues
@@ -208,11 +200,7 @@ rows_back k more is = ap (with_rows k.memory.resident.spare) is
 
 -- no more parts of entries lie in a range than there are entries
 cut_once : (size from to : ℕ) (row : Entry) → length (cut size from to row) ≤ 1
-cut_once size from to row = by _ (nat_lt (max from row.address) (min to (row.address + row.bytes)))
-  where
-    by : (other : Entry) (b : Bool) → length (if b then other ∷ [] else []) ≤ 1
-    by other true = omega arith
-    by other false = omega arith
+cut_once size from to row = one_at_most _ (nat_lt (max from row.address) (min to (row.address + row.bytes)))
 
 pub parts_few : (size address bytes : ℕ) (rows : List Entry) → length (parts_in size address bytes rows) ≤ length rows
 parts_few size address bytes [] = omega arith

@@ -36,17 +36,18 @@ cut_found boundary from to (row ∷ rows) order =
         let out : (nat_lt row.address boundary && nat_lt boundary (row.address + row.bytes)) ≡ false = grind (arith, nat_tests) in
         rw (away, out) later
 
+-- of one entry and a test
+pub one_at_most : {A : Type 0} (entry : A) (b : Bool) → length (if b then entry ∷ [] else []) ≤ 1
+one_at_most entry true = omega arith
+one_at_most entry false = omega arith
+
 pub cut_few : (boundary : ℕ) (rows : List Entry) → InOrder 0 (2 ^ 32) rows → length (cut_at boundary rows) ≤ 1
 cut_few boundary rows order =
     let same = ap length (cut_found boundary 0 (2 ^ 32) rows order) in let few = found_few (entry_at boundary rows) in omega (arith, same, few)
   where
-    by_start : (row : Entry) (b : Bool) → length (if b then row ∷ [] else []) ≤ 1
-    by_start row true = omega arith
-    by_start row false = omega arith
-
     found_few : (x : Option Entry) → length (found_cut boundary x) ≤ 1
     found_few None = omega arith
-    found_few (Some row) = by_start row (nat_lt row.address boundary)
+    found_few (Some row) = one_at_most row (nat_lt row.address boundary)
 
 -- its region
 

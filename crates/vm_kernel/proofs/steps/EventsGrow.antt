@@ -168,6 +168,10 @@ on_ok (Ok x) P Q f p = f p
 on_ok (Err e) P Q f p = tt
 
 -- and of its answer
+pub if_ok : {A B : Type 0} {P Q : A → Type 0} (r : Result A B) → ((x : A) → P x → Q x) → IfOk r P → IfOk r Q
+if_ok (Ok x) f p = f x p
+if_ok (Err e) f p = tt
+
 pub each_ok : {A B : Type 0} (r : Result A B) (P : Type 0) (Q : A → Type 0) → (P → (x : A) → Q x) → OnOk r P → IfOk r Q
 each_ok (Ok x) P Q f p = f p x
 each_ok (Err e) P Q f p = tt

@@ -1,8 +1,7 @@
-use Rattle.std.specs.Prelude.{Err, IfOk, Ok, Result}
 use Rattle.vm_kernel.proofs.Common.{Still, arith, refl}
 use Rattle.vm_kernel.proofs.space.LosersMerge.{bare_behind, last_reference, thin_region}
 use Rattle.vm_kernel.proofs.space.ObjectsEnd.{only_none, pager_knows}
-use Rattle.vm_kernel.proofs.steps.EventsGrow.{goes_none, on_ok}
+use Rattle.vm_kernel.proofs.steps.EventsGrow.{goes_none, if_ok, on_ok}
 use Rattle.vm_kernel.proofs.space.RegionEnds.{LosesRegion, ends_top, loses_region, top_referred, whole_region}
 use Rattle.vm_terminate.proofs.Under.{referred_some, referred_there}
 use Rattle.vm_kernel.proofs.space.WhatStoodUnder.{below_none}
@@ -12,10 +11,6 @@ use Rattle.vm_kernel.specs.Rooms.{Spends, leaving}
 use Rattle.vm_kernel.proofs.parts.Parts.end_region.Given as given
 use Rattle.vm_kernel.proofs.parts.Parts.end_region.Goals as goal
 use Rattle.vm_kernel.proofs.parts.Parts.end_region.Goals.{After-unrefer}
-
-ok_map : {A E : Type 0} {P Q : A → Type 0} (x : Result A E) → ((a : A) → P a → Q a) → IfOk x P → IfOk x Q
-ok_map (Ok a) f is = f a is
-ok_map (Err e) f is = tt
 
 pub unrefer-requires-clause-there : goal.unrefer-requires-clause-there
 unrefer-requires-clause-there g c =
@@ -115,7 +110,7 @@ returns-then-unrefer-gt0-clause-loser g c = λ losers more all own thin.
 pub returns-clause-loser : goal.returns-clause-loser
 returns-clause-loser g c =
     let turn = (goal.at.returns-clause-loser g c).After-unrefer in
-    ok_map c.end_object.result (λ left so losers more all own thin. so losers more all own
+    if_ok c.end_object.result (λ left so losers more all own thin. so losers more all own
     (thin_region c.args.self.now c.args.region.0 c.unrefer.result c.drop_region-object.result c.drop_region-object.new.self c.unrefer.new.self losers losers
     (lost g turn) (λ x has. has) (λ one. let none = c.if-unrefer-gt0.false in absurd (omega (arith, one, none))) thin))
     c.end_object.ensures.loser

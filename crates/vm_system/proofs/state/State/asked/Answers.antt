@@ -1,6 +1,7 @@
 use Rattle.vm_system.proofs.Common.{Command, None, ap, is_some, refl, refusal, subst, ◌≡◌}
 use Rattle.vm_model.specs.Ranges.{InRange}
-use Rattle.vm_system.proofs.Beginning.{if_ok, there_at}
+use Rattle.vm_kernel.proofs.steps.EventsGrow.{if_ok}
+use Rattle.vm_system.proofs.Beginning.{there_at}
 use Rattle.vm_system.proofs.Cleaning.{asked_is, clean_few, cleaned_file}
 use Rattle.vm_system.proofs.Spoken.{heeded}
 use Rattle.vm_system.proofs.state.State.asked.Goals as goal
