@@ -1,7 +1,7 @@
 // Accesses are run, wait, are woken, and queue for frames; pages are reclaimed for them.
 
 use crate::frames::{Frame, Host, NO_FRAME, NO_TASK};
-use crate::objects::{Object, Pager};
+use crate::objects::{Object, Pager, Region};
 use crate::page::Page;
 use crate::ports::{Message, NONE};
 use crate::system::{Access, System, Want};
@@ -161,7 +161,7 @@ impl System {
     fn run_once(&mut self, task: u16, access: &Access, may_claim: bool) -> Step {
         let is_store = matches!(access.want, Want::Store { .. });
         if is_store && self.regions[access.region as usize].marked {
-            self.shadow(access.region as usize);
+            self.clear_mark(access.region as usize);
         }
         let walk = self.walk(access);
         let is_top_store = is_store && walk.is_top;
@@ -252,23 +252,33 @@ impl System {
         }
     }
 
-    // A marked region gets an object of its own.
-    fn shadow(&mut self, at: usize) {
-        let region = self.regions[at];
-        let old = &self.objects[region.top as usize];
-        let (host, old) = (old.host, old.number);
-        let number = self.next_object;
-        self.next_object += 1;
+    // A marked region loses its mark: its object is its own, or it gets one.
+    fn clear_mark(&mut self, at: usize) {
         self.marks -= 1;
-        let new = self.objects.len() as u32;
-        self.objects.push(Object::temporary(number, host, region.top, region.shift));
-        let it = &mut self.regions[at];
-        it.top = new;
-        it.shift = 0;
-        it.marked = false;
+        self.regions[at].marked = false;
         // The declared regions of all hosts but one stand in front of it besides.
-        let number_of_region = at as u32 - (self.hosts.len() as u32 - 1) * self.declared;
-        self.out.event("shadowed", [number_of_region.into(), number.into(), old.into()]);
+        let region = at as u32 - (self.hosts.len() as u32 - 1) * self.declared;
+        if self.objects[self.regions[at].top as usize].references == 1 {
+            self.out.event("unmarked", [region.into()]);
+            return;
+        }
+        let (number, old) = self.shadow(at);
+        self.out.event("shadowed", [region.into(), number.into(), old.into()]);
+    }
+
+    // A region gets an object of its own over its old one; their numbers.
+    fn shadow(&mut self, at: usize) -> (u32, u32) {
+        let Region { top, shift, pages, .. } = self.regions[at];
+        let (number, new) = (self.next_object, self.objects.len() as u32);
+        self.next_object += 1;
+        let old = &mut self.objects[top as usize];
+        old.shadows += 1;
+        old.over ^= new;
+        let (host, old) = (old.host, old.number);
+        self.objects.push(Object::temporary(number, host, top, shift, pages));
+        self.regions[at].top = new;
+        self.regions[at].shift = 0;
+        (number, old)
     }
 
     // An access ends with a page that is here.

@@ -178,12 +178,12 @@ impl System {
         let row = &mut self.regions[at];
         self.marks += if row.marked { 1 } else { 2 };
         row.marked = true;
-        let copy = Region { shift: row.shift + offset, entries: 1, ..*row };
+        let pages = entry.bytes / u64::from(self.size);
+        let copy = Region { shift: row.shift + offset, pages: pages as u32, entries: 1, ..*row };
         self.objects[copy.top as usize].references += 1;
         self.regions.push(copy);
         let region = self.next_region;
         self.next_region += 1;
-        let pages = self.pages_of(entry.bytes);
         self.out.event("cow", [region.into(), source.into(), offset.into(), pages]);
         self.enter(task, Entry { region, offset: 0, ..entry });
     }
@@ -195,6 +195,7 @@ impl System {
         self.out.event("ended", [task.into()]);
         let gone = std::mem::take(&mut self.tasks[usize::from(task)].entries);
         self.release(host, gone.iter().map(|entry| entry.region));
+        self.merge();
         Ok(())
     }
 
@@ -210,12 +211,13 @@ impl System {
     }
 
     // Makes a region over a new object; their numbers.
-    fn make_region(&mut self, host: u8, entries: u32) -> (u32, u32) {
+    fn make_region(&mut self, host: u8, pages: u64, entries: u32) -> (u32, u32) {
         let (region, object) = (self.next_region, self.next_object);
         self.next_region += 1;
         self.next_object += 1;
-        self.regions.push(Region { top: self.objects.len() as u32, shift: 0, marked: false, entries });
-        self.objects.push(Object::temporary(object, host, NONE, 0));
+        let (top, pages) = (self.objects.len() as u32, pages as u32);
+        self.regions.push(Region { top, shift: 0, pages, marked: false, entries });
+        self.objects.push(Object::temporary(object, host, NONE, 0, pages));
         (region, object)
     }
 
@@ -226,7 +228,7 @@ impl System {
         require(pages <= MOST_PAGES, Code::InvalidArgument)?;
         self.check_free(task, range)?;
         self.check_tables(1, 1)?;
-        let (region, object) = self.make_region(self.host_of(task), 1);
+        let (region, object) = self.make_region(self.host_of(task), pages, 1);
         self.out.event("region", [region.into(), object.into(), pages]);
         self.enter(task, whole_entry(range, region));
         Ok(())
@@ -267,6 +269,7 @@ impl System {
         let gone: Vec<u32> = entries.drain(met).map(|entry| entry.region).collect();
         self.out.event("removed", [task.into(), range.address, range.bytes]);
         self.release(self.host_of(task), gone.into_iter());
+        self.merge();
         Ok(())
     }
 
@@ -377,7 +380,7 @@ impl System {
             self.enter_copy(target, entry.region, source.page, whole_entry(room, 0));
             return Ok(());
         }
-        let (region, object) = self.make_region(host, 0);
+        let (region, object) = self.make_region(host, pages, 0);
         self.out.begun(task, "copy", [range.address, range.bytes, to]);
         self.out.event("region", [region.into(), object.into(), pages]);
         let target = self.index(host, object) as u32;

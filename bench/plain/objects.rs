@@ -24,6 +24,11 @@ pub struct Object {
     /// The backing object's index, and the shift to its pages.
     pub under: u32,
     pub shift: u32,
+    /// The number of its pages, where it is temporary.
+    pub length: u32,
+    /// How many shadows are over it, and their indices, each a bit's sum without carries: of one it is its index.
+    pub shadows: u32,
+    pub over: u32,
     // How many pages have a frame.
     resident: u32,
     // By page, as far as something is known.
@@ -44,6 +49,9 @@ impl Object {
             references: 0,
             under: NONE,
             shift: 0,
+            length: 0,
+            shadows: 0,
+            over: 0,
             resident: 0,
             pages: Vec::new(),
             waiter: NO_TASK,
@@ -54,8 +62,13 @@ impl Object {
     }
 
     /// A temporary object under one region, and over another object or none.
-    pub fn temporary(number: u32, host: u8, under: u32, shift: u32) -> Object {
-        Object { references: 1, under, shift, ..Object::new(number, host, Kind::Temporary) }
+    pub fn temporary(number: u32, host: u8, under: u32, shift: u32, length: u32) -> Object {
+        Object { references: 1, under, shift, length, ..Object::new(number, host, Kind::Temporary) }
+    }
+
+    /// Whether nothing but one shadow is over it, and it never had a control.
+    pub fn is_lower(&self) -> bool {
+        self.references == 1 && self.shadows == 1 && self.control == 0
     }
 
     fn known(&self, page: u32) -> u16 {
@@ -122,6 +135,7 @@ impl Object {
 pub struct Region {
     pub top: u32,
     pub shift: u32,
+    pub pages: u32,
     pub marked: bool,
     pub entries: u32,
 }

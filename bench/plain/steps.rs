@@ -139,13 +139,72 @@ impl System {
             let it = &mut self.objects[object as usize];
             it.references -= 1;
             if it.references > 0 {
+                self.losers.push(object);
                 return;
             }
             self.end_object(object as usize);
             let it = &mut self.objects[object as usize];
-            object = std::mem::replace(&mut it.under, NONE);
-            if object == NONE {
+            let under = std::mem::replace(&mut it.under, NONE);
+            if under == NONE {
                 return;
+            }
+            let lower = &mut self.objects[under as usize];
+            lower.shadows -= 1;
+            lower.over ^= object;
+            object = under;
+        }
+    }
+
+    /// What lost a reference in the step is merged into the one shadow over it, where there is nothing else over it, the lowest number
+    /// first.
+    pub fn merge(&mut self) {
+        let mut losers = std::mem::take(&mut self.losers);
+        losers.sort_unstable();
+        for lower in losers.drain(..) {
+            let it = &self.objects[lower as usize];
+            if it.is_lower() && self.objects[it.over as usize].control == 0 {
+                self.merge_into(it.over as usize, lower as usize);
+            }
+        }
+        self.losers = losers;
+    }
+
+    fn merge_into(&mut self, upper: usize, lower: usize) {
+        for page in 0..self.objects[lower].reach() {
+            if let Some(frame) = self.objects[lower].frame(page) {
+                self.move_page(upper, lower, page, frame);
+            }
+        }
+        let it = &mut self.objects[lower];
+        it.references = 0;
+        it.shadows = 0;
+        it.forget_pages();
+        let (under, shift, number) = (std::mem::replace(&mut it.under, NONE), it.shift, it.number);
+        let it = &mut self.objects[upper];
+        it.under = under;
+        it.shift += shift;
+        let of_upper = it.number;
+        if under != NONE {
+            self.objects[under as usize].over ^= upper as u32 ^ lower as u32;
+        }
+        self.out.event("merged", [of_upper.into(), number.into()]);
+    }
+
+    // A page of the lower object goes up where the upper has a place for it, and else goes.
+    fn move_page(&mut self, upper: usize, lower: usize, page: u32, frame: u16) {
+        self.objects[lower].clear_frame(page);
+        let it = &mut self.objects[upper];
+        let host = &mut self.hosts[usize::from(it.host)];
+        match page.checked_sub(it.shift) {
+            Some(to) if to < it.length && it.frame(to).is_none() => {
+                it.set_frame(to, frame);
+                let row = &mut host.frames[usize::from(frame)];
+                row.object = upper as u32;
+                row.page = to;
+            }
+            _ => {
+                host.leave(frame);
+                host.free += 1;
             }
         }
     }

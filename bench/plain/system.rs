@@ -79,6 +79,8 @@ pub struct System {
     pub began: u64,
     /// The accesses that are to be run again.
     pub woken: Vec<u16>,
+    /// The indices of objects that lost a reference in the step, and have some left.
+    pub losers: Vec<u32>,
 }
 
 impl System {
@@ -88,7 +90,8 @@ impl System {
         let mut regions = Vec::new();
         for host in 0..script.frames.len() {
             for (number, object) in (0..).zip(&script.objects) {
-                regions.push(Region { top: objects.len() as u32, shift: 0, marked: false, entries: 0 });
+                let (top, pages) = (objects.len() as u32, object.pages);
+                regions.push(Region { top, shift: 0, pages, marked: false, entries: 0 });
                 objects.push(Object::new(number, host as u8, object.kind));
             }
         }
@@ -116,6 +119,7 @@ impl System {
             marks: 0,
             began: 0,
             woken: Vec::new(),
+            losers: Vec::new(),
         }
     }
 
