@@ -56,7 +56,7 @@ module _ (header : Header) (outside : Outside) (doing : Command) (host : HostId)
   pub held_out : (washed : Bool) (k : Parts) (ids : Ids) → washed ≡ true → PagerStep header outside doing host washed past front
       → Rests header host.0 k ids past → k.laundry.held ≢ []
   held_out washed k ids wash answers rests none =
-      let count = rests.matches.laundry.count in
+      let count = rests.matches.core.pages.washed.count in
       let some = answers.out wash in
       let empty = ap length none in
       omega (arith, count, some, empty)

@@ -40,14 +40,14 @@ module _ (header : Header) (hosts : HostTable) (past : List Event) (o : ℕ) (al
 
   knows_at : (g : ℕ) (k : Parts) → slice_get hosts.kernels g ≡ Some k
       → knows_file (object_at k.memory.objects o) ≡ (is_some (object_at k.memory.objects o) && is_file header o)
-  knows_at g k found = knows_same header o (object_at k.memory.objects o) (λ known is. (all.rests g k found).matches.kinds.kinds o known is)
+  knows_at g k found = knows_same header o (object_at k.memory.objects o) (λ known is. (all.rests g k found).matches.core.objects.kinds.kinds o known is)
 
   -- another host knows it, so it isn't in use on this one
   pub known_elsewhere : (h g : ℕ) (k : Parts) → slice_get hosts.kernels g ≡ Some k → g ≢ h → knows_file (object_at k.memory.objects o) ≡ true
       → is_elsewhere header o (Some h) past ≡ true
   known_elsewhere h g k found apart knows =
       let parts = both_true (is_some (object_at k.memory.objects o)) (is_file header o) (sym (knows_at g k found) ∙ knows) in
-      let home : home_of o past ≡ Some g = home_is g (home_of o past) ((all.rests g k found).matches.files o parts.1 ∙ parts.0) in
+      let home : home_of o past ≡ Some g = home_is g (home_of o past) ((all.rests g k found).matches.core.objects.files o parts.1 ∙ parts.0) in
       ap (λ b. b && not (in_use header h o past)) parts.1 ∙ by_use (in_use header h o past) refl home
     where
       by_use : (b : Bool) → in_use header h o past ≡ b → home_of o past ≡ Some g → not b ≡ true
@@ -74,7 +74,7 @@ module _ (header : Header) (hosts : HostTable) (past : List Event) (o : ℕ) (al
         | no apart ↦
             let known = all.homes o g home in
             let some = kernel_of header hosts past all g known in
-            let here : is_some (object_at some.0.memory.objects o) ≡ true = sym ((all.rests g some.0 some.1).matches.files o file)
+            let here : is_some (object_at some.0.memory.objects o) ≡ true = sym ((all.rests g some.0 some.1).matches.core.objects.files o file)
             ∙ (ap (is_on g) home ∙ same_number g) in
             let knows : knows_file (object_at some.0.memory.objects o) ≡ true = knows_at g some.0 some.1 ∙ rw (here, file) refl in
             let bad : false ≡ true = sym (none g some.0 (omega (arith, known, count)) apart some.1) ∙ knows in

@@ -13,7 +13,7 @@ home_is h (Some own) is = elim (eqb_tells own h) [
 
 pub home_found : (header : Header) (hosts : HostTable) (past : List Event) (task h : ℕ) (k : Parts) → AllRest header hosts past
     → slice_get hosts.kernels h ≡ Some k → is_some (entries_in task k.maps) ≡ true → host_of task past ≡ Some h
-home_found header hosts past task h k all found here = home_is h (host_of task past) ((all.rests h k found).matches.tasks.hosts task ∙ here)
+home_found header hosts past task h k all found here = home_is h (host_of task past) ((all.rests h k found).matches.core.spaces.tasks.hosts task ∙ here)
 
 -- none of the hosts below a number has the task
 abbrev pub NotBelow : ℕ → HostTable → ℕ → Type 0
@@ -37,7 +37,7 @@ home_nowhere header hosts past task n all none count = by_home (host_of task pas
     by_home (Some h) is =
         let known = all.tasks task h is in
         let some = kernel_of header hosts past all h known in
-        let here : is_some (entries_in task some.0.maps) ≡ true = sym ((all.rests h some.0 some.1).matches.tasks.hosts task)
+        let here : is_some (entries_in task some.0.maps) ≡ true = sym ((all.rests h some.0 some.1).matches.core.spaces.tasks.hosts task)
         ∙ (ap (is_on h) is ∙ same_number h) in
         let bad : false ≡ true = sym (none h some.0 (omega (arith, known, count)) some.1) ∙ here in
         absurd (cc)

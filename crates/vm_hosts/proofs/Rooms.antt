@@ -5,44 +5,12 @@ use Rattle.vm_hosts.proofs.Common.{slice_get}
 use Rattle.vm_hosts.proofs.Common.{slice_get_within, subst, suc, sym, takes_part, true, with_rooms, with_rooms_of, zero, ℕ, ◌+◌, ◌<◌, ◌∙◌, ◌∷◌, ◌≡◌, ◌≤◌}
 use Rattle.std.specs.Prelude.{Err, Ok, OnErr, Result}
 use Rattle.vm_hosts.proofs.Tables.{put, set_cases}
+use Rattle.vm_kernel.proofs.memory.CoreChanges.{rests_within}
 
 -- the list of frames that a reclaim passes over is kept for its memory alone
 rests_skip : (header : Header) (h : ℕ) (new old : Parts) (ids : Ids) (past : List Event) → Rests header h old ids past
     → Rests header h (record old { skip = new.skip }) ids past
-rests_skip header h new old ids past was =
-    let m = was.matches in
-    record {
-      matches =
-          record {
-            ranged = m.ranged;
-            known = m.known;
-            size = m.size;
-            host = m.host;
-            declared = m.declared;
-            fits = m.fits;
-            tasks = m.tasks;
-            regions = m.regions;
-            kinds = m.kinds;
-            homes = m.homes;
-            files = m.files;
-            sizes = m.sizes;
-            entries = m.entries;
-            shared = m.shared;
-            pages = m.pages;
-            uses = m.uses;
-            controls = m.controls;
-            settled = m.settled;
-            replied = m.replied;
-            laundry = m.laundry;
-            frames = m.frames;
-          };
-      used = was.used;
-      referred = was.referred;
-      thin = was.thin;
-      waits = was.waits;
-      order = was.order;
-      idle = was.idle;
-    }
+rests_skip header h new old ids past was = rests_within (record old { skip = new.skip }) was
 
 -- a kernel with other rooms stands for the same
 rests_rooms : (header : Header) (h : ℕ) (new old : Parts) (ids : Ids) (past : List Event) → new ≡ with_rooms_of new old → Rests header h old ids past

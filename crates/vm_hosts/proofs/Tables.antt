@@ -54,7 +54,7 @@ all_suffice header hosts past all g = by_frames (slice_get (reverse header.frame
         let same = length-reverse header.frames.items in
         let some = kernel_of header hosts past all g (omega (arith, within, same)) in
         subst (λ (z : Option ℕ). IfSome z (λ most. frames_used header g past ≤ most)) is
-        (suffices header g some.0.memory.frames past (all.rests g some.0 some.1).matches.frames)
+        (suffices header g some.0.memory.frames past (all.rests g some.0 some.1).matches.core.pages.counted)
 
 -- the kernel of a host, which goes by its own number
 pub record Found (header : Header) (hosts : HostTable) (past : List Event) (h : ℕ) (k : Parts) : Type 0 where
@@ -70,4 +70,4 @@ found header hosts past h k all known read =
     let within : h < length hosts.kernels = omega (arith, count, known) in
     let at : slice_get hosts.kernels h ≡ Some k = slice_get_read hosts.kernels (length hosts.kernels) h k refl within read in
     let rests = all.rests h k at in
-    record { at = at; within = within; rests = subst (λ (z : ℕ). Rests header z k hosts.ids past) (sym rests.matches.host) rests; number = rests.matches.host }
+    record { at = at; within = within; rests = subst (λ (z : ℕ). Rests header z k hosts.ids past) (sym rests.matches.core.setting.numbered) rests; number = rests.matches.core.setting.numbered }

@@ -1,5 +1,6 @@
 -- What becomes of the pages and the frames of a host, and of the chains over them.
 pub mod ComesForAccess
+pub mod CoreChanges
 pub mod FramesHeld
 pub mod FramesWashed
 pub mod FramesWired

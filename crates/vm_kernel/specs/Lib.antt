@@ -13,6 +13,5 @@ pub mod Rooms
 pub mod Serving
 pub mod Slow
 pub mod Sweeping
-pub mod TablesInGroups
 pub mod Taking
 pub mod Turns

@@ -155,27 +155,9 @@ module _ (header : Header) (hosts new : HostTable) (line : ℕ) (past : List Eve
   matches_unlined h k m =
       let common = common_all header hosts past all in
       record {
-        ranged = m.ranged;
-        known = m.known;
-        size = m.size;
-        host = m.host;
-        declared = m.declared;
-        fits = m.fits;
-        tasks = m.tasks;
-        regions = m.regions;
-        kinds = m.kinds;
-        homes = m.homes;
-        files = m.files;
-        sizes = m.sizes;
-        entries = m.entries;
-        shared = m.shared;
-        pages = m.pages;
-        uses = m.uses;
-        controls = m.controls;
+        core = m.core;
         settled = common.settled;
         replied = common.replied;
-        laundry = m.laundry;
-        frames = m.frames;
       }
 
   rests_unlined : (h : ℕ) (k : Parts) → Rests header h k new.ids (event.Line line ∷ past) → Rests header h k new.ids past

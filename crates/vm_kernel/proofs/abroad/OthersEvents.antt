@@ -58,7 +58,7 @@ use Rattle.vm_state.specs.Counts.{marks_of}
 pub common_of : (header : Header) (h : ℕ) (k : Parts) (ids : Ids) (gone : List Entry) (past : List Event) → Matches header h k ids gone past
     → IsCommon header ids past
 common_of header h k ids gone past matches =
-    let has = matches.regions in
+    let has = matches.core.objects.regions in
     record {
       region = has.region;
       object = has.object;
@@ -66,7 +66,7 @@ common_of header h k ids gone past matches =
       few = has.few;
       settled = matches.settled;
       replied = matches.replied;
-      homes = matches.homes.1;
+      homes = matches.core.spaces.homes.1;
     }
 
 -- what its tables say of its host
@@ -92,13 +92,13 @@ own_region header h k ids past rests r has temporary = by_row (region_at k.chain
     by_row : (x : Option RegionRow) → region_at k.chains r ≡ x → is_some x ≡ true → is_used header h r past ≡ true
     by_row None found has = absurd (let bad : false ≡ true = has in cc)
     by_row (Some row) found has =
-        used_of header h r past (rests.matches.settled.shut r) ((rests.matches.uses.used r temporary).is (row_use r row rests.matches.entries found rests.used))
+        used_of header h r past (rests.matches.settled.shut r) ((rests.matches.core.spaces.uses.used r temporary).is (row_use r row rests.matches.core.spaces.entries found rests.used))
 
 held_on : (header : Header) (h : ℕ) (k : Parts) (ids : Ids) (past : List Event) → Rests header h k ids past → (r : ℕ) → named header ≤ r
     → is_used header h r past ≡ true → IsHeldOn header h r past
 held_on header h k ids past rests r temporary used =
-    let has = rests.matches.tasks in
-    elim ((rests.matches.uses.used r temporary).why (use_of header h r past used)) [
+    let has = rests.matches.core.spaces.tasks in
+    elim ((rests.matches.core.spaces.uses.used r temporary).why (use_of header h r past used)) [
       | inl count ↦
           let some = by_some all_tasks r k.maps count in
           let here = with_entry r (entries_in some.0 k.maps) some.1 in
@@ -112,41 +112,41 @@ held_on header h k ids past rests r temporary used =
     on_task : (task : ℕ) → is_some (entries_in task k.maps) ≡ true → (has_entry r (entries_of header.size task past) ≡ true)
         ⊎ (fills r (waiting task past) (copy_target task past) ≡ true) → IsHeldOn header h r past
     on_task task here holds_it =
-        let has = rests.matches.tasks in
+        let has = rests.matches.core.spaces.tasks in
         let lives : lives_on h task past ≡ true = has.hosts task ∙ here in
         record {
           task = task;
           lives = lives;
-          made = among_of task (tasks past) (rests.matches.uses.among task (rows_in task k.maps) (lives_in task has lives));
+          made = among_of task (tasks past) (rests.matches.core.spaces.uses.among task (rows_in task k.maps) (lives_in task has lives));
           holds = holds_it;
         }
 
 -- an object that its tables know is the host's
 own_object : (header : Header) (h : ℕ) (k : Parts) (ids : Ids) (past : List Event) → Rests header h k ids past → (o : ℕ) (row : ObjectRow)
     → object_at k.memory.objects o ≡ Some row → IsObjectOf header h o past
-own_object header h k ids past rests o row found temporary = ap (is_on h) (rests.matches.controls.home o row temporary found) ∙ on_own h
+own_object header h k ids past rests o row found temporary = ap (is_on h) (rests.matches.core.controls.home o row temporary found) ∙ on_own h
 
 -- the chain of a region of the host is of objects that its tables know, or of a declared one, and these were made, for the host
 chain_made : (header : Header) (h : ℕ) (k : Parts) (ids : Ids) (past : List Event) → Rests header h k ids past → (r n u : ℕ) → IsRegionOf header h r past
     → Below (λ o. backing_of header o past) n (region_of header r past).top u → (u < next_object header past) × IsObjectOf header h u past
 chain_made header h k ids past rests r n u own below = elim (kind_cases header r) [
   | inl declared ↦
-      let same = declared_chain header past r n u rests.matches.homes.1 declared below in
+      let same = declared_chain header past r n u rests.matches.core.spaces.homes.1 declared below in
       let more = named_objects header past in
       (omega (arith, same, declared, more), λ temporary. absurd (omega (arith, same, declared, temporary)))
   | inr temporary ↦
       let row = used_there header h k ids [] past r rests.matches rests.used.copies temporary (use_of header h r past (own temporary)) in
-      let known = chain_known rests.matches.regions r row.0 row.1 n u below in
-      (small_object rests.matches.regions u known.row known.known, own_object header h k ids past rests u known.row known.known)
+      let known = chain_known rests.matches.core.objects.regions r row.0 row.1 n u below in
+      (small_object rests.matches.core.objects.regions u known.row known.known, own_object header h k ids past rests u known.row known.known)
 ]
 
 pub knows_of : (header : Header) (h : ℕ) (k : Parts) (ids : Ids) (past : List Event) → Rests header h k ids past → Knows header h past
 knows_of header h k ids past rests = record {
   held = λ r temporary used. held_on header h k ids past rests r temporary used;
   entries = λ task lives.
-      subst (AllRows (λ row. IsRegionOf header h row.region.0 past)) (sym (rests.matches.tasks.rows task (sym (rests.matches.tasks.hosts task) ∙ lives)))
+      subst (AllRows (λ row. IsRegionOf header h row.region.0 past)) (sym (rests.matches.core.spaces.tasks.rows task (sym (rests.matches.core.spaces.tasks.hosts task) ∙ lives)))
       (rows_map (IsInside header.size k.chains) (λ row. IsRegionOf header h row.region.0 past)
-      (λ row is. own_region header h k ids past rests row.region.0 is.region) (rows_in task k.maps) (rests.matches.entries.inside task));
+      (λ row is. own_region header h k ids past rests row.region.0 is.region) (rows_in task k.maps) (rests.matches.core.spaces.entries.inside task));
   chains = λ r small own n u below. chain_made header h k ids past rests r n u own below;
 }
 
@@ -199,11 +199,11 @@ returns_abroad header outside h (e ∷ events) past abroad =
 module _ (header : Header) (h : ℕ) (k : Parts) (ids next : Ids) (past new : List Event) (rests : Rests header h k ids past) (same : SameFacts header h past new)
     (common : IsCommon header next new) where
   living : (task : ℕ) → is_some (entries_in task k.maps) ≡ true → lives_on h task past ≡ true
-  living task here = rests.matches.tasks.hosts task ∙ here
+  living task here = rests.matches.core.spaces.tasks.hosts task ∙ here
 
   tasks_same : HasTasks h header.size k.maps (λ task. host_of task new) (λ task. entries_of header.size task new)
   tasks_same =
-      let has = rests.matches.tasks in
+      let has = rests.matches.core.spaces.tasks in
       record {
         sized = has.sized;
         hosts = λ task. same.lives task ∙ has.hosts task;
@@ -214,7 +214,7 @@ module _ (header : Header) (h : ℕ) (k : Parts) (ids next : Ids) (past new : Li
   regions_same : HasRegions k.chains k.memory.objects next (λ r. region_of header r new) (λ o. backing_of header o new) (next_region header new)
       (next_object header new) (marks_of header new)
   regions_same =
-      let has = rests.matches.regions in
+      let has = rests.matches.core.objects.regions in
       record {
         region = common.region;
         object = common.object;
@@ -243,33 +243,33 @@ module _ (header : Header) (h : ℕ) (k : Parts) (ids next : Ids) (past new : Li
     where
       none_from : (s : ℕ) → next_object header past ≤ s → (x : Option ShadowRow) → shadow_at k.chains s ≡ x → x ≡ None
       none_from s high None is = refl
-      none_from s high (Some row) is = let small = small_shadow rests.matches.regions s row is in absurd (omega (arith, small, high))
+      none_from s high (Some row) is = let small = small_shadow rests.matches.core.objects.regions s row is in absurd (omega (arith, small, high))
 
   pages_same : HasPages k.memory.frames k.memory.resident k.memory.objects (λ o p. known_local header o p (local header h (place_of o p) new))
-  pages_same = record { shown = λ o p. ap (known_local header o p) (same.pages.local (place_of o p)) ∙ rests.matches.pages.shown o p }
+  pages_same = record { shown = λ o p. ap (known_local header o p) (same.pages.local (place_of o p)) ∙ rests.matches.core.pages.shown.shown o p }
 
   uses_same : ApartElsewhere header h new → ((r : ℕ) → home_of r past ≡ Some h → home_of r new ≡ Some h)
       → HasUse header k.maps k.waits.rows (λ r. in_use header h r new) (tasks new) (λ task r. holds header.size task r new) (next_region header new)
   uses_same apart home =
-      let has = rests.matches.uses in
+      let has = rests.matches.core.spaces.uses in
       record {
         used =
             λ r temporary. subst (λ (b : Bool). IsUsed k.maps k.waits.rows r b) (sym
             (use_same header h r past new same temporary (rests.matches.settled.shut r) (common.settled.shut r))) (has.used r temporary);
         files = λ r file some.
             let task = by_some all_tasks r k.maps some in
-            let row = region_row k.chains r (entry_there header.size r k.chains (rows_in task.0 k.maps) (rests.matches.entries.inside task.0) task.1) in
-            common.homes.files r h file (inr (home r (rests.matches.homes.0 r row.0 (file_paged header r file) row.1)));
+            let row = region_row k.chains r (entry_there header.size r k.chains (rows_in task.0 k.maps) (rests.matches.core.spaces.entries.inside task.0) task.1) in
+            common.homes.files r h file (inr (home r (rests.matches.core.spaces.homes.0 r row.0 (file_paged header r file) row.1)));
         among =
             λ task rows found. subst (λ (z : List ℕ). is_among task z ≡ true) (sym same.made.is)
             (among_more task same.made.made (tasks past) (has.among task rows found));
-        apart = λ task r away ours. apart task r (same.lives task ∙ (rests.matches.tasks.hosts task ∙ ap is_some away)) ours;
+        apart = λ task r away ours. apart task r (same.lives task ∙ (rests.matches.core.spaces.tasks.hosts task ∙ ap is_some away)) ours;
       }
 
   controls_same : ((o : ℕ) → object_home o past ≡ Some h → object_home o new ≡ Some h)
       → HasControls (named header) h k.memory.objects (λ o. last_control h o new) (λ o. live_control h o new) (λ o. is_ready h o new) (λ o. object_home o new)
   controls_same home =
-      let has = rests.matches.controls in
+      let has = rests.matches.core.controls in
       record {
         last = λ o. same.pages.last o ∙ has.last o;
         live = λ o. same.pages.live o ∙ has.live o;
@@ -326,11 +326,11 @@ module _ (header : Header) (h : ℕ) (k : Parts) (ids next : Ids) (past new : Li
   order_same = order_rows 0 k.waits.rows (λ t w found. (same.task t (living t (ap is_some (rests.waits.allowed t w found).lives))).begun) rests.order
 
   laundry_same : HasLaundry k.memory.frames k.memory.resident k.laundry (returns_out h new)
-  laundry_same = subst (HasLaundry k.memory.frames k.memory.resident k.laundry) (sym same.pages.out) rests.matches.laundry
+  laundry_same = subst (HasLaundry k.memory.frames k.memory.resident k.laundry) (sym same.pages.out) rests.matches.core.pages.washed
 
   frames_same : HasFrames (slice_get (reverse header.frames.items) h) k.memory.frames (frames_held header h new) (frames_wired h new)
   frames_same =
-      let has = rests.matches.frames in record { total = has.total; held = same.pages.held ∙ has.held; wired = same.pages.wired ∙ has.wired; fits = has.fits }
+      let has = rests.matches.core.pages.counted in record { total = has.total; held = same.pages.held ∙ has.held; wired = same.pages.wired ∙ has.wired; fits = has.fits }
 
   -- tasks elsewhere hold none of its regions, and its regions and objects stay on their host
   pub rests_same : SameReturns (named header) h past new → ApartElsewhere header h new → ((r : ℕ) → home_of r past ≡ Some h → home_of r new ≡ Some h)
@@ -339,30 +339,34 @@ module _ (header : Header) (h : ℕ) (k : Parts) (ids next : Ids) (past new : Li
   rests_same returns apart home known objects = record {
     matches =
         record {
-          ranged = rests.matches.ranged;
-          declared = rests.matches.declared;
-          kinds = rests.matches.kinds;
-          shared = rests.matches.shared;
-          known = rests.matches.known;
-          size = rests.matches.size;
-          host = rests.matches.host;
-          fits = rests.matches.fits;
-          tasks = tasks_same;
-          regions = regions_same;
-          homes = (λ r row paged found. home r (rests.matches.homes.0 r row paged found), common.homes);
-          files = λ o file. known o ∙ rests.matches.files o file;
-          sizes = record {
-            at = λ o row least found. rests.matches.sizes.at o row least found ∙ sym (same.sizes o (small_object rests.matches.regions o row found));
-            few = rests.matches.sizes.few;
+          core = record {
+            setting = rests.matches.core.setting;
+            fits = rests.matches.core.fits;
+            spaces = record {
+              tasks = tasks_same;
+              entries = rests.matches.core.spaces.entries;
+              shared = rests.matches.core.spaces.shared;
+              uses = uses_same apart home;
+              homes = (λ r row paged found. home r (rests.matches.core.spaces.homes.0 r row paged found), common.homes);
+            };
+            objects = record {
+              regions = regions_same;
+              kinds = rests.matches.core.objects.kinds;
+              files = λ o file. known o ∙ rests.matches.core.objects.files o file;
+              sizes = record {
+                at = λ o row least found. rests.matches.core.objects.sizes.at o row least found ∙ sym (same.sizes o (small_object rests.matches.core.objects.regions o row found));
+                few = rests.matches.core.objects.sizes.few;
+              };
+            };
+            controls = controls_same objects;
+            pages = record {
+              shown = pages_same;
+              washed = laundry_same;
+              counted = frames_same;
+            };
           };
-          entries = rests.matches.entries;
-          pages = pages_same;
-          uses = uses_same apart home;
-          controls = controls_same objects;
           settled = common.settled;
           replied = common.replied;
-          laundry = laundry_same;
-          frames = frames_same;
         };
     used = used_told rests.used (λ t w found. let it = same.task t (living t (ap is_some (rests.waits.allowed t w found).lives)) in (it.next, it.target));
     referred = rests.referred;
@@ -374,7 +378,7 @@ module _ (header : Header) (h : ℕ) (k : Parts) (ids next : Ids) (past new : Li
 
 apart_of : (header : Header) (h : ℕ) (k : Parts) (ids : Ids) (past : List Event) → Rests header h k ids past → ApartElsewhere header h past
 apart_of header h k ids past rests task r away ours =
-    rests.matches.uses.apart task r (none_in (entries_in task k.maps) (sym (rests.matches.tasks.hosts task) ∙ away)) ours
+    rests.matches.core.spaces.uses.apart task r (none_in (entries_in task k.maps) (sym (rests.matches.core.spaces.tasks.hosts task) ∙ away)) ours
   where
     none_in : (x : Option (List Entry)) → is_some x ≡ false → x ≡ None
     none_in None is = refl
@@ -384,7 +388,7 @@ apart_of header h k ids past rests task r away ours =
 pub waits_here : (header : Header) (h : ℕ) (k : Parts) (ids : Ids) (past : List Event) → Rests header h k ids past → (task : ℕ) → host_of task past ≡ Some h
     → is_some (entry k.waits.rows task) ≡ is_some (waiting task past)
 waits_here header h k ids past rests task lives =
-    let here = sym (rests.matches.tasks.hosts task) ∙ (ap (is_on h) lives ∙ own_host h) in
+    let here = sym (rests.matches.core.spaces.tasks.hosts task) ∙ (ap (is_on h) lives ∙ own_host h) in
     sym (ap is_some (rests.waits.is task here) ∙ as_some (entry k.waits.rows task))
   where
     as_some : (x : Option Waiting) → is_some (waiting_in k.maps.size x) ≡ is_some x
@@ -441,7 +445,7 @@ module _ (header : Header) (outside : Outside) (h : ℕ) (k : Parts) (ids : Ids)
         waits = vain_now header h past (events ++ past) sound knows stay.same prompt.waits;
         swept = swept_now header h past (events ++ past) sound knows stay.same rests.matches.settled.shut prompt.swept;
         thin = thin_now header h past (events ++ past) sound knows stay.same rests.matches.settled.shut
-            (made_bare header outside h events past rests.matches.homes.1 rests.matches.settled.shut abroad) prompt.thin;
+            (made_bare header outside h events past rests.matches.core.spaces.homes.1 rests.matches.settled.shut abroad) prompt.thin;
       }
 
 suffice_next : (header : Header) (h : ℕ) (e : Event) (past : List Event) → is_home header h e past ≡ false → Suffice header h past → Suffice header h (e ∷ past)

@@ -118,13 +118,13 @@ may_map header h task address bytes object offset past k ids events s =
     let second = passed away code.WrongHost next first.1 in
     let third = passed (meets_range address bytes rows) code.NoSpace last second.1 in
     let fourth = passed full code.TableFull None third.1 in
-    let lives = lives_in task.0 m.tasks s.acts in
-    let own : rows ≡ rows_in task.0 k.maps = rows_here m.tasks lives in
+    let lives = lives_in task.0 m.core.spaces.tasks s.acts in
+    let own : rows ≡ rows_in task.0 k.maps = rows_here m.core.spaces.tasks lives in
     let both = or_parts (not (is_range header.size address bytes)) (nat_lt (declared_pages header object.0) (offset + bytes / header.size)) first.0 in
     let range : is_range header.size address bytes ≡ true = not-false (is_range header.size address bytes) both.0 in
     let within : nat_lt (declared_pages header object.0) (offset + bytes / header.size) ≡ false = both.1 in
     let short : full ≡ false = fourth.0 in
-    let sized : is_range k.maps.size address bytes ≡ true = ap (λ z. is_range z address bytes) m.tasks.sized ∙ range in
+    let sized : is_range k.maps.size address bytes ≡ true = ap (λ z. is_range z address bytes) m.core.spaces.tasks.sized ∙ range in
     let free : meets_range address bytes (rows_in task.0 k.maps) ≡ false = ap (meets_range address bytes) (sym own) ∙ third.0 in
     let fits : nat_lt most_entries (length (rows_in task.0 k.maps) + 1) ≡ false = ap (λ z. nat_lt most_entries (length z + 1)) (sym own) ∙ short in
     let end : address + bytes ≤ 2 ^ 32 = grind (arith, nat_tests) in
@@ -139,12 +139,12 @@ may_map header h task address bytes object offset past k ids events s =
       end = end;
       inside = grind (arith, nat_tests);
       used =
-          here_of (is_file header object.0) (in_use header h object.0 past) (sym (ap (λ z. is_elsewhere header object.0 z past) (lives_here m.tasks lives))
+          here_of (is_file header object.0) (in_use header h object.0 past) (sym (ap (λ z. is_elsewhere header object.0 z past) (lives_here m.core.spaces.tasks lives))
           ∙ second.0);
       free = free;
       room = grind (arith, nat_tests);
       judged = rw (sized, free, fits) refl;
-      pages = subst (λ (z : ℕ). offset + bytes / z < 2 ^ 32) (sym m.tasks.sized) (few header.size m.ranged.size end least);
+      pages = subst (λ (z : ℕ). offset + bytes / z < 2 ^ 32) (sym m.core.spaces.tasks.sized) (few header.size m.core.setting.ranged.size end least);
     }
   where
     few : (size : ℕ) → IsPageSize size → address + bytes ≤ 2 ^ 32 → offset ≤ most_pages → offset + bytes / size < 2 ^ 32
@@ -179,20 +179,20 @@ pub map_enters : (header : Header) (h : ℕ) (task : TaskId) (address bytes : �
     → Enters header task.0 bytes object.0 offset past
 map_enters header h task address bytes object offset past k ids rests may =
     let m = rests.matches in
-    let pages : (region_of header object.0 past).pages ≡ declared_pages header object.0 = ap (λ z. z.pages) (m.homes.1.whole object.0 may.declared) in
+    let pages : (region_of header object.0 past).pages ≡ declared_pages header object.0 = ap (λ z. z.pages) (m.core.spaces.homes.1.whole object.0 may.declared) in
     let inside = may.inside in
     let less = may.declared in
     let more = named_regions header past in
     record {
       idle = may.idle;
       host = h;
-      lives = lives_here m.tasks may.lives;
+      lives = lives_here m.core.spaces.tasks may.lives;
       whole = may.whole;
       inside = omega (arith, inside, pages);
       made = omega (arith, less, more);
       used = λ temporary. absurd (omega (arith, temporary, less));
       file = may.used;
-      unfilled = unfilled_declared header object.0 (tasks past) past may.declared m.homes.1;
+      unfilled = unfilled_declared header object.0 (tasks past) past may.declared m.core.spaces.homes.1;
     }
 
 -- what a kernel has whose task has the first entry on the region of a declared object
@@ -229,7 +229,7 @@ beginning h object control size = event.Sent (Up (host_id h) object) (message.In
 -- no control of the object lived
 pub was_dead : (header : Header) (h : ℕ) (past : List Event) (k : Parts) (ids : Ids) (object : ℕ) (new : ObjectRow) → Rests header h k ids past
     → BecomesKnown header object (object_at k.memory.objects object) new → live_control h object past ≡ None
-was_dead header h past k ids object new rests known = rests.matches.controls.live object ∙ by (object_at k.memory.objects object) refl
+was_dead header h past k ids object new rests known = rests.matches.core.controls.live object ∙ by (object_at k.memory.objects object) refl
   where
     by : (was : Option ObjectRow) → object_at k.memory.objects object ≡ was → live_in was ≡ None
     by None is = refl
@@ -242,7 +242,7 @@ map_opens : (header : Header) (h : ℕ) (task : TaskId) (address bytes : ℕ) (o
 map_opens header h task address bytes object offset new past k ids rests may known =
     let m = rests.matches in
     let row = shared_entry address bytes object offset in
-    let last = m.controls.last object.0 in
+    let last = m.core.controls.last object.0 in
     let next = known.control in
     record {
       number = omega (arith, last, next);
@@ -255,10 +255,10 @@ map_opens header h task address bytes object offset new past k ids rests may kno
           record {
             host = h;
             entry = row;
-            lives = lives_here m.tasks may.lives;
+            lives = lives_here m.core.spaces.tasks may.lives;
             found =
                 ap (λ b. entry_at address (if b then entered row (entries_of header.size task.0 past) else entries_of header.size task.0 past)) (itself task.0)
-                ∙ (ap (λ z. entry_at address (entered row z)) (rows_here m.tasks may.lives) ∙ found_entered row (rows_in task.0 k.maps) may.some may.free);
+                ∙ (ap (λ z. entry_at address (entered row z)) (rows_here m.core.spaces.tasks may.lives) ∙ found_entered row (rows_in task.0 k.maps) may.some may.free);
           };
       on_host = refl;
       region = refl;
@@ -271,8 +271,8 @@ map_home : (header : Header) (h : ℕ) (task : TaskId) (address bytes : ℕ) (ob
     → is_file header object.0 ≡ true → home_of object.0 (got task (shared_entry address bytes object offset) ∷ past) ≡ Some h
 map_home header h task address bytes object offset past k ids rests may file =
     let row = shared_entry address bytes object offset in
-    home_used header h task row.address row.bytes row.region row.offset row.prot row.inherit past rests.matches.homes.1 (may.used file)
-    (lives_here rests.matches.tasks may.lives)
+    home_used header h task row.address row.bytes row.region row.offset row.prot row.inherit past rests.matches.core.spaces.homes.1 (may.used file)
+    (lives_here rests.matches.core.spaces.tasks may.lives)
 
 other_home : (task : TaskId) (address bytes : ℕ) (object : ObjectId) (offset : ℕ) (past : List Event) (r : ℕ) → (object.0 ≡ r → ⊥)
     → home_of r (got task (shared_entry address bytes object offset) ∷ past) ≡ home_of r past
@@ -290,7 +290,7 @@ pages_opened header h task row object control past k ids rests dead =
     (pages_known header header.size (λ o p. if object.0 == o then Begins else Elsewhere) (λ o p. local header h (place_of o p) before)
     (λ o p. other_if (object.0 == o) Begins tt)
     (pages_created header.size k.memory.frames k.memory.resident k.memory.objects (λ o p. known_local header o p (local header h (place_of o p) before))
-    object.0 rests.matches.pages (λ q. unasked header h object.0 q before dead)))
+    object.0 rests.matches.core.pages.shown (λ q. unasked header h object.0 q before dead)))
 
 -- the kernel behind both events
 pub rests_opened : (header : Header) (h : ℕ) (outside : Outside) (doing : Command) (task : TaskId) (address bytes : ℕ) (object : ObjectId) (offset pages : ℕ)
@@ -317,63 +317,60 @@ rests_opened header h outside doing task address bytes object offset pages new p
     let controls : HasControls (named header) h objects (λ x. last_control h x now) (λ x. live_control h x now) (λ x. is_ready h x now)
     (λ x. object_home x past) =
     rw (own_host h) (controls_opened header k.memory.objects objects (λ x. last_control h x past) (λ x. live_control h x past) (λ x. is_ready h x past) object.0
-    new m.controls may.declared o.known o.put) in
+    new m.core.controls may.declared o.known o.put) in
     record {
       matches =
           record {
-            ranged = m.ranged;
-            declared = m.declared;
-            kinds = kinds_declared header object new pages k.chains chains k.memory.objects objects may.declared o.known o.region o.put o.marks m.kinds;
-            shared = shared_entered (named header) task.0 k.maps maps row o.changes (λ less same. let bad : inherit.Share ≡ inherit.Copy = same in cc) m.shared;
-            known = m.known;
-            size = m.size;
-            host = m.host;
-            fits =
-                record {
-                  parts = fit_declared header k.memory objects k.chains object.0 new m.fits.parts rests.referred o.known o.put;
-                  plain = m.fits.plain;
-                  buffers = m.fits.buffers;
-                };
-            tasks = tasks_entered h size k.maps maps past task row m.tasks o.changes lives;
-            regions =
-                regions_declared header past object new pages k.chains chains k.memory.objects objects ids (next_region header past) (next_object header past)
-                (marks_of header past) m.regions m.kinds m.homes.1 may.declared regions known_objects o.free o.sized o.known o.region o.put;
-            homes =
-                homes_put header h k.chains chains object.0 (own_region object pages) now o.region.at
-                (λ paged. map_home header h task address bytes object offset past k ids rests may (file_of header object.0 may.declared paged))
-                (homes_caused header outside h k.chains begins (enters ∷ past)
-                (doing, map_opens header h task address bytes object offset new past k ids rests may o.known)
-                (homes_caused header outside h k.chains enters past (doing, map_enters header h task address bytes object offset past k ids rests may)
-                m.homes));
-            files = λ x file. elim (known_cases object.0 new k.memory.objects objects o.put x) [
-              | inl this ↦
-                  ap (is_on h) (subst (λ (z : ℕ). home_of z now ≡ Some h) this.0 (map_home header h task address bytes object offset past k ids rests may
-                  (ap (is_file header) this.0 ∙ file)))
-                  ∙ (own_host h ∙ sym (ap is_some this.1))
-              | inr other ↦ ap (is_on h) (other_home task address bytes object offset past x other.0) ∙ (m.files x file ∙ sym (ap is_some other.1))
-            ];
-            sizes =
-                sizes_new (named header) object.0 new k.memory.objects objects (λ x. object_pages header x past) (λ x. object_pages header x past) o.put
-                (let pages = o.known.pages in let most = declared_few header object.0 m.ranged may.declared in omega (arith, pages, most))
-                (λ least. let declared = may.declared in absurd (omega (arith, least, declared))) (λ x apart. refl) m.sizes;
-            entries =
-                entries_declared size k.maps maps k.chains chains task.0 object pages row m.entries o.free o.region o.changes refl below may.whole may.some
-                may.end (let inside = may.inside in let all = o.sized in omega (arith, inside, all)) may.room;
-            pages =
-                pages_marked k.memory.frames k.memory.resident k.memory.objects objects (λ x p. known_local header x p (local header h (place_of x p) now))
-                (pages_opened header h task row object new.control past k ids rests (was_dead header h past k ids object.0 new rests o.known)) o.marks;
-            uses =
-                uses_entered header k.maps maps (λ r. in_use header h r past) (tasks past) (λ t r. holds size t r now) (next_region header past) task.0 row
-                (lives_on h task.0 past) (λ r temporary apart. m.uses.used r temporary) (λ r file apart some. m.uses.files r file some) used m.uses.among
-                o.changes lives below
-                (m.tasks.hosts task.0 ∙ ap is_some lives)
-                (λ t r away why. holds_rows size task.0 t r k.maps (rows_in task.0 k.maps) (entered row (entries_of size t past)) past lives away
-                ∙ m.uses.apart t r away why);
-            controls = controls_stay (λ x at_home. object_stays x h enters past at_home) controls;
+            core = record {
+              setting = m.core.setting;
+              fits = record {
+                parts = fit_declared header k.memory objects k.chains object.0 new m.core.fits.parts rests.referred o.known o.put;
+                plain = m.core.fits.plain;
+                buffers = m.core.fits.buffers;
+              };
+              spaces = record {
+                tasks = tasks_entered h size k.maps maps past task row m.core.spaces.tasks o.changes lives;
+                entries = entries_declared size k.maps maps k.chains chains task.0 object pages row m.core.spaces.entries o.free o.region o.changes refl below may.whole may.some
+                    may.end (let inside = may.inside in let all = o.sized in omega (arith, inside, all)) may.room;
+                shared = shared_entered (named header) task.0 k.maps maps row o.changes (λ less same. let bad : inherit.Share ≡ inherit.Copy = same in cc) m.core.spaces.shared;
+                uses = uses_entered header k.maps maps (λ r. in_use header h r past) (tasks past) (λ t r. holds size t r now) (next_region header past) task.0 row
+                    (lives_on h task.0 past) (λ r temporary apart. m.core.spaces.uses.used r temporary) (λ r file apart some. m.core.spaces.uses.files r file some) used m.core.spaces.uses.among
+                    o.changes lives below
+                    (m.core.spaces.tasks.hosts task.0 ∙ ap is_some lives)
+                    (λ t r away why. holds_rows size task.0 t r k.maps (rows_in task.0 k.maps) (entered row (entries_of size t past)) past lives away
+                    ∙ m.core.spaces.uses.apart t r away why);
+                homes = homes_put header h k.chains chains object.0 (own_region object pages) now o.region.at
+                    (λ paged. map_home header h task address bytes object offset past k ids rests may (file_of header object.0 may.declared paged))
+                    (homes_caused header outside h k.chains begins (enters ∷ past)
+                    (doing, map_opens header h task address bytes object offset new past k ids rests may o.known)
+                    (homes_caused header outside h k.chains enters past (doing, map_enters header h task address bytes object offset past k ids rests may)
+                    m.core.spaces.homes));
+              };
+              objects = record {
+                regions = regions_declared header past object new pages k.chains chains k.memory.objects objects ids (next_region header past) (next_object header past)
+                    (marks_of header past) m.core.objects.regions m.core.objects.kinds m.core.spaces.homes.1 may.declared regions known_objects o.free o.sized o.known o.region o.put;
+                kinds = kinds_declared header object new pages k.chains chains k.memory.objects objects may.declared o.known o.region o.put o.marks m.core.objects.kinds;
+                files = λ x file. elim (known_cases object.0 new k.memory.objects objects o.put x) [
+                  | inl this ↦
+                      ap (is_on h) (subst (λ (z : ℕ). home_of z now ≡ Some h) this.0 (map_home header h task address bytes object offset past k ids rests may
+                      (ap (is_file header) this.0 ∙ file)))
+                      ∙ (own_host h ∙ sym (ap is_some this.1))
+                  | inr other ↦ ap (is_on h) (other_home task address bytes object offset past x other.0) ∙ (m.core.objects.files x file ∙ sym (ap is_some other.1))
+                ];
+                sizes = sizes_new (named header) object.0 new k.memory.objects objects (λ x. object_pages header x past) (λ x. object_pages header x past) o.put
+                    (let pages = o.known.pages in let most = declared_few header object.0 m.core.setting.ranged may.declared in omega (arith, pages, most))
+                    (λ least. let declared = may.declared in absurd (omega (arith, least, declared))) (λ x apart. refl) m.core.objects.sizes;
+              };
+              controls = controls_stay (λ x at_home. object_stays x h enters past at_home) controls;
+              pages = record {
+                shown = pages_marked k.memory.frames k.memory.resident k.memory.objects objects (λ x p. known_local header x p (local header h (place_of x p) now))
+                    (pages_opened header h task row object new.control past k ids rests (was_dead header h past k ids object.0 new rests o.known)) o.marks;
+                washed = m.core.pages.washed;
+                counted = m.core.pages.counted;
+              };
+            };
             settled = record { none_owed = refl; shut = λ region. refl };
             replied = replied_behind tt (replied_behind tt m.replied);
-            laundry = m.laundry;
-            frames = m.frames;
           };
       used = record {
         regions = used_declared object pages k.chains chains k.waits.rows o.region rests.used.regions;
@@ -381,7 +378,7 @@ rests_opened header h outside doing task address bytes object offset pages new p
             copies_kept k.maps maps k.chains chains k.memory.resident k.memory.resident rests.used.copies
             (same_waiting k.maps maps task.0 (Some (entered row (rows_in task.0 k.maps))) k.waits.rows o.changes none)
             (put_filled object.0 (own_region object pages) k.chains chains o.free o.region
-            (declared_unfilled object.0 rests.used m.homes.1 m.kinds may.declared)) (rows_unmade k.chains k.memory.resident);
+            (declared_unfilled object.0 rests.used m.core.spaces.homes.1 m.core.objects.kinds may.declared)) (rows_unmade k.chains k.memory.resident);
       };
       referred =
           referred_put object.0 new object.0 (Some (own_region object pages)) k.chains chains k.memory.objects objects k.memory.resident o.region o.put
@@ -421,9 +418,9 @@ unreferred_row : (header : Header) (h : ℕ) (past : List Event) (k : Parts) (id
 unreferred_row header h past k ids o row rests less free found =
     let m = rests.matches in
     let more = named_regions header past in
-    m.regions.counts o row found
+    m.core.objects.regions.counts o row found
     ∙ (declared_references header past k.chains k.memory.objects ids (next_region header past) (next_object header past) (marks_of header past) o
-    m.regions m.kinds m.homes.1 less (omega (arith, less, more))
+    m.core.objects.regions m.core.objects.kinds m.core.spaces.homes.1 less (omega (arith, less, more))
     ∙ ap (λ z. one (is_over o z)) free)
 
 quiet_row : (header : Header) (h : ℕ) (past : List Event) (k : Parts) (ids : Ids) (o : ℕ) (row : ObjectRow) → Rests header h k ids past → o < named header
@@ -478,7 +475,7 @@ becomes_known header h past k ids o d rests less is free few = by (object_at k.m
           number = small;
         }
     by (Some row) found small =
-        let its = rests.matches.kinds.kinds o row found in
+        let its = rests.matches.core.objects.kinds.kinds o row found in
         let kept = its.declared less in
         let none = unreferred_row header h past k ids o row rests less free found in
         let dead = quiet_row header h past k ids o row rests less free found in
@@ -538,19 +535,19 @@ map_again header h task address bytes object offset past k k2 k3 ids before mid 
     row = shared_entry address bytes object offset
 
     whole : IsWhole header object.0 region
-    whole = whole_row m.regions m.homes.1 object.0 region may.declared found
+    whole = whole_row m.core.objects.regions m.core.spaces.homes.1 object.0 region may.declared found
 
     refers : IsReferred k.memory.objects object.0
-    refers = subst (λ (z : ℕ). IsReferred k.memory.objects z) whole.top (refers_region m.regions object.0 region found)
+    refers = subst (λ (z : ℕ). IsReferred k.memory.objects z) whole.top (refers_region m.core.objects.regions object.0 region found)
 
     there : object_at k.memory.objects object.0 ≡ Some refers.row
     there = refers.known
 
     lives : refers.row.live ≡ true
-    lives = ((m.kinds.kinds object.0 refers.row there).declared may.declared).told refers.some
+    lives = ((m.core.objects.kinds.kinds object.0 refers.row there).declared may.declared).told refers.some
 
     alive : live_control h object.0 past ≡ Some refers.row.control
-    alive = m.controls.live object.0 ∙ (ap live_in there ∙ ap (λ b. if b then Some refers.row.control else None) lives)
+    alive = m.core.controls.live object.0 ∙ (ap live_in there ∙ ap (λ b. if b then Some refers.row.control else None) lives)
 
     inside : IsInside header.size k.chains row
     inside =
@@ -623,8 +620,8 @@ map_first header h task address bytes object offset d past k k2 k3 ids before mi
     by : Opens object now (record k2 { maps = maps }) k3 mid after → MapsTo header h task row object past k k3 before after
     by (IsOpen live is still) = absurd (let bad : false ≡ true = sym dead ∙ live in cc)
     by (BeginsControl quiet second marks2 few is says) =
-        let host : k2.host ≡ host_id h = ap (λ (z : Parts). z.host) same ∙ named_host k.host h rests.matches.host in
-        let size : k2.size ≡ header.size = ap (λ (z : Parts). z.size) same ∙ rests.matches.size in
+        let host : k2.host ≡ host_id h = ap (λ (z : Parts). z.host) same ∙ named_host k.host h rests.matches.core.setting.numbered in
+        let size : k2.size ≡ header.size = ap (λ (z : Parts). z.size) same ∙ rests.matches.core.setting.sized in
         IsMade k3.memory.objects k2.chains maps d.pages (opened_row d (object_at k.memory.objects object.0))
         (record {
           free = free;
@@ -651,7 +648,7 @@ holds_is header h task address bytes object offset past k k2 ids before s holds 
     let d = declared_there header object.0 s.range.1 in (
       d.1,
       subst (λ (z : Option Declared). IfSome z (λ declared. Holds object declared k k2))
-          (ap (λ z. slice_get (reverse z) object.0) s.rests.matches.declared ∙ d.1) holds,
+          (ap (λ z. slice_get (reverse z) object.0) s.rests.matches.core.setting.objects ∙ d.1) holds,
     )
 
 pub maps_to : (header : Header) (h : ℕ) (task : TaskId) (address bytes : ℕ) (object : ObjectId) (offset : ℕ) (past : List Event) (k k2 k3 : Parts) (ids : Ids)
@@ -693,7 +690,7 @@ ran_map header h outside task address bytes object offset past k k2 ids before a
     let counted : 0 < region_entries k.chains object.0 = elim (s.rests.used.regions object.0 there.0 there.1) [
       | inl some ↦ subst (λ (z : ℕ). 0 < z) (sym (ap entries_in_row there.1)) some
       | inr filled ↦ let least =
-          filled_temporary object.0 s.rests.used.copies m.homes.1 filled in let less = may.declared in absurd (omega (arith, least, less))
+          filled_temporary object.0 s.rests.used.copies m.core.spaces.homes.1 filled in let less = may.declared in absurd (omega (arith, least, less))
     ] in
     let share : MayShare header task.0 row past k = record {
       counted = counted;
@@ -705,7 +702,7 @@ ran_map header h outside task address bytes object offset past k k2 ids before a
       shared = λ less same. let bad : inherit.Share ≡ inherit.Copy = same in cc;
     } in
     let log : after ≡ e ∷ [] = shares.told ∙ ap (λ z. e ∷ z) s.nothing in
-    let is : head header past doing ≡ Some (e ∷ []) = rw (lives_here m.tasks may.lives, alive) refl in
+    let is : head header past doing ≡ Some (e ∷ []) = rw (lives_here m.core.spaces.tasks may.lives, alive) refl in
     subst (λ (z : List Event). Ran header h outside doing past k2 ids z) (sym log)
     (ran_head header h outside doing past k2 ids (e ∷ []) (e ∷ []) is refl
     (heads_one header h outside doing past e
@@ -713,7 +710,7 @@ ran_map header h outside task address bytes object offset past k k2 ids before a
       settled = m.settled;
       cause = map_enters header h task address bytes object offset past k ids s.rests may;
       own_bytes = tt;
-      frames = suffices header h k.memory.frames past m.frames;
+      frames = suffices header h k.memory.frames past m.core.pages.counted;
       inner = tt;
       said = tt;
       own = own_task h task.0 past s.acts;
@@ -728,12 +725,12 @@ ran_map header h outside task address bytes object offset past k k2 ids before a
     let begins = beginning h object new.control header.size in
     let may = may_map header h task address bytes object offset past k ids before s in
     let log : after ≡ begins ∷ enters ∷ [] = told ∙ ap (λ z. begins ∷ enters ∷ z) s.nothing in
-    let number : last_control h object.0 past + 1 ≡ new.control = ap (λ z. z + 1) (m.controls.last object.0) ∙ sym o.known.control in
+    let number : last_control h object.0 past + 1 ≡ new.control = ap (λ z. z + 1) (m.core.controls.last object.0) ∙ sym o.known.control in
     let is : head header past doing ≡ Some (enters ∷ begins ∷ []) =
-    ap (map_head header task address bytes object offset past) (lives_here m.tasks may.lives)
+    ap (map_head header task address bytes object offset past) (lives_here m.core.spaces.tasks may.lives)
     ∙ (ap (λ z. Some (enters ∷ opening h object (last_control h object.0 past + 1) header.size z)) (was_dead header h past k ids object.0 new s.rests o.known)
     ∙ ap (λ z. Some (enters ∷ beginning h object z header.size ∷ [])) number) in
-    let fine = suffices header h k.memory.frames past m.frames in
+    let fine = suffices header h k.memory.frames past m.core.pages.counted in
     let ran : Ran header h outside doing past (with_declared k objects chains maps) ids (begins ∷ enters ∷ []) =
     ran_head header h outside doing past (with_declared k objects chains maps) ids (begins ∷ enters ∷ []) (enters ∷ begins ∷ []) is refl
     (record {
@@ -780,7 +777,7 @@ few_lead header h past k ids o rests = by (region_at k.chains o) refl
     by : (x : Option RegionRow) → region_at k.chains o ≡ x → IfSome x (λ row. row.entries < 2 ^ 32 - 1)
     by None is = tt
     by (Some row) is =
-        let few = few_entries header.size k.maps k.chains o rests.matches.entries (ap is_some is) in
+        let few = few_entries header.size k.maps k.chains o rests.matches.core.spaces.entries (ap is_some is) in
         let count = ap entries_in_row is in
         omega (arith, few, count)
 
@@ -797,9 +794,9 @@ few_refer header h past k ids o rests less = by (object_at k.memory.objects o) r
     by (Some row) is =
         let m = rests.matches in
         let more = named_regions header past in
-        let count = m.regions.counts o row is in
+        let count = m.core.objects.regions.counts o row is in
         let all = declared_references header past k.chains k.memory.objects ids (next_region header past) (next_object header past) (marks_of header past)
-        o m.regions m.kinds m.homes.1 less (omega (arith, less, more)) in
+        o m.core.objects.regions m.core.objects.kinds m.core.spaces.homes.1 less (omega (arith, less, more)) in
         let single = most (is_over o (region_at k.chains o)) in
         omega (arith, count, all, single)
 
@@ -824,8 +821,8 @@ known_held header h task address bytes object offset past k k2 ids before s hold
     by : Holds object d k k2 → IsSome (object_at k2.memory.objects object.0)
     by (Again region found put same) =
         ap (λ (z : Parts). is_some (object_at z.memory.objects object.0)) same
-        ∙ subst (λ (z : ℕ). is_some (object_at k.memory.objects z) ≡ true) (whole_row m.regions m.homes.1 object.0 region s.range.1 found).top
-        (m.regions.tops object.0 region found)
+        ∙ subst (λ (z : ℕ). is_some (object_at k.memory.objects z) ≡ true) (whole_row m.core.objects.regions m.core.spaces.homes.1 object.0 region s.range.1 found).top
+        (m.core.objects.regions.tops object.0 region found)
     by (First free put known marks same) =
         ap is_some (known_put object.0 (referred d (object_at k.memory.objects object.0)) k.memory.objects k2.memory.objects known)
 

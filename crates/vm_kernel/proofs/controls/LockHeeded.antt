@@ -75,12 +75,12 @@ can_lock header h k ids past object control m events rests word asks lives once 
     let live = live_of (object_at k.memory.objects object.0) control lives in
     let m2 = rests.matches in
     record {
-      fit = m2.fits.parts;
+      fit = m2.core.fits.parts;
       asks = subst IsLockRequest (sym is.is) is.asks;
       row = live.known;
       known = live.is;
       live = live.live;
-      room = room_once k.memory k.laundry (returns_out h past) m2.fits.parts m2.laundry (let fits = m2.frames.fits in omega (arith, fits)) once;
+      room = room_once k.memory k.laundry (returns_out h past) m2.core.fits.parts m2.core.pages.washed (let fits = m2.core.pages.counted.fits in omega (arith, fits)) once;
     }
 
 -- what the request comes to
@@ -101,7 +101,7 @@ heeds_dead : (header : Header) (h : ℕ) (outside : Outside) (doing : Command) (
 heeds_dead header h outside doing k ids past object control page count returns flush lock reply rests dead =
     let now = asks h object control page count returns flush lock reply ∷ past in
     let m = message.Lock page count returns flush lock reply in
-    let dead_now : is_control control (live_control h object.0 past) ≡ false = ap (is_control control) (rests.matches.controls.live object.0) ∙ dead in
+    let dead_now : is_control control (live_control h object.0 past) ≡ false = ap (is_control control) (rests.matches.core.controls.live object.0) ∙ dead in
     let none : lock_taken now ≡ None = ap (λ b. if b then Some (record {
       host = h;
       object = object.0;
@@ -115,7 +115,7 @@ heeds_dead header h outside doing k ids past object control page count returns f
     }) else None) dead_now in
     record {
       works =
-          heard_works header h k ids woken.Nobody k.memory past now rests (stays_heard header h k ids past object control m rests none) rests.matches.fits.parts
+          heard_works header h k ids woken.Nobody k.memory past now rests (stays_heard header h k ids past object control m rests none) rests.matches.core.fits.parts
           refl (changed_none header h k ids past object control m rests (nothing_dead header h object control m past dead_now));
       fails = refl;
       goes = goes_none header h outside doing now [];
@@ -172,7 +172,7 @@ heeds_live header h outside doing k ids past object control page count returns f
     live = live_of (object_at k.memory.objects object.0) control lives
 
     lives_now : is_control control (live_control h object.0 past) ≡ true
-    lives_now = ap (is_control control) (rests.matches.controls.live object.0) ∙ lives
+    lives_now = ap (is_control control) (rests.matches.core.controls.live object.0) ∙ lives
 
     r : Request
     r = record {
@@ -214,14 +214,14 @@ heeds_live header h outside doing k ids past object control page count returns f
       found = live.is;
       live = live.live;
       first = λ test. refl;
-      shown = λ p. rests.matches.pages.shown object.0 p;
+      shown = λ p. rests.matches.core.pages.shown.shown object.0 p;
     }
 
     start : LockState
     start = lock_state k.memory k.laundry.held k.laundry.room []
 
     host : k.host ≡ host_id h
-    host = named_host k.host h rests.matches.host
+    host = named_host k.host h rests.matches.core.setting.numbered
 
     known : obeys.known ≡ live.known
     known = some_is obeys.known live.known (sym obeys.found ∙ live.is)

@@ -1,4 +1,5 @@
 -- A lock request is taken: what the kernel stands for, once its rows are as they will be, and those are to be run again that wait for unlocks under it.
+use Rattle.vm_kernel.proofs.memory.CoreChanges.{spaces_refilled}
 use Rattle.vm_kernel.proofs.Common.{Bool, Elsewhere, Event, Fit, FrameTable, HasLaundry, HasPages, HasWaiters, Header, Ids, LaundryList, List, Local}
 use Rattle.vm_kernel.proofs.Common.{LocalEffect, Mapped, None, ObjectId, ObjectRow, On, Option, PageKey, PageNo, PageRow, Parts, Reason, ResidentTable}
 use Rattle.vm_kernel.proofs.Common.{Rests, Some, TakesLock, WaitTable, Waiting, Want, absent_at, ap, entry, eqb_tells, false, if◌then◌else◌, inl, inr}
@@ -10,7 +11,7 @@ use Rattle.std.specs.Prelude.{nat_le, nat_lt, option_map, ◌+◌}
 use Rattle.vm_kernel.proofs.controls.AnswerEffects.{on_page}
 use Rattle.vm_kernel.proofs.memory.WhatIsKnown.{other_if, pages_known}
 use Rattle.vm_kernel.proofs.controls.PageLocked.{Mid, asks}
-use Rattle.vm_kernel.proofs.memory.PageChanges.{amidst_moved, core_of, leaves_all}
+use Rattle.vm_kernel.proofs.memory.PageChanges.{amidst_moved, leaves_all}
 use Rattle.vm_kernel.proofs.steps.RowsInOrder.{woken_keeps}
 use Rattle.vm_kernel.proofs.abroad.OwnHost.{own_host}
 use Rattle.vm_kernel.proofs.controls.LockPending.{Ahead, aimed, fit_pended, is_ahead, owner_repaged, pend, pended, pended_behind, pended_frame, pended_here}
@@ -330,7 +331,7 @@ pub mid_taken : (header : Header) (h : ℕ) (k : Parts) (ids : Ids) (past : List
     → (lock < 4) ⊎ (lock ≡ 8) → waits2.rows ≡ map (waits.woken (is_unlocked k.memory.resident object.0 page.0 count)) k.waits.rows
     → Mid header h (aiming k (ahead_of object page count flush lock page.0) waits2) ids (asks h object control page count returns flush lock reply ∷ past)
 mid_taken header h k ids past object control page count returns lock flush reply waits2 rests lives known found live few woke =
-    let core = core_of rests.matches in
+    let core = rests.matches.core in
     let a = ahead_of object page count flush lock page.0 in
     let waker = is_unlocked k.memory.resident object.0 page.0 count in
     record {
@@ -342,13 +343,7 @@ mid_taken header h k ids past object control page count returns lock flush reply
             plain = λ o p row there away_now. plain o p row (row_back (pended a) k.memory.resident o p row there) away_now;
             buffers = core.fits.buffers;
           };
-          spaces = record {
-            tasks = core.spaces.tasks;
-            entries = core.spaces.entries;
-            shared = core.spaces.shared;
-            uses = uses_refilled k.waits.rows waits2.rows (fills_waked waker k.waits.rows waits2.rows waked_rows) core.spaces.uses;
-            homes = core.spaces.homes;
-          };
+          spaces = spaces_refilled (fills_waked waker k.waits.rows waits2.rows waked_rows) core.spaces;
           objects = core.objects;
           controls = core.controls;
           pages = record {
@@ -391,7 +386,7 @@ mid_taken header h k ids past object control page count returns lock flush reply
         → IsPlainRow row
     plain o p row was away_now =
         let gone : was.0.here ≡ false = sym (ap (λ (z : PageRow). z.here) was.2 ∙ pended_here its o p was.0) ∙ away_now in
-        subst IsPlainRow (sym (was.2 ∙ ap (λ b. if b && is_ahead its o p then aimed its was.0 else was.0) gone)) (rests.matches.fits.plain o p was.0 was.1 gone)
+        subst IsPlainRow (sym (was.2 ∙ ap (λ b. if b && is_ahead its o p then aimed its was.0 else was.0) gone)) (rests.matches.core.fits.plain o p was.0 was.1 gone)
 
     -- a page of the object may be locked, and each other is as it was
     locks : (o p : ℕ) (row : PageRow) → ((was : PageRow) × (row_at k.memory.resident o p ≡ Some was) × (row ≡ pended its o p was))

@@ -1,4 +1,5 @@
 -- What a request for a page leaves of the kernel, and an access that waits for something else.
+use Rattle.vm_kernel.proofs.memory.CoreChanges.{core_rerowed}
 use Rattle.vm_kernel.proofs.Common.{Asks, AsksPage, Bool, Event, FrameNo, HasWaiters, Header, HostParts, Ids, List, Matches, ObjectRow, ObjectTable, On}
 use Rattle.vm_kernel.proofs.Common.{PageKey, PageRow, Parts, Reason, Some, Up, WaitTable, Waiting, Works, [], ap, arith, begun_at, entry, false, frames_held}
 use Rattle.vm_kernel.proofs.Common.{frames_wired, host_id, inl, is_control, is_ready_state, live_control, local, local_after, object_at, place_of, ready_in}
@@ -53,33 +54,14 @@ matches_asked header h k ids past key control access frame memory m live c plan 
     let both : (key.object.0 == key.object.0 && key.page.0 == key.page.0) ≡ true = rw (itself key.object.0, itself key.page.0) refl in
     let pages2 = pages_known header header.size asks there (λ o p. other_asking (key.object.0 == o) (key.page.0 == p)
     (is_control control (live_control h o past)))
-    (pages_changed key frame _ _ _ _ _ k.memory memory k.memory.objects moment now m.fits.parts m.pages c
+    (pages_changed key frame _ _ _ _ _ k.memory memory k.memory.objects moment now m.core.fits.parts m.core.pages.shown c
     (λ shows. ap (λ z. local_after header.size z (moment key.object.0 key.page.0)) (asking_it _ _ _ both lives) ∙ ap (local_after header.size Asks) shows)
     (λ o p apart. (ap (λ z. local_after header.size z (moment o p)) (asking_other _ _ (is_control control (live_control h o past)) apart), refl))) in
     record {
-      ranged = m.ranged;
-      declared = m.declared;
-      kinds = rw plan.objects m.kinds;
-      shared = m.shared;
-      known = m.known;
-      size = m.size;
-      host = m.host;
-      fits = fits_changed key frame _ _ _ _ _ k memory m.fits plan.fit plan.buffers c (λ away. record { lock = refl; precious = refl; unlock_sent = refl });
-      tasks = m.tasks;
-      regions = rw plan.objects m.regions;
-      homes = m.homes;
-      files = rw plan.objects m.files;
-      sizes = rw plan.objects m.sizes;
-      entries = m.entries;
-      pages = rw (plan.objects, own_host h) pages2;
-      uses = m.uses;
-      controls = rw plan.objects m.controls;
+      core = core_rerowed key frame m.core c plan (λ away. record { lock = refl; precious = refl; unlock_sent = refl }) (rw (own_host h) pages2)
+          (rw (own_host h) (λ held. let more = c.claims in omega arith));
       settled = record { none_owed = refl; shut = λ region. refl };
       replied = replied_behind tt m.replied;
-      laundry = laundry_changed key frame _ _ _ _ _ k.memory memory k.laundry (returns_out h past) m.laundry c;
-      frames =
-          rw (own_host h) (frames_changed (slice_get (reverse header.frames.items) h) key frame _ _ _ _ _ k.memory memory (frames_held header h past)
-          (frames_held header h past + 1) (frames_wired h past) m.frames c (λ held. let more = c.claims in omega arith));
     }
 
 -- a pager that is ready was told before
@@ -104,10 +86,10 @@ works_asked header h past k ids w key object access frame memory waits2 works is
     let m = matches_asked header h k ids past key object.control access frame memory works.matches live c plan in
     record {
       matches =
-          matches_with memory.queues memory.buffers waits2 (fills_turned w.task.0 w (on.Page key) k.waits.rows waits2.rows is put.entry) m.fits.parts refl m;
+          matches_with memory.queues memory.buffers waits2 (fills_turned w.task.0 w (on.Page key) k.waits.rows waits2.rows is put.entry) m.core.fits.parts refl m;
       used = used_turned w.task.0 w (on.Page key) k.waits.rows waits2.rows
           (used_page key.object.0 key.page.0 _ k.memory.resident memory.resident works.used
-          (place_unfilled header.size w.task.0 w.want key k.maps k.chains [] works.matches.entries (behind_place place)) c.row) is put.entry;
+          (place_unfilled header.size w.task.0 w.want key k.maps k.chains [] works.matches.core.spaces.entries (behind_place place)) c.row) is put.entry;
       referred =
           page_referred key frame _ _ _ _ _ k memory c plan referred (λ row same. inl (ap (λ (z : PageRow). z.lock) (sym (some_is _ row same)))) works.referred;
       thin = rw plan.objects works.thin;
@@ -133,7 +115,7 @@ pub works_turned : (header : Header) (h : ℕ) (past : List Event) (k : Parts) (
 works_turned header h past k ids w reason waits2 works is now holds passed put =
     record {
       matches =
-          matches_with k.memory.queues k.memory.buffers waits2 (fills_turned w.task.0 w reason k.waits.rows waits2.rows is put.entry) works.matches.fits.parts
+          matches_with k.memory.queues k.memory.buffers waits2 (fills_turned w.task.0 w reason k.waits.rows waits2.rows is put.entry) works.matches.core.fits.parts
           refl works.matches;
       used = used_turned w.task.0 w reason k.waits.rows waits2.rows works.used is put.entry;
       referred = works.referred;

@@ -25,7 +25,7 @@ use Rattle.vm_kernel.proofs.memory.ComesForAccess.{same_lock}
 use Rattle.vm_kernel.specs.Matches.{IsReplied}
 use Rattle.vm_kernel.proofs.memory.PageChanges.{Rerows, amidst_given, amidst_gone, amidst_moved, amidst_returned, drop_follows, drops, fit_lost, fit_rerowed}
 use Rattle.vm_kernel.proofs.memory.PageChanges.{gives, leaves_all, live_at, matches_of, moved_of, return_follows, same_objects, seen_of}
-use Rattle.vm_kernel.specs.TablesInGroups.{Amidst}
+use Rattle.vm_kernel.specs.Matches.{Amidst}
 use Rattle.vm_model.specs.declared.event.Event.TheVariants as event
 use Rattle.vm_model.specs.declared.message.Message.TheVariants as message
 use Rattle.vm_supply.specs.declared.woken.Woken.TheVariants as woken

@@ -724,7 +724,7 @@ completed_rests : (r : Request) (k : Parts) (past : List Event) → Mid r.header
 completed_rests r k past rests =
     let c = rests.runs.core in
     record {
-      runs = amidst_moved rests.runs (record { space = refl; controls = refl })
+      runs = amidst_moved rests.runs (record { space = refl; accesses = refl; controls = refl })
           (record {
             fits = c.fits;
             away = λ o p none. none;

@@ -1,4 +1,5 @@
 -- What an unlock that is asked for leaves of the kernel, and its cause.
+use Rattle.vm_kernel.proofs.memory.CoreChanges.{core_rerowed}
 use Rattle.vm_kernel.proofs.Common.{Bool, Command, Elsewhere, Event, HasWaiters, Header, HostParts, Ids, IsAt, List, LocalEffect, Matches, None, ObjectRow}
 use Rattle.vm_kernel.proofs.Common.{ObjectTable, Option, Outside, PageKey, PageRow, Parts, Some, Suffice, Unlocks, Up, WaitTable, Waiting, Want, Works, []}
 use Rattle.vm_kernel.proofs.Common.{absent_at, access_in, ap, arith, begun_at, entry, false, frames_held, frames_wired, host_id, if◌then◌else◌, inl, inr}
@@ -58,7 +59,7 @@ matches_unlocked header h k ids past key row control access memory m here c plan
     let shows = ap (local_after header.size model.Unlocks) (shown_here k.memory.frames row lacked here)
     ∙ (ap (λ z. shown_as row2 true true z lacked) (sym (bytes_now key row.frame _ _ _ _ _ k.memory memory c))
     ∙ sym (shown_here memory.frames row2 lacked here)) in
-    let moved = pages_moved header.size model.Unlocks key row.frame _ _ _ _ _ k.memory memory k.memory.objects moment m.fits.parts m.pages c shows
+    let moved = pages_moved header.size model.Unlocks key row.frame _ _ _ _ _ k.memory memory k.memory.objects moment m.core.fits.parts m.core.pages.shown c shows
     (λ o p apart. refl) in
     let pages2 = pages_known header header.size effect_at there (λ o p. other_nested (key.object.0 == o) (key.page.0 == p) model.Unlocks tt)
     (record {
@@ -66,29 +67,10 @@ matches_unlocked header h k ids past key row control access memory m here c plan
           ∙ moved.shown o p;
     }) in
     record {
-      ranged = m.ranged;
-      declared = m.declared;
-      kinds = rw plan.objects m.kinds;
-      shared = m.shared;
-      known = m.known;
-      size = m.size;
-      host = m.host;
-      fits = fits_changed key row.frame _ _ _ _ _ k memory m.fits plan.fit plan.buffers c (plain_here row2 here);
-      tasks = m.tasks;
-      regions = rw plan.objects m.regions;
-      homes = m.homes;
-      files = rw plan.objects m.files;
-      sizes = rw plan.objects m.sizes;
-      entries = m.entries;
-      pages = rw (plan.objects, own_host h) pages2;
-      uses = m.uses;
-      controls = rw plan.objects m.controls;
+      core = core_rerowed key row.frame m.core c plan (plain_here row2 here) (rw (own_host h) pages2)
+          (λ held. let same = c.claims in omega arith);
       settled = record { none_owed = refl; shut = λ region. refl };
       replied = replied_behind tt m.replied;
-      laundry = laundry_changed key row.frame _ _ _ _ _ k.memory memory k.laundry (returns_out h past) m.laundry c;
-      frames =
-          frames_changed (slice_get (reverse header.frames.items) h) key row.frame _ _ _ _ _ k.memory memory (frames_held header h past)
-          (frames_held header h past) (frames_wired h past) m.frames c (λ held. let same = c.claims in omega arith);
     }
 
 -- the access waits for it
@@ -105,7 +87,7 @@ works_unlocked header h past k ids w key row object access memory waits2 works i
     let m = matches_unlocked header h k ids past key row object.control access memory works.matches here c plan in
     record {
       matches =
-          matches_with memory.queues memory.buffers waits2 (fills_turned w.task.0 w (on.Page key) k.waits.rows waits2.rows is put.entry) m.fits.parts refl m;
+          matches_with memory.queues memory.buffers waits2 (fills_turned w.task.0 w (on.Page key) k.waits.rows waits2.rows is put.entry) m.core.fits.parts refl m;
       used =
           used_turned w.task.0 w (on.Page key) k.waits.rows waits2.rows (used_away k.memory.resident memory.resident works.used
           (away_put o p (Some row2) row k.memory.resident memory.resident c.found c.row)) is put.entry;

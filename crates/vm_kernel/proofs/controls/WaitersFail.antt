@@ -87,15 +87,15 @@ fails_cause header h k ids past key w works fails found waits before =
                   record {
                     host = h;
                     entry = at.entry;
-                    lives = lives_here was.tasks allowed.lives;
+                    lives = lives_here was.core.spaces.tasks allowed.lives;
                     found =
                         ap (λ z. entry_at z (entries_of header.size w.task.0 past))
-                        (want_address k.maps.size header.size (next_page w.task.0 past) (copies_to w.destination) w.want was.tasks.sized agrees)
-                        ∙ (ap (entry_at (address_in k.maps.size w.want)) (rows_here was.tasks allowed.lives) ∙ at.found);
+                        (want_address k.maps.size header.size (next_page w.task.0 past) (copies_to w.destination) w.want was.core.spaces.tasks.sized agrees)
+                        ∙ (ap (entry_at (address_in k.maps.size w.want)) (rows_here was.core.spaces.tasks allowed.lives) ∙ at.found);
                   };
               left =
-                  page_left k.maps.size header.size (next_page w.task.0 past) (copies_to w.destination) w.want was.tasks.sized
-                  (page_positive header.size was.ranged.size) (works.waits.sized w.task.0 w found) agrees;
+                  page_left k.maps.size header.size (next_page w.task.0 past) (copies_to w.destination) w.want was.core.spaces.tasks.sized
+                  (page_positive header.size was.core.setting.ranged.size) (works.waits.sized w.task.0 w found) agrees;
             };
         error = fails;
         place = place_at was (copies_to w.destination) agrees place;
@@ -152,8 +152,8 @@ uses_failed : (header : Header) (h : ℕ) (k : Parts) (ids : Ids) (past : List E
     (λ t r. holds header.size t r (event.Failed task key.object key.page ∷ past)) (next_region header past)
 uses_failed header h k ids past key task rows works filled back lives =
     uses_none header k.maps k.waits.rows rows (λ r. in_use header h r past) (λ t r. holds header.size t r past) (next_region header past)
-    (event.Failed task key.object key.page ∷ past) was.uses back
-    (record { rows = λ t here. was.tasks.rows t here; filled = filled }) was.entries.most
+    (event.Failed task key.object key.page ∷ past) was.core.spaces.uses back
+    (record { rows = λ t here. was.core.spaces.tasks.rows t here; filled = filled }) was.core.spaces.entries.most
     (λ t r none. holds_waits header.size task.0 t r k.maps (rows_in task.0 k.maps) past None lives none)
   where
     was : Matches header h k ids [] past
@@ -234,29 +234,24 @@ failed_one header h outside doing past old events key k ids w waits f found pass
     record {
       runs = record {
         matches = record {
-          ranged = was.ranged;
-          declared = was.declared;
-          kinds = was.kinds;
-          shared = was.shared;
-          known = was.known;
-          size = was.size;
-          host = was.host;
-          fits = was.fits;
-          tasks = was.tasks;
-          regions = was.regions;
-          entries = was.entries;
-          pages = was.pages;
-          uses = uses_failed header h k ids moment key w.task waits.rows f.works (fills_here {past = e ∷ moment} has2 copies)
-              (λ r filled. record { task = filled.task; fills = (fills_apart w.task.0 filled.task r rows waits.rows puts filled.fills).1 })
-              (has.allowed w.task.0 w found).lives;
-          controls = was.controls;
-          homes = homes_caused header outside h k.chains e moment (doing, cause.0) was.homes;
-          files = was.files;
-          sizes = was.sizes;
+          core = record {
+            setting = was.core.setting;
+            fits = was.core.fits;
+            spaces = record {
+              tasks = was.core.spaces.tasks;
+              entries = was.core.spaces.entries;
+              shared = was.core.spaces.shared;
+              uses = uses_failed header h k ids moment key w.task waits.rows f.works (fills_here {past = e ∷ moment} has2 copies)
+                  (λ r filled. record { task = filled.task; fills = (fills_apart w.task.0 filled.task r rows waits.rows puts filled.fills).1 })
+                  (has.allowed w.task.0 w found).lives;
+              homes = homes_caused header outside h k.chains e moment (doing, cause.0) was.core.spaces.homes;
+            };
+            objects = was.core.objects;
+            controls = was.core.controls;
+            pages = was.core.pages;
+          };
           settled = record { none_owed = refl; shut = λ region. refl };
           replied = replied_behind tt was.replied;
-          laundry = was.laundry;
-          frames = was.frames;
         };
         waits = has2;
         order = both.order.keeps (λ t. begun_at t moment) 0 f.works.order;
@@ -272,10 +267,10 @@ failed_one header h outside doing past old events key k ids w waits f found pass
             consequence = tt;
             cause = cause;
             own_bytes = tt;
-            frames = suffices header h k.memory.frames (e ∷ moment) was.frames;
+            frames = suffices header h k.memory.frames (e ∷ moment) was.core.pages.counted;
             inner = tt;
             said = tt;
-            own = own_lives h w.task.0 moment (lives_here was.tasks (has.allowed w.task.0 w found).lives);
+            own = own_lives h w.task.0 moment (lives_here was.core.spaces.tasks (has.allowed w.task.0 w found).lives);
             creates = tt;
           });
     }
@@ -373,8 +368,8 @@ bare_filled header h outside doing past old events key k ids w to waits f found 
       found = there.region;
       known = known.0;
       top = known.1;
-      one = only_one m.regions to.region.0 row known.0 there.region known.1 (record { tops = there.alone.tops; bare = there.alone.unders });
-      bare = target_unshadowed (events ++ past) m.regions m.homes.1 w.task.0 (record { region = to.region.0; object = there.object.0 }) there.made;
+      one = only_one m.core.objects.regions to.region.0 row known.0 there.region known.1 (record { tops = there.alone.tops; bare = there.alone.unders });
+      bare = target_unshadowed (events ++ past) m.core.objects.regions m.core.spaces.homes.1 w.task.0 (record { region = to.region.0; object = there.object.0 }) there.made;
     }
   where
     m : Matches header h k ids [] (events ++ past)
@@ -391,7 +386,7 @@ bare_filled header h outside doing past old events key k ids w to waits f found 
     row = filled_row there.object there.pages
 
     known : (known : ObjectRow) × (object_at k.memory.objects there.object.0 ≡ Some known)
-    known = row_of (object_at k.memory.objects there.object.0) (m.regions.tops to.region.0 row there.region)
+    known = row_of (object_at k.memory.objects there.object.0) (m.core.objects.regions.tops to.region.0 row there.region)
 
 -- what ends pages and controls ends no access
 

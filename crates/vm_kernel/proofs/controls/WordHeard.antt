@@ -116,9 +116,9 @@ heard_zeros : (header : Header) (h : ℕ) (outside : Outside) (doing : Command) 
     → supply.Zeroes k.host (key_of object page) who k.memory new [] after → lives h object control past ≡ true → object.0 < named header
     → Heard header h outside doing k ids who new after (hears h object control (message.Unavailable page) ∷ past)
 heard_zeros header h outside doing k ids after past object control page who new was zeroes lives_now declared =
-    let told : after ≡ zeros h object page ∷ [] = zeroes.events ∙ ap (λ z. event.Zeroed z object page ∷ []) (named_host k.host h was.rests.matches.host) in
+    let told : after ≡ zeros h object page ∷ [] = zeroes.events ∙ ap (λ z. event.Zeroed z object page ∷ []) (named_host k.host h was.rests.matches.core.setting.numbered) in
     let c = changed_zeroed header h k ids k.host after past object control page who new was.rests zeroes lives_now declared in
-    let lacks = lacking header h k past object control page zeroes.was was.rests.matches.pages zeroes.asked lives_now in
+    let lacks = lacking header h k past object control page zeroes.was was.rests.matches.core.pages.shown zeroes.asked lives_now in
     subst (λ (z : List Event). Heard header h outside doing k ids who new z (hears h object control (message.Unavailable page) ∷ past)) (sym told)
     (record {
       works =
@@ -177,7 +177,7 @@ hears_it header h outside doing k ids after past object control m who new was te
         (no_absence header (hears h object control said ∷ past) nothing.absence)
 
     lives_is : (known : ObjectRow) → object_at k.memory.objects object.0 ≡ Some known → lives h object control past ≡ (known.live && known.control == control)
-    lives_is known found = ap (is_control control) (rests.matches.controls.live object.0 ∙ ap live_in found) ∙ live_test control known
+    lives_is known found = ap (is_control control) (rests.matches.core.controls.live object.0 ∙ ap live_in found) ∙ live_test control known
 
     ready_now : (known : ObjectRow) (cache : Bool) (strategy : ℕ) → object_at k.memory.objects object.0 ≡ Some known → known.live ≡ true
         → lives h object control past ≡ true → Answers Readied → Hear (message.Ready cache strategy)
@@ -194,7 +194,7 @@ hears_it header h outside doing k ids after past object control m who new was te
     by_state known cache strategy state.Sent is found live lives_now number done = ready_now known cache strategy found live lives_now done
     by_state known cache strategy state.Ready is found live lives_now number done =
         discards (message.Ready cache strategy) refl
-        (ready_again header h object control cache strategy past (rests.matches.controls.ready object.0 known.control number
+        (ready_again header h object control cache strategy past (rests.matches.core.controls.ready object.0 known.control number
         ∙ (ap ready_in found ∙ ap is_ready_state is))) done
 
     -- a page that is asked, or not
@@ -204,7 +204,7 @@ hears_it header h outside doing k ids after past object control m who new was te
         → ((row : PageRow) → asked_row (row_at k.memory.resident object.0 page.0) ≡ Some row → Answers outcome → Hear said)
         → Answers (if is_some x then outcome else Discarded) → Hear said
     by_asked page outcome said None unlocked is nothing counts_now done =
-        discards said unlocked (nothing (ap (λ z. z.asked) (rests.matches.pages.shown object.0 page.0)
+        discards said unlocked (nothing (ap (λ z. z.asked) (rests.matches.core.pages.shown.shown object.0 page.0)
         ∙ unasked_shows k.memory.frames (row_at k.memory.resident object.0 page.0) (absent_at k.memory.objects object.0 page.0) is)) done
     by_asked page outcome said (Some row) unlocked is nothing counts_now done = counts_now row is done
 
@@ -217,15 +217,15 @@ hears_it header h outside doing k ids after past object control m who new was te
         → lives h object control past ≡ true → Answers (Zeroed page) → Hear (message.Unavailable page)
     zeroed_now known page kind is other found lives_now zeroes = elim (kind_cases header object.0) [
       | inl declared ↦ heard_zeros header h outside doing k ids after past object control page who new was zeroes lives_now declared
-      | inr temporary ↦ absurd (other (sym is ∙ ((rests.matches.kinds.kinds object.0 known found).temporary temporary).kind))
+      | inr temporary ↦ absurd (other (sym is ∙ ((rests.matches.core.objects.kinds.kinds object.0 known found).temporary temporary).kind))
     ]
 
     -- by the object's kind
     by_kind : (known : ObjectRow) (page : PageNo) (kind : ObjectKind) → known.kind ≡ kind → object_at k.memory.objects object.0 ≡ Some known
         → lives h object control past ≡ true → Answers (unavailable_outcome kind page) → Hear (message.Unavailable page)
     by_kind known page kinds.Temp is found lives_now done = elim (kind_cases header object.0) [
-      | inl declared ↦ absurd (declared_kind header object.0 rests.matches.ranged declared
-          (sym ((rests.matches.kinds.kinds object.0 known found).declared declared).kind ∙ is))
+      | inl declared ↦ absurd (declared_kind header object.0 rests.matches.core.setting.ranged declared
+          (sym ((rests.matches.core.objects.kinds.kinds object.0 known found).declared declared).kind ∙ is))
       | inr temporary ↦ lacked_now page lives_now temporary done
     ]
     by_kind known page kinds.File is found lives_now done =
@@ -262,7 +262,7 @@ hears_it header h outside doing k ids after past object control m who new was te
         → Answers (if b then live_outcome known (row_at k.memory.resident object.0) m else Discarded) → Hear m
     by_test known true is found done =
         let live = (and_parts known.live (known.control == control) is).0 in
-        by_message known m temp found live (lives_is known found ∙ is) (rests.matches.controls.live object.0
+        by_message known m temp found live (lives_is known found ∙ is) (rests.matches.core.controls.live object.0
         ∙ (ap live_in found ∙ ap (λ b. if b then Some known.control else None) live)) done
     by_test known false is found done =
         discards m (answer_unlocked h object control k.size m past temp) (nothing_dead header h object control m past (lives_is known found ∙ is)) done
@@ -270,7 +270,7 @@ hears_it header h outside doing k ids after past object control m who new was te
     by_known : (x : Option ObjectRow) → object_at k.memory.objects object.0 ≡ x → Answers (outcome_of x control (row_at k.memory.resident object.0) m) → Hear m
     by_known None found done =
         discards m (answer_unlocked h object control k.size m past temp) (nothing_dead header h object control m past
-        (dead_none k.memory.objects object.0 control (live_control h object.0 past) (rests.matches.controls.live object.0) found)) done
+        (dead_none k.memory.objects object.0 control (live_control h object.0 past) (rests.matches.core.controls.live object.0) found)) done
     by_known (Some known) found done = by_test known (known.live && known.control == control) refl found done
 
 pub hears_done : (header : Header) (h : ℕ) (outside : Outside) (doing : Command) (k : Parts) (ids : Ids) (before after past front : List Event)

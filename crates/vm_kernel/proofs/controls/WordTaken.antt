@@ -163,12 +163,12 @@ stays_heard header h k ids past object control m rests none =
       sizes = λ o. refl;
       target = λ task. refl;
       next = λ task. refl;
-      tasks = was.tasks;
-      uses = was.uses;
+      tasks = was.core.spaces.tasks;
+      uses = was.core.spaces.uses;
       waits = λ t. refl;
       regions = λ has. has;
       controls = λ has. has;
-      homes = was.homes;
+      homes = was.core.spaces.homes;
       order = rests.order;
       settled = record { none_owed = refl; shut = λ region. refl };
       replied = replied_none none;
@@ -206,29 +206,32 @@ works_of header h k ids who new past now rests stays fit same c =
     record {
       matches =
           record {
-            ranged = was.ranged;
-            declared = was.declared;
-            kinds = c.kinds;
-            shared = was.shared;
-            known = was.known;
-            size = was.size;
-            host = was.host;
-            fits = record { parts = fit; plain = c.plain; buffers = ap (λ z. z.size) same ∙ was.fits.buffers };
-            tasks = stays.tasks;
-            regions = stays.regions c.regions;
-            entries = was.entries;
-            pages = c.pages;
-            uses = stays.uses;
-            controls = stays.controls c.controls;
-            homes = stays.homes;
-            files = λ o file. ap (is_on h) (stays.home o) ∙ c.files o file;
-            sizes = record { at = λ o known least is. c.sizes.at o known least is ∙ sym (stays.sizes o); few = c.sizes.few };
+            core = record {
+              setting = was.core.setting;
+              fits = record { parts = fit; plain = c.plain; buffers = ap (λ z. z.size) same ∙ was.core.fits.buffers };
+              spaces = record {
+                tasks = stays.tasks;
+                entries = was.core.spaces.entries;
+                shared = was.core.spaces.shared;
+                uses = stays.uses;
+                homes = stays.homes;
+              };
+              objects = record {
+                regions = stays.regions c.regions;
+                kinds = c.kinds;
+                files = λ o file. ap (is_on h) (stays.home o) ∙ c.files o file;
+                sizes = record { at = λ o known least is. c.sizes.at o known least is ∙ sym (stays.sizes o); few = c.sizes.few };
+              };
+              controls = stays.controls c.controls;
+              pages = record {
+                shown = c.pages;
+                washed = subst (λ (z : ℕ). HasLaundry new.frames new.resident k.laundry z) (sym stays.returned) c.laundry;
+                counted = subst (λ (z : ℕ). HasFrames (slice_get (reverse header.frames.items) h) new.frames (frames_held header h now) z) (sym stays.wired)
+                    c.frames;
+              };
+            };
             settled = stays.settled;
             replied = stays.replied;
-            laundry = subst (λ (z : ℕ). HasLaundry new.frames new.resident k.laundry z) (sym stays.returned) c.laundry;
-            frames =
-                subst (λ (z : ℕ). HasFrames (slice_get (reverse header.frames.items) h) new.frames (frames_held header h now) z) (sym stays.wired)
-                c.frames;
           };
       used = used_away k.memory.resident new.resident (used_told rests.used (λ t w found. (stays.next t, stays.target t))) c.away;
       referred = c.referred;
@@ -326,21 +329,21 @@ pub changed_none : (header : Header) (h : ℕ) (k : Parts) (ids : Ids) (past : L
 changed_none header h k ids past object control m rests nothing =
     let was = rests.matches in
     record {
-      plain = was.fits.plain;
+      plain = was.core.fits.plain;
       away = λ o p none. none;
-      regions = was.regions;
-      kinds = was.kinds;
-      files = was.files;
-      sizes = was.sizes;
+      regions = was.core.objects.regions;
+      kinds = was.core.objects.kinds;
+      files = was.core.objects.files;
+      sizes = was.core.objects.sizes;
       pages =
           pages_eq k.memory.frames k.memory.resident k.memory.objects (λ o p. known_local header o p (local header h (place_of o p) past))
           (λ o p. known_local header o p (local header h (place_of o p) (hears h object control m ∷ past)))
-          was.pages (λ o p. ap (known_local header o p) (nothing.pages o p));
+          was.core.pages.shown (λ o p. ap (known_local header o p) (nothing.pages o p));
       controls =
           controls_of k.memory.objects k.memory.objects (λ o. last_control h o past) (λ o. live_control h o past) (λ o. is_ready h o past)
-          (λ o. is_ready h o (hears h object control m ∷ past)) was.controls (itself k.memory.objects) nothing.ready;
-      laundry = was.laundry;
-      frames = subst (λ (z : ℕ). HasFrames (slice_get (reverse header.frames.items) h) k.memory.frames z (frames_wired h past)) (sym nothing.held) was.frames;
+          (λ o. is_ready h o (hears h object control m ∷ past)) was.core.controls (itself k.memory.objects) nothing.ready;
+      laundry = was.core.pages.washed;
+      frames = subst (λ (z : ℕ). HasFrames (slice_get (reverse header.frames.items) h) k.memory.frames z (frames_wired h past)) (sym nothing.held) was.core.pages.counted;
       referred = rests.referred;
       thin = rests.thin;
       waits = waits_taken header h (host_id h) object control m past rests.waits;
@@ -448,34 +451,34 @@ changed_ready header h k ids events after past object control cache strategy who
     (subst (λ (z : HostParts). Changed header h k ids (woken.ReadyOf object) z past (hears h object control (message.Ready cache strategy) ∷ past))
     (sym readies.rest)
     (record {
-      plain = was.fits.plain;
+      plain = was.core.fits.plain;
       away = λ o p none. none;
       regions =
           regions_controlled object.0 known (record known { state = state.Ready }) k.chains k.memory.objects new.objects ids (λ r. region_of header r past)
           (λ o. backing_of header o past) (next_region header past) (next_object header past) (marks_of header past)
-          readies.found readies.ready refl refl was.regions;
+          readies.found readies.ready refl refl was.core.objects.regions;
       kinds =
           kinds_put header object.0 (record known { state = state.Ready }) k.memory.objects new.objects k.chains readies.ready readies.marks
-          (kind_ready header object.0 known (was.kinds.kinds object.0 known readies.found) live) was.kinds;
+          (kind_ready header object.0 known (was.core.objects.kinds.kinds object.0 known readies.found) live) was.core.objects.kinds;
       files =
           files_put header h object.0 known (record known { state = state.Ready }) k.memory.objects new.objects (λ o. home_of o past) readies.found
-          readies.ready was.files;
+          readies.ready was.core.objects.files;
       sizes =
           sizes_put (named header) object.0 known (record known { state = state.Ready }) k.memory.objects new.objects (λ o. pages_made header o past)
-          readies.found refl readies.ready was.sizes;
+          readies.found refl readies.ready was.core.objects.sizes;
       pages =
           pages_marked k.memory.frames k.memory.resident k.memory.objects new.objects
           (λ o p. known_local header o p (local header h (place_of o p) (hears h object control (message.Ready cache strategy) ∷ past)))
           (pages_eq k.memory.frames k.memory.resident k.memory.objects (λ o p. known_local header o p (local header h (place_of o p) past))
-          (λ o p. known_local header o p (local header h (place_of o p) (hears h object control (message.Ready cache strategy) ∷ past))) was.pages
+          (λ o p. known_local header o p (local header h (place_of o p) (hears h object control (message.Ready cache strategy) ∷ past))) was.core.pages.shown
           (λ o p. ap (known_local header o p) (rw (own_host h) (same_effect header.size (object.0 == o && is_control control (live_control h o past))
           (local header h (place_of o p) past)))))
           readies.marks;
       controls =
           rw (own_host h) (controls_ready k.memory.objects new.objects (λ o. last_control h o past) (λ o. live_control h o past) (λ o. is_ready h o past)
-          object.0 control known was.controls readies.found live lives_now readies.ready);
-      laundry = was.laundry;
-      frames = was.frames;
+          object.0 control known was.core.controls readies.found live lives_now readies.ready);
+      laundry = was.core.pages.washed;
+      frames = was.core.pages.counted;
       referred =
           referred_controlled object.0 known (record known { state = state.Ready }) k.chains k.memory.objects new.objects k.memory.resident readies.found
           readies.ready refl (λ lives. rests.referred.live object.0 known readies.found live) (λ is. is) rests.referred;
@@ -580,7 +583,7 @@ changed_supplied header h k ids events after past object control page lock preci
     let here : IsUnawaited (Some now) = here_unawaited (Some now) now refl refl refl in
     let waits = waits_page header h k ids past object.0 page.0 (Some now) (woken.Page key) new rests (λ o2 p2. refl) comes.row here same in
     let shows = ap (local_after header.size (TakesPage lock precious bytes)) (asked_shows k.memory.frames row lacked
-    (was.fits.plain object.0 page.0 row asked.0 asked.1) asked.1)
+    (was.core.fits.plain object.0 page.0 row asked.0 asked.1) asked.1)
     ∙ (ap (λ z. record away { here = true; bytes = z; lock = lock; precious = precious; absent = lacked })
     (sym (bytes_now key row.frame _ _ _ _ _ k.memory new comes))
     ∙ ap (λ z. record away { here = true; bytes = page_in new.frames row.frame.0; lock = z; precious = precious; absent = lacked })
@@ -588,7 +591,7 @@ changed_supplied header h k ids events after past object control page lock preci
     let local_at = λ (o p : ℕ). local header h (place_of o p) past in
     let pages = known_on header header.size key (TakesPage lock precious bytes) local_at tt
     (pages_moved header.size (TakesPage lock precious bytes) key row.frame _ _ _ _ _ k.memory new k.memory.objects
-    (λ o p. known_local header o p (local_at o p)) was.fits.parts was.pages comes shows (λ o p apart. refl)) in
+    (λ o p. known_local header o p (local_at o p)) was.core.fits.parts was.core.pages.shown comes shows (λ o p apart. refl)) in
     let moves : (o p : ℕ) → local header h (place_of o p) (hears h object control (message.Supply page lock precious bytes) ∷ past) ≡ effect_on header.size
     key (TakesPage lock precious bytes) (λ o2 p2. local header h (place_of o2 p2) past) o p =
     λ o p. rw (own_host h) (ap (λ z. local_after header.size z (local header h (place_of o p) past))
@@ -597,13 +600,13 @@ changed_supplied header h k ids events after past object control page lock preci
     subst (λ (z : Woken). Changed header h k ids z new past (hears h object control (message.Supply page lock precious bytes) ∷ past)) (sym supplies.woken)
     (record {
       away = away_put object.0 page.0 (Some now) row k.memory.resident new.resident comes.found comes.row;
-      plain = plain_changed key row.frame _ _ _ _ _ k.memory new was.fits.plain comes (λ gone. absurd (let bad : true ≡ false = gone in cc));
+      plain = plain_changed key row.frame _ _ _ _ _ k.memory new was.core.fits.plain comes (λ gone. absurd (let bad : true ≡ false = gone in cc));
       regions =
           regions_of k.chains k.memory.objects new.objects ids (λ r. region_of header r past) (λ o. backing_of header o past) (next_region header past)
-          (next_object header past) (marks_of header past) was.regions same;
-      kinds = kinds_same header k.memory.objects new.objects k.chains same (same_marks k.memory.objects new.objects supplies.objects) was.kinds;
-      files = files_same header h k.memory.objects new.objects (λ o. home_of o past) same was.files;
-      sizes = sizes_same (named header) k.memory.objects new.objects (λ o. pages_made header o past) same was.sizes;
+          (next_object header past) (marks_of header past) was.core.objects.regions same;
+      kinds = kinds_same header k.memory.objects new.objects k.chains same (same_marks k.memory.objects new.objects supplies.objects) was.core.objects.kinds;
+      files = files_same header h k.memory.objects new.objects (λ o. home_of o past) same was.core.objects.files;
+      sizes = sizes_same (named header) k.memory.objects new.objects (λ o. pages_made header o past) same was.core.objects.sizes;
       pages =
           pages_eq new.frames new.resident new.objects (λ o p. known_local header o p (effect_on header.size key (TakesPage lock precious bytes) local_at o p))
           (λ o p. known_local header o p (local header h (place_of o p) (hears h object control (message.Supply page lock precious bytes) ∷ past)))
@@ -612,16 +615,16 @@ changed_supplied header h k ids events after past object control page lock preci
           (λ o p. ap (known_local header o p) (moves o p));
       controls =
           controls_of k.memory.objects new.objects (λ o. last_control h o past) (λ o. live_control h o past) (λ o. is_ready h o past) (λ o. is_ready h o past)
-          was.controls same (λ o live is. refl);
-      laundry = laundry_changed key row.frame _ _ _ _ _ k.memory new k.laundry (returns_out h past) was.laundry comes;
+          was.core.controls same (λ o live is. refl);
+      laundry = laundry_changed key row.frame _ _ _ _ _ k.memory new k.laundry (returns_out h past) was.core.pages.washed comes;
       frames =
           frames_changed (slice_get (reverse header.frames.items) h) key row.frame _ _ _ _ _ k.memory new (frames_held header h past)
-          (frames_held header h past) (frames_wired h past) was.frames comes (λ held. let kept = comes.claims in omega arith);
+          (frames_held header h past) (frames_wired h past) was.core.pages.counted comes (λ held. let kept = comes.claims in omega arith);
       referred =
           referred_of k.chains k.memory.objects new.objects new.resident (referred_row object.0 page.0 (Some now) k.chains k.memory.objects k.memory.resident
           new.resident comes.row (λ r is. (
             rests.referred.pages object.0 page.0 row asked.0,
-            inr (live_is control (object_at k.memory.objects object.0) (subst (λ (z : Option ℕ). is_control control z ≡ true) (was.controls.live object.0)
+            inr (live_is control (object_at k.memory.objects object.0) (subst (λ (z : Option ℕ). is_control control z ≡ true) (was.core.controls.live object.0)
                 lives_now)),
           )) rests.referred) same;
       thin = thin_same k.chains k.memory.objects new.objects same rests.thin;
@@ -662,19 +665,19 @@ changed_ended header h k ids past object control page m effect who row new rests
     let waits = waits_page header h k ids past object.0 page.0 None who new rests is.test ends.row (none_unawaited None refl) same in
     let local_at = λ (o p : ℕ). local header h (place_of o p) past in
     let pages = known_at header header.size key effect local_at is.known
-    (pages_moved header.size effect key row.frame _ _ _ _ _ k.memory new new.objects (λ o p. known_local header o p (local_at o p)) was.fits.parts was.pages
+    (pages_moved header.size effect key row.frame _ _ _ _ _ k.memory new new.objects (λ o p. known_local header o p (local_at o p)) was.core.fits.parts was.core.pages.shown
     ends
     (ap (local_after header.size effect) (asked_shows k.memory.frames row (absent_at k.memory.objects object.0 page.0)
-    (was.fits.plain object.0 page.0 row asked.0 asked.1) asked.1) ∙ left.here) left.others) in
+    (was.core.fits.plain object.0 page.0 row asked.0 asked.1) asked.1) ∙ left.here) left.others) in
     record {
       away = away_put object.0 page.0 None row k.memory.resident new.resident ends.found ends.row;
-      plain = plain_changed key row.frame _ _ _ _ _ k.memory new was.fits.plain ends tt;
+      plain = plain_changed key row.frame _ _ _ _ _ k.memory new was.core.fits.plain ends tt;
       regions =
           regions_of k.chains k.memory.objects new.objects ids (λ r. region_of header r past) (λ o. backing_of header o past) (next_region header past)
-          (next_object header past) (marks_of header past) was.regions same;
+          (next_object header past) (marks_of header past) was.core.objects.regions same;
       kinds = kinds;
-      files = files_same header h k.memory.objects new.objects (λ o. home_of o past) same was.files;
-      sizes = sizes_same (named header) k.memory.objects new.objects (λ o. pages_made header o past) same was.sizes;
+      files = files_same header h k.memory.objects new.objects (λ o. home_of o past) same was.core.objects.files;
+      sizes = sizes_same (named header) k.memory.objects new.objects (λ o. pages_made header o past) same was.core.objects.sizes;
       pages = pages_eq new.frames new.resident new.objects (λ o p. known_local header o p (effect_on header.size key effect local_at o p))
           (λ o p. known_local header o p (local header h (place_of o p) (hears h object control m ∷ past))) pages
           (λ o p. ap (known_local header o p)
@@ -684,11 +687,11 @@ changed_ended header h k ids past object control page m effect who row new rests
           (λ e. ap (λ z. is_control control (live_control h z past)) (sym e)))));
       controls =
           controls_of k.memory.objects new.objects (λ o. last_control h o past) (λ o. live_control h o past) (λ o. is_ready h o past)
-          (λ o. is_ready h o (hears h object control m ∷ past)) was.controls same (λ o live number. is.ready o);
-      laundry = laundry_changed key row.frame _ _ _ _ _ k.memory new k.laundry (returns_out h past) was.laundry ends;
+          (λ o. is_ready h o (hears h object control m ∷ past)) was.core.controls same (λ o live number. is.ready o);
+      laundry = laundry_changed key row.frame _ _ _ _ _ k.memory new k.laundry (returns_out h past) was.core.pages.washed ends;
       frames = subst (λ (z : ℕ). HasFrames (slice_get (reverse header.frames.items) h) new.frames z (frames_wired h past)) (sym is.held)
           (frames_changed (slice_get (reverse header.frames.items) h) key row.frame _ _ _ _ _ k.memory new (frames_held header h past)
-          (frames_held header h past - 1) (frames_wired h past) was.frames ends (λ held. let less = ends.claims in omega arith));
+          (frames_held header h past - 1) (frames_wired h past) was.core.pages.counted ends (λ held. let less = ends.claims in omega arith));
       referred =
           referred_of k.chains k.memory.objects new.objects new.resident (referred_gone object.0 page.0 k.chains k.memory.objects k.memory.resident new.resident
           ends.row rests.referred) same;
@@ -707,11 +710,11 @@ pub changed_lacked : (header : Header) (h : ℕ) (k : Parts) (ids : Ids) (events
 changed_lacked header h k ids events after past object control page who new rests lacks lives_now temporary =
     let asked = asked_is (row_at k.memory.resident object.0 page.0) lacks.was lacks.asked in
     let counts_now = and_from (lives h object control past) (local header h (place_of object.0 page.0) past).asked lives_now
-    (asks_now header h k past object.0 page.0 lacks.was rests.matches.pages asked.0 asked.1) in
+    (asks_now header h k past object.0 page.0 lacks.was rests.matches.core.pages.shown asked.0 asked.1) in
     changed_ended header h k ids past object control page (message.Unavailable page) TakesNothing who lacks.was new rests lacks.asked lacks.page lives_now
     lacks.objects
     (kinds_marked header object.0 page.0 true k.memory.objects new.objects k.chains lacks.objects lacks.absent
-    (λ declared. absurd (omega (arith, declared, temporary))) rests.matches.kinds)
+    (λ declared. absurd (omega (arith, declared, temporary))) rests.matches.core.objects.kinds)
     (left_lacked header.size k.memory.objects new.objects object.0 page.0 lacks.absent)
     (subst (λ (z : Woken). EndsPage header h k z object control page (message.Unavailable page) TakesNothing past) (sym lacks.woken)
     (record {
@@ -732,11 +735,11 @@ pub changed_failed : (header : Header) (h : ℕ) (k : Parts) (ids : Ids) (events
 changed_failed header h k ids events after past object control page reason who new rests fails lives_now =
     let asked = asked_is (row_at k.memory.resident object.0 page.0) fails.was fails.asked in
     let counts_now = and_from (lives h object control past) (local header h (place_of object.0 page.0) past).asked lives_now
-    (asks_now header h k past object.0 page.0 fails.was rests.matches.pages asked.0 asked.1) in
+    (asks_now header h k past object.0 page.0 fails.was rests.matches.core.pages.shown asked.0 asked.1) in
     changed_ended header h k ids past object control page (message.Error page reason) TakesError who fails.was new rests fails.asked fails.page lives_now
     (record { at = λ o. ap (λ z. object_at z o) fails.objects })
     (kinds_same header k.memory.objects new.objects k.chains (record { at = λ o. ap (λ z. object_at z o) fails.objects })
-    (same_marks k.memory.objects new.objects fails.objects) rests.matches.kinds)
+    (same_marks k.memory.objects new.objects fails.objects) rests.matches.core.objects.kinds)
     (left_failed header.size k.memory.objects new.objects object.0 page.0 fails.objects)
     (subst (λ (z : Woken). EndsPage header h k z object control page (message.Error page reason) TakesError past) (sym fails.woken)
     (record {
@@ -794,12 +797,12 @@ changed_zeroed header h k ids host after past object control page who new rests 
     let key = key_of object page in
     let row = zeroes.was in
     let asked = asked_is (row_at k.memory.resident object.0 page.0) row zeroes.asked in
-    let lacks = lacking header h k past object control page row was.pages zeroes.asked lives_now in
+    let lacks = lacking header h k past object control page row was.core.pages.shown zeroes.asked lives_now in
     let same : SameObjects k.memory.objects new.objects = record { at = λ o. ap (λ z. object_at z o) zeroes.objects } in
     let now : PageRow = clean_row row.frame unlocked false in
     let lacked = absent_at k.memory.objects object.0 page.0 in
     let comes : Changes key row.frame (Some row) (Some now) true (replicate header.size 0) (added row.frame.0 k.memory.queues) k.memory new =
-    subst (λ (z : ℕ). FillsPage key row unlocked false (replicate z 0) k.memory new) (was.fits.buffers ∙ was.size) zeroes.page in
+    subst (λ (z : ℕ). FillsPage key row unlocked false (replicate z 0) k.memory new) (was.core.fits.buffers ∙ was.core.setting.sized) zeroes.page in
     let here : IsUnawaited (Some now) = here_unawaited (Some now) now refl refl refl in
     let waits = waits_page header h k ids past object.0 page.0 (Some now) (woken.Page key) new rests (λ o2 p2. refl) comes.row here same in
     let local_at = λ (o p : ℕ). known_local header o p (local header h (place_of o p) past) in
@@ -813,9 +816,9 @@ changed_zeroed header h k ids host after past object control page who new rests 
       own_host page.0,
       lives_now,
     ) (zeroed_shows header object.0 page.0 header.size (local header h (place_of object.0 page.0) past) lacked declared
-    (is ∙ asked_shows k.memory.frames row lacked (was.fits.plain object.0 page.0 row asked.0 asked.1) asked.1))
+    (is ∙ asked_shows k.memory.frames row lacked (was.core.fits.plain object.0 page.0 row asked.0 asked.1) asked.1))
     ∙ (ap (λ z. record away { here = true; bytes = z }) (sym (bytes_now key row.frame _ _ _ _ _ k.memory new comes))
-    ∙ ap (λ z. record away { here = true; bytes = page_in new.frames row.frame.0; absent = z }) (sym (was.kinds.present object.0 page.0 declared))) in
+    ∙ ap (λ z. record away { here = true; bytes = page_in new.frames row.frame.0; absent = z }) (sym (was.core.objects.kinds.present object.0 page.0 declared))) in
     let others : (o p : ℕ) → (object.0 == o && page.0 == p) ≡ false → (local_now o p ≡ local_at o p)
     × (absent_at k.memory.objects o p ≡ absent_at k.memory.objects o p) = λ o p apart. (
       rw (own_host h)
@@ -826,26 +829,26 @@ changed_zeroed header h k ids host after past object control page who new rests 
           ∙ ap (λ b. known_local header o p (local_after header.size (if b then Zeroes else Elsewhere) (local header h (place_of o p) past))) apart),
       refl,
     ) in
-    let pages = pages_changed key row.frame _ _ _ _ _ k.memory new k.memory.objects local_at local_now was.fits.parts was.pages comes shows others in
+    let pages = pages_changed key row.frame _ _ _ _ _ k.memory new k.memory.objects local_at local_now was.core.fits.parts was.core.pages.shown comes shows others in
     let some = count_released k.memory.frames.claims row.frame.0 comes.had in
     subst (λ (z : Woken). Changed header h k ids z new past (zeros h object page ∷ hears h object control (message.Unavailable page) ∷ past)) (sym zeroes.woken)
     (record {
       away = away_put object.0 page.0 (Some now) row k.memory.resident new.resident comes.found comes.row;
-      plain = plain_changed key row.frame _ _ _ _ _ k.memory new was.fits.plain comes (λ gone. absurd (let bad : true ≡ false = gone in cc));
+      plain = plain_changed key row.frame _ _ _ _ _ k.memory new was.core.fits.plain comes (λ gone. absurd (let bad : true ≡ false = gone in cc));
       regions =
           regions_of k.chains k.memory.objects new.objects ids (λ r. region_of header r past) (λ o. backing_of header o past) (next_region header past)
-          (next_object header past) (marks_of header past) was.regions same;
-      kinds = kinds_same header k.memory.objects new.objects k.chains same (same_marks k.memory.objects new.objects zeroes.objects) was.kinds;
-      files = files_same header h k.memory.objects new.objects (λ o. home_of o past) same was.files;
-      sizes = sizes_same (named header) k.memory.objects new.objects (λ o. pages_made header o past) same was.sizes;
+          (next_object header past) (marks_of header past) was.core.objects.regions same;
+      kinds = kinds_same header k.memory.objects new.objects k.chains same (same_marks k.memory.objects new.objects zeroes.objects) was.core.objects.kinds;
+      files = files_same header h k.memory.objects new.objects (λ o. home_of o past) same was.core.objects.files;
+      sizes = sizes_same (named header) k.memory.objects new.objects (λ o. pages_made header o past) same was.core.objects.sizes;
       pages = subst (λ (z : ObjectTable). HasPages new.frames new.resident z local_now) (sym zeroes.objects) pages;
       controls =
           controls_of k.memory.objects new.objects (λ o. last_control h o past) (λ o. live_control h o past) (λ o. is_ready h o past) (λ o. is_ready h o past)
-          was.controls same (λ o live is. refl);
-      laundry = laundry_changed key row.frame _ _ _ _ _ k.memory new k.laundry (returns_out h past) was.laundry comes;
+          was.core.controls same (λ o live is. refl);
+      laundry = laundry_changed key row.frame _ _ _ _ _ k.memory new k.laundry (returns_out h past) was.core.pages.washed comes;
       frames = rw (own_host h, lacks.counts)
           (frames_changed (slice_get (reverse header.frames.items) h) key row.frame _ _ _ _ _ k.memory new (frames_held header h past)
-          (frames_held header h past - 1 + 1) (frames_wired h past) was.frames comes
+          (frames_held header h past - 1 + 1) (frames_wired h past) was.core.pages.counted comes
           (λ held. let kept = comes.claims in omega (arith, held, kept, some)));
       referred =
           referred_of k.chains k.memory.objects new.objects new.resident (referred_row object.0 page.0 (Some now) k.chains k.memory.objects k.memory.resident

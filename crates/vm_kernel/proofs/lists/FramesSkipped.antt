@@ -12,6 +12,7 @@ use Rattle.std.specs.Prelude.{min}
 use Rattle.vm_pageout.specs.Reclaims.{IsFreed, creation_events}
 use Rattle.vm_pageout.specs.declared.answer.Reclaim.TheVariants as reclaim
 use Rattle.vm_parts.specs.Listed.{listed_pages}
+use Rattle.vm_kernel.proofs.memory.CoreChanges.{rests_within}
 use Rattle.vm_waits.specs.Waits.{count_copies, one}
 use Rattle.std.proofs.lemmas.List.{length-append}
 use Rattle.vm_model.specs.declared.message.Message.TheVariants as message
@@ -24,40 +25,7 @@ FillsSkip old new = new ≡ record old { skip = new.skip }
 pub rests_skip : {header : Header} {h : ℕ} {ids : Ids} {past : List Event} {k k2 : Parts} → FillsSkip k k2 → Rests header h k ids past
     → Rests header h k2 ids past
 rests_skip {header} {h} {ids} {past} {k} {k2} is rests =
-    let m = rests.matches in
-    subst (λ (z : Parts). Rests header h z ids past) (sym is)
-    (record {
-      matches =
-          record {
-            ranged = m.ranged;
-            declared = m.declared;
-            kinds = m.kinds;
-            shared = m.shared;
-            known = m.known;
-            size = m.size;
-            host = m.host;
-            fits = m.fits;
-            tasks = m.tasks;
-            regions = m.regions;
-            entries = m.entries;
-            pages = m.pages;
-            uses = m.uses;
-            controls = m.controls;
-            homes = m.homes;
-            files = m.files;
-            sizes = m.sizes;
-            settled = m.settled;
-            replied = m.replied;
-            laundry = m.laundry;
-            frames = m.frames;
-          };
-      used = rests.used;
-      referred = rests.referred;
-      thin = rests.thin;
-      waits = rests.waits;
-      order = rests.order;
-      idle = rests.idle;
-    })
+    subst (λ (z : Parts). Rests header h z ids past) (sym is) (rests_within (record k { skip = k2.skip }) rests)
 
 pub frees_skip : (h : ℕ) (skip : List FrameNo) (answer : Reclaim) (k k1 k2 : Parts) (before after : List Event) → FillsSkip k k1
     → FreesBut h skip answer k1 k2 before after → FreesBut h skip answer k k2 before after
@@ -264,7 +232,7 @@ none_reclaimed k log =
 pub same_frames : (header : Header) (h : ℕ) (k k2 : Parts) (ids ids2 : Ids) (past past2 : List Event) → Rests header h k ids past → Rests header h k2 ids2 past2
     → frame_count k2.memory.frames ≡ frame_count k.memory.frames
 same_frames header h k k2 ids ids2 past past2 rests rests2 =
-    some_is (frame_count k2.memory.frames) (frame_count k.memory.frames) (sym rests2.matches.frames.total ∙ rests.matches.frames.total)
+    some_is (frame_count k2.memory.frames) (frame_count k.memory.frames) (sym rests2.matches.core.pages.counted.total ∙ rests.matches.core.pages.counted.total)
 
 -- one more was reclaimed
 pub one_reclaimed : (answer : Reclaim) (done : ℕ) (first k k2 : Parts) (begun log log2 : Listed Event) → Reclaimed done first k begun log

@@ -396,7 +396,7 @@ pub reclaim_plays_from : (header : Header) (h : ℕ) (by : Sparing) (past : List
 reclaim_plays_from header h by past ids skip reclaim.Freed k k2 mid before after rests may sources same f queued unskipped is =
     subst (λ (z : List Event). PlaysBy header by past before (paging k) z (paging k2)) (sym is.events)
     (Then _ before (paging k) (paging k2) Still (AsVictim (victim_of header k.host.0 by (before ++ past) skip is.key is.row _ _ k k2 mid same may
-    (subst (λ (z : ℕ). AreSpared header z by (before ++ past) (paging k).frame_at skip) (sym rests.matches.host) sources) is.victim is.page)))
+    (subst (λ (z : ℕ). AreSpared header z by (before ++ past) (paging k).frame_at skip) (sym rests.matches.core.setting.numbered) sources) is.victim is.page)))
 reclaim_plays_from header h by past ids skip reclaim.Returned k k2 mid before after rests may sources same f queued unskipped is =
     subst (λ (z : List Event). PlaysBy header by past before (paging k) z (paging k2)) (sym is.events)
     (Then goes (told_from is.object.state creation before) (paging k) (paging k2) (made is.object.state)
@@ -406,7 +406,7 @@ reclaim_plays_from header h by past ids skip reclaim.Returned k k2 mid before af
     victim : IsVictim header k.host.0 by (before ++ past) is.key.object.0 is.key.page.0 (paging k) (paging k2)
     victim =
         victim_of header k.host.0 by (before ++ past) skip is.key is.row _ _ k k2 mid same may
-        (subst (λ (z : ℕ). AreSpared header z by (before ++ past) (paging k).frame_at skip) (sym rests.matches.host) sources) is.victim is.page
+        (subst (λ (z : ℕ). AreSpared header z by (before ++ past) (paging k).frame_at skip) (sym rests.matches.core.setting.numbered) sources) is.victim is.page
 
     goes : Event
     goes = sends k.host is.key (message.Return (controlled is.object).control is.key.page is.row.dirty false (page_in k.memory.frames is.row.frame.0))

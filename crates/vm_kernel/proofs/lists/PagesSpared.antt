@@ -38,14 +38,14 @@ here_waits header h k ids past task w m waits copies found =
       at = record {
         host = h;
         entry = allowed.entry;
-        lives = lives_here m.tasks allowed.lives;
+        lives = lives_here m.core.spaces.tasks allowed.lives;
         found =
             ap (λ z. entry_at z (entries_of header.size task past)) (want_address k.maps.size header.size (next_page task past) (copies_to w.destination) w.want
-            m.tasks.sized (copies_next copies task w found))
-            ∙ (ap (entry_at (address_in k.maps.size w.want)) (rows_here m.tasks allowed.lives) ∙ allowed.found);
+            m.core.spaces.tasks.sized (copies_next copies task w found))
+            ∙ (ap (entry_at (address_in k.maps.size w.want)) (rows_here m.core.spaces.tasks allowed.lives) ∙ allowed.found);
       };
       left =
-          page_left k.maps.size header.size (next_page task past) (copies_to w.destination) w.want m.tasks.sized (page_positive header.size m.ranged.size)
+          page_left k.maps.size header.size (next_page task past) (copies_to w.destination) w.want m.core.spaces.tasks.sized (page_positive header.size m.core.setting.ranged.size)
           (waits.sized task w found) (copies_next copies task w found);
     }
 
@@ -203,7 +203,7 @@ sent_here header h k ids past o p row m found sent = by row.here refl
   where
     by : (b : Bool) → row.here ≡ b → b ≡ true
     by true is = refl
-    by false is = absurd (let bad : false ≡ true = sym (m.fits.plain o p row found is).unlock_sent ∙ sent in cc)
+    by false is = absurd (let bad : false ≡ true = sym (m.core.fits.plain o p row found is).unlock_sent ∙ sent in cc)
 
 -- so each page is spared for whose unlock somebody waits
 pub skips_locked : (header : Header) (h : ℕ) (k : Parts) (ids : Ids) (past : List Event) (spared : Option PageKey) → Matches header h k ids [] past
@@ -318,7 +318,7 @@ frees_or_returns header h k k2 ids spared answer before after rests rests2 once 
         let is = skipped_for k.memory.resident spared k.waits.rows row.frame.0 once skipped in
         let still = r.kept is.key.object.0 is.key.page.0 is.row is.found is.here (subst
         (λ (z : ℕ). is_skipped (frames_spared k.memory.resident spared k.waits.rows) z ≡ true) (sym is.frame) skipped) in
-        let owned = rests2.matches.fits.parts.owned in
+        let owned = rests2.matches.core.fits.parts.owned in
         let same : is.key ≡ page_key o p =
         some_is is.key (page_key o p) (sym (owned.at is.key.object.0 is.key.page.0 is.row still)
         ∙ (ap (owner_of k2.memory.resident) is.frame ∙ owned.at o p row found)) in

@@ -1,4 +1,5 @@
 -- What a page leaves of the kernel that comes for a waiting access, or by which one ends.
+use Rattle.vm_kernel.proofs.memory.CoreChanges.{core_holds, core_rerowed}
 use Rattle.vm_kernel.proofs.Common.{Access, AllReferred, Bool, Brings, Changes, Event, FrameNo, HasPages, HasWaiters, Header, HostParts, Ids, List, Local}
 use Rattle.vm_kernel.proofs.Common.{Matches, None, ObjectTable, On, Option, PageKey, PageRow, Parts, Queues, Raises, Some, Stores, WaitTable, Waiting, Woken}
 use Rattle.vm_kernel.proofs.Common.{Works, Zeroes, [], absent_at, ap, arith, begun_at, clean_row, copy_target, entry, false, fit_touched, frames_held}
@@ -74,36 +75,17 @@ pub matches_zeroed : (header : Header) (h : ℕ) (k : Parts) (ids : Ids) (past :
     → Matches header h k ids [] past → Brings key frame k.memory memory → KeepsPlan k.memory memory
     → Matches header h (record k { memory = memory }) ids [] (event.Zeroed (host_id h) key.object key.page ∷ past)
 matches_zeroed header h k ids past key frame memory m c plan =
-    let sized : k.memory.buffers.size ≡ header.size = m.fits.buffers ∙ m.size in
+    let sized : k.memory.buffers.size ≡ header.size = m.core.fits.buffers ∙ m.core.setting.sized in
     let zeros = bytes_now key frame _ _ _ _ _ k.memory memory c ∙ ap (λ z. replicate z 0) sized in
     let pages2 = known_on header header.size key Zeroes (λ o p. local header h (place_of o p) past) tt
     (pages_moved header.size Zeroes key frame _ _ _ _ _ k.memory memory k.memory.objects
-    (λ o p. known_local header o p (local header h (place_of o p) past)) m.fits.parts m.pages c
+    (λ o p. known_local header o p (local header h (place_of o p) past)) m.core.fits.parts m.core.pages.shown c
     (ap (λ z. shown_as (clean_row frame unlocked false) true true z (absent_at k.memory.objects key.object.0 key.page.0)) (sym zeros)) (λ o p apart. refl)) in
     record {
-      ranged = m.ranged;
-      declared = m.declared;
-      kinds = rw plan.objects m.kinds;
-      shared = m.shared;
-      known = m.known;
-      size = m.size;
-      host = m.host;
-      fits = fits_changed key frame _ _ _ _ _ k memory m.fits plan.fit plan.buffers c (λ away. record { lock = refl; precious = refl; unlock_sent = refl });
-      tasks = m.tasks;
-      regions = rw plan.objects m.regions;
-      homes = m.homes;
-      files = rw plan.objects m.files;
-      sizes = rw plan.objects m.sizes;
-      entries = m.entries;
-      pages = rw (plan.objects, own_host h) pages2;
-      uses = m.uses;
-      controls = rw plan.objects m.controls;
+      core = core_rerowed key frame m.core c plan (λ away. record { lock = refl; precious = refl; unlock_sent = refl }) (rw (own_host h) pages2)
+          (rw (own_host h) (λ held. let more = c.claims in omega arith));
       settled = record { none_owed = refl; shut = λ region. refl };
       replied = replied_behind tt m.replied;
-      laundry = laundry_changed key frame _ _ _ _ _ k.memory memory k.laundry (returns_out h past) m.laundry c;
-      frames =
-          rw (own_host h) (frames_changed (slice_get (reverse header.frames.items) h) key frame _ _ _ _ _ k.memory memory (frames_held header h past)
-          (frames_held header h past + 1) (frames_wired h past) m.frames c (λ held. let more = c.claims in omega arith));
     }
 
 pub works_zeroed : (header : Header) (h : ℕ) (past : List Event) (k : Parts) (ids : Ids) (key : PageKey) (frame : FrameNo) (memory : HostParts)
@@ -136,38 +118,17 @@ matches_raised header h k ids past low top row frame memory m found here c plan 
     let lacked = absent_at k.memory.objects low.object.0 low.page.0 in
     let now : PageRow = record (clean_row frame unlocked false) { dirty = true } in
     let seen : known_local header low.object.0 low.page.0 lower ≡ shown_as row true true (page_in k.memory.frames row.frame.0) lacked =
-    m.pages.shown low.object.0 low.page.0 ∙ (ap (λ z. local_of_row k.memory.frames z lacked) found ∙ shown_here k.memory.frames row lacked here) in
+    m.core.pages.shown.shown low.object.0 low.page.0 ∙ (ap (λ z. local_of_row k.memory.frames z lacked) found ∙ shown_here k.memory.frames row lacked here) in
     let same : lower.bytes ≡ page_in memory.frames frame.0 = ap (λ (z : Local). z.bytes) seen ∙ sym (bytes_now top frame _ _ _ _ _ k.memory memory c) in
     let pages2 = known_on header header.size top (Raises lower.bytes) (λ o p. local header h (place_of o p) past) tt
     (pages_moved header.size (Raises lower.bytes) top frame _ _ _ _ _ k.memory memory k.memory.objects
-    (λ o p. known_local header o p (local header h (place_of o p) past)) m.fits.parts m.pages c
+    (λ o p. known_local header o p (local header h (place_of o p) past)) m.core.fits.parts m.core.pages.shown c
     (ap (λ z. shown_as now true true z (absent_at k.memory.objects top.object.0 top.page.0)) same) (λ o p apart. refl)) in
     record {
-      ranged = m.ranged;
-      declared = m.declared;
-      kinds = rw plan.objects m.kinds;
-      shared = m.shared;
-      known = m.known;
-      size = m.size;
-      host = m.host;
-      fits = fits_changed top frame _ _ _ _ _ k memory m.fits plan.fit plan.buffers c (λ away. record { lock = refl; precious = refl; unlock_sent = refl });
-      tasks = m.tasks;
-      regions =
-          rw plan.objects m.regions;
-      homes = m.homes;
-      files = rw plan.objects m.files;
-      sizes = rw plan.objects m.sizes;
-      entries = m.entries;
-      pages = rw (plan.objects, own_host h) pages2;
-      uses = m.uses;
-      controls =
-          rw plan.objects m.controls;
+      core = core_rerowed top frame m.core c plan (λ away. record { lock = refl; precious = refl; unlock_sent = refl }) (rw (own_host h) pages2)
+          (rw (own_host h) (λ held. let more = c.claims in omega arith));
       settled = record { none_owed = refl; shut = λ region. refl };
       replied = replied_behind tt m.replied;
-      laundry = laundry_changed top frame _ _ _ _ _ k.memory memory k.laundry (returns_out h past) m.laundry c;
-      frames =
-          rw (own_host h) (frames_changed (slice_get (reverse header.frames.items) h) top frame _ _ _ _ _ k.memory memory (frames_held header h past)
-          (frames_held header h past + 1) (frames_wired h past) m.frames c (λ held. let more = c.claims in omega arith));
     }
 
 pub works_raised : (header : Header) (h : ℕ) (past : List Event) (k : Parts) (ids : Ids) (steps : ℕ) (low top : PageKey) (row : PageRow) (frame : FrameNo)
@@ -204,7 +165,7 @@ works_touched header h past k ids who frame memory touched works =
     with_queues =
         record {
           matches =
-              matches_with memory.queues k.memory.buffers k.waits (λ t r. refl) (fit_touched k.memory memory.queues m.fits.parts touched.keeps touched.frames)
+              matches_with memory.queues k.memory.buffers k.waits (λ t r. refl) (fit_touched k.memory memory.queues m.core.fits.parts touched.keeps touched.frames)
               refl m;
           used = works.used;
           referred = works.referred;
@@ -234,30 +195,12 @@ works_loaded header h past k ids w key value waits2 number works is now put =
     let there = (works.waits.allowed w.task.0 w is).lives in
     record {
       matches = record {
-        ranged = m.ranged;
-        declared = m.declared;
-        kinds = m.kinds;
-        shared = m.shared;
-        known = m.known;
-        size = m.size;
-        host = m.host;
-        fits = m.fits;
-        tasks = m.tasks;
-        regions = m.regions;
-        homes = m.homes;
-        files = m.files;
-        sizes = m.sizes;
-        entries = m.entries;
-        pages = m.pages;
-        uses =
-            uses_refilled k.waits.rows waits2.rows (fills_over w.task.0 w k.waits.rows waits2.rows is none_filled put.entry)
-            (uses_still header k.maps _ _ _ _ _ m.uses (λ t r none. holds_waits header.size w.task.0 t r k.maps (rows_in w.task.0 k.maps) past None there
-            none));
-        controls = m.controls;
+        core = core_holds m.core
+            (uses_refilled k.waits.rows waits2.rows (fills_over w.task.0 w k.waits.rows waits2.rows is none_filled put.entry)
+            (uses_still header k.maps _ _ _ _ _ m.core.spaces.uses (λ t r none. holds_waits header.size w.task.0 t r k.maps (rows_in w.task.0 k.maps) past None there
+            none)));
         settled = record { none_owed = refl; shut = λ region. refl };
         replied = replied_behind tt m.replied;
-        laundry = m.laundry;
-        frames = m.frames;
       };
       used = used_over w.task.0 w k.waits.rows waits2.rows works.used is none_filled put.entry;
       referred = works.referred;
@@ -284,7 +227,7 @@ works_stored header h past k ids w key frame at size value row memory waits2 num
     let e : Event = event.Stored w.task key.object key.page at size value in
     let none_filled = fills_none header h past k ids w number works is in
     let there = (works.waits.allowed w.task.0 w is).lives in
-    let lives : host_of w.task.0 past ≡ Some h = lives_here m.tasks there in
+    let lives : host_of w.task.0 past ≡ Some h = lives_here m.core.spaces.tasks there in
     let bytes = little_endian_bytes size value in
     let was = wrote.row in
     let row2 : PageRow = record was { dirty = true } in
@@ -297,7 +240,7 @@ works_stored header h past k ids w key frame at size value row memory waits2 num
     ∙ ap (λ (z : FrameNo). with_bytes at bytes (page_in k.memory.frames z.0)) (sym wrote.is) in
     let pages2 = known_on header header.size key (Stores at bytes) (λ o2 p2. local header h (place_of o2 p2) past) tt
     (pages_moved header.size (Stores at bytes) key was.frame _ _ _ _ _ k.memory memory k.memory.objects
-    (λ o2 p2. known_local header o2 p2 (local header h (place_of o2 p2) past)) m.fits.parts m.pages c
+    (λ o2 p2. known_local header o2 p2 (local header h (place_of o2 p2) past)) m.core.fits.parts m.core.pages.shown c
     (ap (local_after header.size (Stores at bytes)) (shown_here k.memory.frames was lacked its)
     ∙ (ap (λ z. shown_as row2 true true z lacked) (sym written) ∙ sym (shown_here memory.frames row2 lacked its))) (λ o2 p2 apart. refl)) in
     let pages3 : HasPages memory.frames memory.resident k.memory.objects (λ o2 p2. known_local header o2 p2
@@ -308,35 +251,14 @@ works_stored header h past k ids w key frame at size value row memory waits2 num
     (here_unawaited _ row2 refl its unsent)
     (waits_quiet header h e past (λ place. quiet_if (is_on h (host_of w.task.0 past) && (key.object.0 == place.object.0 && key.page.0 == place.page.0))
     (Stores at bytes) Elsewhere tt tt) works.waits) in
-    let fits2 = fits_changed key was.frame _ _ _ _ _ k memory m.fits plan.fit plan.buffers c (plain_here row2 its) in
     record {
       matches = record {
-        ranged = m.ranged;
-        declared = m.declared;
-        kinds = rw plan.objects m.kinds;
-        shared = m.shared;
-        known = m.known;
-        size = m.size;
-        host = m.host;
-        fits = fits2;
-        tasks = m.tasks;
-        regions = rw plan.objects m.regions;
-        homes = m.homes;
-        files = rw plan.objects m.files;
-        sizes = rw plan.objects m.sizes;
-        entries = m.entries;
-        pages = rw plan.objects pages3;
-        uses =
-            uses_refilled k.waits.rows waits2.rows (fills_over w.task.0 w k.waits.rows waits2.rows is none_filled put.entry)
-            (uses_still header k.maps _ _ _ _ _ m.uses (λ t r none. holds_waits header.size w.task.0 t r k.maps (rows_in w.task.0 k.maps) past None there
-            none));
-        controls = rw plan.objects m.controls;
+        core = core_holds (core_rerowed key was.frame m.core c plan (plain_here row2 its) pages3 (λ held. let same = c.claims in omega arith))
+            (uses_refilled k.waits.rows waits2.rows (fills_over w.task.0 w k.waits.rows waits2.rows is none_filled put.entry)
+            (uses_still header k.maps _ _ _ _ _ m.core.spaces.uses (λ t r none. holds_waits header.size w.task.0 t r k.maps (rows_in w.task.0 k.maps) past None there
+            none)));
         settled = record { none_owed = refl; shut = λ region. refl };
         replied = replied_behind tt m.replied;
-        laundry = laundry_changed key was.frame _ _ _ _ _ k.memory memory k.laundry (returns_out h past) m.laundry c;
-        frames =
-            frames_changed (slice_get (reverse header.frames.items) h) key was.frame _ _ _ _ _ k.memory memory (frames_held header h past)
-            (frames_held header h past) (frames_wired h past) m.frames c (λ held. let same = c.claims in omega arith);
       };
       used =
           used_over w.task.0 w k.waits.rows waits2.rows (used_away k.memory.resident memory.resident works.used

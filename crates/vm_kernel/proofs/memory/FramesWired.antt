@@ -62,7 +62,7 @@ ran_wired header h outside doing past k ids wired rests few first done =
     let m = rests.matches in
     let frames : HasFrames (slice_get (reverse header.frames.items) h) (with_wired k.memory.frames wired)
     (frames_held header h (event.Wired (host_id h) wired ∷ past)) (frames_wired h (event.Wired (host_id h) wired ∷ past)) =
-    record { total = m.frames.total; held = m.frames.held; wired = rw (own_host h) refl; fits = few } in
+    record { total = m.core.pages.counted.total; held = m.core.pages.counted.held; wired = rw (own_host h) refl; fits = few } in
     ran_head header h outside doing past (record k { memory = record k.memory { frames = with_wired k.memory.frames wired } }) ids
     (event.Wired (host_id h) wired ∷ []) (event.Wired (host_id h) wired ∷ []) first refl
     (heads_one header h outside doing past (event.Wired (host_id h) wired) (record {
@@ -79,29 +79,21 @@ ran_wired header h outside doing past k ids wired rests few first done =
     (record {
       matches =
           record {
-            ranged = m.ranged;
-            declared = m.declared;
-            kinds = m.kinds;
-            shared = m.shared;
-            known = m.known;
-            size = m.size;
-            host = m.host;
-            fits = record { parts = fit_wired k.memory wired m.fits.parts; plain = m.fits.plain; buffers = m.fits.buffers };
-            tasks = m.tasks;
-            regions = m.regions;
-            entries = m.entries;
-            pages =
-                pages_wired k.memory.frames k.memory.resident k.memory.objects (λ o p. known_local header o p (local header h (place_of o p) past)) wired
-                m.pages;
-            uses = m.uses;
-            controls = m.controls;
-            homes = m.homes;
-            files = m.files;
-            sizes = m.sizes;
+            core = record {
+              setting = m.core.setting;
+              fits = record { parts = fit_wired k.memory wired m.core.fits.parts; plain = m.core.fits.plain; buffers = m.core.fits.buffers };
+              spaces = m.core.spaces;
+              objects = m.core.objects;
+              controls = m.core.controls;
+              pages = record {
+                shown = pages_wired k.memory.frames k.memory.resident k.memory.objects (λ o p. known_local header o p (local header h (place_of o p) past)) wired
+                    m.core.pages.shown;
+                washed = laundry_wired k.memory.frames k.memory.resident k.laundry (returns_out h past) wired m.core.pages.washed;
+                counted = frames;
+              };
+            };
             settled = record { none_owed = refl; shut = λ region. refl };
             replied = replied_behind tt m.replied;
-            laundry = laundry_wired k.memory.frames k.memory.resident k.laundry (returns_out h past) wired m.laundry;
-            frames = frames;
           };
       used = rests.used;
       referred = rests.referred;
@@ -120,16 +112,16 @@ ran_wire header h outside count past k ids before after frames enough s test is 
     let m = s.rests.matches in
     let short : nat_lt (frames_free header h past) count ≡ false = (passed (nat_lt (frames_free header h past) count) code.ResourceShortage None
     s.accepted).0 in
-    let same = free_is header h k.memory.frames past m.frames in
+    let same = free_is header h k.memory.frames past m.core.pages.counted in
     let less : count ≤ free k.memory.frames = grind (arith, nat_tests) in
     let yes : enough ≡ true = test ∙ grind (arith, nat_tests) in
     let now : frames ≡ with_wired k.memory.frames (k.memory.frames.wired + count) = is
     ∙ ap (λ b. if b then with_wired k.memory.frames (k.memory.frames.wired + count) else k.memory.frames) yes in
-    let fits = m.frames.fits in
+    let fits = m.core.pages.counted.fits in
     let ran = ran_wired header h outside (command.Wire (host_id h) count) past k ids (k.memory.frames.wired + count) s.rests (omega (arith, less, fits))
-    (ap (λ z. Some (event.Wired (host_id h) (z + count) ∷ [])) m.frames.wired) tt in
+    (ap (λ z. Some (event.Wired (host_id h) (z + count) ∷ [])) m.core.pages.counted.wired) tt in
     let log : after ≡ event.Wired (host_id h) (k.memory.frames.wired + count) ∷ [] = told
-    ∙ (ap (λ z. event.Wired z frames.wired ∷ before) (named_host k.host h m.host)
+    ∙ (ap (λ z. event.Wired z frames.wired ∷ before) (named_host k.host h m.core.setting.numbered)
     ∙ (ap (λ z. event.Wired (host_id h) z.wired ∷ before) now ∙ ap (λ z. event.Wired (host_id h) (k.memory.frames.wired + count) ∷ z) s.nothing)) in
     subst (λ (z : List Event). Ran header h outside (command.Wire (host_id h) count) past (record k { memory = record k.memory { frames = frames } }) ids z)
     (sym log)
@@ -144,19 +136,19 @@ pub ran_unwire : (header : Header) (h : ℕ) (outside : Outside) (count : ℕ) (
 ran_unwire header h outside count past k ids before after frames enough s test is told =
     let m = s.rests.matches in
     let short : nat_lt (frames_wired h past) count ≡ false = (passed (nat_lt (frames_wired h past) count) code.InvalidArgument None s.accepted).0 in
-    let same = m.frames.wired in
+    let same = m.core.pages.counted.wired in
     let less : count ≤ k.memory.frames.wired = grind (arith, nat_tests) in
     let yes : enough ≡ true = test ∙ grind (arith, nat_tests) in
     let was : k.memory.frames ≡ with_wired frames (frames.wired + count) = is ∙ ap (λ b. if b then with_wired frames (frames.wired + count) else frames) yes in
     let number : k.memory.frames.wired ≡ frames.wired + count = ap (λ z. z.wired) was in
     let left : k.memory.frames.wired - count ≡ frames.wired = omega arith in
     let now : frames ≡ with_wired k.memory.frames frames.wired = sym (ap (λ z. with_wired z frames.wired) was) in
-    let fits = m.frames.fits in
+    let fits = m.core.pages.counted.fits in
     let first : head header past (command.Unwire (host_id h) count) ≡ Some (event.Wired (host_id h) frames.wired ∷ []) = ap
-    (λ z. Some (event.Wired (host_id h) (z - count) ∷ [])) m.frames.wired ∙ ap (λ z. Some (event.Wired (host_id h) z ∷ [])) left in
+    (λ z. Some (event.Wired (host_id h) (z - count) ∷ [])) m.core.pages.counted.wired ∙ ap (λ z. Some (event.Wired (host_id h) z ∷ [])) left in
     let ran = ran_wired header h outside (command.Unwire (host_id h) count) past k ids frames.wired s.rests (omega (arith, number, fits)) first tt in
     let log : after ≡ event.Wired (host_id h) frames.wired ∷ [] = told
-    ∙ (ap (λ z. event.Wired z frames.wired ∷ before) (named_host k.host h m.host) ∙ ap (λ z. event.Wired (host_id h) frames.wired ∷ z) s.nothing) in
+    ∙ (ap (λ z. event.Wired z frames.wired ∷ before) (named_host k.host h m.core.setting.numbered) ∙ ap (λ z. event.Wired (host_id h) frames.wired ∷ z) s.nothing) in
     subst (λ (z : List Event). Ran header h outside (command.Unwire (host_id h) count) past (record k { memory = record k.memory { frames = frames } }) ids z)
     (sym log)
     (subst (λ (z : FrameTable). Ran header h outside (command.Unwire (host_id h) count) past (record k { memory = record k.memory { frames = z } }) ids

@@ -34,32 +34,30 @@ unmarked_with : (header : Header) (h : ℕ) (outside : Outside) (doing : Command
 unmarked_with header h outside doing past k ids region row chains works there counted marked put fits cause =
     record {
       matches = record {
-        ranged = m.ranged;
-        declared = m.declared;
-        kinds = kinds_unmarked header region.0 row k.memory.objects k.chains chains put there m.kinds;
-        shared = m.shared;
-        known = m.known;
-        size = m.size;
-        host = m.host;
-        fits = m.fits;
-        tasks = m.tasks;
-        regions =
-            regions_unmarked header past region row k.chains chains k.memory.objects ids (record ids { marks = ids.marks - 1 }) (next_region header past)
-            (next_object header past) (marks_of header past) (marks_of header (e ∷ past)) put there fits refl refl marks_now (omega (arith, one_less))
-            m.regions;
-        homes =
-            homes_put header h k.chains chains region.0 (record row { marked = false }) (e ∷ past) put.at (λ paged. m.homes.0 region.0 row paged there)
-            (homes_caused header outside h k.chains e past (doing, cause) m.homes);
-        files = m.files;
-        sizes = m.sizes;
-        entries = entries_kept header.size k chains m.entries keeps;
-        pages = m.pages;
-        uses = m.uses;
-        controls = m.controls;
+        core = record {
+          setting = m.core.setting;
+          fits = m.core.fits;
+          spaces = record {
+            tasks = m.core.spaces.tasks;
+            entries = entries_kept header.size k chains m.core.spaces.entries keeps;
+            shared = m.core.spaces.shared;
+            uses = m.core.spaces.uses;
+            homes = homes_put header h k.chains chains region.0 (record row { marked = false }) (e ∷ past) put.at (λ paged. m.core.spaces.homes.0 region.0 row paged there)
+                (homes_caused header outside h k.chains e past (doing, cause) m.core.spaces.homes);
+          };
+          objects = record {
+            regions = regions_unmarked header past region row k.chains chains k.memory.objects ids (record ids { marks = ids.marks - 1 }) (next_region header past)
+                (next_object header past) (marks_of header past) (marks_of header (e ∷ past)) put there fits refl refl marks_now (omega (arith, one_less))
+                m.core.objects.regions;
+            kinds = kinds_unmarked header region.0 row k.memory.objects k.chains chains put there m.core.objects.kinds;
+            files = m.core.objects.files;
+            sizes = m.core.objects.sizes;
+          };
+          controls = m.core.controls;
+          pages = m.core.pages;
+        };
         settled = record { none_owed = refl; shut = λ r. refl };
         replied = replied_behind tt m.replied;
-        laundry = m.laundry;
-        frames = m.frames;
       };
       used = record {
         regions = λ r found is. let was = keeps.row r found is in elim (works.used.regions r was.0 was.1) [
@@ -90,11 +88,11 @@ unmarked_with header h outside doing past k ids region row chains works there co
 
     one_less : marks_of header (e ∷ past) + 1 ≡ marks_of header past
     one_less =
-        marked_unmarked header past region (small_region m.regions region.0 row there)
-        (ap (λ (z : Region). z.mark) (m.regions.rows region.0 row there) ∙ marked)
+        marked_unmarked header past region (small_region m.core.objects.regions region.0 row there)
+        (ap (λ (z : Region). z.mark) (m.core.objects.regions.rows region.0 row there) ∙ marked)
 
     marks_now : ids.marks - 1 ≡ marks_of header (e ∷ past)
-    marks_now = omega (arith, one_less, m.regions.marks)
+    marks_now = omega (arith, one_less, m.core.objects.regions.marks)
 
 pub works_unmarked : (header : Header) (h : ℕ) (outside : Outside) (doing : Command) (past : List Event) (k : Parts) (ids : Ids) (region : RegionId)
     (row : RegionRow) (old new : FaultState)

@@ -1,6 +1,8 @@
 -- What a kernel stands for once one of its pages has changed, whatever the reason: a page goes, goes back to its pager, or stays with another row.
 use Rattle.vm_state.proofs.KnownPages.{sizes_put, sizes_same}
-use Rattle.vm_kernel.specs.TablesInGroups.{Amidst, ControlFacts, Core, Objects, Pages, SpaceFacts, control_facts, memory_facts, space_facts}
+use Rattle.vm_kernel.specs.Matches.{AccessFacts, Amidst, ControlFacts, Core, MemoryFacts, ObjectFacts, Objects, Pages, SpaceFacts, access_facts, control_facts}
+use Rattle.vm_kernel.specs.Matches.{memory_facts, space_facts}
+use Rattle.vm_kernel.proofs.memory.CoreChanges.{core_within, with_tables}
 use Rattle.vm_state.proofs.Passing.{quiet_if}
 use Rattle.vm_kernel.proofs.Common.{AllUsed, BeganInOrder, Bool, ChainTable, Changes, Command, Discards, Drops, Elsewhere, Entry, Event, Fit, FrameNo}
 use Rattle.vm_kernel.proofs.Common.{HasKinds, HasLaundry, HasOrder, HasPages, HasWaits, Header, HostParts, Ids, IfSome, IsOfKind, IsSettled, LaundryList, List}
@@ -36,82 +38,33 @@ use Rattle.vm_model.specs.Named.{named}
 use Rattle.vm_model.specs.declared.event.Event.TheVariants as event
 use Rattle.vm_model.specs.declared.message.Message.TheVariants as message
 
--- the flat record and the groups
-
-pub core_of : {header : Header} {h : ℕ} {k : Parts} {ids : Ids} {gone : List Entry} {past : List Event} → Matches header h k ids gone past
-    → Core header h k ids gone (space_facts header past) (control_facts h past) (memory_facts header h past)
-core_of m =
-    record {
-      setting = record { ranged = m.ranged; known = m.known; sized = m.size; numbered = m.host; objects = m.declared };
-      fits = m.fits;
-      spaces = record { tasks = m.tasks; entries = m.entries; shared = m.shared; uses = m.uses; homes = m.homes };
-      objects = record { regions = m.regions; kinds = m.kinds; files = m.files; sizes = m.sizes };
-      controls = m.controls;
-      pages = record { shown = m.pages; washed = m.laundry; counted = m.frames };
-    }
+-- the kernel inside a step
 
 pub amidst_of : {header : Header} {h : ℕ} {k : Parts} {ids : Ids} {gone : List Entry} {who : Woken} {past : List Event} → Matches header h k ids gone past
     → UsesAll header k past → HasWaits header h k who past → HasOrder k past → Amidst header h k ids gone who past
-amidst_of m used waits order = record { core = core_of m; used = used; waits = waits; order = order }
-
--- the tables of a kernel, in another one
-abbrev pub with_tables : Parts → Parts → Parts
-with_tables k other =
-    record other {
-      host = k.host;
-      size = k.size;
-      declared = k.declared;
-      memory = k.memory;
-      maps = k.maps;
-      chains = k.chains;
-      laundry = k.laundry;
-      waits = k.waits;
-    }
+amidst_of m used waits order = record { core = m.core; used = used; waits = waits; order = order }
 
 pub matches_of : {header : Header} {h : ℕ} {k : Parts} {ids : Ids} {gone : List Entry} {who : Woken} {past : List Event} (other : Parts)
     → Amidst header h k ids gone who past → IsSettled past → IsReplied past → Matches header h (with_tables k other) ids gone past
-matches_of other a settled replied =
-    let c = a.core in
-    record {
-      ranged = c.setting.ranged;
-      known = c.setting.known;
-      size = c.setting.sized;
-      host = c.setting.numbered;
-      declared = c.setting.objects;
-      fits = c.fits;
-      tasks = c.spaces.tasks;
-      regions = c.objects.regions;
-      kinds = c.objects.kinds;
-      homes = c.spaces.homes;
-      files = c.objects.files;
-      sizes = c.objects.sizes;
-      entries = c.spaces.entries;
-      shared = c.spaces.shared;
-      pages = c.pages.shown;
-      uses = c.spaces.uses;
-      controls = c.controls;
-      settled = settled;
-      replied = replied;
-      laundry = c.pages.washed;
-      frames = c.pages.counted;
-    }
+matches_of other a settled replied = record { core = core_within other a.core; settled = settled; replied = replied }
 
 -- what events leave
 
 -- tasks, regions and objects stay as they were, and so do controls
 pub record Leaves (header : Header) (h : ℕ) (past now : List Event) : Type 0 where
   pub space : space_facts header now ≡ space_facts header past
+  pub accesses : access_facts now ≡ access_facts past
   pub controls : control_facts h now ≡ control_facts h past
 
 pub leaves_all : {header : Header} {h : ℕ} {past : List Event} → Leaves header h past past
-leaves_all = record { space = refl; controls = refl }
+leaves_all = record { space = refl; accesses = refl; controls = refl }
 
 -- a page is dropped
 abbrev pub drops : ℕ → PageKey → Event
 drops h key = event.Dropped (host_id h) key.object key.page
 
 leaves_dropped : {header : Header} {h : ℕ} {key : PageKey} {past : List Event} → Leaves header h past (drops h key ∷ past)
-leaves_dropped = record { space = refl; controls = refl }
+leaves_dropped = record { space = refl; accesses = refl; controls = refl }
 
 -- or is returned, and a copy stays or not
 abbrev pub gives : ℕ → PageKey → ℕ → Bool → Bool → List ℕ → Event
@@ -119,7 +72,7 @@ gives h key control dirty keep bytes = event.Sent (Up (host_id h) key.object) (m
 
 leaves_given : {header : Header} {h : ℕ} {key : PageKey} {control : ℕ} {dirty keep : Bool} {bytes : List ℕ} {past : List Event}
     → Leaves header h past (gives h key control dirty keep bytes ∷ past)
-leaves_given = record { space = refl; controls = refl }
+leaves_given = record { space = refl; accesses = refl; controls = refl }
 
 -- what is of pages, where each object is known as before
 pub record Moved (header : Header) (h : ℕ) (k : Parts) (memory : HostParts) (laundry : LaundryList) (who : Woken) (now : List Event) : Type 0 where
@@ -140,9 +93,11 @@ amidst_moved {header = header} {h = h} {k = k} {ids = ids} {gone = gone} {who = 
           subst (λ (z : SpaceFacts). Core header h new ids gone z (control_facts h now) (memory_facts header h now)) (sym leaves.space)
           (subst (λ (z : ControlFacts). Core header h new ids gone (space_facts header past) z (memory_facts header h now)) (sym leaves.controls) core);
       used = used_away k.memory.resident memory.resident
-          (subst (λ (z : SpaceFacts). AllUsed header k.maps k.chains k.memory.resident k.waits.rows z.next z.target) (sym leaves.space) a.used) moved.away;
+          (subst (λ (z : SpaceFacts). AllUsed header k.maps k.chains k.memory.resident k.waits.rows (access_facts now).next z.target) (sym leaves.space)
+          (subst (λ (z : AccessFacts). AllUsed header k.maps k.chains k.memory.resident k.waits.rows z.next (space_facts header past).target)
+          (sym leaves.accesses) a.used)) moved.away;
       waits = moved.waits;
-      order = subst (λ (z : SpaceFacts). BeganInOrder z.begun 0 k.waits.rows) (sym leaves.space) a.order;
+      order = subst (λ (z : AccessFacts). BeganInOrder z.begun 0 k.waits.rows) (sym leaves.accesses) a.order;
     }
   where
     new : Parts
@@ -276,7 +231,7 @@ pages_after {header = header} {h = h} {k = k} {key = key} {row = row} {memory = 
     record { shown = λ o p. ap (known_local header o p) (moves o p) ∙ known.shown o p }
 
 -- an object is known otherwise, with the references and the pages that it had
-pub objects_known : {header : Header} {h o : ℕ} {row new : ObjectRow} {chains : ChainTable} {os os2 : ObjectTable} {ids : Ids} {s : SpaceFacts}
+pub objects_known : {header : Header} {h o : ℕ} {row new : ObjectRow} {chains : ChainTable} {os os2 : ObjectTable} {ids : Ids} {s : ObjectFacts}
     → object_at os o ≡ Some row → PutsObject o (Some new) os os2 → SameMarks os os2 → new.references ≡ row.references → new.pages ≡ row.pages
     → IsOfKind header o new → Objects header h chains os ids s → Objects header h chains os2 ids s
 objects_known {header = header} {h = h} {o = o} {row = row} {new = new} {chains = chains} {os = os} {os2 = os2} {ids = ids} found put marks references pages is

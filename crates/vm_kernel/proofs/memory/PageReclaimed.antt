@@ -35,8 +35,9 @@ use Rattle.vm_legal.specs.Accesses.{WaitsUnlocked}
 use Rattle.vm_state.proofs.Bypassing.{waits_quiet}
 use Rattle.vm_state.proofs.Passing.{quiet_if}
 use Rattle.vm_kernel.proofs.memory.PageChanges.{amidst_gone, amidst_moved, amidst_of, amidst_returned, changes_among, drop_follows, drops, fits_known, gives}
-use Rattle.vm_kernel.proofs.memory.PageChanges.{leaves_all, live_at, matches_of, objects_known, return_follows, same_objects, seen_of, with_tables}
-use Rattle.vm_kernel.specs.TablesInGroups.{Amidst}
+use Rattle.vm_kernel.proofs.memory.PageChanges.{leaves_all, live_at, matches_of, objects_known, return_follows, same_objects, seen_of}
+use Rattle.vm_kernel.proofs.memory.CoreChanges.{with_tables}
+use Rattle.vm_kernel.specs.Matches.{Amidst}
 use Rattle.vm_state.proofs.Told.{told_all, waits_told}
 use Rattle.vm_state.proofs.Knowing.{known_put}
 use Rattle.vm_kernel.proofs.memory.PagesShown.{pages_marked}
@@ -142,7 +143,7 @@ took_nothing : (header : Header) (h : ℕ) (outside : Outside) (doing : Command)
     → Rests header h k ids (before ++ past) → Beside k k2 → IsNothing skip k.memory k2.memory k.laundry k2.laundry before after
     → Took header h outside doing past ids reclaim.Nothing skip k k2 before after
 took_nothing header h outside doing past ids skip k k2 before after rests beside is =
-    let fits = rests.matches.fits in
+    let fits = rests.matches.core.fits in
     let core = (inside rests).core in
     subst (λ (z : List Event). Took header h outside doing past ids reclaim.Nothing skip k k2 before z) (sym is.events)
     (record {
@@ -167,7 +168,7 @@ took_nothing header h outside doing past ids skip k k2 before after rests beside
             nothing =
                 λ same. (
                   refl,
-                  (λ o p row found here. is.skipped row.frame.0 (rests.matches.fits.parts.listed o p row
+                  (λ o p row found here. is.skipped row.frame.0 (rests.matches.core.fits.parts.listed o p row
                       (ap (λ z. row_at z o p) (sym is.resident) ∙ found) ∙ here)),
                   ap free is.frames,
                 );
@@ -188,7 +189,7 @@ took_freed header h outside doing past ids skip k k2 before after rests beside l
     let page = freed.page in
     let moment = before ++ past in
     let e = drops h key in
-    let log : after ≡ e ∷ before = freed.events ∙ ap (λ z. event.Dropped z key.object key.page ∷ before) (named_host k.host h m.host) in
+    let log : after ≡ e ∷ before = freed.events ∙ ap (λ z. event.Dropped z key.object key.page ∷ before) (named_host k.host h m.core.setting.numbered) in
     let none = unsent skip k.memory.resident key.object.0 key.page.0 row locked page.found freed.victim.unskipped in
     let gone : Amidst header h (record k { memory = k2.memory }) ids [] woken.Nobody (e ∷ moment) =
     amidst_gone key (inside_touched (queues_after_search k.memory.queues) (inside rests) keeps refl) freed.victim.here none page freed.objects beside.fit
@@ -329,7 +330,7 @@ took_told header h outside doing past ids skip k k2 before after rests beside lo
     let e = gives h key is.object.control row.dirty false (page_in k.memory.frames row.frame.0) in
     let seen = seen_of key (inside rests) page.found is.victim.here in
     let none = unsent skip k.memory.resident o p row locked page.found is.victim.unskipped in
-    let kind = m.kinds.kinds o is.object is.known in
+    let kind = m.core.objects.kinds.kinds o is.object is.known in
     let objects : SameObjects k.memory.objects k2.memory.objects = record {
       at = controls_told k.memory.objects k2.memory.objects o is.object is.known same
           is.objects;
@@ -373,11 +374,11 @@ took_first header h outside doing past ids skip k k2 before after rests beside l
     let e2 = gives h key control row.dirty false (page_in k.memory.frames row.frame.0) in
     let moment = e1 ∷ h0 in
     let referred = rests.referred.pages o p row page.found in
-    let kind = m.kinds.kinds o is.object is.known in
+    let kind = m.core.objects.kinds.kinds o is.object is.known in
     let temporary = untold_temporary header k.memory.objects o is.object referred is.known kind without in
     let first = first_of_object header k.memory.objects o is.object referred is.known kind temporary in
     let none : is.object.control ≡ 0 = first.number ∙ ap (λ z. if has_pager z then 1 else 0) without in
-    let dead : live_control h o h0 ≡ None = m.controls.live o
+    let dead : live_control h o h0 ≡ None = m.core.controls.live o
     ∙ (ap live_in is.known ∙ ap (λ b. if b then Some is.object.control else None) (first.live ∙ ap has_pager without)) in
     let os : ObjectTable = record (k2.memory.objects) { absent = k.memory.objects.absent } in
     let told : Amidst header h (record k { memory = record (looked k.memory) { objects = os } }) ids [] woken.Nobody moment =
@@ -401,7 +402,7 @@ took_first header h outside doing past ids skip k k2 before after rests beside l
       number = ap (λ z. z + 1) none;
       sized = refl;
       temporary = temporary;
-      never = m.controls.last o ∙ (ap last_in is.known ∙ none);
+      never = m.core.controls.last o ∙ (ap last_in is.known ∙ none);
       page = p;
       here = seen.here;
     } in
@@ -418,12 +419,12 @@ took_first header h outside doing past ids skip k k2 before after rests beside l
             follows = (tt, (tt, tt));
             licensed = ((follows.cause, refl), ((creates, behind_none e1 h0 m.settled.none_owed), tt));
             own_bytes = (tt, (tt, tt));
-            frames = (follows.frames, (suffices header h k.memory.frames moment m.frames, tt));
+            frames = (follows.frames, (suffices header h k.memory.frames moment m.core.pages.counted, tt));
             inner = (tt, (tt, tt));
             said = (follows.said, (refl, tt));
             mine = (
               mine_of header h e2 moment (λ region. refl) follows.own tt,
-              (mine_of header h e1 h0 m.settled.shut (own_named h) (m.controls.home o is.object temporary is.known), tt),
+              (mine_of header h e1 h0 m.settled.shut (own_named h) (m.core.controls.home o is.object temporary is.known), tt),
             );
           };
       gone = record { more = e2 ∷ e1 ∷ []; is = refl; each = (refl, (refl, tt)) };
@@ -444,8 +445,8 @@ took_returned header h outside doing past ids skip k k2 before after rests besid
     log : (pager : PagerState) → is.object.state ≡ pager → after ≡ sent_back is.key is.row.dirty is.object bytes before header.size pager (host_id h)
     log pager same =
         is.events
-        ∙ (ap (λ z. sent_back is.key is.row.dirty is.object bytes before z is.object.state k.host) (rests.matches.fits.buffers ∙ rests.matches.size)
-        ∙ (ap (sent_back is.key is.row.dirty is.object bytes before header.size is.object.state) (named_host k.host h rests.matches.host)
+        ∙ (ap (λ z. sent_back is.key is.row.dirty is.object bytes before z is.object.state k.host) (rests.matches.core.fits.buffers ∙ rests.matches.core.setting.sized)
+        ∙ (ap (sent_back is.key is.row.dirty is.object bytes before header.size is.object.state) (named_host k.host h rests.matches.core.setting.numbered)
         ∙ ap (λ z. sent_back is.key is.row.dirty is.object bytes before header.size z (host_id h)) same))
 
     go : (pager : PagerState) → is.object.state ≡ pager → Took header h outside doing past ids reclaim.Returned skip k k2 before after
@@ -493,7 +494,7 @@ all_skipped header h skip k queues ids past rests all =
       waits = refl;
       freed = λ bad. absurd (let clash : reclaim.Nothing ≡ reclaim.Freed = bad in cc);
       returned = λ bad. absurd (let clash : reclaim.Nothing ≡ reclaim.Returned = bad in cc);
-      nothing = λ same. (refl, (λ o p row found here. all row.frame.0 (rests.matches.fits.parts.listed o p row found ∙ here)), refl);
+      nothing = λ same. (refl, (λ o p row found here. all row.frame.0 (rests.matches.core.fits.parts.listed o p row found ∙ here)), refl);
       kept = λ o p row found here skips. found;
     }
 
@@ -507,12 +508,12 @@ room_for header h k ids past f rests listed = go (owner_of k.memory.resident f) 
 
     mine : (b : Bool) (key : PageKey) → is_claimed k.memory.frames f ≡ b → owner_of k.memory.resident f ≡ Some key → is_claimed k.memory.frames f ≡ true
     mine true key is owner = is
-    mine false key is owner = absurd (let bad : None ≡ Some key = sym (m.fits.parts.unowned f is) ∙ owner in cc)
+    mine false key is owner = absurd (let bad : None ≡ Some key = sym (m.core.fits.parts.unowned f is) ∙ owner in cc)
 
     go : (x : Option PageKey) → owner_of k.memory.resident f ≡ x → 0 < k.laundry.room
-    go None none = absurd (let bad : false ≡ true = sym (m.fits.parts.unlisted f none) ∙ listed in cc)
+    go None none = absurd (let bad : false ≡ true = sym (m.core.fits.parts.unlisted f none) ∙ listed in cc)
     go (Some key) owner =
-        laundry_room k.memory.frames k.memory.resident k.laundry (returns_out h past) f key m.laundry (omega (arith, m.frames.fits))
+        laundry_room k.memory.frames k.memory.resident k.laundry (returns_out h past) f key m.core.pages.washed (omega (arith, m.core.pages.counted.fits))
         (mine (is_claimed k.memory.frames f) key refl owner) owner
 
 -- the front of the frame queue has to wait
@@ -551,7 +552,7 @@ exhausted header h k ids spared moment past rests source each =
     only : (o p : ℕ) → (local header h (place_of o p) past).here ≡ true → (spared ≡ Some (page_key o p)) ⊎ WaitsUnlocked header h o p past
     only o p here =
         let row = here_row k.memory.frames (row_at k.memory.resident o p) (absent_at k.memory.objects o p)
-        (ap (λ z. z.here) (sym (m.pages.shown o p)) ∙ here) in
+        (ap (λ z. z.here) (sym (m.core.pages.shown.shown o p)) ∙ here) in
         elim (each o p row.0 row.1 row.2) [
           | inl one ↦ inl one
           | inr sent ↦ inr (waits_unlocked header h k ids past o p row.0 m rests.waits rests.used.copies row.1 row.2 sent)
@@ -569,12 +570,12 @@ pub full_after : (header : Header) (h : ℕ) (k k2 : Parts) (ids : Ids) (spared 
     → (answer ≡ reclaim.Returned) ⊎ (answer ≡ reclaim.Nothing) → HostIsFull header h after
 full_after header h k k2 ids spared answer past after rests none source r (inl returned) =
     let all = r.returned returned in
-    record { none = free_is header h k2.memory.frames after rests.matches.frames ∙ (all.2 ∙ none); why = inl all.3 }
+    record { none = free_is header h k2.memory.frames after rests.matches.core.pages.counted ∙ (all.2 ∙ none); why = inl all.3 }
 full_after header h k k2 ids spared answer past after rests none source r (inr nothing) =
     let all = r.nothing nothing in
     let still = subst (λ (z : List Event). IfSome spared (λ key. IsSource header h key.object.0 key.page.0 z)) (sym all.0)
     (source_of header h k spared past source) in
     record {
-      none = free_is header h k2.memory.frames after rests.matches.frames ∙ (all.2 ∙ none);
+      none = free_is header h k2.memory.frames after rests.matches.core.pages.counted ∙ (all.2 ∙ none);
       why = inr (exhausted header h k2 ids spared after after rests still all.1);
     }

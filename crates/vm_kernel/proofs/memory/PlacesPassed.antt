@@ -163,7 +163,7 @@ under_temporary : (header : Header) (h : ℕ) (k : Parts) (ids : Ids) (past : Li
     → LeadsTo k.chains (suc m) from to → named header ≤ to.object.0
 under_temporary header h k ids past is zero from to leads =
     let under = leads.1 in
-    let low = is.kinds.unders from.object.0 under.row under.found in
+    let low = is.core.objects.kinds.unders from.object.0 under.row under.found in
     let same : leads.0.object.0 ≡ under.row.under.0 = ap (λ (z : PageKey). z.object.0) under.is in
     let there : leads.0.object.0 ≡ to.object.0 = ap (λ (z : PageKey). z.object.0) leads.2 in
     omega (arith, low, same, there)
@@ -232,7 +232,7 @@ waits_filled header h k ids past task low top none has =
 never_returned : (header : Header) (h : ℕ) (k : Parts) (ids : Ids) (past : List Event) → Matches header h k ids [] past → (key : PageKey)
     → last_in (object_at k.memory.objects key.object.0) ≡ 0 → OnlyReturned (named header) h past
     → was_returned h key.object.0 key.page.0 past ≡ false
-never_returned header h k ids past m key none only = unreturned (named header) h key.object.0 key.page.0 past only (m.controls.last key.object.0 ∙ none)
+never_returned header h k ids past m key none only = unreturned (named header) h key.object.0 key.page.0 past only (m.core.controls.last key.object.0 ∙ none)
 
 and_second : (a b : Bool) → (a && b) ≡ true → b ≡ true
 and_second true b is = is
@@ -258,7 +258,7 @@ passed_away header h k ids past m key least referred over = (
     same = some_is referred.row over.row (sym referred.known ∙ over.known)
 
     number : over.row.control ≡ (if has_pager over.row.state then 1 else 0)
-    number = ((m.kinds.kinds key.object.0 over.row over.known).temporary least).number (subst (λ (z : ObjectRow). 0 < z.references) same referred.some)
+    number = ((m.core.objects.kinds.kinds key.object.0 over.row over.known).temporary least).number (subst (λ (z : ObjectRow). 0 < z.references) same referred.some)
 
 pub over_walk : (header : Header) (h : ℕ) (k : Parts) (ids : Ids) (past : List Event) → Matches header h k ids [] past → (n : ℕ) (from to : PageKey)
     → IsReferred k.memory.objects from.object.0 → WalksTo k.memory k.chains n from to → LeadsOver (StaysAway header h past) k.chains n from to
@@ -266,7 +266,7 @@ over_walk header h k ids past m zero from to referred walks = walks
 over_walk header h k ids past m (suc n) from to referred walks =
     let next = walks.1.0 in
     let under = walks.1.1 in (
-      passed_away header h k ids past m from (shadow_temporary m.regions m.homes.1 from.object.0 under.row under.found) referred walks.0,
+      passed_away header h k ids past m from (shadow_temporary m.core.objects.regions m.core.spaces.homes.1 from.object.0 under.row under.found) referred walks.0,
       (next, under, over_walk header h k ids past m n next to (referred_down (shown_at m) 1 from next referred (next, under, refl)) walks.1.2),
     )
 

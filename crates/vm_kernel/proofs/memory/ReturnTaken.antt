@@ -86,42 +86,31 @@ rests_taken : (header : Header) (h : ℕ) (k : Parts) (ids : Ids) (past : List E
     (event.Taken (Up (host_id h) object) (message.Return control page dirty false bytes) ∷ past)
 rests_taken header h k ids past object control page dirty bytes f fs laundry rests held room releases =
     let was = rests.matches in
-    let washed = washed_first k.memory.frames k.memory.resident k.laundry (returns_out h past) f laundry.held was.laundry held in
+    let washed = washed_first k.memory.frames k.memory.resident k.laundry (returns_out h past) f laundry.held was.core.pages.washed held in
     record {
       matches =
           record {
-            ranged = was.ranged;
-            declared = was.declared;
-            kinds = was.kinds;
-            shared = was.shared;
-            known = was.known;
-            size = was.size;
-            host = was.host;
-            fits =
-                record {
-                  parts = fit_released k.memory fs f.0 was.fits.parts washed.claimed washed.unowned releases;
-                  plain = was.fits.plain;
-                  buffers = was.fits.buffers;
-                };
-            tasks = was.tasks;
-            regions = was.regions;
-            entries = was.entries;
-            pages =
-                pages_same k.memory.frames fs k.memory.resident k.memory.objects (λ o p. known_local header o p (local header h (place_of o p) past)) f.0
-                was.pages releases;
-            uses = was.uses;
-            controls = was.controls;
-            homes = was.homes;
-            files = was.files;
-            sizes = was.sizes;
+            core = record {
+              setting = was.core.setting;
+              fits = record {
+                parts = fit_released k.memory fs f.0 was.core.fits.parts washed.claimed washed.unowned releases;
+                plain = was.core.fits.plain;
+                buffers = was.core.fits.buffers;
+              };
+              spaces = was.core.spaces;
+              objects = was.core.objects;
+              controls = was.core.controls;
+              pages = record {
+                shown = pages_same k.memory.frames fs k.memory.resident k.memory.objects (λ o p. known_local header o p (local header h (place_of o p) past)) f.0
+                    was.core.pages.shown releases;
+                washed = rw (own_host h) (laundry_less k.memory.frames fs k.memory.resident k.laundry laundry (returns_out h past) f was.core.pages.washed held room washed.claimed
+                    releases);
+                counted = rw (own_host h) (frames_less (slice_get (reverse header.frames.items) h) k.memory.frames fs f.0 (frames_held header h past)
+                    (frames_wired h past) was.core.pages.counted releases);
+              };
+            };
             settled = record { none_owed = refl; shut = λ region. refl };
             replied = replied_none refl;
-            laundry =
-                rw (own_host h) (laundry_less k.memory.frames fs k.memory.resident k.laundry laundry (returns_out h past) f was.laundry held room washed.claimed
-                releases);
-            frames =
-                rw (own_host h) (frames_less (slice_get (reverse header.frames.items) h) k.memory.frames fs f.0 (frames_held header h past)
-                (frames_wired h past) was.frames releases);
           };
       used = rests.used;
       referred = rests.referred;

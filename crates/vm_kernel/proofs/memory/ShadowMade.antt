@@ -1,4 +1,5 @@
 -- What a shadow leaves of the kernel, which a store's region gets first where that is marked.
+use Rattle.vm_kernel.proofs.memory.CoreChanges.{pages_known_so}
 use Rattle.vm_state.proofs.KnownPages.{object_few, sizes_shadowed}
 use Rattle.vm_kernel.proofs.Common.{ChainTable, Event, HasEntries, Header, HostParts, Ids, Inside, IsInside, List, Matches, None, ObjectId, ObjectTable, Parts}
 use Rattle.vm_kernel.proofs.Common.{PutsObject, Region, RegionRow, SameMarks, Some, Works, [], ap, arith, false, has_region, home_of, inl, inr}
@@ -104,41 +105,37 @@ pub shadowed_with : (header : Header) (h : ℕ) (outside : Outside) (doing : Com
 shadowed_with header h outside doing past k ids region object row chains objects works there counted marked shared next made put same fit fits cause =
     record {
       matches = record {
-        ranged = m.ranged;
-        declared = m.declared;
-        kinds =
-            kinds_shadowed header region.0 object row objects k.chains chains made there temporary new
-            (kinds_put header object.0 (new_object row.pages) k.memory.objects objects k.chains put same
-            (kind_new header object.0 (new_object row.pages) row.pages new refl) m.kinds);
-        shared = m.shared;
-        known = m.known;
-        size = m.size;
-        host = m.host;
-        fits = record { parts = fit; plain = m.fits.plain; buffers = m.fits.buffers };
-        tasks = m.tasks;
-        regions =
-            regions_shadowed header past region object row (new_object row.pages) k.chains chains k.memory.objects objects ids
-            (record ids { next_object = ids.next_object + 1; marks = ids.marks - 1 })
-            (next_region header past) (next_object header past) (marks_of header past) (marks_of header (e ∷ past)) made there number refl put fits
-            refl refl marks_now few_now m.regions;
-        homes =
-            homes_put header h k.chains chains region.0 (record row { top = object; shift = 0; marked = false }) (e ∷ past) made.at
-            (λ paged. m.homes.0 region.0 row paged there) (homes_caused header outside h k.chains e past (doing, cause) m.homes);
-        files = files_temporary header h object.0 (Some (new_object row.pages)) k.memory.objects objects (λ o. home_of o past) new put m.files;
-        sizes =
-            sizes_shadowed header past (named header) region object row.top (new_object row.pages) k.memory.objects objects put
-            (let within = m.regions.fits.tops region.0 row there in let most = object_few m.sizes row.top.0 in omega (arith, within, most))
-            (sym (ap (λ (z : Region). z.pages) (m.regions.rows region.0 row there))) m.sizes;
-        entries = entries_kept header.size k chains m.entries keeps;
-        pages = record { shown = λ o p. m.pages.shown o p ∙ ap (λ b. local_of_row k.memory.frames (row_at k.memory.resident o p) b) (sym (same.at o p)) };
-        uses = m.uses;
-        controls = controls_made k.memory.objects objects _ _ _ object.0 row.pages m.controls unknown put (λ o home. object_stays o h e past home)
-            (home_shadowed h region object row.top past (m.homes.1.objects object.0 at_least)
-            (m.homes.0 region.0 row (paged_temporary header region.0 temporary) there));
+        core = record {
+          setting = m.core.setting;
+          fits = record { parts = fit; plain = m.core.fits.plain; buffers = m.core.fits.buffers };
+          spaces = record {
+            tasks = m.core.spaces.tasks;
+            entries = entries_kept header.size k chains m.core.spaces.entries keeps;
+            shared = m.core.spaces.shared;
+            uses = m.core.spaces.uses;
+            homes = homes_put header h k.chains chains region.0 (record row { top = object; shift = 0; marked = false }) (e ∷ past) made.at
+                (λ paged. m.core.spaces.homes.0 region.0 row paged there) (homes_caused header outside h k.chains e past (doing, cause) m.core.spaces.homes);
+          };
+          objects = record {
+            regions = regions_shadowed header past region object row (new_object row.pages) k.chains chains k.memory.objects objects ids
+                (record ids { next_object = ids.next_object + 1; marks = ids.marks - 1 })
+                (next_region header past) (next_object header past) (marks_of header past) (marks_of header (e ∷ past)) made there number refl put fits
+                refl refl marks_now few_now m.core.objects.regions;
+            kinds = kinds_shadowed header region.0 object row objects k.chains chains made there temporary new
+                (kinds_put header object.0 (new_object row.pages) k.memory.objects objects k.chains put same
+                (kind_new header object.0 (new_object row.pages) row.pages new refl) m.core.objects.kinds);
+            files = files_temporary header h object.0 (Some (new_object row.pages)) k.memory.objects objects (λ o. home_of o past) new put m.core.objects.files;
+            sizes = sizes_shadowed header past (named header) region object row.top (new_object row.pages) k.memory.objects objects put
+                (let within = m.core.objects.regions.fits.tops region.0 row there in let most = object_few m.core.objects.sizes row.top.0 in omega (arith, within, most))
+                (sym (ap (λ (z : Region). z.pages) (m.core.objects.regions.rows region.0 row there))) m.core.objects.sizes;
+          };
+          controls = controls_made k.memory.objects objects _ _ _ object.0 row.pages m.core.controls unknown put (λ o home. object_stays o h e past home)
+              (home_shadowed h region object row.top past (m.core.spaces.homes.1.objects object.0 at_least)
+              (m.core.spaces.homes.0 region.0 row (paged_temporary header region.0 temporary) there));
+          pages = pages_known_so same m.core.pages;
+        };
         settled = record { none_owed = refl; shut = λ r. refl };
         replied = replied_behind tt m.replied;
-        laundry = m.laundry;
-        frames = m.frames;
       };
       used = record {
         regions = λ r found is. let was = keeps.row r found is in elim (works.used.regions r was.0 was.1) [
@@ -149,7 +146,7 @@ shadowed_with header h outside doing past k ids region object row chains objects
             copies_kept k.maps k.maps k.chains chains k.memory.resident k.memory.resident works.used.copies
             (λ t w found. record { size = refl; entries = refl })
             (shadowed_filled region.0 object row k.chains chains there counted made
-            (unknown_unfilled k.chains k.memory.objects object.0 m.regions.tops unknown)) (rows_unmade k.chains k.memory.resident);
+            (unknown_unfilled k.chains k.memory.objects object.0 m.core.objects.regions.tops unknown)) (rows_unmade k.chains k.memory.resident);
       };
       referred =
           referred_shadowed region.0 object row (new_object row.pages) k.chains chains k.memory.objects objects k.memory.resident made put (omega arith)
@@ -172,10 +169,10 @@ shadowed_with header h outside doing past k ids region object row chains objects
     e = event.Shadowed region object row.top
 
     number : object.0 ≡ next_object header past
-    number = next ∙ m.regions.object
+    number = next ∙ m.core.objects.regions.object
 
     temporary : named header ≤ region.0
-    temporary = marked_temporary m.regions m.homes.1 region.0 row there marked
+    temporary = marked_temporary m.core.objects.regions m.core.spaces.homes.1 region.0 row there marked
 
     new : named header ≤ object.0
     new = let more = named_objects header past in omega (arith, more, number)
@@ -184,24 +181,24 @@ shadowed_with header h outside doing past k ids region object row chains objects
     at_least = omega (arith, number)
 
     unknown : object_at k.memory.objects object.0 ≡ None
-    unknown = m.regions.unknown object.0 at_least
+    unknown = m.core.objects.regions.unknown object.0 at_least
 
     below : ObjectsBelow object.0 k.chains
-    below = subst (λ (z : ℕ). ObjectsBelow z k.chains) (sym number) (objects_below m.regions)
+    below = subst (λ (z : ℕ). ObjectsBelow z k.chains) (sym number) (objects_below m.core.objects.regions)
 
     keeps : KeepsRegions k.chains chains
     keeps = keeps_shadowed region.0 object row k.chains chains made there
 
     one_less : marks_of header (e ∷ past) + 1 ≡ marks_of header past
     one_less =
-        marked_shadowed header past region object row.top (small_region m.regions region.0 row there)
-        (ap (λ (z : Region). z.mark) (m.regions.rows region.0 row there) ∙ marked)
+        marked_shadowed header past region object row.top (small_region m.core.objects.regions region.0 row there)
+        (ap (λ (z : Region). z.mark) (m.core.objects.regions.rows region.0 row there) ∙ marked)
 
     marks_now : ids.marks - 1 ≡ marks_of header (e ∷ past)
-    marks_now = omega (arith, one_less, m.regions.marks)
+    marks_now = omega (arith, one_less, m.core.objects.regions.marks)
 
     few_now : next_object header past + 1 + marks_of header (e ∷ past) ≤ most_objects
-    few_now = let few = m.regions.few in omega (arith, one_less, few)
+    few_now = let few = m.core.objects.regions.few in omega (arith, one_less, few)
 
 pub works_shadowed : (header : Header) (h : ℕ) (outside : Outside) (doing : Command) (past : List Event) (k : Parts) (ids : Ids) (region : RegionId)
     (row : RegionRow) (old new : FaultState)

@@ -29,13 +29,13 @@ pub walks_down : (header : Header) (h : ℕ) (k : Parts) (ids : Ids) (past : Lis
 walks_down header h k ids past lost task what m allowed sized_want =
     let address = address_in k.maps.size what in
     let e = allowed.entry in
-    let found = found_row (IsInside header.size k.chains) address (rows_in task k.maps) e (m.entries.inside task) allowed.found in
+    let found = found_row (IsInside header.size k.chains) address (rows_in task k.maps) e (m.core.spaces.entries.inside task) allowed.found in
     let region = region_row k.chains e.region.0 found.is.region in
     let below : page_at header.size address e < region_pages k.chains e.region.0 = found.is.inside.each address found.from found.below in
     let pages : region_pages k.chains e.region.0 ≡ region.0.pages = ap pages_in region.1 in
-    let sized : page_at k.maps.size address e ≡ page_at header.size address e = ap (λ z. page_at z address e) m.tasks.sized in
+    let sized : page_at k.maps.size address e ≡ page_at header.size address e = ap (λ z. page_at z address e) m.core.spaces.tasks.sized in
     record {
-      size = m.tasks.sized ∙ sym (m.fits.buffers ∙ m.size);
+      size = m.core.spaces.tasks.sized ∙ sym (m.core.fits.buffers ∙ m.core.setting.sized);
       allowed = allowed;
       sized = sized_want;
       entry = e;
@@ -43,7 +43,7 @@ walks_down header h k ids past lost task what m allowed sized_want =
       row = region.0;
       region = region.1;
       inside = omega (arith, below, pages, sized);
-      fits = m.regions.fits;
+      fits = m.core.objects.regions.fits;
     }
 
 -- a store whose walk finds its page below its top place wants a frame for a copy, and a slow copy for its next page
@@ -90,13 +90,13 @@ source_is header h k ids past who w source key row steps m waits copies found re
           at = record {
             host = h;
             entry = e;
-            lives = lives_here m.tasks lives;
+            lives = lives_here m.core.spaces.tasks lives;
             found =
-                ap (λ z. entry_at z (entries_of header.size task past)) (want_address size header.size (next_page task past) to what m.tasks.sized agrees)
-                ∙ (ap (entry_at (address_in size what)) (rows_here m.tasks lives) ∙ at.found);
+                ap (λ z. entry_at z (entries_of header.size task past)) (want_address size header.size (next_page task past) to what m.core.spaces.tasks.sized agrees)
+                ∙ (ap (entry_at (address_in size what)) (rows_here m.core.spaces.tasks lives) ∙ at.found);
           };
           left =
-              page_left size header.size (next_page task past) to what m.tasks.sized (page_positive header.size m.ranged.size) (waits.sized task w found)
+              page_left size header.size (next_page task past) to what m.core.spaces.tasks.sized (page_positive header.size m.core.setting.ranged.size) (waits.sized task w found)
               agrees;
         };
         on_host = refl;

@@ -14,7 +14,7 @@ pub alone_told : (header : Header) (h : ℕ) (k : Parts) (ids : Ids) (who : Woke
     → IsOnlyTop region object k.chains → IsTopAlone header h region object past
 alone_told header h k ids who past works region object only =
     let m : Matches header h k ids [] past = works.matches in
-    let sole = top_alone m.regions m.homes.1 (λ r. in_use header h r past)
+    let sole = top_alone m.core.objects.regions m.core.spaces.homes.1 (λ r. in_use header h r past)
     (λ r temporary used. used_there header h k ids [] past r m works.used.copies temporary used) region object only in
     record { tops = sole.tops; bare = sole.bare }
 
@@ -24,6 +24,6 @@ pub shared_told : (header : Header) (h : ℕ) (k : Parts) (ids : Ids) (who : Wok
     → IsTopAlone header h region row.top.0 past → ⊥
 shared_told header h k ids who past works region row found marked shared alone =
     let m : Matches header h k ids [] past = works.matches in
-    top_shared m.regions m.kinds m.homes.1 works.referred.shadows (λ r. in_use header h r past)
-    (λ r other temporary is. (m.uses.used r temporary).is (row_use r other m.entries is works.used)) region row
-    (marked_temporary m.regions m.homes.1 region row found marked) found shared (record { tops = alone.tops; bare = alone.bare })
+    top_shared m.core.objects.regions m.core.objects.kinds m.core.spaces.homes.1 works.referred.shadows (λ r. in_use header h r past)
+    (λ r other temporary is. (m.core.spaces.uses.used r temporary).is (row_use r other m.core.spaces.entries is works.used)) region row
+    (marked_temporary m.core.objects.regions m.core.spaces.homes.1 region row found marked) found shared (record { tops = alone.tops; bare = alone.bare })

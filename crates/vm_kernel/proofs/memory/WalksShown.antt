@@ -17,16 +17,16 @@ pub shown_at : {header : Header} {h : ℕ} {k : Parts} {ids : Ids} {lost : List 
     → IsShown header h k.memory k.chains past
 shown_at m =
     record {
-      present = m.kinds.present;
-      pages = m.pages;
-      live = m.controls.live;
-      ready = m.controls.ready;
-      lives = λ o known found. (m.kinds.kinds o known found).lives;
-      rows = m.regions.rows;
-      shadows = m.regions.shadows;
-      bottoms = m.regions.bottoms;
-      under_referred = λ o row found. refers_shadow m.regions o row found;
-      top_referred = λ r row found. refers_region m.regions r row found;
+      present = m.core.objects.kinds.present;
+      pages = m.core.pages.shown;
+      live = m.core.controls.live;
+      ready = m.core.controls.ready;
+      lives = λ o known found. (m.core.objects.kinds.kinds o known found).lives;
+      rows = m.core.objects.regions.rows;
+      shadows = m.core.objects.regions.shadows;
+      bottoms = m.core.objects.regions.bottoms;
+      under_referred = λ o row found. refers_shadow m.core.objects.regions o row found;
+      top_referred = λ r row found. refers_region m.core.objects.regions r row found;
     }
 
 -- the address of an access: of a slow copy that of its next page
@@ -50,8 +50,8 @@ pub page_of_want : {header : Header} {h : ℕ} {k : Parts} {ids : Ids} {lost : L
     → Matches header h k ids lost past → AgreesNext what (next_page task past)
     → page_at k.maps.size (address_in k.maps.size what) entry ≡ page_of header task (access_in k.maps.size to what) past entry
 page_of_want {header = header} {k = k} {past = past} task to what entry m agrees =
-    ap (λ z. page_at z (address_in k.maps.size what) entry) m.tasks.sized
-    ∙ ap (λ z. page_at header.size z entry) (sym (want_address k.maps.size header.size (next_page task past) to what m.tasks.sized agrees))
+    ap (λ z. page_at z (address_in k.maps.size what) entry) m.core.spaces.tasks.sized
+    ∙ ap (λ z. page_at header.size z entry) (sym (want_address k.maps.size header.size (next_page task past) to what m.core.spaces.tasks.sized agrees))
 
 -- the places of a task's access are those of the page that the history has it about
 pub place_at : {header : Header} {h : ℕ} {k : Parts} {ids : Ids} {lost : List Entry} {past : List Event} {task : ℕ} {what : Want} {key : PageKey}
@@ -71,8 +71,8 @@ pub waiting_place : {header : Header} {h : ℕ} {k : Parts} {ids : Ids} {lost : 
 waiting_place {header = header} {k = k} {past = past} {task = task} {what = what} {key = key} m to agrees place here waits =
     let size = k.maps.size in
     let found : entry_at (address_in size what) (rows_in task k.maps) ≡ Some waits.at.entry =
-    ap (entry_at (address_in size what)) (sym (m.tasks.rows task here))
-    ∙ (ap (λ z. entry_at z (entries_of header.size task past)) (sym (want_address size header.size (next_page task past) to what m.tasks.sized agrees))
+    ap (entry_at (address_in size what)) (sym (m.core.spaces.tasks.rows task here))
+    ∙ (ap (λ z. entry_at z (entries_of header.size task past)) (sym (want_address size header.size (next_page task past) to what m.core.spaces.tasks.sized agrees))
     ∙ waits.at.found) in
     subst (λ (z : Entry). HasPlace header z.region.0 (page_of header task (access_in size to what) past z) key.object.0 key.page.0 past)
     (some_is place.at.entry waits.at.entry (sym place.at.found ∙ found)) (place_at m to agrees place)

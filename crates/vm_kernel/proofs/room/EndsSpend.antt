@@ -59,7 +59,7 @@ pub ends_made : (header : Header) (h : ℕ) (past : List Event) (who : Woken) (k
 ends_made header h past who k ids rest object e = each
   where
     made : (o : ℕ) (row : ObjectRow) → object_at k.memory.objects o ≡ Some row → o < ids.next_object
-    made o row known = let small = small_object e.runs.matches.regions o row known in let next = e.runs.matches.regions.object in omega (arith, small, next)
+    made o row known = let small = small_object e.runs.matches.core.objects.regions o row known in let next = e.runs.matches.core.objects.regions.object in omega (arith, small, next)
 
     each : (o : ℕ) → EndsWith k.chains k.memory.objects object o → o < ids.next_object
     each _ Itself = made object e.row e.known
@@ -69,7 +69,7 @@ ends_made header h past who k ids rest object e = each
 pub frames_kept : (header : Header) (h : ℕ) (k l : Parts) (ids ids2 : Ids) (gone gone2 : List Entry) (past past2 : List Event)
     → Matches header h k ids gone past → Matches header h l ids2 gone2 past2 → frame_count l.memory.frames ≡ frame_count k.memory.frames
 frames_kept header h k l ids ids2 gone gone2 past past2 m n =
-    let both : Some (frame_count l.memory.frames) ≡ Some (frame_count k.memory.frames) = sym n.frames.total ∙ m.frames.total in
+    let both : Some (frame_count l.memory.frames) ≡ Some (frame_count k.memory.frames) = sym n.core.pages.counted.total ∙ m.core.pages.counted.total in
     cc
 
 -- so they count for as much
@@ -80,8 +80,8 @@ framed k same = ap (if_copies (count_copies k.waits.rows)) same
 pub all_temporary : (header : Header) (h : ℕ) (k : Parts) (ids : Ids) (gone : List Entry) (past : List Event) → Matches header h k ids gone past
     → length k.declared.items ≡ 0 → (o : ℕ) (row : ObjectRow) → object_at k.memory.objects o ≡ Some row → row.kind ≡ Temp
 all_temporary header h k ids gone past m none o row found =
-    let count : named header ≡ 0 = ap length (sym m.declared) ∙ none in
-    ((m.kinds.kinds o row found).temporary (omega (arith, count))).kind
+    let count : named header ≡ 0 = ap length (sym m.core.setting.objects) ∙ none in
+    ((m.core.objects.kinds.kinds o row found).temporary (omega (arith, count))).kind
 
 -- there are buffers for the end of an object
 pub enough_buffers : (header : Header) (h : ℕ) (k : Parts) (ids : Ids) (gone : List Entry) (past : List Event) (object : ℕ) → Matches header h k ids gone past

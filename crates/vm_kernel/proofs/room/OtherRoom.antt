@@ -234,27 +234,31 @@ waiters_roomier header h rooms k who past was = record {
 matches_roomier : (header : Header) (h : ℕ) (rooms : Rooms) (k : Parts) (ids : Ids) (gone : List Entry) (past : List Event) → Matches header h k ids gone past
     → Matches header h (with_rooms rooms k) ids gone past
 matches_roomier header h rooms k ids gone past was = record {
-  ranged = was.ranged;
-  known = was.known;
-  size = was.size;
-  host = was.host;
-  declared = was.declared;
-  fits = record { parts = fit_roomier rooms k.memory was.fits.parts; plain = was.fits.plain; buffers = was.fits.buffers };
-  tasks = was.tasks;
-  regions = regions_roomier k.memory.objects rooms.objects rooms.marks k.chains rooms.shadows ids _ _ _ _ _ was.regions;
-  kinds = kinds_roomier k.memory.objects rooms.objects rooms.marks header k.chains rooms.shadows was.kinds;
-  homes = was.homes;
-  files = was.files;
-  sizes = record { at = was.sizes.at; few = was.sizes.few };
-  entries = entries_roomier k.chains rooms.shadows header.size k.maps gone was.entries;
-  shared = was.shared;
-  pages = pages_roomier k.memory.objects rooms.objects rooms.marks k.memory.frames k.memory.resident rooms.rows _ was.pages;
-  uses = was.uses;
-  controls = controls_roomier k.memory.objects rooms.objects rooms.marks _ h _ _ _ _ was.controls;
+  core = record {
+    setting = was.core.setting;
+    fits = record { parts = fit_roomier rooms k.memory was.core.fits.parts; plain = was.core.fits.plain; buffers = was.core.fits.buffers };
+    spaces = record {
+      tasks = was.core.spaces.tasks;
+      entries = entries_roomier k.chains rooms.shadows header.size k.maps gone was.core.spaces.entries;
+      shared = was.core.spaces.shared;
+      uses = was.core.spaces.uses;
+      homes = was.core.spaces.homes;
+    };
+    objects = record {
+      regions = regions_roomier k.memory.objects rooms.objects rooms.marks k.chains rooms.shadows ids _ _ _ _ _ was.core.objects.regions;
+      kinds = kinds_roomier k.memory.objects rooms.objects rooms.marks header k.chains rooms.shadows was.core.objects.kinds;
+      files = was.core.objects.files;
+      sizes = record { at = was.core.objects.sizes.at; few = was.core.objects.sizes.few };
+    };
+    controls = controls_roomier k.memory.objects rooms.objects rooms.marks _ h _ _ _ _ was.core.controls;
+    pages = record {
+      shown = pages_roomier k.memory.objects rooms.objects rooms.marks k.memory.frames k.memory.resident rooms.rows _ was.core.pages.shown;
+      washed = laundry_roomier k.memory.resident rooms.rows k.memory.frames k.laundry _ was.core.pages.washed;
+      counted = was.core.pages.counted;
+    };
+  };
   settled = was.settled;
   replied = was.replied;
-  laundry = laundry_roomier k.memory.resident rooms.rows k.memory.frames k.laundry _ was.laundry;
-  frames = was.frames;
 }
 
 uses_roomier : (header : Header) (rooms : Rooms) (k : Parts) (past : List Event) → UsesAll header k past → UsesAll header (with_rooms rooms k) past

@@ -83,9 +83,9 @@ dues_full k =
 pub listed_few : {header : Header} {h : ℕ} {k : Parts} {ids : Ids} {past : List Event} → Matches header h k ids [] past
     → EachOnce (k.memory.queues.inactive ++ k.memory.queues.active) → listed_pages k.memory.queues ≤ frame_count k.memory.frames
 listed_few {header} {h} {k} {ids} {past} m once =
-    let fits = m.frames.fits in
-    let few = room_once k.memory k.laundry (returns_out h past) m.fits.parts m.laundry (omega (arith, fits)) once in
-    omega (arith, few, m.laundry.room)
+    let fits = m.core.pages.counted.fits in
+    let few = room_once k.memory k.laundry (returns_out h past) m.core.fits.parts m.core.pages.washed (omega (arith, fits)) once in
+    omega (arith, few, m.core.pages.washed.room)
 
 -- so an end takes less than there is in front
 pub leaving_few : {header : Header} {h : ℕ} {k : Parts} {ids : Ids} {past : List Event} → Matches header h k ids [] past

@@ -26,16 +26,17 @@ use Rattle.vm_kernel.proofs.steps.HeadAlone.{grows_one}
 use Rattle.vm_legal.proofs.Heads.{passed}
 use Rattle.vm_kernel.proofs.space.CountsChanged.{raised_recounts}
 use Rattle.vm_kernel.proofs.space.RegionRows.{region_row, tops_recounted}
-use Rattle.vm_kernel.proofs.space.EntriesRewritten.{entries_changed, lives_below, on_among, recount_homes, recount_referred, recount_regions, recount_used}
+use Rattle.vm_kernel.proofs.space.EntriesRewritten.{entries_changed, lives_below, objects_recounted, on_among, recount_homes, recount_referred, recount_used}
 use Rattle.vm_kernel.proofs.space.EntriesRewritten.{tasks_changed}
 use Rattle.vm_kernel.proofs.space.RegionsInUse.{holds_rows, uses_same}
 use Rattle.vm_state.proofs.Waited.{told_changed, waits_changed}
 use Rattle.vm_kernel.proofs.abroad.OwnEvents.{own_task}
 use Rattle.vm_kernel.proofs.abroad.OwnHost.{lives_in, rows_here}
-use Rattle.vm_kernel.proofs.space.SharedEntries.{kinds_recounted, shared_changed, shared_inherited, shared_protected}
+use Rattle.vm_kernel.proofs.space.SharedEntries.{shared_changed, shared_inherited, shared_protected}
 use Rattle.vm_kernel.proofs.controls.LockReplied.{replied_behind}
 use Rattle.vm_state.specs.Passed.{IsUnmet, StaysAway}
-use Rattle.vm_kernel.proofs.Common.{KnowsHomes}
+use Rattle.vm_kernel.proofs.Common.{IsShared, KnowsHomes, ◌||◌}
+use Rattle.vm_kernel.specs.Matches.{Core, Objects, control_facts, memory_facts, object_facts, space_facts}
 use Rattle.vm_kernel.proofs.space.StillThin.{thin_chains}
 use Rattle.vm_merge.specs.Merges.{IsThin}
 
@@ -102,12 +103,9 @@ none_among r rows made own none = by (count_on r made) refl
 
 pub record Changed (header : Header) (h : ℕ) (past : List Event) (k : Parts) (ids : Ids) (maps : Mapped) (chains : ChainTable) (lost : List Entry) : Type 0
   where
-    pub regions : HasRegions chains k.memory.objects ids (λ r. region_of header r past) (λ o. backing_of header o past) (next_region header past)
-        (next_object header past) (marks_of header past)
+    pub objects : Objects header h chains k.memory.objects ids (object_facts header past)
     pub entries : HasEntries header.size maps chains lost
-    pub kinds : HasKinds header k.memory.objects chains
     pub homes : KnowsHomes header h chains past
-    pub pages : HasPages k.memory.frames k.memory.resident k.memory.objects (λ o p. known_local header o p (local header h (place_of o p) past))
     pub used : AllUsed header maps chains k.memory.resident k.waits.rows (λ t. next_page t past) (λ t. copy_target t past)
     pub referred : AllReferred chains k.memory.objects k.memory.resident
     pub thin : IsThin chains k.memory.objects
@@ -124,15 +122,11 @@ changed_by header h past k ids maps chains task rows lost more rests idle change
     let old = rows_in task k.maps in
     let is = raised_recounts more k.chains chains up in
     record {
-      regions =
-          recount_regions count k.chains chains k.memory.objects ids (λ r. region_of header r past) (λ o. backing_of header o past) (next_region header past)
-          (next_object header past) (marks_of header past) is m.regions;
+      objects = objects_recounted count is m.core.objects;
       entries =
-          entries_changed header.size task k.maps maps k.chains chains count rows lost m.entries changes lives is
+          entries_changed header.size task k.maps maps k.chains chains count rows lost m.core.spaces.entries changes lives is
           (λ r there. let sum = cuts.sums r in omega arith) cuts.inside cuts.known cuts.few;
-      kinds = kinds_recounted header count k.memory.objects k.chains chains is m.kinds;
-      homes = recount_homes count header h k.chains chains past is m.homes;
-      pages = m.pages;
+      homes = recount_homes count header h k.chains chains past is m.core.spaces.homes;
       used = record {
         regions = recount_used count k.chains chains is (λ r there some. omega arith) k.waits.rows rests.used.regions;
         copies =
@@ -154,7 +148,7 @@ changed_by header h past k ids maps chains task rows lost more rests idle change
     -- a region without entries has none of the new ones
     none_counted : (r : ℕ) → has_region k.chains r ≡ true → region_entries k.chains r ≡ 0 → count r ≡ 0
     none_counted r there none =
-        let had : count_on r (rows_in task k.maps) ≤ region_entries k.chains r = counted header.size task k.maps k.chains [] rests.matches.entries lives r
+        let had : count_on r (rows_in task k.maps) ≤ region_entries k.chains r = counted header.size task k.maps k.chains [] rests.matches.core.spaces.entries lives r
         there in
         let made_none = none_among r (rows_in task k.maps) (unwrap_or rows []) cuts.own (omega (arith, had, none)) in
         let lost_none = none_among r (rows_in task k.maps) lost cuts.gone (omega (arith, had, none)) in
@@ -184,19 +178,48 @@ pub uses_kept : (header : Header) (h : ℕ) (past : List Event) (k : Parts) (ids
     (if task == t then own t else entries_of header.size t past) || fills r (waiting t past) (copy_target t past)) (next_region header past)
 uses_kept header h past k ids maps task two more rests changes lives cuts own =
     let m = rests.matches in
-    uses_same header k.maps maps (λ r. in_use header h r past) (tasks past) (λ t r. holds header.size t r past) _ (next_region header past) task two m.uses
+    uses_same header k.maps maps (λ r. in_use header h r past) (tasks past) (λ t r. holds header.size t r past) _ (next_region header past) task two m.core.spaces.uses
     changes lives
-    (λ r some. let moved = by_changed all_tasks r task k.maps maps (Some two) (lives_below header.size task k.maps k.chains [] m.entries lives)
+    (λ r some. let moved = by_changed all_tasks r task k.maps maps (Some two) (lives_below header.size task k.maps k.chains [] m.core.spaces.entries lives)
     changes in let sum = cuts.sums r in omega arith)
-    (λ r some. uses_fewer header.size task r k.maps maps k.chains (Some two) m.entries changes lives cuts.own some)
+    (λ r some. uses_fewer header.size task r k.maps maps k.chains (Some two) m.core.spaces.entries changes lives cuts.own some)
     (λ t r none. holds_rows header.size task t r k.maps (rows_in task k.maps) (own t) past lives none)
+
+-- the entries of a task are what a function makes of them
+core_rewritten : {header : Header} {h : ℕ} {past : List Event} {k : Parts} {ids : Ids} {maps : Mapped} {chains : ChainTable} {more : List Entry} (task : ℕ)
+    (f : List Entry → List Entry) → Rests header h k ids past → Changed header h past k ids maps chains []
+    → ChangesOnly k.maps maps task (Some (f (rows_in task k.maps))) → entries_in task k.maps ≡ Some (rows_in task k.maps)
+    → Cuts header.size k.chains (rows_in task k.maps) (f (rows_in task k.maps)) [] more → AllRows (IsShared (named header)) (f (rows_in task k.maps))
+    → Core header h (record k { maps = maps; chains = chains }) ids []
+    (record (space_facts header past) {
+      entries = λ t. if task == t then f (entries_of header.size t past) else entries_of header.size t past;
+      holds_at = λ t r. has_entry r (if task == t then f (entries_of header.size t past) else entries_of header.size t past)
+          || fills r (waiting t past) (copy_target t past);
+    }) (control_facts h past) (memory_facts header h past)
+core_rewritten {header = header} {h = h} {past = past} {k = k} {ids = ids} {maps = maps} {more = more} task f rests c changes lives cuts shared =
+    let core = rests.matches.core in
+    let made = f (rows_in task k.maps) in
+    record {
+      setting = core.setting;
+      fits = core.fits;
+      spaces = record {
+        tasks = tasks_changed h header.size task k.maps maps (λ t. host_of t past) (λ t. entries_of header.size t past) f core.spaces.tasks changes lives;
+        entries = c.entries;
+        shared = shared_changed (named header) task k.maps maps (Some made) changes shared core.spaces.shared;
+        uses = uses_kept header h past k ids maps task made more rests changes lives cuts (λ t. f (entries_of header.size t past));
+        homes = c.homes;
+      };
+      objects = c.objects;
+      controls = core.controls;
+      pages = core.pages;
+    }
 
 -- the entries of a task lead to regions
 pub all_there : {header : Header} {h : ℕ} {past : List Event} {k : Parts} {ids : Ids} (task : ℕ) → Rests header h k ids past
     → AllRows (λ row. has_region k.chains row.region.0 ≡ true) (rows_in task k.maps)
 all_there {header = header} {k = k} task rests =
     rows_map (IsInside header.size k.chains) (λ row. has_region k.chains row.region.0 ≡ true) (λ row is. is.region) (rows_in task k.maps)
-    (rests.matches.entries.inside task)
+    (rests.matches.core.spaces.entries.inside task)
 
 -- what a task that acts lets a command do to a range of its entries
 
@@ -214,7 +237,7 @@ may_remove {header = header} {task = task} {address = address} {bytes = bytes} {
     let first = passed (not (is_range header.size address bytes)) code.InvalidArgument (code_where full code.TableFull None) (acted task.0 past _ s.accepted) in
     let second = passed full code.TableFull None first.1 in
     may_cut header.size address bytes (removed header.size address bytes (rows_in task.0 k.maps)) (not-false (is_range header.size address bytes) first.0)
-    (ap (λ z. are_too_many (removed header.size address bytes z)) (sym (rows_here m.tasks (lives_in task.0 m.tasks s.acts))) ∙ second.0)
+    (ap (λ z. are_too_many (removed header.size address bytes z)) (sym (rows_here m.core.spaces.tasks (lives_in task.0 m.core.spaces.tasks s.acts))) ∙ second.0)
 
 pub may_protect : {header : Header} {h : ℕ} {task : TaskId} {address bytes : ℕ} {prot : Prot} {past events : List Event} {k : Parts} {ids : Ids}
     → Starts header h (command.Protect task address bytes prot) past k ids events
@@ -230,7 +253,7 @@ may_protect {header = header} {task = task} {address = address} {bytes = bytes} 
     let third = passed full code.TableFull None second.1 in
     may_cut header.size address bytes (protected header.size address bytes prot (rows_in task.0 k.maps))
     (not-false (is_range header.size address bytes) first.0)
-    (ap (λ z. are_too_many (protected header.size address bytes prot z)) (sym (rows_here m.tasks (lives_in task.0 m.tasks s.acts))) ∙ third.0)
+    (ap (λ z. are_too_many (protected header.size address bytes prot z)) (sym (rows_here m.core.spaces.tasks (lives_in task.0 m.core.spaces.tasks s.acts))) ∙ third.0)
 
 pub ran_protect : (header : Header) (h : ℕ) (outside : Outside) (task : TaskId) (address bytes : ℕ) (prot : Prot) (past events : List Event) (k : Parts)
     (ids : Ids) (maps : Mapped) (chains : ChainTable) (change : MapChange)
@@ -241,17 +264,17 @@ pub ran_protect : (header : Header) (h : ℕ) (outside : Outside) (task : TaskId
     (event.Protected task address bytes prot ∷ [])
 ran_protect header h outside task address bytes prot past events k ids maps chains change s is changes up =
     let m = s.rests.matches in
-    let lives = lives_in task.0 m.tasks s.acts in
+    let lives = lives_in task.0 m.core.spaces.tasks s.acts in
     let rows = rows_in task.0 k.maps in
     let made = protected header.size address bytes prot rows in
     let more = cut_at_ends address bytes rows in
-    let cuts = protect_cuts header.size address bytes prot k.chains rows (m.entries.inside task.0) (may_protect s) in
+    let cuts = protect_cuts header.size address bytes prot k.chains rows (m.core.spaces.entries.inside task.0) (may_protect s) in
     let idle = acts task.0 past _ s.accepted in
     let same : ChangesOnly k.maps maps task.0 (Some made) =
     record {
       size = changes.size;
       changed = changes.changed
-          ∙ ap Some (ap (λ z. protected k.maps.size z.address z.bytes z.prot rows) is ∙ ap (λ z. protected z address bytes prot rows) m.tasks.sized);
+          ∙ ap Some (ap (λ z. protected k.maps.size z.address z.bytes z.prot rows) is ∙ ap (λ z. protected z address bytes prot rows) m.core.spaces.tasks.sized);
       others = changes.others;
     } in
     let c = changed_by header h past k ids maps chains task.0 (Some made) [] more s.rests idle same lives cuts up in
@@ -259,33 +282,10 @@ ran_protect header h outside task address bytes prot past events k ids maps chai
     record {
       matches =
           record {
-            ranged = m.ranged;
-            declared = m.declared;
-            kinds = c.kinds;
-            shared =
-                shared_changed (named header) task.0 k.maps maps (Some made) same
-                (shared_protected (named header) header.size address bytes prot rows (m.shared task.0)) m.shared;
-            known = m.known;
-            size = m.size;
-            host = m.host;
-            fits = m.fits;
-            tasks =
-                tasks_changed h header.size task.0 k.maps maps (λ t. host_of t past) (λ t. entries_of header.size t past)
-                (protected header.size address bytes prot) m.tasks same lives;
-            regions = c.regions;
-            entries = c.entries;
-            pages = c.pages;
-            uses =
-                uses_kept header h past k ids maps task.0 made more s.rests same lives cuts
-                (λ t. protected header.size address bytes prot (entries_of header.size t past));
-            controls = m.controls;
-            homes = c.homes;
-            files = m.files;
-            sizes = m.sizes;
+            core = core_rewritten task.0 (protected header.size address bytes prot) s.rests c same lives cuts
+                (shared_protected (named header) header.size address bytes prot rows (m.core.spaces.shared task.0));
             settled = record { none_owed = refl; shut = λ region. refl };
             replied = replied_behind tt m.replied;
-            laundry = m.laundry;
-            frames = m.frames;
           };
       used = c.used;
       referred = c.referred;
@@ -302,7 +302,7 @@ ran_protect header h outside task address bytes prot past events k ids maps chai
             settled = m.settled;
             cause = idle;
             own_bytes = tt;
-            frames = suffices header h k.memory.frames (event.Protected task address bytes prot ∷ past) m.frames;
+            frames = suffices header h k.memory.frames (event.Protected task address bytes prot ∷ past) m.core.pages.counted;
             inner = tt;
             said = tt;
             own = own_task h task.0 past s.acts;
@@ -319,7 +319,7 @@ pub may_inherit : {header : Header} {h : ℕ} {task : TaskId} {address bytes : �
 may_inherit {header = header} {task = task} {address = address} {bytes = bytes} {inherit = inherit} {past = past} {k = k} s =
     let m = s.rests.matches in
     let rows = entries_of header.size task.0 past in
-    let own = sym (rows_here m.tasks (lives_in task.0 m.tasks s.acts)) in
+    let own = sym (rows_here m.core.spaces.tasks (lives_in task.0 m.core.spaces.tasks s.acts)) in
     let full = are_too_many (inherited header.size address bytes inherit rows) in
     let last = code_where full code.TableFull None in
     let next = code_where (not (is_mapped header.size address bytes rows)) code.InvalidAddress last in
@@ -343,18 +343,18 @@ pub ran_inherit : (header : Header) (h : ℕ) (outside : Outside) (task : TaskId
     (event.Inherited task address bytes inherit ∷ [])
 ran_inherit header h outside task address bytes inherit past events k ids maps chains change s is changes up =
     let m = s.rests.matches in
-    let lives = lives_in task.0 m.tasks s.acts in
+    let lives = lives_in task.0 m.core.spaces.tasks s.acts in
     let rows = rows_in task.0 k.maps in
     let made = inherited header.size address bytes inherit rows in
     let more = cut_at_ends address bytes rows in
     let may = may_inherit s in
-    let cuts = inherit_cuts header.size address bytes inherit k.chains rows (m.entries.inside task.0) may.0 in
+    let cuts = inherit_cuts header.size address bytes inherit k.chains rows (m.core.spaces.entries.inside task.0) may.0 in
     let idle = acts task.0 past _ s.accepted in
     let same : ChangesOnly k.maps maps task.0 (Some made) =
     record {
       size = changes.size;
       changed = changes.changed
-          ∙ ap Some (ap (λ z. inherited k.maps.size z.address z.bytes z.inherit rows) is ∙ ap (λ z. inherited z address bytes inherit rows) m.tasks.sized);
+          ∙ ap Some (ap (λ z. inherited k.maps.size z.address z.bytes z.inherit rows) is ∙ ap (λ z. inherited z address bytes inherit rows) m.core.spaces.tasks.sized);
       others = changes.others;
     } in
     let c = changed_by header h past k ids maps chains task.0 (Some made) [] more s.rests idle same lives cuts up in
@@ -362,33 +362,10 @@ ran_inherit header h outside task address bytes inherit past events k ids maps c
     record {
       matches =
           record {
-            ranged = m.ranged;
-            declared = m.declared;
-            kinds = c.kinds;
-            shared =
-                shared_changed (named header) task.0 k.maps maps (Some made) same
-                (shared_inherited (named header) header.size address bytes inherit rows (m.shared task.0) may.1) m.shared;
-            known = m.known;
-            size = m.size;
-            host = m.host;
-            fits = m.fits;
-            tasks =
-                tasks_changed h header.size task.0 k.maps maps (λ t. host_of t past) (λ t. entries_of header.size t past)
-                (inherited header.size address bytes inherit) m.tasks same lives;
-            regions = c.regions;
-            entries = c.entries;
-            pages = c.pages;
-            uses =
-                uses_kept header h past k ids maps task.0 made more s.rests same lives cuts
-                (λ t. inherited header.size address bytes inherit (entries_of header.size t past));
-            controls = m.controls;
-            homes = c.homes;
-            files = m.files;
-            sizes = m.sizes;
+            core = core_rewritten task.0 (inherited header.size address bytes inherit) s.rests c same lives cuts
+                (shared_inherited (named header) header.size address bytes inherit rows (m.core.spaces.shared task.0) may.1);
             settled = record { none_owed = refl; shut = λ region. refl };
             replied = replied_behind tt m.replied;
-            laundry = m.laundry;
-            frames = m.frames;
           };
       used = c.used;
       referred = c.referred;
@@ -405,7 +382,7 @@ ran_inherit header h outside task address bytes inherit past events k ids maps c
             settled = m.settled;
             cause = idle;
             own_bytes = tt;
-            frames = suffices header h k.memory.frames (event.Inherited task address bytes inherit ∷ past) m.frames;
+            frames = suffices header h k.memory.frames (event.Inherited task address bytes inherit ∷ past) m.core.pages.counted;
             inner = tt;
             said = tt;
             own = own_task h task.0 past s.acts;

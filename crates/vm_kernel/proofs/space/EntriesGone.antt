@@ -1,4 +1,5 @@
 -- Entries that have gone leave the counts.
+use Rattle.vm_kernel.proofs.space.EntriesRewritten.{objects_recounted}
 use Rattle.vm_kernel.proofs.Common.{ChainTable, Command, EachOf, EndsOnly, EndsRegion, Entry, Event, HasEntries, HasSlow, Header, Ids, IsEnding, IsFilledIn}
 use Rattle.vm_kernel.proofs.Common.{IsInStep, IsWhole, LegalEvents, List, Mapped, Outside, Parts, PutsEntries, QueueIsStill, RegionRow, RunsNobody, RunsNone}
 use Rattle.vm_kernel.proofs.Common.{Some, Sweeps, TaskId, WaitTable, Waiting, [], ap, append_assoc, arith, backing_of, count_again, count_on, drop}
@@ -28,8 +29,8 @@ count_less cs region r = if region == r then region_entries cs region - 1 else r
 pub some_left : (header : Header) (h : ℕ) (outside : Outside) (doing : Command) (past : List Event) (k : Parts) (ids : Ids) (entry : Entry) (rest : List Entry)
     (events : List Event) → Sweeps header h outside doing past k ids (entry ∷ rest) events → 1 ≤ region_entries k.chains entry.region.0
 some_left header h outside doing past k ids entry rest events s =
-    let row = region_row k.chains entry.region.0 s.runs.matches.entries.known.0 in
-    let counts = s.runs.matches.entries.counts entry.region.0 row.0 row.1 in
+    let row = region_row k.chains entry.region.0 s.runs.matches.core.spaces.entries.known.0 in
+    let counts = s.runs.matches.core.spaces.entries.counts entry.region.0 row.0 row.1 in
     let one : count_on entry.region.0 (entry ∷ rest) ≡ 1 + count_on entry.region.0 rest = rw (itself entry.region.0) refl in
     let is = ap entries_in_row row.1 in
     omega arith
@@ -72,29 +73,22 @@ runs_less header h outside doing past k ids entry rest events chains s put =
     record {
       begins = s.begins;
       matches = record {
-        ranged = m.ranged;
-        declared = m.declared;
-        kinds = kinds_recounted header count k.memory.objects k.chains chains is m.kinds;
-        shared = m.shared;
-        known = m.known;
-        size = m.size;
-        host = m.host;
-        fits = m.fits;
-        tasks = m.tasks;
-        regions =
-            recount_regions count k.chains chains k.memory.objects ids (λ r. region_of header r moment) (λ o. backing_of header o moment)
-            (next_region header moment) (next_object header moment) (marks_of header moment) is m.regions;
-        entries = counts_less header.size k.maps k.chains chains entry rest is m.entries;
-        pages = m.pages;
-        uses = m.uses;
-        controls = m.controls;
-        homes = recount_homes count header h k.chains chains moment is m.homes;
-        files = m.files;
-        sizes = m.sizes;
+        core = record {
+          setting = m.core.setting;
+          fits = m.core.fits;
+          spaces = record {
+            tasks = m.core.spaces.tasks;
+            entries = counts_less header.size k.maps k.chains chains entry rest is m.core.spaces.entries;
+            shared = m.core.spaces.shared;
+            uses = m.core.spaces.uses;
+            homes = recount_homes count header h k.chains chains moment is m.core.spaces.homes;
+          };
+          objects = objects_recounted count is m.core.objects;
+          controls = m.core.controls;
+          pages = m.core.pages;
+        };
         settled = m.settled;
         replied = m.replied;
-        laundry = m.laundry;
-        frames = m.frames;
       };
       waits =
           waits_kept k.maps k.maps k.chains chains k.memory.resident k.memory.objects k.waits.rows (is_woken woken.Nobody) (λ t. waiting t moment) s.waits
@@ -169,8 +163,8 @@ pub ends_less : (header : Header) (h : ℕ) (outside : Outside) (doing : Command
 ends_less header h outside doing past k ids entry rest events chains s put last =
     let count = count_less k.chains entry.region.0 in
     let is : Recounts count k.chains chains = recounts_put entry.region.0 (region_entries k.chains entry.region.0 - 1) k.chains chains put in
-    let there = has_same count k.chains chains is entry.region.0 ∙ s.runs.matches.entries.known.0 in
-    let are = entries_are count k.chains chains is entry.region.0 s.runs.matches.entries.known.0 in
+    let there = has_same count k.chains chains is entry.region.0 ∙ s.runs.matches.core.spaces.entries.known.0 in
+    let are = entries_are count k.chains chains is entry.region.0 s.runs.matches.core.spaces.entries.known.0 in
     let less : count entry.region.0 ≡ region_entries k.chains entry.region.0 - 1 = rw (itself entry.region.0) refl in
     let runs = runs_less header h outside doing past k ids entry rest events chains s.runs put in
     record {
@@ -180,7 +174,7 @@ ends_less header h outside doing past k ids entry rest events chains s put last 
       others = others_less k.chains chains entry.region.0 put k.waits.rows s.used.regions;
       copies = copies_less header h outside doing past k ids entry rest events chains s put;
       unfilled =
-          let row = region_row k.chains entry.region.0 s.runs.matches.entries.known.0 in let is_row = ap entries_in_row row.1 in let some = some_left header h
+          let row = region_row k.chains entry.region.0 s.runs.matches.core.spaces.entries.known.0 in let is_row = ap entries_in_row row.1 in let some = some_left header h
           outside doing past k ids entry rest events s in counted_unfilled entry.region.0 row.0 s.used.copies row.1 (omega (arith, is_row, some));
       referred =
           recount_referred (count_less k.chains entry.region.0) k.chains chains k.memory.objects k.memory.resident

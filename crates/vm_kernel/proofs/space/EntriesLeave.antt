@@ -122,8 +122,8 @@ last_alone : (header : Header) (h : ℕ) (outside : Outside) (doing : Command) (
     (events : List Event) → Sweeps header h outside doing past k ids (entry ∷ rest) events
     → region_entries k.chains entry.region.0 ≡ 1 → All (λ (other : Entry). other.region ≢ entry.region) rest
 last_alone header h outside doing past k ids entry rest events s last =
-    let row = region_row k.chains entry.region.0 s.runs.matches.entries.known.0 in
-    let counts = s.runs.matches.entries.counts entry.region.0 row.0 row.1 in
+    let row = region_row k.chains entry.region.0 s.runs.matches.core.spaces.entries.known.0 in
+    let counts = s.runs.matches.core.spaces.entries.counts entry.region.0 row.0 row.1 in
     let one : count_on entry.region.0 (entry ∷ rest) ≡ 1 + count_on entry.region.0 rest = rw (itself entry.region.0) refl in
     let is = ap entries_in_row row.1 in
     none_on entry.region rest (omega arith)

@@ -1,4 +1,6 @@
 -- A task's entries are cut, changed or taken away, and regions count what is left.
+use Rattle.vm_kernel.specs.Matches.{ObjectFacts, Objects}
+use Rattle.vm_kernel.proofs.space.SharedEntries.{kinds_recounted}
 use Rattle.vm_kernel.proofs.Common.{AllEntriesInside, AllReferred, AllRows, Backing, Bool, ChainTable, ChangesOnly, Entry, HasEntries, HasRegions, KnowsHomes}
 use Rattle.vm_kernel.proofs.Common.{Event, HasTasks, Header, Ids, Inside, IsFilledIn, IsInside, List, Mapped, None, ObjectTable, Option, Region, RegionRow}
 use Rattle.vm_kernel.proofs.Common.{ResidentTable, Some, Waiting, [], all_tasks, ap, arith, count_on, cut, cut_at, cut_at_ends, entries_in, entries_in_row}
@@ -21,6 +23,16 @@ pub recount_regions : (count : ℕ → ℕ) (cs cs2 : ChainTable) (os : ObjectTa
     → HasRegions cs2 os ids region_from backing_from regions_made objects_made marked
 recount_regions count cs cs2 os ids region_from backing_from regions_made objects_made marked is has =
     regions_recounted cs cs2 os ids region_from backing_from regions_made objects_made marked (recounts_but count cs cs2 is) has
+
+pub objects_recounted : {header : Header} {h : ℕ} {cs cs2 : ChainTable} {os : ObjectTable} {ids : Ids} {s : ObjectFacts} (count : ℕ → ℕ)
+    → Recounts count cs cs2 → Objects header h cs os ids s → Objects header h cs2 os ids s
+objects_recounted {header = header} {cs = cs} {cs2 = cs2} {os = os} {ids = ids} count is objects =
+    record {
+      regions = recount_regions count cs cs2 os ids _ _ _ _ _ is objects.regions;
+      kinds = kinds_recounted header count os cs cs2 is objects.kinds;
+      files = objects.files;
+      sizes = objects.sizes;
+    }
 
 pub recount_homes : (count : ℕ → ℕ) (header : Header) (h : ℕ) (cs cs2 : ChainTable) (past : List Event) → Recounts count cs cs2
     → KnowsHomes header h cs past → KnowsHomes header h cs2 past

@@ -96,7 +96,7 @@ can_share header h task row past k ids rests may =
       free = may.free;
       pages = may.pages;
       region = may.inside.region;
-      few = few_entries header.size k.maps k.chains row.region.0 rests.matches.entries may.inside.region;
+      few = few_entries header.size k.maps k.chains row.region.0 rests.matches.core.spaces.entries may.inside.region;
     }
 
 -- the counts of the regions, where one has an entry more
@@ -160,22 +160,22 @@ share_enters header h task row past k ids rests may =
     let r = row.region.0 in
     let there = region_row k.chains r may.inside.region in
     let used = used_there header h k ids past r there.0 rests there.1 in
-    let pages : (region_of header r past).pages ≡ region_pages k.chains r = ap (λ z. z.pages) (m.regions.rows r there.0 there.1) ∙ sym (ap pages_in there.1) in
+    let pages : (region_of header r past).pages ≡ region_pages k.chains r = ap (λ z. z.pages) (m.core.objects.regions.rows r there.0 there.1) ∙ sym (ap pages_in there.1) in
     let inside = may.inside.inside.whole in
     record {
       idle = may.idle;
       host = h;
-      lives = lives_here m.tasks may.lives;
-      whole = subst (λ (z : ℕ). row.bytes % z ≡ 0) m.tasks.sized (free_of k.maps.size row (rows_in task.0 k.maps) may.free).whole;
+      lives = lives_here m.core.spaces.tasks may.lives;
+      whole = subst (λ (z : ℕ). row.bytes % z ≡ 0) m.core.spaces.tasks.sized (free_of k.maps.size row (rows_in task.0 k.maps) may.free).whole;
       inside = omega (arith, inside, pages);
-      made = small_region m.regions r there.0 there.1;
+      made = small_region m.core.objects.regions r there.0 there.1;
       used = λ temporary. used (paged_temporary header r temporary);
       file = λ is. used (file_paged header r is);
       unfilled = elim (kind_cases header r) [
-        | inl declared ↦ unfilled_declared header r (tasks past) past declared m.homes.1
+        | inl declared ↦ unfilled_declared header r (tasks past) past declared m.core.spaces.homes.1
         | inr temporary ↦ unfilled header.size r (tasks past) k.maps k.waits.rows past (fills_here {past = past} rests.waits rests.used.copies)
             (counted_unfilled r there.0 rests.used.copies there.1 (subst (λ (z : ℕ). 0 < z) (ap entries_in_row there.1) may.counted))
-            (λ t none. m.uses.apart t r none (inl (used (paged_temporary header r temporary))))
+            (λ t none. m.core.spaces.uses.apart t r none (inl (used (paged_temporary header r temporary))))
       ];
     }
 
@@ -191,7 +191,7 @@ rests_shared header h outside doing task row past k k2 ids before after rests ma
     let there = region_row k.chains r may.inside.region in
     let recount : SameButEntries k.chains k2.chains = same_put r (region_entries k.chains r + 1) k.chains k2.chains s.counts in
     let lives = may.lives in
-    let below = lives_below size task.0 k.maps k.chains [] m.entries lives in
+    let below = lives_below size task.0 k.maps k.chains [] m.core.spaces.entries lives in
     let free = free_of k.maps.size row (rows_in task.0 k.maps) may.free in
     let waits_at = λ (t : ℕ). waiting t past in
     let none = no_row k.maps.size (entry k.waits.rows task.0) (waiting task.0 past) (rests.waits.is task.0 (ap is_some lives)) may.idle in
@@ -204,38 +204,33 @@ rests_shared header h outside doing task row past k k2 ids before after rests ma
     record {
       matches =
           record {
-            ranged = m.ranged;
-            declared = ap (λ z. z.items) s.declared ∙ m.declared;
-            kinds =
-                rw s.memory (kinds_recounted header _ k.memory.objects k.chains k2.chains
-                (recounts_put r (region_entries k.chains r + 1) k.chains k2.chains s.counts) m.kinds);
-            shared = shared_entered (named header) task.0 k.maps k2.maps row s.maps may.shared m.shared;
-            known = m.known;
-            size = s.size ∙ m.size;
-            host = rw s.host m.host;
-            fits = rw (s.memory, s.size) m.fits;
-            tasks = tasks_entered h size k.maps k2.maps past task row m.tasks s.maps lives;
-            regions =
-                rw s.memory (regions_recounted k.chains k2.chains k.memory.objects ids _ _ _ _ _ recount m.regions);
-            files =
-                rw s.memory (files_entered header h task row k.memory.objects past (λ file. m.homes.0 r there.0 (file_paged header r file) there.1) m.files);
-            sizes = rw s.memory m.sizes;
-            homes =
-                homes_caused header outside h k2.chains e past (doing, share_enters header h task row past k ids rests may)
-                (recount_homes _ header h k.chains k2.chains past (recounts_put r (region_entries k.chains r + 1) k.chains k2.chains s.counts) m.homes);
-            entries = entries_share size k.maps k2.maps k.chains k2.chains task.0 row m.entries may.inside s.counts s.maps below free.room;
-            pages = rw s.memory m.pages;
-            uses =
-                rw s.waits (uses_entered header k.maps k2.maps (λ q. in_use header h q past) (tasks past) (λ t q. holds header.size t q (e ∷ past))
-                (next_region header past) task.0 row (lives_on h task.0 past) (λ q temporary apart. m.uses.used q temporary)
-                (λ q file apart some. m.uses.files q file some) (used_there header h k ids past r there.0 rests there.1) m.uses.among s.maps lives below
-                (m.tasks.hosts task.0 ∙ ap is_some lives)
-                (λ t q away why. holds_rows header.size task.0 t q k.maps (rows_in task.0 k.maps) _ past lives away ∙ m.uses.apart t q away why));
-            controls = rw s.memory (controls_stay (λ o at_home. object_stays o h e past at_home) m.controls);
+            core = record {
+              setting = rw (s.size, s.host, s.declared) m.core.setting;
+              fits = rw (s.memory, s.size) m.core.fits;
+              spaces = record {
+                tasks = tasks_entered h size k.maps k2.maps past task row m.core.spaces.tasks s.maps lives;
+                entries = entries_share size k.maps k2.maps k.chains k2.chains task.0 row m.core.spaces.entries may.inside s.counts s.maps below free.room;
+                shared = shared_entered (named header) task.0 k.maps k2.maps row s.maps may.shared m.core.spaces.shared;
+                uses = rw s.waits (uses_entered header k.maps k2.maps (λ q. in_use header h q past) (tasks past) (λ t q. holds header.size t q (e ∷ past))
+                    (next_region header past) task.0 row (lives_on h task.0 past) (λ q temporary apart. m.core.spaces.uses.used q temporary)
+                    (λ q file apart some. m.core.spaces.uses.files q file some) (used_there header h k ids past r there.0 rests there.1) m.core.spaces.uses.among s.maps lives below
+                    (m.core.spaces.tasks.hosts task.0 ∙ ap is_some lives)
+                    (λ t q away why. holds_rows header.size task.0 t q k.maps (rows_in task.0 k.maps) _ past lives away ∙ m.core.spaces.uses.apart t q away why));
+                homes = homes_caused header outside h k2.chains e past (doing, share_enters header h task row past k ids rests may)
+                    (recount_homes _ header h k.chains k2.chains past (recounts_put r (region_entries k.chains r + 1) k.chains k2.chains s.counts) m.core.spaces.homes);
+              };
+              objects = rw s.memory (record {
+                regions = regions_recounted k.chains k2.chains k.memory.objects ids _ _ _ _ _ recount m.core.objects.regions;
+                kinds = kinds_recounted header _ k.memory.objects k.chains k2.chains
+                    (recounts_put r (region_entries k.chains r + 1) k.chains k2.chains s.counts) m.core.objects.kinds;
+                files = files_entered header h task row k.memory.objects past (λ file. m.core.spaces.homes.0 r there.0 (file_paged header r file) there.1) m.core.objects.files;
+                sizes = m.core.objects.sizes;
+              });
+              controls = rw s.memory (controls_stay (λ o at_home. object_stays o h e past at_home) m.core.controls);
+              pages = rw (s.memory, s.laundry) m.core.pages;
+            };
             settled = record { none_owed = refl; shut = λ region. refl };
             replied = replied_behind tt m.replied;
-            laundry = rw (s.memory, s.laundry) m.laundry;
-            frames = rw s.memory m.frames;
           };
       used = rw (s.memory, s.waits) (record {
         regions = used_share r (region_entries k.chains r) there.0 k.chains k2.chains k.waits.rows there.1 s.counts rests.used.regions;
@@ -279,12 +274,12 @@ may_fork header h task child past k ids events s =
     let second = passed (is_some (host_of child.0 past)) code.NameTaken next first.1 in
     let third = passed (is_some (waiting task.0 past)) code.Blocked last second.1 in
     let fourth = passed (is_fork_full header rows past) code.TableFull None third.1 in
-    let lives = lives_in task.0 m.tasks s.acts in
+    let lives = lives_in task.0 m.core.spaces.tasks s.acts in
     record {
       lives = lives;
-      free = free_in child.0 m.tasks second.0;
+      free = free_in child.0 m.core.spaces.tasks second.0;
       new = second.0;
-      room = subst (λ (z : List Entry). HasRoom header z past) (rows_here m.tasks lives) (room_of header rows past fourth.0);
+      room = subst (λ (z : List Entry). HasRoom header z past) (rows_here m.core.spaces.tasks lives) (room_of header rows past fourth.0);
     }
 
 -- what a fork tells
@@ -320,7 +315,7 @@ fork_start header h outside task child past k ids before after maps s changes li
     let rows = rows_in task.0 k.maps in
     let apart : task.0 ≢ child.0 = λ e. (let bad : None ≡ Some rows = sym may.free ∙ (ap (λ z. entries_in z k.maps) (sym e) ∙ may.lives) in cc) in
     let e : Event = event.TaskMade child (host_id h) in
-    let log : after ≡ e ∷ [] = told ∙ (ap (λ z. event.TaskMade child z ∷ before) (named_host k.host h m.host) ∙ ap (λ z. e ∷ z) s.nothing) in
+    let log : after ≡ e ∷ [] = told ∙ (ap (λ z. event.TaskMade child z ∷ before) (named_host k.host h m.core.setting.numbered) ∙ ap (λ z. e ∷ z) s.nothing) in
     let nobody : rows_in child.0 maps ≡ [] = ap (λ z. unwrap_or z []) changes.changed in
     subst (λ (z : List Event). HasForked header h outside task child rows 0 past (record k { maps = maps }) ids z) (sym log)
     (record {
@@ -333,7 +328,7 @@ fork_start header h outside task child past k ids before after maps s changes li
             settled = m.settled;
             cause = tt;
             own_bytes = tt;
-            frames = suffices header h k.memory.frames past m.frames;
+            frames = suffices header h k.memory.frames past m.core.pages.counted;
             inner = tt;
             said = refl;
             own = own_new h child.0 past may.new;
@@ -349,7 +344,7 @@ fork_start header h outside task child past k ids before after maps s changes li
       room = room_more header rows past (e ∷ past) refl refl (λ r. refl) may.room;
       told =
           reverse-append (e ∷ []) (inherits_all header.size child (next_region header past) rows)
-          ∙ ap (λ (z : ℕ). reverse (inherits_all header.size child z rows) ++ e ∷ []) (sym m.regions.region);
+          ∙ ap (λ (z : ℕ). reverse (inherits_all header.size child z rows) ++ e ∷ []) (sym m.core.objects.regions.region);
     })
   where
     not_begun : (n : ℕ) (other : Option Access) → ◌≡◌ {A = Option Access} (if n == n then None else other) None
@@ -375,7 +370,7 @@ is_next header h outside task child rows i row past k ids events f sound found =
     let whole = whole_at size i rows row sound.whole found in
     let here : rows_in task.0 k.maps ≡ rows = ap (λ z. unwrap_or z []) f.others in
     let inside = row_among (IsInside header.size k.chains) rows i row (subst (AllRows (IsInside header.size k.chains)) here
-    (f.rests.matches.entries.inside task.0)) found in
+    (f.rests.matches.core.spaces.entries.inside task.0)) found in
     let low = inside.below in
     let some = inside.some in
     let even = whole.address in
@@ -391,10 +386,10 @@ is_next header h outside task child rows i row past k ids events f sound found =
     record {
       leads =
           (row_among (λ mine. IsInside header.size k.chains mine × (has_entry mine.region.0 rows ≡ true)) rows i row
-          (rows_known (IsInside header.size k.chains) rows (subst (AllRows (IsInside header.size k.chains)) here (f.rests.matches.entries.inside task.0)))
+          (rows_known (IsInside header.size k.chains) rows (subst (AllRows (IsInside header.size k.chains)) here (f.rests.matches.core.spaces.entries.inside task.0)))
           found).1;
       inside = inside;
-      shared = row_among (IsShared (named header)) rows i row (subst (AllRows (IsShared (named header))) here (f.rests.matches.shared task.0)) found;
+      shared = row_among (IsShared (named header)) rows i row (subst (AllRows (IsShared (named header))) here (f.rests.matches.core.spaces.shared task.0)) found;
       whole = whole;
       free = rw (range, free, fits) refl;
       own =
@@ -410,7 +405,7 @@ pub may_share : (header : Header) (h : ℕ) (outside : Outside) (task child : Ta
 may_share header h outside task child rows i row past k ids events f sound found =
     let next = is_next header h outside task child rows i row past k ids events f sound found in
     let there = region_row k.chains row.region.0 next.inside.region in
-    let some = entry_some header.size row.region.0 task.0 k.maps k.chains [] there.0 f.rests.matches.entries there.1
+    let some = entry_some header.size row.region.0 task.0 k.maps k.chains [] there.0 f.rests.matches.core.spaces.entries there.1
     (ap (has_entry row.region.0) (ap (λ z. unwrap_or z []) f.others) ∙ next.leads) in
     record {
       counted = subst (λ (z : ℕ). 0 < z) (sym (ap entries_in_row there.1)) some;
@@ -437,11 +432,11 @@ may_copy header h outside task child rows i row past k ids events f sound found 
     let pages : region_pages k.chains row.region.0 ≡ region.0.pages = ap pages_in region.1 in
     let inside = next.inside.inside.whole in
     let whole = next.whole.pages in
-    let sized : row.bytes / k.maps.size ≡ row.bytes / size = ap (λ (z : ℕ). row.bytes / z) m.tasks.sized in
+    let sized : row.bytes / k.maps.size ≡ row.bytes / size = ap (λ (z : ℕ). row.bytes / z) m.core.spaces.tasks.sized in
     let room : HasRoom header (row ∷ rest) before = subst (λ (z : List Entry). HasRoom header z before) (next_row rows i row found) f.room in
     let count : copies (row ∷ rest) ≡ copies rest + 1 = rw (ap is_copied is) refl in
     let copy : RegionId = record { 0 = next_region header before } in
-    let small = small_region m.regions row.region.0 region.0 region.1 in
+    let small = small_region m.core.objects.regions row.region.0 region.0 region.1 in
     let later = room_copied header row rest before copy (row.bytes / size) (ap is_copied is) refl small room in
     let marks = marked_copied header before copy row.region row.offset (row.bytes / size) refl small in
     let regions = room.regions in
@@ -452,7 +447,7 @@ may_copy header h outside task child rows i row past k ids events f sound found 
       free = next.free;
       pages = omega (arith, whole, sized);
       counted =
-          entry_some header.size row.region.0 task.0 k.maps k.chains [] region.0 m.entries region.1
+          entry_some header.size row.region.0 task.0 k.maps k.chains [] region.0 m.core.spaces.entries region.1
           (ap (has_entry row.region.0) (ap (λ z. unwrap_or z []) f.others) ∙ next.leads);
       region = region.0;
       there = region.1;
@@ -468,9 +463,9 @@ may_copy header h outside task child rows i row past k ids events f sound found 
                 record {
                   host = h;
                   entry = row;
-                  lives = lives_here m.tasks f.others;
+                  lives = lives_here m.core.spaces.tasks f.others;
                   found =
-                      ap (entry_at row.address) (rows_here m.tasks f.others ∙ ap (λ z. unwrap_or z []) f.others)
+                      ap (entry_at row.address) (rows_here m.core.spaces.tasks f.others ∙ ap (λ z. unwrap_or z []) f.others)
                       ∙ (found_first 0 (2 ^ 32) rows i row sound.in_order found).1;
                 };
             source_is = refl;
@@ -506,10 +501,10 @@ fork_shared header h outside task child rows i row past k k2 ids events after f 
             settled = m.settled;
             cause = share_enters header h child row (events ++ past) k ids f.rests may;
             own_bytes = tt;
-            frames = suffices header h k.memory.frames (events ++ past) m.frames;
+            frames = suffices header h k.memory.frames (events ++ past) m.core.pages.counted;
             inner = tt;
             said = tt;
-            own = own_task h child.0 (events ++ past) (m.tasks.hosts child.0 ∙ ap is_some f.lives);
+            own = own_task h child.0 (events ++ past) (m.core.spaces.tasks.hosts child.0 ∙ ap is_some f.lives);
             creates = tt;
           });
       others = s.maps.others task.0 f.apart ∙ f.others;
@@ -544,13 +539,13 @@ fork_copied header h outside task child rows i row past k k2 ids ids2 events aft
     let e = got child new in
     let next = is_next header h outside task child rows i row past k ids events f sound found in
     let may = may_copy header h outside task child rows i row past k ids events f sound found is in
-    let number : s.copy.0 ≡ next_region header before = s.number ∙ m.regions.region in
+    let number : s.copy.0 ≡ next_region header before = s.number ∙ m.core.objects.regions.region in
     let named_copy : record { 0 = ids.next_region } ≡ s.copy = λ j. record { 0 = sym s.number j } in
     let next2 : ids.next_region + 1 ≡ ids2.next_region = sym (ap (λ z. z.next_region) s.ids) in
     let now : rows_in child.0 k2.maps ≡ entered new (rows_in child.0 k.maps) = ap (λ z. unwrap_or z []) s.maps.changed in
     let few = f.few in
     let region = region_row k.chains row.region.0 next.inside.region in
-    let small = small_region m.regions row.region.0 region.0 region.1 in
+    let small = small_region m.core.objects.regions row.region.0 region.0 region.1 in
     let told = told_next size child ids.next_region ids2.next_region row rest (forked header h child rows past) (one ∷ e ∷ []) events (e ∷ one ∷ events)
     (ap (λ z. inherits z size child ids.next_region row) is
     ∙ ap (λ (z : RegionId). copied z row.region row.offset (row.bytes / size) ∷ got child (entry_on row z) ∷ []) named_copy)
@@ -620,5 +615,5 @@ ran_fork header h outside task child i past k k2 ids ids2 before events s f end 
     let first = forked header h child rows past in
     let whole : reverse first ≡ events = f.told ∙ ap (λ (z : List Entry). reverse (inherits_all header.size child ids2.next_region z) ++ events)
     (drop_past rows i end) in
-    let is : head header past (command.Fork task child) ≡ Some first = rw (lives_here m.tasks may.lives, rows_here m.tasks may.lives) refl in
+    let is : head header past (command.Fork task child) ≡ Some first = rw (lives_here m.core.spaces.tasks may.lives, rows_here m.core.spaces.tasks may.lives) refl in
     ran_head header h outside (command.Fork task child) past k2 ids2 events first is (sym whole) f.heads tt f.rests

@@ -34,33 +34,33 @@ pub regions_used : (header : Header) (h : ℕ) (k : Parts) (ids : Ids) (past : L
     → region_at k.chains r ≡ Some row → in_use header h r past ≡ true
 regions_used header h k ids past whole r row temporary found =
     let m = whole.runs.matches in
-    (m.uses.used r temporary).is (row_use r row m.entries found whole.used)
+    (m.core.spaces.uses.used r temporary).is (row_use r row m.core.spaces.entries found whole.used)
 
 -- a temporary object to which something refers is in the chain of one of them
 reaches : (header : Header) (h : ℕ) (k : Parts) (ids : Ids) (past : List Event) (object : ℕ) → IsWhole header h woken.Nobody k ids [] past
     → named header ≤ object
     → IsReferred k.memory.objects object → Reach header h object past
 reaches header h k ids past object whole temporary referred =
-    temporary_up whole.runs.matches.regions whole.runs.matches.homes.1 whole.referred.shadows (λ r. in_use header h r past)
+    temporary_up whole.runs.matches.core.objects.regions whole.runs.matches.core.spaces.homes.1 whole.referred.shadows (λ r. in_use header h r past)
     (λ r row least found. regions_used header h k ids past whole r row least found) object temporary referred
 
 -- a declared object to which something refers is held: a task here has an entry on its region
 held : (header : Header) (h : ℕ) (k : Parts) (ids : Ids) (past : List Event) (object : ℕ) → IsWhole header h woken.Nobody k ids [] past → object < named header
     → IsReferred k.memory.objects object → IsUnheld header h object past → ⊥
-held header h k ids past object whole less referred unheld = elim (referrer_of m.regions object referred) [
+held header h k ids past object whole less referred unheld = elim (referrer_of m.core.objects.regions object referred) [
   | OfRegion r row found top ↦
-      let own : r ≡ object = over_declared m.regions m.kinds m.homes.1 r row found (omega (arith, top, less)) ∙ top in
-      let some : 0 < count_by all_tasks r k.maps = elim (row_use r row m.entries found whole.used) [
+      let own : r ≡ object = over_declared m.core.objects.regions m.core.objects.kinds m.core.spaces.homes.1 r row found (omega (arith, top, less)) ∙ top in
+      let some : 0 < count_by all_tasks r k.maps = elim (row_use r row m.core.spaces.entries found whole.used) [
         | inl count ↦ count
-        | inr filled ↦ let high = filled_temporary r whole.used.copies m.homes.1 filled in absurd (omega (arith, high, own, less))
+        | inr filled ↦ let high = filled_temporary r whole.used.copies m.core.spaces.homes.1 filled in absurd (omega (arith, high, own, less))
       ] in
       let task = by_some all_tasks r k.maps some in
       let here = with_entry r (entries_in task.0 k.maps) task.1 in
-      let none = unheld task.0 (m.tasks.hosts task.0 ∙ here) in
+      let none = unheld task.0 (m.core.spaces.tasks.hosts task.0 ∙ here) in
       let has : has_entry object (rows_in task.0 k.maps) ≡ true = subst (λ (z : ℕ). has_entry z (rows_in task.0 k.maps) ≡ true) own task.1 in
-      let bad : false ≡ true = sym none ∙ (ap (has_entry object) (m.tasks.rows task.0 here) ∙ has) in
+      let bad : false ≡ true = sym none ∙ (ap (has_entry object) (m.core.spaces.tasks.rows task.0 here) ∙ has) in
       cc
-  | OfShadow s row found under ↦ let least = m.kinds.unders s row found in omega (arith, under, least, less)
+  | OfShadow s row found under ↦ let least = m.core.objects.kinds.unders s row found in omega (arith, under, least, less)
 ]
   where
     m : Matches header h k ids [] past
@@ -73,13 +73,13 @@ swept header h k ids past whole =
           λ object page temporary away. gone object page (λ referred. away (reaches header h k ids past object whole temporary referred))
           (page_on header h object page past).here refl;
       controls =
-          λ object temporary away. whole.runs.matches.controls.live object
+          λ object temporary away. whole.runs.matches.core.controls.live object
           ∙ ended object (λ referred. away (reaches header h k ids past object whole temporary referred)) (object_at k.memory.objects object) refl;
       declared_pages =
           λ object page less unheld. gone object page (λ referred. held header h k ids past object whole less referred unheld)
           (page_on header h object page past).here refl;
       declared_controls =
-          λ object less unheld. whole.runs.matches.controls.live object
+          λ object less unheld. whole.runs.matches.core.controls.live object
           ∙ ended object (λ referred. held header h k ids past object whole less referred unheld) (object_at k.memory.objects object) refl;
     }
   where
@@ -88,7 +88,7 @@ swept header h k ids past whole =
     gone object page away true is =
         let m = whole.runs.matches in
         let row = here_row k.memory.frames (row_at k.memory.resident object page) (absent_at k.memory.objects object page)
-        (ap (λ z. z.here) (sym (m.pages.shown object page)) ∙ is) in
+        (ap (λ z. z.here) (sym (m.core.pages.shown.shown object page)) ∙ is) in
         absurd (away (whole.referred.pages object page row.0 row.1))
 
     dead : (object : ℕ) → (IsReferred k.memory.objects object → ⊥) → (row : ObjectRow) → object_at k.memory.objects object ≡ Some row → (b : Bool)

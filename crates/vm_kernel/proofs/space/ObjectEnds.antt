@@ -1,4 +1,5 @@
 -- An object to which nothing refers: its pages go, its control ends, where one lives, and what stood under it has one reference less.
+use Rattle.vm_kernel.proofs.memory.CoreChanges.{pages_known_so}
 use Rattle.vm_state.proofs.KnownPages.{sizes_put}
 use Rattle.vm_kernel.proofs.Common.{AllEntriesInside, Below, Bool, CausedInTurn, ChainTable, Changes, Command, Does, Elsewhere, EndsObject, Entry, Event}
 use Rattle.vm_kernel.proofs.Common.{FrameTable, HasControls, HasEntries, HasPages, HasSlow, HaveHomes, Header, HostParts, Ids, Inside, IsAmid, IsInside}
@@ -48,9 +49,9 @@ use Rattle.vm_legal.specs.InTurn.{DropsInTurn}
 use Rattle.vm_legal.specs.Walks.{page_on}
 use Rattle.vm_state.proofs.Bypassing.{waits_quiet}
 use Rattle.vm_state.proofs.Passing.{quiet_if}
-use Rattle.vm_kernel.proofs.memory.PageChanges.{amidst_gone, amidst_of, amidst_returned, core_of, drop_follows, drops, fit_lost, fits_known, live_at}
+use Rattle.vm_kernel.proofs.memory.PageChanges.{amidst_gone, amidst_of, amidst_returned, drop_follows, drops, fit_lost, fits_known, live_at}
 use Rattle.vm_kernel.proofs.memory.PageChanges.{gives, matches_of, objects_known, return_follows, same_objects, seen_of}
-use Rattle.vm_kernel.specs.TablesInGroups.{Amidst}
+use Rattle.vm_kernel.specs.Matches.{Amidst}
 use Rattle.vm_kernel.specs.Matches.{IsReplied}
 use Rattle.vm_model.specs.declared.event.Event.TheVariants as event
 use Rattle.vm_model.specs.declared.message.Message.TheVariants as message
@@ -68,9 +69,9 @@ entry_there size r cs (row ∷ rows) all has = elim (eqb_tells row.region.0 r) [
 -- a temporary region in use is there
 pub used_there : (header : Header) (h : ℕ) (k : Parts) (ids : Ids) (rest : List Entry) (past : List Event) (r : ℕ) → Matches header h k ids rest past
     → HasSlow header k past → named header ≤ r → in_use header h r past ≡ true → (row : RegionRow) × (region_at k.chains r ≡ Some row)
-used_there header h k ids rest past r m copies temporary used = elim ((m.uses.used r temporary).why used) [
+used_there header h k ids rest past r m copies temporary used = elim ((m.core.spaces.uses.used r temporary).why used) [
   | inl some ↦ let task =
-      by_some all_tasks r k.maps some in region_row k.chains r (entry_there header.size r k.chains (rows_in task.0 k.maps) (m.entries.inside task.0) task.1)
+      by_some all_tasks r k.maps some in region_row k.chains r (entry_there header.size r k.chains (rows_in task.0 k.maps) (m.core.spaces.entries.inside task.0) task.1)
   | inr filled ↦ let there = filled_there copies filled.task r filled.fills in (filled_row there.object there.pages, there.region)
 ]
 
@@ -83,7 +84,7 @@ pub unreached : (header : Header) (h : ℕ) (k : Parts) (ids : Ids) (rest : List
     → Matches header h k ids rest past → HasSlow header k past → object_at k.memory.objects o ≡ Some row → row.references ≡ 0 → named header ≤ o
     → Reach header h o past → ⊥
 unreached header h k ids rest past o row m copies known none least reach =
-    let is = temporary_down m.regions m.homes.1 (λ r. in_use header h r past)
+    let is = temporary_down m.core.objects.regions m.core.spaces.homes.1 (λ r. in_use header h r past)
     (λ r temporary used. used_there header h k ids rest past r m copies temporary used) o least reach in
     let some = is.some in
     let same = ap (λ z. z.references) (some_is row is.row (sym known ∙ is.known)) in
@@ -95,14 +96,14 @@ pub unheld : (header : Header) (h : ℕ) (k : Parts) (ids : Ids) (rest : List En
 unheld header h k ids rest past o row m known none declared task lives = by_test (has_entry o (entries_of header.size task past)) refl
   where
     here : is_some (entries_in task k.maps) ≡ true
-    here = sym (m.tasks.hosts task) ∙ lives
+    here = sym (m.core.spaces.tasks.hosts task) ∙ lives
 
     by_test : (b : Bool) → has_entry o (entries_of header.size task past) ≡ b → b ≡ false
     by_test false is = refl
     by_test true is =
-        let there = region_row k.chains o (entry_there header.size o k.chains (rows_in task k.maps) (m.entries.inside task)
-        (sym (ap (has_entry o) (m.tasks.rows task here)) ∙ is)) in
-        absurd (unreferred_region m.regions o row known none o there.0 there.1 (whole_row m.regions m.homes.1 o there.0 declared there.1).top)
+        let there = region_row k.chains o (entry_there header.size o k.chains (rows_in task k.maps) (m.core.spaces.entries.inside task)
+        (sym (ap (has_entry o) (m.core.spaces.tasks.rows task here)) ∙ is)) in
+        absurd (unreferred_region m.core.objects.regions o row known none o there.0 there.1 (whole_row m.core.objects.regions m.core.spaces.homes.1 o there.0 declared there.1).top)
 
 -- the kernel in groups, and back
 inside : {header : Header} {h : ℕ} {who : Woken} {k : Parts} {ids : Ids} {rest : List Entry} {object : ℕ} {past : List Event}
@@ -121,13 +122,13 @@ unsent header h past who k ids rest key row events e found =
     let m = e.runs.matches in
     unsent_apart k.maps k.chains k.memory.resident k.memory.objects k.waits.rows (is_woken who) (λ t. waiting t (events ++ past)) key.object.0 key.page.0 row
     e.runs.waits
-    (unreferred_region m.regions key.object.0 e.row e.known e.none) (unreferred_shadow m.regions key.object.0 e.row e.known e.none) found
+    (unreferred_region m.core.objects.regions key.object.0 e.row e.known e.none) (unreferred_shadow m.core.objects.regions key.object.0 e.row e.known e.none) found
 
 -- none of its pages in front is here
 none_in_front : {header : Header} {h : ℕ} {k : Parts} {ids : Ids} {rest : List Entry} {past : List Event} → Matches header h k ids rest past → (o p : ℕ)
     → ((q : ℕ) → q < p → row_at k.memory.resident o q ≡ None) → (q : ℕ) → q < p → (local header h (place_of o q) past).here ≡ false
 none_in_front {k = k} m o p first q low =
-    ap (λ z. z.here) (m.pages.shown o q ∙ ap (λ z. local_of_row k.memory.frames z (absent_at k.memory.objects o q)) (first q low))
+    ap (λ z. z.here) (m.core.pages.shown.shown o q ∙ ap (λ z. local_of_row k.memory.frames z (absent_at k.memory.objects o q)) (first q low))
 
 -- a page of it goes
 pub ends_lost : (header : Header) (h : ℕ) (outside : Outside) (doing : Command) (past : List Event) (who : Woken) (k : Parts) (ids : Ids) (rest : List Entry)
@@ -161,7 +162,7 @@ ends_lost header h outside doing past who k ids rest key row memory events e fir
     after : Amidst header h (record k { memory = memory }) ids rest who (drops h key ∷ (events ++ past))
     after =
         amidst_gone key (inside e) is_here (unsent header h past who k ids rest key row events e c.found) c objects
-        (fit_lost m.fits.parts c (same_objects objects) buffers) (ap (λ z. z.size) buffers)
+        (fit_lost m.core.fits.parts c (same_objects objects) buffers) (ap (λ z. z.size) buffers)
 
     seen : IsSeen (known_local header key.object.0 key.page.0 (local header h (place_of key.object.0 key.page.0) (events ++ past))) row
         (page_in k.memory.frames row.frame.0)
@@ -283,7 +284,7 @@ ends_returned header h outside doing past who k ids rest key known row memory la
         (going_back h key known row (page_in k.memory.frames row.frame.0) ∷ (events ++ past))
     after =
         amidst_returned key known.control (inside e) goes.here (unsent header h past who k ids rest key row events e c.found) c goes.objects goes.absent
-        (fit_lost m.fits.parts c goes.objects goes.buffers) (ap (λ z. z.size) goes.buffers) goes.held goes.room
+        (fit_lost m.core.fits.parts c goes.objects goes.buffers) (ap (λ z. z.size) goes.buffers) goes.held goes.room
 
 -- its control ends
 
@@ -403,7 +404,7 @@ ends_told header h outside doing past who k ids rest object events row objects s
     consequence = tt;
     cause = cause;
     own_bytes = tt;
-    frames = suffices header h k.memory.frames (ending ∷ moment) m.frames;
+    frames = suffices header h k.memory.frames (ending ∷ moment) m.core.pages.counted;
     inner = tt;
     said = refl;
     own = own_named h;
@@ -428,7 +429,7 @@ ends_told header h outside doing past who k ids rest object events row objects s
 
     quiet : IsOfKind header object.0 (quiet_row row)
     quiet =
-        let its = m.kinds.kinds object.0 row found in
+        let its = m.core.objects.kinds.kinds object.0 row found in
         record {
           lives = refl;
           temporary = λ least. record { kind = (its.temporary least).kind; number = λ some. absurd (omega (arith, some, unreferred)) };
@@ -442,11 +443,11 @@ ends_told header h outside doing past who k ids rest object events row objects s
         }
 
     alive : live_control h object.0 (events ++ past) ≡ Some row.control
-    alive = m.controls.live object.0 ∙ (ap live_in found ∙ ap (λ b. if b then Some row.control else None) live)
+    alive = m.core.controls.live object.0 ∙ (ap live_in found ∙ ap (λ b. if b then Some row.control else None) live)
 
     bare : (p : ℕ) → known_local header object.0 p (local header h (place_of object.0 p) (events ++ past)) ≡ local_of_row k.memory.frames None
         (absent_at k.memory.objects object.0 p)
-    bare p = m.pages.shown object.0 p ∙ ap (λ z. local_of_row k.memory.frames z (absent_at k.memory.objects object.0 p)) (none p)
+    bare p = m.core.pages.shown.shown object.0 p ∙ ap (λ z. local_of_row k.memory.frames z (absent_at k.memory.objects object.0 p)) (none p)
 
     pages : HasPages k.memory.frames k.memory.resident objects (λ o2 p. known_local header o2 p (local header h (place_of o2 p)
         (event.Sent (Up (host_id h) object) (message.Terminate row.control) ∷ (events ++ past))))
@@ -456,18 +457,18 @@ ends_told header h outside doing past who k ids rest object events row objects s
         (λ o2 p. other_if (o == o2) (if is_control row.control (live_control h o2 moment) then EndsControl else Elsewhere)
         (other_if (is_control row.control (live_control h o2 moment)) EndsControl tt))
         (pages_quiet header.size row.control o k.memory.frames k.memory.resident k.memory.objects objects
-        (λ o2 p. known_local header o2 p (local header h (place_of o2 p) moment)) (λ o2. live_control h o2 moment) m.pages alive none marks))
+        (λ o2 p. known_local header o2 p (local header h (place_of o2 p) moment)) (λ o2. live_control h o2 moment) m.core.pages.shown alive none marks))
 
     controls : HasControls (named header) h objects (λ o2. last_control h o2 (ending ∷ moment)) (λ o2. live_control h o2 (ending ∷ moment))
         (λ o2. is_ready h o2 (ending ∷ moment)) (λ o2. object_home o2 moment)
     controls =
         rw (own_host h) (controls_quiet row.control o row k.memory.objects objects (λ o2. last_control h o2 moment)
-        (λ o2. live_control h o2 moment) (λ o2. is_ready h o2 moment) m.controls found alive put)
+        (λ o2. live_control h o2 moment) (λ o2. is_ready h o2 moment) m.core.controls found alive put)
 
     after : Amidst header h (record k { memory = record k.memory { objects = objects } }) ids rest who
         (event.Sent (Up (host_id h) object) (message.Terminate row.control) ∷ (events ++ past))
     after =
-        let core = core_of m in
+        let core = m.core in
         record {
           core = record {
             setting = core.setting;
@@ -475,7 +476,7 @@ ends_told header h outside doing past who k ids rest object events row objects s
             spaces = core.spaces;
             objects = objects_known found put marks refl refl quiet core.objects;
             controls = controls;
-            pages = record { shown = pages; washed = m.laundry; counted = m.frames };
+            pages = record { shown = pages; washed = m.core.pages.washed; counted = m.core.pages.counted };
           };
           used = s.used;
           waits = waits_quiet header h ending moment
@@ -483,8 +484,8 @@ ends_told header h outside doing past who k ids rest object events row objects s
               Elsewhere)
               Elsewhere (quiet_if (is_control row.control (live_control h place.object.0 moment)) EndsControl Elsewhere tt tt) tt)
               (waits_told k.maps k.chains k.memory.resident k.memory.objects objects k.waits.rows (is_woken who) (λ t. waiting t moment) s.runs.waits
-              (told_apart k.maps k.chains k.memory.objects objects o (Some (quiet_row row)) put (unreferred_region m.regions o row found unreferred)
-              (unreferred_shadow m.regions o row found unreferred))
+              (told_apart k.maps k.chains k.memory.objects objects o (Some (quiet_row row)) put (unreferred_region m.core.objects.regions o row found unreferred)
+              (unreferred_shadow m.core.objects.regions o row found unreferred))
               (λ o2 p page there is. elim (one_case o o2 (Some (quiet_row row)) (object_at k.memory.objects o2) (object_at objects o2) (put.at o2)) [
                 | inl this ↦ absurd (let bad : None ≡ Some page = sym (subst (λ (z : ℕ). row_at k.memory.resident z p ≡ None) this.0 (none p)) ∙ there in cc)
                 | inr other ↦ ap ready_in other.1 ∙ is
@@ -565,11 +566,7 @@ inside_dropped header h past who k ids rest o left row known chains objects e le
               core.objects.sizes;
         };
         controls = controls_referred under left known k.memory.objects objects _ _ _ leaves.under leaves.put core.controls;
-        pages = record {
-          shown = pages_marked k.memory.frames k.memory.resident k.memory.objects objects _ core.pages.shown leaves.marks;
-          washed = core.pages.washed;
-          counted = core.pages.counted;
-        };
+        pages = pages_known_so leaves.marks core.pages;
       };
       used = record {
         regions = λ r row found. e.used.regions r row (sym (ap (λ f. f r) leaves.drops.regions) ∙ found);

@@ -68,13 +68,13 @@ pub can_finish : (header : Header) (h : ℕ) (past : List Event) (who : Woken) (
     → CanFinish (record { parts = k.memory; chains = k.chains; held = k.laundry.held; room = k.laundry.room; events = events }) object
 can_finish header h past who k ids rest object events e once =
     record {
-      fit = e.runs.matches.fits.parts;
+      fit = e.runs.matches.core.fits.parts;
       row = e.row;
       known = e.known;
       none = e.none;
-      under = λ o shadow ends found. refers_shadow e.runs.matches.regions o shadow found;
+      under = λ o shadow ends found. refers_shadow e.runs.matches.core.objects.regions o shadow found;
       here = λ o p page ends found. by_test o p page ends found page.here refl;
-      room = room_once k.memory k.laundry (returns_out h (events ++ past)) m.fits.parts m.laundry (let fits = m.frames.fits in omega (arith, fits)) once;
+      room = room_once k.memory k.laundry (returns_out h (events ++ past)) m.core.fits.parts m.core.pages.washed (let fits = m.core.pages.counted.fits in omega (arith, fits)) once;
     }
   where
     m : Matches header h k ids rest (events ++ past)
@@ -85,7 +85,7 @@ can_finish header h past who k ids rest object events e once =
     by_test o p page ends found true here = refl
     by_test o p page ends found false away =
         let asker : Asker k.waits.rows o p = e.runs.waits.askers o p page found (away_awaited page away) in
-        absurd (place_ends k.maps k.chains k.memory.objects ids _ _ _ _ _ object e.row e.runs.matches.regions e.known e.none o ends asker.task asker.row.want
+        absurd (place_ends k.maps k.chains k.memory.objects ids _ _ _ _ _ object e.row e.runs.matches.core.objects.regions e.known e.none o ends asker.task asker.row.want
         (page_key o p) (e.runs.waits.aims asker.task asker.row (page_key o p) asker.is asker.waits) refl)
 
 -- the kernel with this state; what buffers it has stands aside
@@ -191,7 +191,7 @@ page_leaves header h outside doing past who k ids rest object known page row old
     declared : object.0 < named header
     declared = elim (kind_cases header object.0) [
       | inl less ↦ less
-      | inr temporary ↦ absurd (other ((e.runs.matches.kinds.kinds object.0 known found).temporary temporary).kind)
+      | inr temporary ↦ absurd (other ((e.runs.matches.core.objects.kinds.kinds object.0 known found).temporary temporary).kind)
     ]
 
     goes : GoesToPager header base key known row memory laundry
@@ -255,7 +255,7 @@ page_leaves header h outside doing past who k ids rest object known page row old
 
     clean : object.0 < named header → (row.dirty || row.precious) ≡ false
     clean less = elim why [
-      | inl temporary ↦ absurd (declared_kind header object.0 m.ranged less (sym ((m.kinds.kinds object.0 known found).declared less).kind ∙ temporary))
+      | inl temporary ↦ absurd (declared_kind header object.0 m.core.setting.ranged less (sym ((m.core.objects.kinds.kinds object.0 known found).declared less).kind ∙ temporary))
       | inr is ↦ is
     ]
 
@@ -389,7 +389,7 @@ pager_knows header h past who k ids rest r left events object chains objects e l
     let top = loses.row.top.0 in
     let same : object.0 ≡ top = ap (λ (z : ObjectId). z.0) loses.top in
     let one = loses.less in
-    let its = (e.runs.matches.kinds.kinds top loses.was loses.known).declared (omega (arith, same, less)) in
+    let its = (e.runs.matches.core.objects.kinds.kinds top loses.was loses.known).declared (omega (arith, same, less)) in
     let now = known_put top (record (loses.was) { references = left }) k.memory.objects objects loses.put in
     ap (λ z. z.live) (some_is known (record (loses.was) { references = left }) (sym found ∙ (ap (object_at objects) same ∙ now)))
     ∙ its.told (omega (arith, one))
@@ -429,7 +429,7 @@ finished header h outside doing past who k ids rest _ _ _ e told (Downward objec
       led = record { goes = above.led.goes; plays = above.led.plays; only = above.led.only; pages = above.led.pages };
     }) in
     let all = finished header h outside doing past who k ids rest row.under next new down.ends
-    (λ its found less. let least = above.ends.runs.matches.kinds.unders object.0 row loses.found in absurd (omega (arith, less, least))) more in
+    (λ its found less. let least = above.ends.runs.matches.core.objects.kinds.unders object.0 row loses.found in absurd (omega (arith, less, least))) more in
     record { whole = all.whole; led = led_both header h outside doing past k old next new down.led all.led }
 
 -- buffers of the same size do as well
@@ -461,7 +461,7 @@ swept_led : (header : Header) (h : ℕ) (outside : Outside) (doing : Command) (p
 swept_led header h outside doing past who k ids rest object events after memory chains laundry e told is =
     finished header h outside doing past who k ids rest object (state_of k.memory k.chains k.laundry events) (state_of memory chains laundry after) e told
     (subst (λ (z : HostId). Finishes z object (state_of k.memory k.chains k.laundry events) (state_of memory chains laundry after))
-    (named_host k.host h e.runs.matches.host) is)
+    (named_host k.host h e.runs.matches.core.setting.numbered) is)
 
 -- an object has ended: what is left, the events, the lists of pages, and the pages
 pub record ObjectEnded (header : Header) (h : ℕ) (outside : Outside) (doing : Command) (past : List Event) (who : Woken) (k : Parts) (ids : Ids)

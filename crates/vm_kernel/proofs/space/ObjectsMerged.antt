@@ -76,16 +76,16 @@ module _ {header : Header} {h : ℕ} {outside : Outside} {doing : Command} {past
   m = sweeps.runs.matches
 
   apart : upper.0 ≡ lower.0 → ⊥
-  apart = merged_apart m.regions.ranked merges.can
+  apart = merged_apart m.core.objects.regions.ranked merges.can
 
   temporary : named header ≤ upper.0
-  temporary = shadow_temporary m.regions m.homes.1 upper.0 merges.can.link merges.can.over
+  temporary = shadow_temporary m.core.objects.regions m.core.spaces.homes.1 upper.0 merges.can.link merges.can.over
 
   home : object_home upper.0 (old.events ++ past) ≡ Some h
-  home = m.controls.home upper.0 merges.can.upper_row temporary merges.can.upper_known
+  home = m.core.controls.home upper.0 merges.can.upper_row temporary merges.can.upper_known
 
   here : AreHere old.parts.resident upper.0 lower.0
-  here = all_here m.kinds temporary sweeps.referred sweeps.runs.waits.ready merges.can
+  here = all_here m.core.objects.kinds temporary sweeps.referred sweeps.runs.waits.ready merges.can
 
   tables : PagesMerged upper.0 lower.0 merges.can.link.shift merges.can.upper_row.pages old.parts moved
   tables = tables_merged upper lower merges.can.link.shift merges.can.upper_row.pages 0 old.parts moved apart (λ p small. absurd (omega (arith, small))) pages
@@ -100,10 +100,10 @@ module _ {header : Header} {h : ℕ} {outside : Outside} {doing : Command} {past
   knows : KnowsPairs header h old.chains old.parts.objects ids (next_region header (old.events ++ past)) (next_object header (old.events ++ past))
       (marks_of header (old.events ++ past)) (old.events ++ past)
   knows = record {
-    regions = m.regions;
-    kinds = m.kinds;
-    homes = m.homes.1;
-    last = m.controls.last;
+    regions = m.core.objects.regions;
+    kinds = m.core.objects.kinds;
+    homes = m.core.spaces.homes.1;
+    last = m.core.controls.last;
     shadows = sweeps.referred.shadows;
     all = λ r row least found. regions_used header h (with_state k old) ids (old.events ++ past) whole r row least found;
     there = λ r least used. used_there header h (with_state k old) ids [] (old.events ++ past) r m sweeps.used.copies least used;
@@ -111,14 +111,14 @@ module _ {header : Header} {h : ℕ} {outside : Outside} {doing : Command} {past
 
   cause : ((u l : ℕ) → CanMerge old.chains old.parts.objects u l → lower.0 ≤ l) → Merges header upper.0 lower.0 (old.events ++ past)
   cause least =
-      merges_told knows (λ o row less found. m.controls.home o row less found) (swept header h (with_state k old) ids (old.events ++ past) whole) upper.0
+      merges_told knows (λ o row less found. m.core.controls.home o row less found) (swept header h (with_state k old) ids (old.events ++ past) whole) upper.0
       lower.0
       merges.can least
 
   plain_row : (o p : ℕ) (row : PageRow)
       → RowWas upper.0 lower.0 merges.can.link.shift merges.can.upper_row.pages old.parts.resident o p row → row.here ≡ false → IsPlainRow row
-  plain_row o p row (Stayed off was) away = m.fits.plain o p row was away
-  plain_row o p row (Rose same none less was) away = m.fits.plain lower.0 (merges.can.link.shift + p) row was away
+  plain_row o p row (Stayed off was) away = m.core.fits.plain o p row was away
+  plain_row o p row (Rose same none less was) away = m.core.fits.plain lower.0 (merges.can.link.shift + p) row was away
 
   own : IsOnlyOfHost header h (event.Merged upper lower) (old.events ++ past)
   own g on = elim (eqb_tells h g) [
@@ -129,53 +129,53 @@ module _ {header : Header} {h : ℕ} {outside : Outside} {doing : Command} {past
   matches_now : HasCause header outside (event.Merged upper lower) (old.events ++ past)
       → Matches header h (record k { memory = record moved { objects = os2 }; chains = cs2 }) ids [] (event.Merged upper lower ∷ (old.events ++ past))
   matches_now why = record {
-    ranged = m.ranged;
-    known = m.known;
-    size = m.size;
-    host = m.host;
-    declared = m.declared;
-    fits = record {
-      parts = fit;
-      plain = λ o p row found away. plain_row o p row (row_was apart tables.rows o p row found) away;
-      buffers = ap (λ z. z.size) buffers ∙ m.fits.buffers;
+    core = record {
+      setting = m.core.setting;
+      fits = record {
+        parts = fit;
+        plain = λ o p row found away. plain_row o p row (row_was apart tables.rows o p row found) away;
+        buffers = ap (λ z. z.size) buffers ∙ m.core.fits.buffers;
+      };
+      spaces = record {
+        tasks = m.core.spaces.tasks;
+        entries = entries_kept header.size k.maps old.chains cs2 [] (λ r. ap (λ f. f r) merges.chain.regions) m.core.spaces.entries;
+        shared = m.core.spaces.shared;
+        uses = m.core.spaces.uses;
+        homes = homes_caused header outside h cs2 (event.Merged upper lower) (old.events ++ past) why
+            (homes_merged header h upper.0 lower.0 old.chains cs2 old.parts.objects os2 (λ r. home_of r (old.events ++ past)) merges m.core.spaces.homes.0, m.core.spaces.homes.1);
+      };
+      objects = record {
+        regions = regions_merged header (old.events ++ past) upper lower old.chains cs2 old.parts.objects os2 ids _ _ _ merges m.core.objects.regions;
+        kinds = kinds_merged header upper.0 lower.0 old.chains cs2 old.parts.objects os2 merges m.core.objects.kinds;
+        files = files_merged header h upper.0 lower.0 old.chains cs2 old.parts.objects os2 (λ o. home_of o (old.events ++ past)) merges m.core.objects.files;
+        sizes = pages_merged (named header) upper.0 lower.0 old.chains cs2 old.parts.objects os2 (λ o. object_pages header o (old.events ++ past)) merges m.core.objects.sizes;
+      };
+      controls = controls_merged upper.0 lower.0 old.chains cs2 old.parts.objects os2 merges m.core.controls;
+      pages = record {
+        shown = shown_merged header h (old.events ++ past) upper lower old.chains cs2 old.parts.objects os2 old.parts.resident moved.resident old.parts.frames
+            moved.frames merges tables.rows (record { at = λ o p row found. tables.bytes row.frame.0 }) m.core.objects.regions m.core.objects.kinds m.core.spaces.homes.1 m.core.objects.sizes home here
+            m.core.fits.parts.inside m.core.pages.shown;
+        washed = laundry_merged upper lower merges.can.link.shift merges.can.upper_row.pages 0 old.parts moved k.laundry (returns_out h (old.events ++ past)) apart
+            m.core.fits.parts.owned pages tables m.core.pages.washed;
+        counted = frames_merged (frames_held header h (old.events ++ past)) (frames_held header h (event.Merged upper lower ∷ (old.events ++ past)))
+            (frames_wired h (old.events ++ past))
+            (pages_gone (here_at old.parts.resident) upper.0 lower.0 merges.can.link.shift merges.can.upper_row.pages merges.can.lower_row.pages) old.parts moved
+            tables
+            (claims_merged upper lower merges.can.link.shift merges.can.upper_row.pages 0 merges.can.lower_row.pages old.parts moved apart
+            (λ p small. absurd (omega (arith, small)))
+            (λ p row found. subst (λ (z : ℕ). p < z) (ap pages_of_row merges.can.lower_known) (m.core.fits.parts.inside lower.0 p row found)) here pages)
+            (held_merged header h (old.events ++ past) upper lower old.chains old.parts.objects old.parts.resident old.parts.frames merges.can m.core.objects.regions m.core.objects.kinds
+            m.core.spaces.homes.1 m.core.objects.sizes home m.core.pages.shown) m.core.pages.counted;
+      };
     };
-    tasks = m.tasks;
-    regions = regions_merged header (old.events ++ past) upper lower old.chains cs2 old.parts.objects os2 ids _ _ _ merges m.regions;
-    kinds = kinds_merged header upper.0 lower.0 old.chains cs2 old.parts.objects os2 merges m.kinds;
-    homes =
-        homes_caused header outside h cs2 (event.Merged upper lower) (old.events ++ past) why
-        (homes_merged header h upper.0 lower.0 old.chains cs2 old.parts.objects os2 (λ r. home_of r (old.events ++ past)) merges m.homes.0, m.homes.1);
-    files = files_merged header h upper.0 lower.0 old.chains cs2 old.parts.objects os2 (λ o. home_of o (old.events ++ past)) merges m.files;
-    sizes = pages_merged (named header) upper.0 lower.0 old.chains cs2 old.parts.objects os2 (λ o. object_pages header o (old.events ++ past)) merges m.sizes;
-    entries = entries_kept header.size k.maps old.chains cs2 [] (λ r. ap (λ f. f r) merges.chain.regions) m.entries;
-    shared = m.shared;
-    pages =
-        shown_merged header h (old.events ++ past) upper lower old.chains cs2 old.parts.objects os2 old.parts.resident moved.resident old.parts.frames
-        moved.frames merges tables.rows (record { at = λ o p row found. tables.bytes row.frame.0 }) m.regions m.kinds m.homes.1 m.sizes home here
-        m.fits.parts.inside m.pages;
-    uses = m.uses;
-    controls = controls_merged upper.0 lower.0 old.chains cs2 old.parts.objects os2 merges m.controls;
     settled = record { none_owed = refl; shut = λ region. refl };
     replied = replied_behind tt m.replied;
-    laundry =
-        laundry_merged upper lower merges.can.link.shift merges.can.upper_row.pages 0 old.parts moved k.laundry (returns_out h (old.events ++ past)) apart
-        m.fits.parts.owned pages tables m.laundry;
-    frames =
-        frames_merged (frames_held header h (old.events ++ past)) (frames_held header h (event.Merged upper lower ∷ (old.events ++ past)))
-        (frames_wired h (old.events ++ past))
-        (pages_gone (here_at old.parts.resident) upper.0 lower.0 merges.can.link.shift merges.can.upper_row.pages merges.can.lower_row.pages) old.parts moved
-        tables
-        (claims_merged upper lower merges.can.link.shift merges.can.upper_row.pages 0 merges.can.lower_row.pages old.parts moved apart
-        (λ p small. absurd (omega (arith, small)))
-        (λ p row found. subst (λ (z : ℕ). p < z) (ap pages_of_row merges.can.lower_known) (m.fits.parts.inside lower.0 p row found)) here pages)
-        (held_merged header h (old.events ++ past) upper lower old.chains old.parts.objects old.parts.resident old.parts.frames merges.can m.regions m.kinds
-        m.homes.1 m.sizes home m.pages) m.frames;
   }
 
   unfilled : IsUnfilled old.chains upper.0
   unfilled =
       upper_unfilled upper.0 merges.can.link merges.can.over
-      (λ t w target found is. target_unshadowed (old.events ++ past) m.regions m.homes.1 t target is) sweeps.used
+      (λ t w target found is. target_unshadowed (old.events ++ past) m.core.objects.regions m.core.spaces.homes.1 t target is) sweeps.used
 
   pub sweeps_now : ((u l : ℕ) → CanMerge old.chains old.parts.objects u l → lower.0 ≤ l)
       → Sweeps header h outside doing past (record k { memory = record moved { objects = os2 }; chains = cs2 }) ids [] (event.Merged upper lower ∷ old.events)
@@ -187,7 +187,7 @@ module _ {header : Header} {h : ℕ} {outside : Outside} {doing : Command} {past
           matches = after;
           waits =
               waits_merged header h (old.events ++ past) upper lower k.maps old.chains cs2 old.parts.objects os2 old.parts.resident moved.resident k.waits.rows
-              (is_woken woken.Nobody) (λ task. waiting task (old.events ++ past)) merges tables.rows m.regions m.kinds m.homes.1 sweeps.referred m.sizes home
+              (is_woken woken.Nobody) (λ task. waiting task (old.events ++ past)) merges tables.rows m.core.objects.regions m.core.objects.kinds m.core.spaces.homes.1 sweeps.referred m.core.objects.sizes home
               (λ why. refl) sweeps.runs.waits;
           order = sweeps.runs.order;
           idle = sweeps.runs.idle;
@@ -196,7 +196,7 @@ module _ {header : Header} {h : ℕ} {outside : Outside} {doing : Command} {past
                 consequence = tt;
                 cause = cause least;
                 own_bytes = tt;
-                frames = suffices header h moved.frames (event.Merged upper lower ∷ (old.events ++ past)) after.frames;
+                frames = suffices header h moved.frames (event.Merged upper lower ∷ (old.events ++ past)) after.core.pages.counted;
                 inner = tt;
                 said = tt;
                 own = own;
@@ -205,10 +205,10 @@ module _ {header : Header} {h : ℕ} {outside : Outside} {doing : Command} {past
         };
         used =
             used_merged upper.0 lower.0 merges.can.link.shift merges.can.upper_row.pages old.chains cs2 old.parts.objects os2 old.parts.resident moved.resident
-            merges tables.rows m.regions.ranked unfilled sweeps.used;
+            merges tables.rows m.core.objects.regions.ranked unfilled sweeps.used;
         referred =
             referred_merged header upper.0 lower.0 merges.can.link.shift merges.can.upper_row.pages old.chains cs2 old.parts.objects os2 old.parts.resident
-            moved.resident merges tables.rows m.regions.ranked m.kinds sweeps.referred;
+            moved.resident merges tables.rows m.core.objects.regions.ranked m.core.objects.kinds sweeps.referred;
       }
 
 -- one after the other, until none can be
@@ -237,14 +237,14 @@ one_does : {header : Header} {h : ℕ} {outside : Outside} {doing : Command} {pa
 one_does {header = header} {past = past} k upper lower old new sweeps merges =
     let m = sweeps.runs.matches in
     let can = merges.can in
-    let temporary = shadow_temporary m.regions m.homes.1 upper.0 can.link can.over in
+    let temporary = shadow_temporary m.core.objects.regions m.core.spaces.homes.1 upper.0 can.link can.over in
     subst (λ (z : HostParts). Does header (old.events ++ past) (event.Merged upper lower) (paging_in old.parts) (paging_in z)) (sym merges.rest)
     (subst (λ (n : ℕ). PagesJoin upper.0 lower.0 n (object_pages header upper.0 (old.events ++ past)) 0 (paging_in old.parts) (paging_in merges.moved))
-    (sym (ap (λ (z : Backing). z.shift) (m.regions.shadows upper.0 can.link can.over)))
+    (sym (ap (λ (z : Backing). z.shift) (m.core.objects.regions.shadows upper.0 can.link can.over)))
     (subst (λ (n : ℕ). PagesJoin upper.0 lower.0 can.link.shift n 0 (paging_in old.parts) (paging_in merges.moved))
-    (m.sizes.at upper.0 can.upper_row temporary can.upper_known)
-    (pages_join upper lower can.link.shift can.upper_row.pages 0 old.parts merges.moved (merged_apart m.regions.ranked can)
-    (all_here m.kinds temporary sweeps.referred sweeps.runs.waits.ready can) merges.pages)))
+    (m.core.objects.sizes.at upper.0 can.upper_row temporary can.upper_known)
+    (pages_join upper lower can.link.shift can.upper_row.pages 0 old.parts merges.moved (merged_apart m.core.objects.regions.ranked can)
+    (all_here m.core.objects.kinds temporary sweeps.referred sweeps.runs.waits.ready can) merges.pages)))
 
 -- what has happened once none can be merged any more
 pub record AllMerged (header : Header) (h : ℕ) (outside : Outside) (doing : Command) (past : List Event) (k : Parts) (ids : Ids) (old new : MergeState) : Type 0
@@ -278,18 +278,18 @@ pub may_merge : {header : Header} {h : ℕ} {outside : Outside} {doing : Command
     → Sweeps header h outside doing past k ids [] events → MayMerge most_pages k.memory k.chains
 may_merge {header = header} {h = h} {past = past} {ids = ids} k events sweeps =
     record {
-      fit = m.fits.parts;
+      fit = m.core.fits.parts;
       here = λ o known found never p row there. here_untold k.memory.resident k.memory.objects o known found
           (quiet o known found never (elim (cases_lt o (named header)) [
-            | inl declared ↦ absurd (let number = ((m.kinds.kinds o known found).declared declared).number in omega (arith, number, never))
+            | inl declared ↦ absurd (let number = ((m.core.objects.kinds.kinds o known found).declared declared).number in omega (arith, number, never))
             | inr least ↦ least
           ]) (sweeps.referred.pages o p row there)) sweeps.runs.waits.ready p row there;
-      most = object_few m.sizes;
+      most = object_few m.core.objects.sizes;
       few = omega arith;
-      shadows = m.regions.fits.unders;
+      shadows = m.core.objects.regions.fits.unders;
       counts = λ u l can. record {
-        bare = λ r row found top. sole_region m.regions l can.lower_row can.lower_known can.sole u can.link can.over can.under r row found top;
-        shadows = λ o row found under. sole_shadow m.regions l can.lower_row can.lower_known can.sole u can.link can.over can.under o row found under;
+        bare = λ r row found top. sole_region m.core.objects.regions l can.lower_row can.lower_known can.sole u can.link can.over can.under r row found top;
+        shadows = λ o row found under. sole_shadow m.core.objects.regions l can.lower_row can.lower_known can.sole u can.link can.over can.under o row found under;
       };
     }
   where
@@ -299,5 +299,5 @@ may_merge {header = header} {h = h} {past = past} {ids = ids} k events sweeps =
     quiet : (o : ℕ) (known : ObjectRow) → object_at k.memory.objects o ≡ Some known → known.control ≡ 0 → named header ≤ o → IsReferred k.memory.objects o
         → has_pager known.state ≡ false
     quiet o known found never least referred =
-        never_told header o known least (m.kinds.kinds o known found)
+        never_told header o known least (m.core.objects.kinds.kinds o known found)
         (subst (λ (z : ObjectRow). 0 < z.references) (some_is referred.row known (sym referred.known ∙ found)) referred.some) never

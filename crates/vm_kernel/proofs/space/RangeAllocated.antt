@@ -1,4 +1,5 @@
 -- A range is allocated: a region over a new object, and an entry on the whole of it.
+use Rattle.vm_kernel.proofs.memory.CoreChanges.{pages_known_so}
 use Rattle.vm_state.proofs.KnownPages.{sizes_made}
 use Rattle.vm_kernel.proofs.Common.{AllInTurn, AllReferred, Bool, ChainTable, ChangesOnly, EachIn, Enters, Entry, Event, Fit, HasCause, HasEntries}
 use Rattle.vm_kernel.proofs.Common.{HasRegions, HasSlow, HasUse, HasWaits, Header, HostParts, Ids, IfSome, IsFilledIn, IsInside, IsLined, IsMine}
@@ -86,8 +87,8 @@ may_range header h task address bytes past k ids events s =
     let first = passed tests code.InvalidArgument next idle.1 in
     let second = passed (meets_range address bytes rows) code.NoSpace last first.1 in
     let third = passed full code.TableFull None second.1 in
-    let lives = lives_in task.0 m.tasks s.acts in
-    let own : rows ≡ rows_in task.0 k.maps = rows_here m.tasks lives in
+    let lives = lives_in task.0 m.core.spaces.tasks s.acts in
+    let own : rows ≡ rows_in task.0 k.maps = rows_here m.core.spaces.tasks lives in
     let test : tests ≡ false = first.0 in
     let range : is_range header.size address bytes ≡ true = not-false (is_range header.size address bytes)
     (or_parts (not (is_range header.size address bytes)) (nat_lt 4096 (bytes / header.size)) test).0 in
@@ -99,9 +100,9 @@ may_range header h task address bytes past k ids events s =
     let short : nat_lt most_entries (length rows + 1) ≡ false = counts.0 in
     let regions : nat_le 8192 (next_region header past) ≡ false = counts.1 in
     let objects : nat_le 8192 (next_object header past + marked_regions header past) ≡ false = counts.2 in
-    let next_one = m.regions.region in
-    let next_two = m.regions.object in
-    let marked : ids.marks ≡ marked_regions header past = m.regions.marks ∙ sym (regions_marked header past) in
+    let next_one = m.core.objects.regions.region in
+    let next_two = m.core.objects.regions.object in
+    let marked : ids.marks ≡ marked_regions header past = m.core.objects.regions.marks ∙ sym (regions_marked header past) in
     record {
       lives = lives;
       whole = grind (arith, nat_tests);
@@ -125,11 +126,11 @@ may_range header h task address bytes past k ids events s =
 
 -- what is free has no number yet
 pub region_free : (header : Header) (h : ℕ) (k : Parts) (ids : Ids) (past : List Event) → Rests header h k ids past → region_at k.chains ids.next_region ≡ None
-region_free header h k ids past rests = let number = rests.matches.regions.region in rests.matches.regions.unmade ids.next_region (omega arith)
+region_free header h k ids past rests = let number = rests.matches.core.objects.regions.region in rests.matches.core.objects.regions.unmade ids.next_region (omega arith)
 
 pub object_free : (header : Header) (h : ℕ) (k : Parts) (ids : Ids) (past : List Event) → Rests header h k ids past
     → object_at k.memory.objects ids.next_object ≡ None
-object_free header h k ids past rests = let number = rests.matches.regions.object in rests.matches.regions.unknown ids.next_object (omega arith)
+object_free header h k ids past rests = let number = rests.matches.core.objects.regions.object in rests.matches.core.objects.regions.unknown ids.next_object (omega arith)
 
 -- a new region's row
 abbrev pub new_region : ObjectId → ℕ → RegionRow
@@ -286,12 +287,12 @@ range_apart header h task address bytes past k ids maps object pages lined rests
     let n = ids.next_region in
     let made : Event = event.RegionMade (record { 0 = n }) object pages in
     holds_rows header.size task.0 t r k.maps (rows_in task.0 k.maps) _ (made ∷ past) may.lives none
-    ∙ (holds_range header task past t r lined object n pages ∙ m.uses.apart t r none (either why))
+    ∙ (holds_range header task past t r lined object n pages ∙ m.core.spaces.uses.apart t r none (either why))
   where
     either : (in_use header h r (event.RegionMade (record { 0 = ids.next_region }) object pages ∷ past) ≡ true) ⊎ (next_region header past + 1 ≤ r)
         → (in_use header h r past ≡ true) ⊎ (next_region header past ≤ r)
     either (inl used) = elim (eqb_tells r ids.next_region) [
-      | inl same ↦ inr (omega (arith, same.1, rests.matches.regions.region))
+      | inl same ↦ inr (omega (arith, same.1, rests.matches.core.objects.regions.region))
       | inr apart ↦ inl (sym (other_use header h ids.next_region r pages object past apart.1) ∙ used)
     ]
     either (inr high) = inr (omega (arith, high))
@@ -309,10 +310,10 @@ range_uses header h task address bytes past k ids maps object pages lined rests 
     let made : Event = event.RegionMade (record { 0 = n }) object pages in
     uses_entered header k.maps maps (λ r. in_use header h r (made ∷ past)) (tasks past) _ _ task.0 (whole_entry address bytes (record { 0 = n }))
     (lives_on h task.0 (made ∷ past))
-    (λ r temporary apart. subst (λ (b : Bool). IsUsed k.maps k.waits.rows r b) (sym (other_use header h n r pages object past apart)) (m.uses.used r temporary))
-    (λ r file apart some. other_use header h n r pages object past apart ∙ m.uses.files r file some)
-    (λ paged. made_use header h n n pages object past lined refl) m.uses.among changes may.lives below
-    (m.tasks.hosts task.0 ∙ ap is_some may.lives)
+    (λ r temporary apart. subst (λ (b : Bool). IsUsed k.maps k.waits.rows r b) (sym (other_use header h n r pages object past apart)) (m.core.spaces.uses.used r temporary))
+    (λ r file apart some. other_use header h n r pages object past apart ∙ m.core.spaces.uses.files r file some)
+    (λ paged. made_use header h n n pages object past lined refl) m.core.spaces.uses.among changes may.lives below
+    (m.core.spaces.tasks.hosts task.0 ∙ ap is_some may.lives)
     (range_apart header h task address bytes past k ids maps object pages lined rests may)
 
 range_enters : (header : Header) (h : ℕ) (task : TaskId) (address bytes : ℕ) (past : List Event) (k : Parts) (ids : Ids) → IsLined past
@@ -333,16 +334,16 @@ range_enters header h task address bytes past k ids lined rests may =
     record {
       idle = rests.waits.is task.0 (ap is_some may.lives) ∙ ap (waiting_in k.maps.size) may.idle;
       host = h;
-      lives = lives_here m.tasks may.lives;
+      lives = lives_here m.core.spaces.tasks may.lives;
       whole = may.whole;
       inside = omega (arith, sized);
-      made = let number = m.regions.region in omega arith;
+      made = let number = m.core.objects.regions.region in omega arith;
       used = λ temporary. own;
       file = λ is. own;
       unfilled =
           unfilled header.size n (tasks past) k.maps k.waits.rows (made ∷ past) (fills_here {past = made ∷ past} waits_made copies_made)
           (free_unfilled n rests.used.copies (region_free header h k ids past rests))
-          (λ t none. holds_range header task past t n lined object n pages ∙ m.uses.apart t n none (inr (omega (arith, m.regions.region))));
+          (λ t none. holds_range header task past t n lined object n pages ∙ m.core.spaces.uses.apart t n none (inr (omega (arith, m.core.objects.regions.region))));
     }
 
 range_licensed : (header : Header) (h : ℕ) (outside : Outside) (task : TaskId) (address bytes : ℕ) (past : List Event) (k : Parts) (ids : Ids) → IsLined past
@@ -352,7 +353,7 @@ range_licensed header h outside task address bytes past k ids lined rests may =
     let m = rests.matches in
     let n = ids.next_region in
     let made : Event = event.RegionMade (record { 0 = n }) (record { 0 = ids.next_object }) (bytes / header.size) in
-    let numbers : (n ≡ next_region header past) × (ids.next_object ≡ next_object header past) = (m.regions.region, m.regions.object) in (
+    let numbers : (n ≡ next_region header past) × (ids.next_object ≡ next_object header past) = (m.core.objects.regions.region, m.core.objects.regions.object) in (
       licensed header outside (command.Allocate task address bytes) (got task (whole_entry address bytes (record { 0 = n }))) (made ∷ past) refl
           (range_enters header h task address bytes past k ids lined rests may),
       (licensed header outside (command.Allocate task address bytes) made past m.settled.none_owed numbers, tt),
@@ -374,7 +375,7 @@ range_made : (header : Header) (h : ℕ) (outside : Outside) (task : TaskId) (ad
     → Rests header h k ids past
     → HasCause header outside (event.RegionMade (record { 0 = ids.next_region }) (record { 0 = ids.next_object }) (bytes / header.size)) past
 range_made header h outside task address bytes past k ids rests =
-    (command.Allocate task address bytes, (rests.matches.regions.region, rests.matches.regions.object))
+    (command.Allocate task address bytes, (rests.matches.core.objects.regions.region, rests.matches.core.objects.regions.object))
 
 range_knows : (header : Header) (h : ℕ) (outside : Outside) (task : TaskId) (address bytes : ℕ) (past : List Event) (k : Parts) (ids : Ids) → IsLined past
     → Rests header h k ids past → MayRange header.size k ids task.0 address bytes
@@ -383,7 +384,7 @@ range_knows header h outside task address bytes past k ids lined rests may =
     let made : Event = event.RegionMade (record { 0 = ids.next_region }) (record { 0 = ids.next_object }) (bytes / header.size) in
     homes_caused header outside h k.chains (got task (whole_entry address bytes (record { 0 = ids.next_region }))) (made ∷ past)
     (command.Allocate task address bytes, range_enters header h task address bytes past k ids lined rests may)
-    (homes_caused header outside h k.chains made past (range_made header h outside task address bytes past k ids rests) rests.matches.homes)
+    (homes_caused header outside h k.chains made past (range_made header h outside task address bytes past k ids rests) rests.matches.core.spaces.homes)
 
 -- behind a line no slow copy fills it
 range_homes : (past : List Event) → IsLined past → (r : ℕ) (region : RegionId) (object : ObjectId) (pages : ℕ)
@@ -400,7 +401,7 @@ range_home header h task address bytes past k ids lined rests may =
     let row = whole_entry address bytes (record { 0 = ids.next_region }) in
     home_entered h task row.address row.bytes row.region row.offset row.prot row.inherit (made ∷ past)
     (range_homes past lined ids.next_region (record { 0 = ids.next_region }) (record { 0 = ids.next_object }) (bytes / header.size)
-    ∙ m.homes.1.regions ids.next_region (omega (arith, m.regions.region))) (lives_here m.tasks may.lives)
+    ∙ m.core.spaces.homes.1.regions ids.next_region (omega (arith, m.core.objects.regions.region))) (lives_here m.core.spaces.tasks may.lives)
 
 range_object_home : (header : Header) (h : ℕ) (task : TaskId) (address bytes : ℕ) (past : List Event) (k : Parts) (ids : Ids) → IsLined past
     → Rests header h k ids past → MayRange header.size k ids task.0 address bytes
@@ -409,7 +410,7 @@ range_object_home header h task address bytes past k ids lined rests may =
     let m = rests.matches in
     let region : RegionId = record { 0 = ids.next_region } in
     let object : ObjectId = record { 0 = ids.next_object } in
-    let none = m.homes.1.objects ids.next_object (omega (arith, m.regions.object)) in
+    let none = m.core.spaces.homes.1.objects ids.next_object (omega (arith, m.core.objects.regions.object)) in
     ap (home_in (λ r. home_of r (ranged task ids address bytes (bytes / header.size) ++ past))) (region_made region object (bytes / header.size) past none)
     ∙ range_home header h task address bytes past k ids lined rests may
 
@@ -428,11 +429,11 @@ range_regions header h task address bytes past k k2 ids rests may made =
     let region : RegionId = record { 0 = ids.next_region } in
     let object : ObjectId = record { 0 = ids.next_object } in
     let e : Event = event.RegionMade region object pages in
-    let room : next_object header past + marks_of header past < most_objects = omega (arith, may.marks, m.regions.object, m.regions.marks) in
+    let room : next_object header past + marks_of header past < most_objects = omega (arith, may.marks, m.core.objects.regions.object, m.core.objects.regions.marks) in
     let now = regions_made header past region object (new_region object pages) (new_object pages) pages k.chains k2.chains k.memory.objects k2.memory.objects
     ids (next_region header past) (next_object header past) (marks_of header past)
-    m.regions.region m.regions.object room (next_bare header past m.homes.1) refl refl made.region_row made.object_row m.regions in
-    let marks : marks_of header (e ∷ past) ≡ marks_of header past = marked_made header past region object pages m.regions.region in
+    m.core.objects.regions.region m.core.objects.regions.object room (next_bare header past m.core.spaces.homes.1) refl refl made.region_row made.object_row m.core.objects.regions in
+    let marks : marks_of header (e ∷ past) ≡ marks_of header past = marked_made header past region object pages m.core.objects.regions.region in
     subst (λ (z : ℕ). HasRegions k2.chains k2.memory.objects (ids_after ids) (λ r. region_of header r (e ∷ past)) (λ o. backing_of header o (e ∷ past))
     (next_region header past + 1) (next_object header past + 1) z) (sym marks) now
 
@@ -443,8 +444,8 @@ pub record AreTemporary (header : Header) (ids : Ids) : Type 0 where
 
 pub first_temporary : (header : Header) (h : ℕ) (past : List Event) (k : Parts) (ids : Ids) → Rests header h k ids past → AreTemporary header ids
 first_temporary header h past k ids rests =
-    let region = rests.matches.regions.region in
-    let object = rests.matches.regions.object in
+    let region = rests.matches.core.objects.regions.region in
+    let object = rests.matches.core.objects.regions.object in
     record {
       region = let more = named_regions header past in omega (arith, region, more);
       object = let more = named_objects header past in omega (arith, object, more);
@@ -458,7 +459,7 @@ range_kinds header h past k k2 ids pages rests made =
     kinds_region header ids.next_region (new_region (record { 0 = ids.next_object }) pages) k2.memory.objects k.chains k2.chains made.region_row
     (λ temporary. least)
     (kinds_put header ids.next_object (new_object pages) k.memory.objects k2.memory.objects k.chains made.object_row made.marks
-    (kind_new header ids.next_object (new_object pages) pages least refl) rests.matches.kinds)
+    (kind_new header ids.next_object (new_object pages) pages least refl) rests.matches.core.objects.kinds)
 
 rests_range : (header : Header) (h : ℕ) (outside : Outside) (task : TaskId) (address bytes : ℕ) (past : List Event) (k k2 : Parts) (ids : Ids) (maps : Mapped)
     → IsLined past → Rests header h k ids past → MayRange header.size k ids task.0 address bytes → task.0 < 1024
@@ -477,53 +478,45 @@ rests_range header h outside task address bytes past k k2 ids maps lined rests m
     record {
       matches =
           record {
-            ranged = m.ranged;
-            declared = m.declared;
-            kinds = range_kinds header h past k k2 ids pages rests made;
-            shared =
-                shared_entered (named header) task.0 k.maps maps row changes (temporary_shared (named header) row
-                (first_temporary header h past k ids rests).region) m.shared;
-            known = m.known;
-            size = m.size;
-            host = m.host;
-            fits =
-                record {
-                  parts = fit_range k.memory k2.memory.objects k.chains ids.next_object (new_object pages) m.fits.parts rests.referred unknown
-                      made.object_row;
-                  plain = m.fits.plain;
-                  buffers = m.fits.buffers;
-                };
-            tasks =
-                tasks_entered h header.size k.maps maps (event.RegionMade (record { 0 = n }) object pages ∷ past) task
-                (whole_entry address bytes (record { 0 = n })) m.tasks changes may.lives;
-            regions = range_regions header h task address bytes past k k2 ids rests may made;
-            entries =
-                entries_range header.size k.maps maps k.chains k2.chains task.0 n address bytes object m.entries none made.region_row changes below may.whole
-                may.some may.below may.room;
-            pages = pages_marked k.memory.frames k.memory.resident k.memory.objects k2.memory.objects local_at m.pages made.marks;
-            uses = range_uses header h task address bytes past k ids maps object (bytes / header.size) lined rests may (rw most_is below) changes;
-            controls =
-                controls_made k.memory.objects k2.memory.objects (λ o. last_control h o past) (λ o. live_control h o past) (λ o. is_ready h o past)
-                ids.next_object pages m.controls unknown made.object_row
-                (λ o is. objects_stay o h (ranged task ids address bytes pages) past is)
-                (range_object_home header h task address bytes past k ids lined rests may);
-            files =
-                files_entered header h task row k2.memory.objects (event.RegionMade (record { 0 = n }) object pages ∷ past)
-                (λ file. absurd (no_file header n (first_temporary header h past k ids rests).region file))
-                (λ o file. ap (is_on h) (range_homes past lined o (record { 0 = n }) object pages)
-                ∙ files_temporary header h ids.next_object (Some (new_object pages)) k.memory.objects k2.memory.objects (λ z. home_of z past)
-                (first_temporary header h past k ids rests).object made.object_row m.files o file);
-            sizes =
-                sizes_made header past (named header) (record { 0 = n }) object pages (new_object pages) k.memory.objects k2.memory.objects made.object_row
-                may.few refl m.sizes;
-            homes =
-                homes_put header h k.chains k2.chains n (new_region object pages) (ranged task ids address bytes pages ++ past) made.region_row.at
-                (λ paged. range_home header h task address bytes past k ids lined rests may)
-                (range_knows header h outside task address bytes past k ids lined rests may);
+            core = record {
+              setting = m.core.setting;
+              fits = record {
+                parts = fit_range k.memory k2.memory.objects k.chains ids.next_object (new_object pages) m.core.fits.parts rests.referred unknown
+                    made.object_row;
+                plain = m.core.fits.plain;
+                buffers = m.core.fits.buffers;
+              };
+              spaces = record {
+                tasks = tasks_entered h header.size k.maps maps (event.RegionMade (record { 0 = n }) object pages ∷ past) task
+                    (whole_entry address bytes (record { 0 = n })) m.core.spaces.tasks changes may.lives;
+                entries = entries_range header.size k.maps maps k.chains k2.chains task.0 n address bytes object m.core.spaces.entries none made.region_row changes below may.whole
+                    may.some may.below may.room;
+                shared = shared_entered (named header) task.0 k.maps maps row changes (temporary_shared (named header) row
+                    (first_temporary header h past k ids rests).region) m.core.spaces.shared;
+                uses = range_uses header h task address bytes past k ids maps object (bytes / header.size) lined rests may (rw most_is below) changes;
+                homes = homes_put header h k.chains k2.chains n (new_region object pages) (ranged task ids address bytes pages ++ past) made.region_row.at
+                    (λ paged. range_home header h task address bytes past k ids lined rests may)
+                    (range_knows header h outside task address bytes past k ids lined rests may);
+              };
+              objects = record {
+                regions = range_regions header h task address bytes past k k2 ids rests may made;
+                kinds = range_kinds header h past k k2 ids pages rests made;
+                files = files_entered header h task row k2.memory.objects (event.RegionMade (record { 0 = n }) object pages ∷ past)
+                    (λ file. absurd (no_file header n (first_temporary header h past k ids rests).region file))
+                    (λ o file. ap (is_on h) (range_homes past lined o (record { 0 = n }) object pages)
+                    ∙ files_temporary header h ids.next_object (Some (new_object pages)) k.memory.objects k2.memory.objects (λ z. home_of z past)
+                    (first_temporary header h past k ids rests).object made.object_row m.core.objects.files o file);
+                sizes = sizes_made header past (named header) (record { 0 = n }) object pages (new_object pages) k.memory.objects k2.memory.objects made.object_row
+                    may.few refl m.core.objects.sizes;
+              };
+              controls = controls_made k.memory.objects k2.memory.objects (λ o. last_control h o past) (λ o. live_control h o past) (λ o. is_ready h o past)
+                  ids.next_object pages m.core.controls unknown made.object_row
+                  (λ o is. objects_stay o h (ranged task ids address bytes pages) past is)
+                  (range_object_home header h task address bytes past k ids lined rests may);
+              pages = pages_known_so made.marks m.core.pages;
+            };
             settled = record { none_owed = refl; shut = λ region. refl };
             replied = replied_behind tt (replied_behind tt m.replied);
-            laundry = m.laundry;
-            frames = m.frames;
           };
       used = record {
         regions = used_range k.chains k2.chains n object pages k.waits.rows rests.used.regions made.region_row;
@@ -531,7 +524,7 @@ rests_range header h outside task address bytes past k k2 ids maps lined rests m
             (copies_kept k.maps maps k.chains k2.chains k.memory.resident k.memory.resident rests.used.copies
             (same_waiting k.maps maps task.0 _ k.waits.rows changes may.idle)
             (put_filled n (new_region object pages) k.chains k2.chains none made.region_row
-            (unknown_unfilled k.chains k.memory.objects ids.next_object m.regions.tops unknown)) (rows_unmade k.chains k.memory.resident))
+            (unknown_unfilled k.chains k.memory.objects ids.next_object m.core.objects.regions.tops unknown)) (rows_unmade k.chains k.memory.resident))
             (λ t w found. (refl, target_lined past t lined (record { 0 = n }) object pages));
       };
       referred =
@@ -539,7 +532,7 @@ rests_range header h outside task address bytes past k k2 ids maps lined rests m
           k.memory.resident made.region_row made.object_row (omega arith) (λ is. absurd (let bad : false ≡ true = sym (ap is_live_in unknown) ∙ is in cc))
           rests.referred;
       thin =
-          thin_made ids.next_object (new_object pages) k.chains k2.chains k.memory.objects k2.memory.objects m.regions.unders
+          thin_made ids.next_object (new_object pages) k.chains k2.chains k.memory.objects k2.memory.objects m.core.objects.regions.unders
           (λ o shadow found. sym (ap (λ f. f o) made.region_row.shadows) ∙ found) unknown made.object_row rests.thin;
       waits =
           waits_known maps k2.chains k.memory.resident k.memory.objects k2.memory.objects k.waits.rows _ (λ t. waiting t past)
@@ -559,7 +552,7 @@ pub ran_range : (header : Header) (h : ℕ) (outside : Outside) (task : TaskId) 
     → Ran header h outside (command.Allocate task address bytes) past (record k2 { maps = maps }) (ids_after ids) after
 ran_range header h outside task address bytes pages past k k2 ids before after maps s count made changes told =
     let m = s.rests.matches in
-    let whole : pages ≡ bytes / header.size = count ∙ ap (λ z. bytes / z) m.size in
+    let whole : pages ≡ bytes / header.size = count ∙ ap (λ z. bytes / z) m.core.setting.sized in
     let events = ranged task ids address bytes (bytes / header.size) in
     let log : after ≡ events = told ∙ (ap (λ z. ranged task ids address bytes z ++ before) whole ∙ ap (λ z. events ++ z) s.nothing) in
     let made_whole = subst (λ (z : ℕ). MadeRange (record { 0 = ids.next_region }) (record { 0 = ids.next_object }) z 1 k k2) whole made in
@@ -569,8 +562,8 @@ ran_range header h outside task address bytes pages past k k2 ids before after m
     s.range.task made_whole changed in
     let first = event.RegionMade (record { 0 = ids.next_region }) (record { 0 = ids.next_object }) (bytes / header.size) ∷ got task
     (whole_entry address bytes (record { 0 = ids.next_region })) ∷ [] in
-    let is : head header past (command.Allocate task address bytes) ≡ Some first = rw (← m.regions.region, ← m.regions.object) refl in
-    let fine = suffices header h k.memory.frames past m.frames in
+    let is : head header past (command.Allocate task address bytes) ≡ Some first = rw (← m.core.objects.regions.region, ← m.core.objects.regions.object) refl in
+    let fine = suffices header h k.memory.frames past m.core.pages.counted in
     let ran : Ran header h outside (command.Allocate task address bytes) past (with_range k k2 maps) (ids_after ids) events =
     ran_head header h outside (command.Allocate task address bytes) past (with_range k k2 maps) (ids_after ids) events first is refl
     (record {

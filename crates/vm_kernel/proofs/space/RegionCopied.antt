@@ -1,4 +1,5 @@
 -- A task gets an entry on a symmetric copy of a region.
+use Rattle.vm_kernel.proofs.memory.CoreChanges.{pages_known_so}
 use Rattle.vm_state.proofs.KnownPages.{sizes_put}
 use Rattle.vm_kernel.specs.Changes.{CanEnter}
 use Rattle.vm_kernel.proofs.Common.{Access, AllReferred, AllRows, ArePlain, Backing, Bool, ChainTable, ChangesOnly, Command, Enters, Entry, Event, Fit}
@@ -318,29 +319,29 @@ pub can_copy : (header : Header) (h : ℕ) (task : ℕ) (source : RegionId) (off
     → Rests header h k ids past → MayCopy header task source offset row past k → CanCopy task source offset row k ids
 can_copy header h task source offset row past k ids rests may =
     let m = rests.matches in
-    let known = row_of (object_at k.memory.objects may.region.top.0) (m.regions.tops source.0 may.region may.there) in
-    let few = m.regions.few in
+    let known = row_of (object_at k.memory.objects may.region.top.0) (m.core.objects.regions.tops source.0 may.region may.there) in
+    let few = m.core.objects.regions.few in
     let more = may.regions in
-    let next = m.regions.region in
-    let marks = m.regions.marks in
-    let count = m.regions.counts may.region.top.0 known.0 known.1 in
+    let next = m.core.objects.regions.region in
+    let marks = m.core.objects.regions.marks in
+    let count = m.core.objects.regions.counts may.region.top.0 known.0 known.1 in
     let overs = tally_few (λ r. is_over may.region.top.0 (region_at k.chains r)) (next_region header past) in
     let unders = tally_few (λ s. is_backing may.region.top.0 (shadow_at k.chains s)) (next_object header past) in
-    let over = m.regions.fits.tops source.0 may.region may.there in
+    let over = m.core.objects.regions.fits.tops source.0 may.region may.there in
     let sized = ap pages_of_row known.1 in
     record {
       lives = subst (λ (z : Option (List Entry)). IsSome z) (sym may.lives) refl;
       free = may.free;
-      sized = m.tasks.sized ∙ sym m.size;
-      pages = subst (λ (z : ℕ). row.bytes / z < 2 ^ 32) (sym m.size) may.pages;
+      sized = m.core.spaces.tasks.sized ∙ sym m.core.setting.sized;
+      pages = subst (λ (z : ℕ). row.bytes / z < 2 ^ 32) (sym m.core.setting.sized) may.pages;
       region = may.region;
       there = may.there;
-      inside = subst (λ (z : ℕ). offset + row.bytes / z ≤ may.region.pages) (sym m.size) may.inside;
+      inside = subst (λ (z : ℕ). offset + row.bytes / z ≤ may.region.pages) (sym m.core.setting.sized) may.inside;
       known = known.0;
       object = known.1;
       over = omega (arith, over, sized);
       references = omega (arith, count, overs, unders, few, more);
-      below = λ r high. m.regions.unmade r (omega (arith, high, next));
+      below = λ r high. m.core.objects.regions.unmade r (omega (arith, high, next));
       regions = omega (arith, next, more);
       marks = omega (arith, marks, few);
     }
@@ -388,11 +389,11 @@ pub used_there : (header : Header) (h : ℕ) (k : Parts) (ids : Ids) (past : Lis
 used_there header h k ids past r row rests there paged =
     let m = rests.matches in
     elim (kind_cases header r) [
-      | inl declared ↦ elim (row_use r row m.entries there rests.used) [
-        | inl some ↦ m.uses.files r (file_of header r declared paged) some
-        | inr filled ↦ let least = filled_temporary r rests.used.copies m.homes.1 filled in absurd (omega (arith, declared, least))
+      | inl declared ↦ elim (row_use r row m.core.spaces.entries there rests.used) [
+        | inl some ↦ m.core.spaces.uses.files r (file_of header r declared paged) some
+        | inr filled ↦ let least = filled_temporary r rests.used.copies m.core.spaces.homes.1 filled in absurd (omega (arith, declared, least))
       ]
-      | inr temporary ↦ (m.uses.used r temporary).is (row_use r row m.entries there rests.used)
+      | inr temporary ↦ (m.core.spaces.uses.used r temporary).is (row_use r row m.core.spaces.entries there rests.used)
     ]
 
 -- the entry on the copy has its cause
@@ -408,8 +409,8 @@ copy_enters header h task copy source offset row past k ids rests may number =
     record {
       idle = may.idle;
       host = h;
-      lives = lives_here m.tasks may.lives;
-      whole = subst (λ (z : ℕ). row.bytes % z ≡ 0) m.tasks.sized (free_of k.maps.size row (rows_in task.0 k.maps) may.free).whole;
+      lives = lives_here m.core.spaces.tasks may.lives;
+      whole = subst (λ (z : ℕ). row.bytes % z ≡ 0) m.core.spaces.tasks.sized (free_of k.maps.size row (rows_in task.0 k.maps) may.free).whole;
       inside = let pages = copy_pages header copy source offset (row.bytes / header.size) past in omega (arith, pages);
       made = omega (arith, number);
       used = λ temporary. used;
@@ -417,8 +418,8 @@ copy_enters header h task copy source offset row past k ids rests may number =
       unfilled =
           unfilled header.size copy.0 (tasks past) k.maps k.waits.rows (copied copy source offset (row.bytes / header.size) ∷ past)
           (fills_here {past = copied copy source offset (row.bytes / header.size) ∷ past} waits_copied copies_copied)
-          (free_unfilled copy.0 rests.used.copies (m.regions.unmade copy.0 (omega (arith, number))))
-          (λ t none. m.uses.apart t copy.0 none (inr (omega (arith, number))));
+          (free_unfilled copy.0 rests.used.copies (m.core.objects.regions.unmade copy.0 (omega (arith, number))))
+          (λ t none. m.core.spaces.uses.apart t copy.0 none (inr (omega (arith, number))));
     }
 
 -- the copy has its cause
@@ -484,29 +485,29 @@ rests_copied header h outside doing task source offset row past k k2 ids ids2 be
     let new : Entry = entry_on row s.copy in
     let e = got task new in
     let top = s.region.top.0 in
-    let number : s.copy.0 ≡ next_region header past = s.number ∙ m.regions.region in
+    let number : s.copy.0 ≡ next_region header past = s.number ∙ m.core.objects.regions.region in
     let same : may.region ≡ s.region = some_is may.region s.region (sym may.there ∙ s.there) in
     let copies : CopiesRegion source.0 s.copy.0 offset pages s.region k.chains s.mid = subst
-    (λ (z : ℕ). CopiesRegion source.0 s.copy.0 offset (row.bytes / z) s.region k.chains s.mid) m.size s.copies in
+    (λ (z : ℕ). CopiesRegion source.0 s.copy.0 offset (row.bytes / z) s.region k.chains s.mid) m.core.setting.sized s.copies in
     let once : CopiesOnce source.0 s.copy.0 offset pages s.region k.chains s.mid k2.chains = record {
-      free = m.regions.unmade s.copy.0 (omega (arith, number));
+      free = m.core.objects.regions.unmade s.copy.0 (omega (arith, number));
       there = s.there;
       copies = copies;
       counts = s.counts;
     } in
-    let free : IsFree size row (rows_in task.0 k.maps) = subst (λ (z : ℕ). IsFree z row (rows_in task.0 k.maps)) m.tasks.sized
+    let free : IsFree size row (rows_in task.0 k.maps) = subst (λ (z : ℕ). IsFree z row (rows_in task.0 k.maps)) m.core.spaces.tasks.sized
     (free_of k.maps.size row (rows_in task.0 k.maps) may.free) in
     let lives = may.lives in
-    let below = lives_below size task.0 k.maps k.chains [] m.entries lives in
+    let below = lives_below size task.0 k.maps k.chains [] m.core.spaces.entries lives in
     let enters = copy_enters header h task s.copy source offset row past k ids rests may number in
     let knows = homes_caused header outside h k.chains e (now ∷ past) (doing, enters) (homes_caused header outside h k.chains now past
-    (doing, copy_cause header s.copy source offset pages past may.temporary may.from number) m.homes) in
+    (doing, copy_cause header s.copy source offset pages past may.temporary may.from number) m.core.spaces.homes) in
     let recount = same_put s.copy.0 1 s.mid k2.chains s.counts in
-    let small = small_region m.regions source.0 s.region s.there in
+    let small = small_region m.core.objects.regions source.0 s.region s.there in
     let marked = marked_copied header past s.copy source offset pages number small in
-    let mark : (region_of header source.0 past).mark ≡ s.region.marked = ap (λ z. z.mark) (m.regions.rows source.0 s.region s.there) in
+    let mark : (region_of header source.0 past).mark ≡ s.region.marked = ap (λ z. z.mark) (m.core.objects.regions.rows source.0 s.region s.there) in
     let marks : ids2.marks ≡ marks_of header (now ∷ past) =
-    ap (λ z. z.marks) s.ids ∙ (ap (λ z. z + (if s.region.marked then 1 else 2)) m.regions.marks
+    ap (λ z. z.marks) s.ids ∙ (ap (λ z. z + (if s.region.marked then 1 else 2)) m.core.objects.regions.marks
     ∙ (ap (λ (b : Bool). marks_of header past + (if b then 1 else 2)) (sym mark) ∙ sym marked)) in
     let few : next_object header past + marks_of header (now ∷ past) ≤ most_objects = subst (λ (z : ℕ). next_object header past + z ≤ most_objects)
     (sym marked) may.objects in
@@ -533,71 +534,60 @@ rests_copied header h outside doing task source offset row past k k2 ids ids2 be
     record {
       matches =
           record {
-            ranged = m.ranged;
-            declared = ap (λ z. z.items) s.declared ∙ m.declared;
-            kinds =
-                kinds_copied header source.0 s.copy.0 offset pages s.region s.known k.chains s.mid k2.chains k.memory.objects k2.memory.objects once
-                may.temporary (referred_source m.regions source.0 s.region s.known s.there s.object) s.object s.refers s.absent m.kinds;
-            shared =
-                shared_entered (named header) task.0 k.maps k2.maps new s.maps (temporary_shared (named header) new
-                (let more = named_regions header past in omega (arith, number, more))) m.shared;
-            known = m.known;
-            size = s.size ∙ m.size;
-            host = rw s.host m.host;
-            fits =
-                record {
-                  parts =
-                      subst Fit (sym s.memory) (fit_objects k.memory k2.memory.objects m.fits.parts
-                      (same_pages k.memory.objects k2.memory.objects top s.known (record s.known { references = s.known.references + 1 }) s.object refl
-                      s.refers));
-                  plain = subst ArePlain (sym rows_are) m.fits.plain;
-                  buffers = ap (λ (z : HostParts). z.buffers.size) s.memory ∙ (m.fits.buffers ∙ sym s.size);
-                };
-            tasks = tasks_entered h size k.maps k2.maps (now ∷ past) task new m.tasks s.maps lives;
-            regions =
-                regions_recounted s.mid k2.chains k2.memory.objects ids2 _ _ _ _ _ recount
-                (regions_copied header past s.copy source offset pages s.region s.known k.chains s.mid k.memory.objects k2.memory.objects ids ids2
-                (next_region header past) (next_object header past) (marks_of header past) (marks_of header (now ∷ past)) s.there number within
-                copies s.object s.refers
-                (ap (λ z. z.next_region) s.ids) (ap (λ z. z.next_object) s.ids) marks few m.regions);
-            files =
-                files_entered header h task new k2.memory.objects (now ∷ past) (λ file. absurd
-                (no_file header s.copy.0 (let more = named_regions header past in omega (arith, number, more)) file))
-                (files_put header h top s.known (record s.known { references = s.known.references + 1 }) k.memory.objects k2.memory.objects
-                (λ o. home_of o past) s.object s.refers m.files);
-            sizes =
-                sizes_put (named header) top s.known (record s.known { references = s.known.references + 1 }) k.memory.objects k2.memory.objects
-                (λ o. object_pages header o past) s.object refl s.refers m.sizes;
-            homes = (
-              λ r found_row paged found. by_row number knows r found_row paged (row_now source.0 s.copy.0 offset pages s.region k.chains s.mid k2.chains once r
-                  found_row found),
-              knows.1,
-            );
-            entries = entries_copy size k.maps k2.maps source.0 offset s.region k.chains s.mid k2.chains task.0 s.copy row m.entries once s.maps below free;
-            pages =
-                record {
-                  shown = λ o p. rw (frames_are, rows_are) (m.pages.shown o p
-                      ∙ ap (local_of_row k.memory.frames (row_at k.memory.resident o p)) (sym (s.absent.at o p)));
-                };
-            uses =
-                rw s.waits (uses_entered header k.maps k2.maps (λ r. in_use header h r (now ∷ past)) (tasks past)
-                (λ t r. holds header.size t r (e ∷ now ∷ past)) (next_region header past + 1) task.0 new (lives_on h task.0 (now ∷ past))
-                (λ r temporary apart. subst (λ (b : Bool). IsUsed k.maps k.waits.rows r b) (sym (others_use header h s.copy source offset pages past r apart))
-                (m.uses.used r temporary))
-                (λ r file apart some. others_use header h s.copy source offset pages past r apart ∙ m.uses.files r file some)
-                (λ paged. copy_use header h s.copy source offset pages past
-                ∙ used_there header h k ids past source.0 s.region rests s.there (paged_temporary header source.0 may.temporary)) m.uses.among s.maps lives
-                below
-                (m.tasks.hosts task.0 ∙ ap is_some lives)
-                (λ t r away why. holds_rows header.size task.0 t r k.maps (rows_in task.0 k.maps) _ (now ∷ past) lives away
-                ∙ m.uses.apart t r away (use_before header h s.copy source offset pages past r number why)));
-            controls = controls_stay (λ o home. object_stays o h e (now ∷ past) home)
-                (controls_referred top (s.known.references + 1) s.known k.memory.objects k2.memory.objects (λ o. last_control h o past)
-                (λ o. live_control h o past) (λ o. is_ready h o past) s.object s.refers m.controls);
+            core = record {
+              setting = rw (s.size, s.host, s.declared) m.core.setting;
+              fits = record {
+                parts =
+                    subst Fit (sym s.memory) (fit_objects k.memory k2.memory.objects m.core.fits.parts
+                    (same_pages k.memory.objects k2.memory.objects top s.known (record s.known { references = s.known.references + 1 }) s.object refl
+                    s.refers));
+                plain = subst ArePlain (sym rows_are) m.core.fits.plain;
+                buffers = ap (λ (z : HostParts). z.buffers.size) s.memory ∙ (m.core.fits.buffers ∙ sym s.size);
+              };
+              spaces = record {
+                tasks = tasks_entered h size k.maps k2.maps (now ∷ past) task new m.core.spaces.tasks s.maps lives;
+                entries = entries_copy size k.maps k2.maps source.0 offset s.region k.chains s.mid k2.chains task.0 s.copy row m.core.spaces.entries once s.maps below free;
+                shared = shared_entered (named header) task.0 k.maps k2.maps new s.maps (temporary_shared (named header) new
+                    (let more = named_regions header past in omega (arith, number, more))) m.core.spaces.shared;
+                uses = rw s.waits (uses_entered header k.maps k2.maps (λ r. in_use header h r (now ∷ past)) (tasks past)
+                    (λ t r. holds header.size t r (e ∷ now ∷ past)) (next_region header past + 1) task.0 new (lives_on h task.0 (now ∷ past))
+                    (λ r temporary apart. subst (λ (b : Bool). IsUsed k.maps k.waits.rows r b) (sym (others_use header h s.copy source offset pages past r apart))
+                    (m.core.spaces.uses.used r temporary))
+                    (λ r file apart some. others_use header h s.copy source offset pages past r apart ∙ m.core.spaces.uses.files r file some)
+                    (λ paged. copy_use header h s.copy source offset pages past
+                    ∙ used_there header h k ids past source.0 s.region rests s.there (paged_temporary header source.0 may.temporary)) m.core.spaces.uses.among s.maps lives
+                    below
+                    (m.core.spaces.tasks.hosts task.0 ∙ ap is_some lives)
+                    (λ t r away why. holds_rows header.size task.0 t r k.maps (rows_in task.0 k.maps) _ (now ∷ past) lives away
+                    ∙ m.core.spaces.uses.apart t r away (use_before header h s.copy source offset pages past r number why)));
+                homes = (
+                  λ r found_row paged found. by_row number knows r found_row paged (row_now source.0 s.copy.0 offset pages s.region k.chains s.mid k2.chains once r
+                      found_row found),
+                  knows.1,
+                );
+              };
+              objects = record {
+                regions = regions_recounted s.mid k2.chains k2.memory.objects ids2 _ _ _ _ _ recount
+                    (regions_copied header past s.copy source offset pages s.region s.known k.chains s.mid k.memory.objects k2.memory.objects ids ids2
+                    (next_region header past) (next_object header past) (marks_of header past) (marks_of header (now ∷ past)) s.there number within
+                    copies s.object s.refers
+                    (ap (λ z. z.next_region) s.ids) (ap (λ z. z.next_object) s.ids) marks few m.core.objects.regions);
+                kinds = kinds_copied header source.0 s.copy.0 offset pages s.region s.known k.chains s.mid k2.chains k.memory.objects k2.memory.objects once
+                    may.temporary (referred_source m.core.objects.regions source.0 s.region s.known s.there s.object) s.object s.refers s.absent m.core.objects.kinds;
+                files = files_entered header h task new k2.memory.objects (now ∷ past) (λ file. absurd
+                    (no_file header s.copy.0 (let more = named_regions header past in omega (arith, number, more)) file))
+                    (files_put header h top s.known (record s.known { references = s.known.references + 1 }) k.memory.objects k2.memory.objects
+                    (λ o. home_of o past) s.object s.refers m.core.objects.files);
+                sizes = sizes_put (named header) top s.known (record s.known { references = s.known.references + 1 }) k.memory.objects k2.memory.objects
+                    (λ o. object_pages header o past) s.object refl s.refers m.core.objects.sizes;
+              };
+              controls = controls_stay (λ o home. object_stays o h e (now ∷ past) home)
+                  (controls_referred top (s.known.references + 1) s.known k.memory.objects k2.memory.objects (λ o. last_control h o past)
+                  (λ o. live_control h o past) (λ o. is_ready h o past) s.object s.refers m.core.controls);
+              pages = rw (frames_are, rows_are, s.laundry) (pages_known_so s.absent m.core.pages);
+            };
             settled = record { none_owed = refl; shut = λ region. refl };
             replied = replied_behind tt (replied_behind tt m.replied);
-            laundry = rw (frames_are, rows_are, s.laundry) m.laundry;
-            frames = rw frames_are m.frames;
           };
       used = rw (rows_are, s.waits) (record {
         regions = used_copy source.0 s.copy.0 offset pages s.region k.chains s.mid k2.chains once k.waits.rows counted rests.used.regions;
@@ -611,7 +601,7 @@ rests_copied header h outside doing task source offset row past k k2 ids ids2 be
           thin_chains s.mid k2.chains k2.memory.objects recount.recounts.shadows (thin_grown top s.known
           (record s.known { references = s.known.references + 1 }) k.chains s.mid k.memory.objects k2.memory.objects
           (λ o shadow found. sym (ap (λ f. f o) copies.shadows) ∙ found) s.object (λ none. none)
-          (λ one. let some = referred_source m.regions source.0 s.region s.known s.there s.object in omega (arith, one, some)) s.refers rests.thin);
+          (λ one. let some = referred_source m.core.objects.regions source.0 s.region s.known s.there s.object in omega (arith, one, some)) s.refers rests.thin);
       waits = rw (rows_are, s.waits) now_waits;
       order = rw s.waits rests.order;
       idle = ap (λ z. count_again z.rows) s.waits ∙ rests.idle;
@@ -626,8 +616,8 @@ rests_copied header h outside doing task source offset row past k k2 ids ids2 be
         let m = rests.matches in
         let now : Event = copied s.copy source offset (row.bytes / header.size) in
         subst (λ (z : ℕ). home_of z (got task (entry_on row s.copy) ∷ now ∷ past) ≡ Some h) same
-        (home_entered h task row.address row.bytes s.copy 0 row.prot row.inherit (now ∷ past) (m.homes.1.regions s.copy.0 (omega (arith, number)))
-        (lives_here m.tasks may.lives))
+        (home_entered h task row.address row.bytes s.copy 0 row.prot row.inherit (now ∷ past) (m.core.spaces.homes.1.regions s.copy.0 (omega (arith, number)))
+        (lives_here m.core.spaces.tasks may.lives))
     by_row number homes r found_row paged (OfSource same is) =
         subst (λ (z : ℕ). home_of z (got task (entry_on row s.copy) ∷ copied s.copy source offset (row.bytes / header.size) ∷ past) ≡ Some h) same
         (homes.0 source.0 s.region (paged_temporary header source.0 may.temporary) s.there)
@@ -654,7 +644,7 @@ pub heads_copied : (header : Header) (h : ℕ) (outside : Outside) (doing : Comm
 heads_copied header h outside doing task copy source offset row past events k ids rests may number heads =
     let m = rests.matches in
     let now : Event = copied copy source offset (row.bytes / header.size) in
-    let fine = suffices header h k.memory.frames (events ++ past) m.frames in
+    let fine = suffices header h k.memory.frames (events ++ past) m.core.pages.counted in
     heads_more header h outside doing past (now ∷ events) (got task (entry_on row copy))
     (heads_more header h outside doing past events now heads
     (record {
@@ -664,7 +654,7 @@ heads_copied header h outside doing task copy source offset row past events k id
       frames = fine;
       inner = tt;
       said = tt;
-      own = λ g used. m.homes.1.stay g h source.0 used (m.homes.0 source.0 may.region (paged_temporary header source.0 may.temporary) may.there);
+      own = λ g used. m.core.spaces.homes.1.stay g h source.0 used (m.core.spaces.homes.0 source.0 may.region (paged_temporary header source.0 may.temporary) may.there);
       creates = tt;
     }))
     (record {
@@ -674,7 +664,7 @@ heads_copied header h outside doing task copy source offset row past events k id
       frames = fine;
       inner = tt;
       said = tt;
-      own = own_task h task.0 (now ∷ (events ++ past)) (m.tasks.hosts task.0 ∙ ap is_some may.lives);
+      own = own_task h task.0 (now ∷ (events ++ past)) (m.core.spaces.tasks.hosts task.0 ∙ ap is_some may.lives);
       creates = tt;
     })
 
@@ -683,7 +673,7 @@ pub told_copied : (header : Header) (h : ℕ) (task : TaskId) (source : RegionId
     (before after : List Event) → Rests header h k ids past → (s : EntersCopy task source offset row k k2 ids ids2 before after)
     → after ≡ got task (entry_on row s.copy) ∷ copied s.copy source offset (row.bytes / header.size) ∷ before
 told_copied header h task source offset row past k k2 ids ids2 before after rests s =
-    s.told ∙ ap (λ (z : ℕ). got task (entry_on row s.copy) ∷ copied s.copy source offset (row.bytes / z) ∷ before) rests.matches.size
+    s.told ∙ ap (λ (z : ℕ). got task (entry_on row s.copy) ∷ copied s.copy source offset (row.bytes / z) ∷ before) rests.matches.core.setting.sized
 
 -- The copy of a range that isn't refused.
 
@@ -776,19 +766,19 @@ may_place header h task address bytes target to past k ids events s =
     let hosts = or_parts (not (refusing.same_host (host_of task.0 past) (host_of target.0 past)))
     (is_uncopied header (task.0 == target.0) (entry_at address own)) sized.1 in
     let source = source_of header address bytes target.0 to past (entry_at address own) three.1 in
-    let lives = lives_in task.0 m.tasks s.acts in
-    let home : is_on h (host_of target.0 past) ≡ true = subst (λ (z : Option ℕ). refusing.same_host z (host_of target.0 past) ≡ true) (lives_here m.tasks lives)
+    let lives = lives_in task.0 m.core.spaces.tasks s.acts in
+    let home : is_on h (host_of target.0 past) ≡ true = subst (λ (z : Option ℕ). refusing.same_host z (host_of target.0 past) ≡ true) (lives_here m.core.spaces.tasks lives)
     (not-false (refusing.same_host (host_of task.0 past) (host_of target.0 past)) hosts.0) in
-    let there = lives_in target.0 m.tasks home in
+    let there = lives_in target.0 m.core.spaces.tasks home in
     let entry = source.entry in
-    let found : entry_at address (rows_in task.0 k.maps) ≡ Some entry = ap (entry_at address) (sym (rows_here m.tasks lives)) ∙ source.is in
-    let is_inside = found_row (IsInside size k.chains) address (rows_in task.0 k.maps) entry (m.entries.inside task.0) found in
+    let found : entry_at address (rows_in task.0 k.maps) ≡ Some entry = ap (entry_at address) (sym (rows_here m.core.spaces.tasks lives)) ∙ source.is in
+    let is_inside = found_row (IsInside size k.chains) address (rows_in task.0 k.maps) entry (m.core.spaces.entries.inside task.0) found in
     let inside = is_inside.is.inside.whole in
     let region = region_row k.chains entry.region.0 is_inside.is.region in
     let pages : region_pages k.chains entry.region.0 ≡ region.0.pages = ap pages_in region.1 in
-    let free : meets_range to bytes (rows_in target.0 k.maps) ≡ false = ap (meets_range to bytes) (sym (rows_here m.tasks there)) ∙ source.free in
+    let free : meets_range to bytes (rows_in target.0 k.maps) ≡ false = ap (meets_range to bytes) (sym (rows_here m.core.spaces.tasks there)) ∙ source.free in
     let few : nat_lt most_entries (length (rows_in target.0 k.maps) + 1) ≡ false = ap (λ (z : List Entry). nat_lt most_entries (length z + 1))
-    (sym (rows_here m.tasks there)) ∙ source.few in
+    (sym (rows_here m.core.spaces.tasks there)) ∙ source.few in
     let short : nat_lt most_pages (bytes / size) ≡ false = sized.0 in
     let some = range_of size to bytes ranges.1 in
     let sum = div_sum size (address - entry.address) bytes in
@@ -818,24 +808,24 @@ may_place header h task address bytes target to past k ids events s =
           record {
             lives = there;
             idle = idle_both (waiting task.0 past) (waiting target.0 past) two.0;
-            free = rw (m.tasks.sized, ranges.1, free, few) refl;
+            free = rw (m.core.spaces.tasks.sized, ranges.1, free, few) refl;
             pages = let most : bytes / size ≤ most_pages = grind (arith, nat_tests) in omega (arith, most);
             region = region.0;
             there = region.1;
             counted =
-                entry_some size entry.region.0 task.0 k.maps k.chains [] region.0 m.entries region.1
+                entry_some size entry.region.0 task.0 k.maps k.chains [] region.0 m.core.spaces.entries region.1
                 (on_its_region address (rows_in task.0 k.maps) entry found);
             temporary = grind (arith, nat_tests);
-            inside = subst (λ (z : ℕ). page_at z address entry + bytes / size ≤ region.0.pages) (sym m.tasks.sized) (omega (arith, within, inside, pages));
+            inside = subst (λ (z : ℕ). page_at z address entry + bytes / size ≤ region.0.pages) (sym m.core.spaces.tasks.sized) (omega (arith, within, inside, pages));
             regions = grind (arith, nat_tests);
             objects = few_objects (if (region_of header entry.region.0 past).mark then 1 else 2) objects;
             from =
                 record {
                   task = task.0;
                   address = address;
-                  at = record { host = h; entry = entry; lives = lives_here m.tasks lives; found = source.is };
+                  at = record { host = h; entry = entry; lives = lives_here m.core.spaces.tasks lives; found = source.is };
                   source_is = refl;
-                  inside = subst (λ (z : ℕ). page_at z address entry + bytes / size ≤ entry.offset + entry.bytes / size) (sym m.tasks.sized) within;
+                  inside = subst (λ (z : ℕ). page_at z address entry + bytes / size ≤ entry.offset + entry.bytes / size) (sym m.core.spaces.tasks.sized) within;
                 };
           };
     }
@@ -854,7 +844,7 @@ plain_source : {header : Header} {h : ℕ} {k : Parts} {ids : Ids} {past : List 
     → place ≡ place_at k.maps.size address entry → length k.declared.items ≤ place.region.0 → nat_lt entry.region.0 (named header) ≡ false
 plain_source {header = header} {k = k} address entry place rests is least =
     let same : place.region.0 ≡ entry.region.0 = ap (λ z. z.region.0) is in
-    let all : length k.declared.items ≡ named header = ap length rests.matches.declared in
+    let all : length k.declared.items ≡ named header = ap length rests.matches.core.setting.objects in
     let temporary : named header ≤ entry.region.0 = omega (arith, same, all, least) in
     grind (arith, nat_tests)
 
@@ -893,20 +883,20 @@ ran_copy header h outside task address bytes target to past k k2 ids ids2 before
     let c : EntersCopy target source page row k k2 ids ids2 before after =
     subst (λ (z : Place). EntersCopy target z.region z.page.0 (whole_entry to bytes z.region) k k2 ids ids2 before after) (is p.entry p.found)
     (subst (λ (z : Entry). EntersCopy target place.region place.page.0 z k k2 ids ids2 before after) made entered_copy) in
-    let number : c.copy.0 ≡ next_region header past = c.number ∙ m.regions.region in
+    let number : c.copy.0 ≡ next_region header past = c.number ∙ m.core.objects.regions.region in
     let named_copy : c.copy ≡ record { 0 = next_region header past } = λ i. record { 0 = number i } in
     let events : List Event = got target (entry_on row c.copy) ∷ copied c.copy source page (bytes / header.size) ∷ [] in
     let first : List Event = copied c.copy source page (bytes / header.size) ∷ got target (entry_on row c.copy) ∷ [] in
     let told : after ≡ events = told_copied header h target source page row past k k2 ids ids2 before after s.rests c
     ∙ ap (λ z. got target (entry_on row c.copy) ∷ copied c.copy source page (bytes / header.size) ∷ z) s.nothing in
-    let same : entry_at address (entries_of header.size task.0 past) ≡ Some p.entry = ap (entry_at address) (rows_here m.tasks p.lives) ∙ p.found in
+    let same : entry_at address (entries_of header.size task.0 past) ≡ Some p.entry = ap (entry_at address) (rows_here m.core.spaces.tasks p.lives) ∙ p.found in
     let written : head header past doing ≡ Some first =
     ap (copy_head (named header) header.size (next_region header past) (next_object header past) task address bytes target to) same
     ∙ (ap (λ b. Some (if b then begun_copy task address bytes to (record { 0 = next_region header past }) (record { 0 = next_object header past })
     (bytes / header.size) else copied (record { 0 = next_region header past }) source (page_at header.size address p.entry) (bytes / header.size) ∷ got
     target (entry_on row (record { 0 = next_region header past })) ∷ [])) unnamed
     ∙ (ap (λ (z : ℕ). Some (copied (record { 0 = next_region header past }) source (page_at z address p.entry) (bytes / header.size) ∷ got target
-    (entry_on row (record { 0 = next_region header past })) ∷ [])) (sym m.tasks.sized)
+    (entry_on row (record { 0 = next_region header past })) ∷ [])) (sym m.core.spaces.tasks.sized)
     ∙ ap (λ (z : RegionId). Some (copied z source page (bytes / header.size) ∷ got target (entry_on row z) ∷ [])) (sym named_copy))) in
     subst (λ (z : List Event). Ran header h outside doing past k2 ids2 z) (sym told)
     (ran_head header h outside doing past k2 ids2 events first written refl

@@ -1,4 +1,6 @@
 -- No entry leads to a region any more: it goes, and its top has one reference less.
+use Rattle.vm_kernel.proofs.memory.PageChanges.{fits_known}
+use Rattle.vm_kernel.proofs.memory.CoreChanges.{pages_known_so}
 use Rattle.vm_model.specs.Named.{named}
 use Rattle.vm_model.specs.Regions.{object_pages}
 use Rattle.vm_state.proofs.KnownPages.{sizes_put}
@@ -173,7 +175,7 @@ pub top_referred : (header : Header) (h : ℕ) (past : List Event) (who : Woken)
 top_referred header h past who k ids rest r events object e top =
     let row = region_row k.chains r e.there in
     let is : object ≡ row.0.top = if_some (region_at k.chains r) (λ row. object ≡ row.top) row.0 row.1 top in
-    subst (λ (z : ObjectId). IsReferred k.memory.objects z.0) (sym is) (refers_region e.runs.matches.regions r row.0 row.1)
+    subst (λ (z : ObjectId). IsReferred k.memory.objects z.0) (sym is) (refers_region e.runs.matches.core.objects.regions r row.0 row.1)
 
 pub loses_region : (header : Header) (h : ℕ) (past : List Event) (who : Woken) (k : Parts) (ids : Ids) (rest : List Entry) (r left : ℕ) (events : List Event)
     (object : ObjectId) (chains : ChainTable) (objects : ObjectTable)
@@ -210,45 +212,36 @@ runs_gone header h past who k ids rest r left events object chains objects e los
     let was = loses.was in
     record {
       matches = record {
-        ranged = m.ranged;
-        declared = m.declared;
-        kinds =
-            kinds_gone header r objects k.chains chains loses.region (kinds_put header top (record was { references = left }) k.memory.objects objects k.chains
-            loses.put loses.marks (kind_referred header top was left (let less = loses.less in omega (arith, less)) (m.kinds.kinds top was loses.known))
-            m.kinds);
-        shared = m.shared;
-        known = m.known;
-        size = m.size;
-        host = m.host;
-        fits =
-            record {
-              parts = fit_objects k.memory objects m.fits.parts (same_pages k.memory.objects objects top was (record was { references = left })
-                  loses.known refl loses.put);
-              plain = m.fits.plain;
-              buffers = m.fits.buffers;
-            };
-        tasks = m.tasks;
-        regions =
-            regions_gone r left loses.row was k.chains chains k.memory.objects objects ids (λ r. region_of header r moment) (λ o. backing_of header o moment)
-            (next_region header moment) (next_object header moment) (marks_of header moment) loses.found loses.region loses.known loses.less loses.put
-            m.regions;
-        homes = (λ r2 row paged found. m.homes.0 r2 row paged (other_row r k.chains chains loses.region r2 row found).1, m.homes.1);
-        files = files_put header h top was (record was { references = left }) k.memory.objects objects (λ o. home_of o moment) loses.known loses.put m.files;
-        sizes =
-            sizes_put (named header) top was (record was { references = left }) k.memory.objects objects (λ o. object_pages header o moment) loses.known refl
-            loses.put m.sizes;
-        entries = entries_without header.size r k.maps k.chains chains rest loses.region m.entries e.there e.none;
-        pages = record { shown = λ o p. m.pages.shown o p ∙ ap (local_of_row k.memory.frames (row_at k.memory.resident o p)) (sym (loses.marks.at o p)) };
-        uses = m.uses;
-        controls = controls_referred top left was k.memory.objects objects _ _ _ loses.known loses.put m.controls;
+        core = record {
+          setting = m.core.setting;
+          fits = fits_known loses.known loses.put refl m.core.fits;
+          spaces = record {
+            tasks = m.core.spaces.tasks;
+            entries = entries_without header.size r k.maps k.chains chains rest loses.region m.core.spaces.entries e.there e.none;
+            shared = m.core.spaces.shared;
+            uses = m.core.spaces.uses;
+            homes = (λ r2 row paged found. m.core.spaces.homes.0 r2 row paged (other_row r k.chains chains loses.region r2 row found).1, m.core.spaces.homes.1);
+          };
+          objects = record {
+            regions = regions_gone r left loses.row was k.chains chains k.memory.objects objects ids (λ r. region_of header r moment) (λ o. backing_of header o moment)
+                (next_region header moment) (next_object header moment) (marks_of header moment) loses.found loses.region loses.known loses.less loses.put
+                m.core.objects.regions;
+            kinds = kinds_gone header r objects k.chains chains loses.region (kinds_put header top (record was { references = left }) k.memory.objects objects k.chains
+                loses.put loses.marks (kind_referred header top was left (let less = loses.less in omega (arith, less)) (m.core.objects.kinds.kinds top was loses.known))
+                m.core.objects.kinds);
+            files = files_put header h top was (record was { references = left }) k.memory.objects objects (λ o. home_of o moment) loses.known loses.put m.core.objects.files;
+            sizes = sizes_put (named header) top was (record was { references = left }) k.memory.objects objects (λ o. object_pages header o moment) loses.known refl
+                loses.put m.core.objects.sizes;
+          };
+          controls = controls_referred top left was k.memory.objects objects _ _ _ loses.known loses.put m.core.controls;
+          pages = pages_known_so loses.marks m.core.pages;
+        };
         settled = m.settled;
         replied = m.replied;
-        laundry = m.laundry;
-        frames = m.frames;
       };
       waits = waits_referred k.maps chains k.memory.resident k.memory.objects objects k.waits.rows (is_woken who) (λ t. waiting t moment) top left was
           (waits_without k.maps k.chains chains k.memory.resident k.memory.objects k.waits.rows (is_woken who) (λ t. waiting t moment) r e.runs.waits
-          loses.region (no_entry header.size k.maps k.chains rest r m.entries e.there e.none)) loses.known loses.put;
+          loses.region (no_entry header.size k.maps k.chains rest r m.core.spaces.entries e.there e.none)) loses.known loses.put;
       order = e.runs.order;
     }
 

@@ -75,29 +75,23 @@ rests_made header h task past k ids maps rests changes free below =
     record {
       matches =
           record {
-            ranged = m.ranged;
-            declared = m.declared;
-            kinds = m.kinds;
-            shared = shared_made _ k.maps maps task.0 m.shared changes;
-            known = m.known;
-            size = m.size;
-            host = m.host;
-            fits = m.fits;
-            tasks = tasks_made h header.size k.maps maps past task m.tasks changes;
-            regions = m.regions;
-            entries = entries_made header.size k.maps maps k.chains task.0 m.entries changes free below;
-            pages = m.pages;
-            uses =
-                uses_made header k.maps maps _ (tasks past) _ _ (next_region header past) task.0 m.uses changes free (rw most_is below)
-                (holds_made header.size task (host_id h) past);
-            controls = m.controls;
-            homes = m.homes;
-            files = m.files;
-            sizes = m.sizes;
+            core = record {
+              setting = m.core.setting;
+              fits = m.core.fits;
+              spaces = record {
+                tasks = tasks_made h header.size k.maps maps past task m.core.spaces.tasks changes;
+                entries = entries_made header.size k.maps maps k.chains task.0 m.core.spaces.entries changes free below;
+                shared = shared_made _ k.maps maps task.0 m.core.spaces.shared changes;
+                uses = uses_made header k.maps maps _ (tasks past) _ _ (next_region header past) task.0 m.core.spaces.uses changes free (rw most_is below)
+                    (holds_made header.size task (host_id h) past);
+                homes = m.core.spaces.homes;
+              };
+              objects = m.core.objects;
+              controls = m.core.controls;
+              pages = m.core.pages;
+            };
             settled = record { none_owed = refl; shut = λ region. refl };
             replied = replied_behind tt m.replied;
-            laundry = m.laundry;
-            frames = m.frames;
           };
       used =
           record {
@@ -122,14 +116,14 @@ ran_task header h outside task past k ids before after maps s changes told =
     let m = s.rests.matches in
     let e : Event = event.TaskMade task (host_id h) in
     let free = can_make header h task past k ids before s in
-    let log : after ≡ e ∷ [] = told ∙ (ap (λ z. event.TaskMade task z ∷ before) (named_host k.host h m.host) ∙ ap (λ z. e ∷ z) s.nothing) in
+    let log : after ≡ e ∷ [] = told ∙ (ap (λ z. event.TaskMade task z ∷ before) (named_host k.host h m.core.setting.numbered) ∙ ap (λ z. e ∷ z) s.nothing) in
     subst (λ (z : List Event). Ran header h outside (command.Task task (host_id h)) past (record k { maps = maps }) ids z) (sym log)
     (ran_head header h outside (command.Task task (host_id h)) past (record k { maps = maps }) ids (e ∷ []) (e ∷ []) refl refl
     (heads_one header h outside (command.Task task (host_id h)) past e (record {
       settled = m.settled;
       cause = tt;
       own_bytes = tt;
-      frames = suffices header h k.memory.frames past m.frames;
+      frames = suffices header h k.memory.frames past m.core.pages.counted;
       inner = tt;
       said = refl;
       own = own_new h task.0 past (unmade header h task past k ids before s);

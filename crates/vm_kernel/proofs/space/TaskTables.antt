@@ -92,7 +92,7 @@ unmade header h task past k ids events s = (passed (is_some (host_of task.0 past
 
 pub can_make : (header : Header) (h : ℕ) (task : TaskId) (past : List Event) (k : Parts) (ids : Ids) (events : List Event)
     → Starts header h (command.Task task (host_id h)) past k ids events → entries_in task.0 k.maps ≡ None
-can_make header h task past k ids events s = free_in task.0 s.rests.matches.tasks (unmade header h task past k ids events s)
+can_make header h task past k ids events s = free_in task.0 s.rests.matches.core.spaces.tasks (unmade header h task past k ids events s)
 
 -- a new task has no entries among the counts
 pub entries_made : (size : ℕ) (maps new : Mapped) (chains : ChainTable) (task : ℕ) → HasEntries size maps chains [] → ChangesOnly maps new task (Some [])

@@ -80,11 +80,11 @@ sweeps_exit header h outside task past events k ids maps gone s value changes =
     let m = s.rests.matches in
     let live = lives_as task.0 k.maps gone value in
     let rows = rows_in task.0 k.maps in
-    let cuts = ended_cuts header.size k.chains rows gone (m.entries.inside task.0) live.0 in
+    let cuts = ended_cuts header.size k.chains rows gone (m.core.spaces.entries.inside task.0) live.0 in
     let idle = acts task.0 past None s.accepted in
     let c = changed_by header h past k ids maps k.chains task.0 None gone [] s.rests idle changes live.1 cuts (raised_none k.chains) in
     let shown_tasks : HasTasks h header.size maps (λ t. host_of t (event.TaskEnded task ∷ past)) (λ t. entries_of header.size t (event.TaskEnded task ∷ past)) =
-    tasks_ended h header.size task.0 k.maps maps (λ t. host_of t past) (λ t. entries_of header.size t past) m.tasks changes in
+    tasks_ended h header.size task.0 k.maps maps (λ t. host_of t past) (λ t. entries_of header.size t past) m.core.spaces.tasks changes in
     let shown_waits : HasWaiters maps k.chains k.memory.resident k.memory.objects k.waits.rows (is_woken woken.Nobody)
     (λ t. waiting t (event.TaskEnded task ∷ past)) (StaysAway header h (event.TaskEnded task ∷ past)) (IsUnmet header h (event.TaskEnded task ∷ past)) =
     waits_ended maps k.chains k.memory.resident k.memory.objects k.waits.rows (is_woken woken.Nobody) (λ t. waiting t past) task.0 c.waits changes.changed in
@@ -92,31 +92,25 @@ sweeps_exit header h outside task past events k ids maps gone s value changes =
       runs = record {
         begins = s.begins;
         matches = record {
-          ranged = m.ranged;
-          declared = m.declared;
-          kinds = m.kinds;
-          shared = shared_changed (named header) task.0 k.maps maps None changes tt m.shared;
-          known = m.known;
-          size = m.size;
-          host = m.host;
-          fits = m.fits;
-          tasks = shown_tasks;
-          regions = c.regions;
-          entries = c.entries;
-          pages = m.pages;
-          uses =
-              uses_cut header k.maps maps k.waits.rows (λ r. in_use header h r past) _ (next_region header past) (event.TaskEnded task ∷ past) task.0 None
-              m.uses changes live.1 (λ r some. uses_fewer header.size task.0 r k.maps maps k.chains None m.entries changes live.1 cuts.own some)
-              (record { rows = shown_tasks.rows; filled = fills_here {past = event.TaskEnded task ∷ past} shown_waits c.used.copies }) c.entries.most
-              (apart_ended header header.size k.maps maps (λ r. in_use header h r past) _ (next_region header past) task past m.uses changes);
-          controls = m.controls;
-          homes = homes_caused header outside h k.chains (event.TaskEnded task) past (command.Exit task, idle) c.homes;
-          files = m.files;
-          sizes = m.sizes;
+          core = record {
+            setting = m.core.setting;
+            fits = m.core.fits;
+            spaces = record {
+              tasks = shown_tasks;
+              entries = c.entries;
+              shared = shared_changed (named header) task.0 k.maps maps None changes tt m.core.spaces.shared;
+              uses = uses_cut header k.maps maps k.waits.rows (λ r. in_use header h r past) _ (next_region header past) (event.TaskEnded task ∷ past) task.0 None
+                  m.core.spaces.uses changes live.1 (λ r some. uses_fewer header.size task.0 r k.maps maps k.chains None m.core.spaces.entries changes live.1 cuts.own some)
+                  (record { rows = shown_tasks.rows; filled = fills_here {past = event.TaskEnded task ∷ past} shown_waits c.used.copies }) c.entries.most
+                  (apart_ended header header.size k.maps maps (λ r. in_use header h r past) _ (next_region header past) task past m.core.spaces.uses changes);
+              homes = homes_caused header outside h k.chains (event.TaskEnded task) past (command.Exit task, idle) c.homes;
+            };
+            objects = c.objects;
+            controls = m.core.controls;
+            pages = m.core.pages;
+          };
           settled = record { none_owed = refl; shut = λ region. refl };
           replied = replied_behind tt m.replied;
-          laundry = m.laundry;
-          frames = m.frames;
         };
         waits = shown_waits;
         order = s.rests.order;
@@ -127,7 +121,7 @@ sweeps_exit header h outside task past events k ids maps gone s value changes =
               settled = m.settled;
               cause = idle;
               own_bytes = tt;
-              frames = suffices header h k.memory.frames (event.TaskEnded task ∷ past) m.frames;
+              frames = suffices header h k.memory.frames (event.TaskEnded task ∷ past) m.core.pages.counted;
               inner = tt;
               said = tt;
               own = own_task h task.0 past s.acts;
@@ -155,62 +149,55 @@ pub sweeps_removed : (header : Header) (h : ℕ) (outside : Outside) (task : Tas
     (event.Removed task address bytes ∷ [])
 sweeps_removed header h outside task address bytes past events k ids maps chains change gone s is changes taken up =
     let m = s.rests.matches in
-    let lives = lives_in task.0 m.tasks s.acts in
+    let lives = lives_in task.0 m.core.spaces.tasks s.acts in
     let rows = rows_in task.0 k.maps in
     let made = removed header.size address bytes rows in
     let more = cut_at_ends address bytes rows in
     let parts : gone ≡ parts_in header.size address bytes rows = taken
-    ∙ (ap (λ z. parts_for k.maps task.0 z) is ∙ ap (λ z. parts_in z address bytes rows) m.tasks.sized) in
+    ∙ (ap (λ z. parts_for k.maps task.0 z) is ∙ ap (λ z. parts_in z address bytes rows) m.core.spaces.tasks.sized) in
     let cuts = subst (λ (z : List Entry). Cuts header.size k.chains rows made z more) (sym parts)
-    (removed_cuts header.size address bytes k.chains rows (m.entries.inside task.0) (may_remove s)) in
+    (removed_cuts header.size address bytes k.chains rows (m.core.spaces.entries.inside task.0) (may_remove s)) in
     let idle = acts task.0 past _ s.accepted in
     let same : ChangesOnly k.maps maps task.0 (Some made) =
     record {
       size = changes.size;
       changed = changes.changed
-          ∙ ap Some (ap (λ z. removed k.maps.size z.address z.bytes rows) is ∙ ap (λ z. removed z address bytes rows) m.tasks.sized);
+          ∙ ap Some (ap (λ z. removed k.maps.size z.address z.bytes rows) is ∙ ap (λ z. removed z address bytes rows) m.core.spaces.tasks.sized);
       others = changes.others;
     } in
     let c = changed_by header h past k ids maps chains task.0 (Some made) gone more s.rests idle same lives cuts up in
     let shown_tasks : HasTasks h header.size maps (λ t. host_of t (event.Removed task address bytes ∷ past))
     (λ t. entries_of header.size t (event.Removed task address bytes ∷ past)) =
-    tasks_changed h header.size task.0 k.maps maps (λ t. host_of t past) (λ t. entries_of header.size t past) (removed header.size address bytes) m.tasks same
+    tasks_changed h header.size task.0 k.maps maps (λ t. host_of t past) (λ t. entries_of header.size t past) (removed header.size address bytes) m.core.spaces.tasks same
     lives in
     record {
       runs = record {
         begins = s.begins;
         matches = record {
-          ranged = m.ranged;
-          declared = m.declared;
-          kinds = c.kinds;
-          shared =
-              shared_changed (named header) task.0 k.maps maps (Some made) same (shared_removed (named header) header.size address bytes rows (m.shared task.0))
-              m.shared;
-          known = m.known;
-          size = m.size;
-          host = m.host;
-          fits = m.fits;
-          tasks = shown_tasks;
-          regions = c.regions;
-          entries = c.entries;
-          pages = m.pages;
-          uses =
-              uses_cut header k.maps maps k.waits.rows (λ r. in_use header h r past) _ (next_region header past) (event.Removed task address bytes ∷ past)
-              task.0 (Some made) m.uses same lives (λ r some. uses_fewer header.size task.0 r k.maps maps k.chains (Some made) m.entries same lives cuts.own
-              some)
-              (record { rows = shown_tasks.rows; filled = fills_here {past = event.Removed task address bytes ∷ past} c.waits c.used.copies }) c.entries.most
-              (λ t r none why.
-              let other = elsewhere maps task.0 t made same.changed none in
-              let was = sym (changes.others t (λ e. other (sym e))) ∙ none in
-              holds_rows header.size task.0 t r k.maps rows _ past lives was ∙ m.uses.apart t r was why);
-          controls = m.controls;
-          homes = homes_caused header outside h chains (event.Removed task address bytes) past (command.Deallocate task address bytes, idle) c.homes;
-          files = m.files;
-          sizes = m.sizes;
+          core = record {
+            setting = m.core.setting;
+            fits = m.core.fits;
+            spaces = record {
+              tasks = shown_tasks;
+              entries = c.entries;
+              shared = shared_changed (named header) task.0 k.maps maps (Some made) same (shared_removed (named header) header.size address bytes rows (m.core.spaces.shared task.0))
+                  m.core.spaces.shared;
+              uses = uses_cut header k.maps maps k.waits.rows (λ r. in_use header h r past) _ (next_region header past) (event.Removed task address bytes ∷ past)
+                  task.0 (Some made) m.core.spaces.uses same lives (λ r some. uses_fewer header.size task.0 r k.maps maps k.chains (Some made) m.core.spaces.entries same lives cuts.own
+                  some)
+                  (record { rows = shown_tasks.rows; filled = fills_here {past = event.Removed task address bytes ∷ past} c.waits c.used.copies }) c.entries.most
+                  (λ t r none why.
+                  let other = elsewhere maps task.0 t made same.changed none in
+                  let was = sym (changes.others t (λ e. other (sym e))) ∙ none in
+                  holds_rows header.size task.0 t r k.maps rows _ past lives was ∙ m.core.spaces.uses.apart t r was why);
+              homes = homes_caused header outside h chains (event.Removed task address bytes) past (command.Deallocate task address bytes, idle) c.homes;
+            };
+            objects = c.objects;
+            controls = m.core.controls;
+            pages = m.core.pages;
+          };
           settled = record { none_owed = refl; shut = λ region. refl };
           replied = replied_behind tt m.replied;
-          laundry = m.laundry;
-          frames = m.frames;
         };
         waits = c.waits;
         order = s.rests.order;
@@ -221,7 +208,7 @@ sweeps_removed header h outside task address bytes past events k ids maps chains
               settled = m.settled;
               cause = idle;
               own_bytes = tt;
-              frames = suffices header h k.memory.frames (event.Removed task address bytes ∷ past) m.frames;
+              frames = suffices header h k.memory.frames (event.Removed task address bytes ∷ past) m.core.pages.counted;
               inner = tt;
               said = tt;
               own = own_task h task.0 past s.acts;
@@ -255,7 +242,7 @@ pub exit_gone : {header : Header} {h : ℕ} {task : TaskId} {past events : List 
 exit_gone {task = task} {k = k} gone s value =
     let m = s.rests.matches in
     let live = lives_as task.0 k.maps gone value in
-    sym live.0 ∙ sym (m.tasks.rows task.0 (ap is_some value))
+    sym live.0 ∙ sym (m.core.spaces.tasks.rows task.0 (ap is_some value))
 
 pub removed_gone : {header : Header} {h : ℕ} {task : TaskId} {address bytes : ℕ} {past events : List Event} {k : Parts} {ids : Ids} (change : MapChange)
     (gone : List Entry) → Starts header h (command.Deallocate task address bytes) past k ids events
@@ -263,5 +250,5 @@ pub removed_gone : {header : Header} {h : ℕ} {task : TaskId} {address bytes : 
 removed_gone {header = header} {task = task} {address = address} {bytes = bytes} {k = k} change gone s is taken =
     let m = s.rests.matches in
     let rows = rows_in task.0 k.maps in
-    taken ∙ (ap (λ z. parts_for k.maps task.0 z) is ∙ (ap (λ z. parts_in z address bytes rows) m.tasks.sized
-    ∙ ap (λ z. parts_in header.size address bytes z) (sym (m.tasks.rows task.0 (ap is_some (lives_in task.0 m.tasks s.acts))))))
+    taken ∙ (ap (λ z. parts_for k.maps task.0 z) is ∙ (ap (λ z. parts_in z address bytes rows) m.core.spaces.tasks.sized
+    ∙ ap (λ z. parts_in header.size address bytes z) (sym (m.core.spaces.tasks.rows task.0 (ap is_some (lives_in task.0 m.core.spaces.tasks s.acts))))))

@@ -114,7 +114,7 @@ pub object_under : (header : Header) (h : ℕ) (past : List Event) (who : Woken)
     → EndsBelow header (events ++ past) object.0 events after
 object_under header h past who k ids rest object events after memory chains laundry e is =
     finish_below header (events ++ past) k.host object.0 object (state_of k.memory k.chains k.laundry events) (state_of memory chains laundry after) (0, refl)
-    e.runs.matches.regions.shadows is
+    e.runs.matches.core.objects.regions.shadows is
 
 -- the top of a region is as the history says
 pub region_under : (header : Header) (h : ℕ) (past : List Event) (who : Woken) (k : Parts) (ids : Ids) (rest : List Entry) (r : ℕ) (events after : List Event)
@@ -124,4 +124,4 @@ region_under header h past who k ids rest r events after object e top below =
     let row = region_row k.chains r e.there in
     let same : object ≡ row.0.top = subst (λ z. IfSome z (λ row. object ≡ row.top)) row.1 top in
     subst (λ (z : ℕ). EndsBelow header (events ++ past) z events after) (ap (λ (z : ObjectId). z.0) same
-    ∙ sym (ap (λ (z : Region). z.top) (e.runs.matches.regions.rows r row.0 row.1))) below
+    ∙ sym (ap (λ (z : Region). z.top) (e.runs.matches.core.objects.regions.rows r row.0 row.1))) below

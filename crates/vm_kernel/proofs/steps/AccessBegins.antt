@@ -1,4 +1,5 @@
 -- A load or store begins: its task waits, and the access is to be run.
+use Rattle.vm_kernel.proofs.memory.CoreChanges.{core_holds}
 use Rattle.vm_kernel.proofs.Common.{Access, AllUsed, Asker, BeganInOrder, Bool, ChainTable, Code, Command, EndsNext, Entry, Event, FindsPage, Grows, HasWaiters}
 use Rattle.vm_kernel.proofs.Common.{Header, Ids, IsAllowed, IsDoneInTurn, IsLined, IsNextAccess, IsOfNumber, IsSizedWant, LegalEvents, List, Mapped, Matches}
 use Rattle.vm_kernel.proofs.Common.{None, ObjectTable, On, Option, Outside, Parts, PutsEntry, Ran, Reason, ResidentTable, Rests, RunsFirst, Some, Starts}
@@ -67,7 +68,7 @@ fine_of header h k ids past task address n need m here fine =
     (access_refusal need (entry_at address (entries_of header.size task past)))) fine in
     let test = passed (not (address % n == 0)) code.InvalidArgument (access_refusal need (entry_at address (entries_of header.size task past))) acts.passes in
     let found = found_of need (entry_at address (entries_of header.size task past)) test.1 in
-    let lives = lives_in task m.tasks here in
+    let lives = lives_in task m.core.spaces.tasks here in
     record {
       idle = acts.idle;
       even = elim (eqb_tells (address % n) 0) [
@@ -78,7 +79,7 @@ fine_of header h k ids past task address n need m here fine =
           record {
             entry = found.0;
             lives = lives;
-            found = ap (entry_at address) (sym (rows_here m.tasks lives)) ∙ found.1;
+            found = ap (entry_at address) (sym (rows_here m.core.spaces.tasks lives)) ∙ found.1;
             allowed = found.2;
           };
     }
@@ -138,55 +139,19 @@ begun_matches : (header : Header) (h : ℕ) (k : Parts) (ids : Ids) (past : List
     → Matches header h (record k { waits = waits }) ids [] (begun task what ∷ past)
 begun_matches header h k ids past waits task (Loads address size) rows same m lives =
     record {
-      ranged = m.ranged;
-      declared = m.declared;
-      kinds = m.kinds;
-      shared = m.shared;
-      known = m.known;
-      size = m.size;
-      host = m.host;
-      fits = m.fits;
-      tasks = m.tasks;
-      regions = m.regions;
-      entries = m.entries;
-      pages = m.pages;
-      uses =
-          uses_refilled k.waits.rows waits.rows same (uses_still header k.maps _ _ _ _ _ m.uses
-          (λ t r none. holds_waits header.size task.0 t r k.maps rows past _ lives none));
-      controls = m.controls;
-      homes = m.homes;
-      files = m.files;
-      sizes = m.sizes;
+      core = core_holds m.core
+          (uses_refilled k.waits.rows waits.rows same (uses_still header k.maps _ _ _ _ _ m.core.spaces.uses
+          (λ t r none. holds_waits header.size task.0 t r k.maps rows past _ lives none)));
       settled = record { none_owed = refl; shut = λ region. refl };
       replied = replied_behind tt m.replied;
-      laundry = m.laundry;
-      frames = m.frames;
     }
 begun_matches header h k ids past waits task (Stores address size value) rows same m lives =
     record {
-      ranged = m.ranged;
-      declared = m.declared;
-      kinds = m.kinds;
-      shared = m.shared;
-      known = m.known;
-      size = m.size;
-      host = m.host;
-      fits = m.fits;
-      tasks = m.tasks;
-      regions = m.regions;
-      entries = m.entries;
-      pages = m.pages;
-      uses =
-          uses_refilled k.waits.rows waits.rows same (uses_still header k.maps _ _ _ _ _ m.uses
-          (λ t r none. holds_waits header.size task.0 t r k.maps rows past _ lives none));
-      controls = m.controls;
-      homes = m.homes;
-      files = m.files;
-      sizes = m.sizes;
+      core = core_holds m.core
+          (uses_refilled k.waits.rows waits.rows same (uses_still header k.maps _ _ _ _ _ m.core.spaces.uses
+          (λ t r none. holds_waits header.size task.0 t r k.maps rows past _ lives none)));
       settled = record { none_owed = refl; shut = λ region. refl };
       replied = replied_behind tt m.replied;
-      laundry = m.laundry;
-      frames = m.frames;
     }
 
 begun_waiting : (pages : ℕ) (task : TaskId) (what : Number) (past : List Event) (t : ℕ)
@@ -211,7 +176,7 @@ begun_grows header h outside k ids past task (Loads address size) m fine here =
       settled = m.settled;
       cause = acts task.0 past _ fine;
       own_bytes = tt;
-      frames = suffices header h k.memory.frames past m.frames;
+      frames = suffices header h k.memory.frames past m.core.pages.counted;
       inner = tt;
       said = tt;
       own = own_task h task.0 past here;
@@ -223,7 +188,7 @@ begun_grows header h outside k ids past task (Stores address size value) m fine 
       settled = m.settled;
       cause = acts task.0 past _ fine;
       own_bytes = tt;
-      frames = suffices header h k.memory.frames past m.frames;
+      frames = suffices header h k.memory.frames past m.core.pages.counted;
       inner = tt;
       said = tt;
       own = own_task h task.0 past here;

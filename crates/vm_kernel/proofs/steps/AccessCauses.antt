@@ -91,8 +91,8 @@ unmarked_of header h past k task what top at to plain store = to.marks ∙ plain
 own_marked : (header : Header) (h : ℕ) (past : List Event) (k : Parts) (ids : Ids) (region : RegionId) (row : RegionRow)
     → Matches header h k ids [] past → region_at k.chains region.0 ≡ Some row → row.marked ≡ true → (g : ℕ) → in_use header g region.0 past ≡ true → g ≡ h
 own_marked header h past k ids region row m there marked g used =
-    let temporary = marked_temporary m.regions m.homes.1 region.0 row there marked in
-    m.homes.1.stay g h region.0 used (m.homes.0 region.0 row (paged_temporary header region.0 temporary) there)
+    let temporary = marked_temporary m.core.objects.regions m.core.spaces.homes.1 region.0 row there marked in
+    m.core.spaces.homes.1.stay g h region.0 used (m.core.spaces.homes.0 region.0 row (paged_temporary header region.0 temporary) there)
 
 -- the region of a store, whose top has another reference, gets an object of its own
 pub shadow_caused : (header : Header) (h : ℕ) (past : List Event) (k : Parts) (ids : Ids) (task : TaskId) (what : Want) (top : PageKey)
@@ -102,8 +102,8 @@ pub shadow_caused : (header : Header) (h : ℕ) (past : List Event) (k : Parts) 
     → Shadows header at.entry.region.0 object.0 at.row.top.0 past
 shadow_caused header h past k ids task what top at object address size value works to is marked shared next =
     record {
-      next = next ∙ works.matches.regions.object;
-      is_top = ap (λ (z : Region). z.top) (works.matches.regions.rows at.entry.region.0 at.row at.region);
+      next = next ∙ works.matches.core.objects.regions.object;
+      is_top = ap (λ (z : Region). z.top) (works.matches.core.objects.regions.rows at.entry.region.0 at.row at.region);
       marked = to.marks ∙ marked;
       task = task.0;
       address = address;
@@ -136,7 +136,7 @@ pub unmark_caused : (header : Header) (h : ℕ) (past : List Event) (k : Parts) 
     → Works header h k ids woken.Nobody past → Leads header h past k task.0 what top at → what ≡ want.Store address size value → at.row.marked ≡ true
     → has_one (object_at k.memory.objects at.row.top.0) ≡ true → Unmarks header at.entry.region.0 past
 unmark_caused header h past k ids task what top at address size value works to is marked sole =
-    let rows = works.matches.regions in
+    let rows = works.matches.core.objects.regions in
     let r = at.entry.region.0 in
     record {
       marked = to.marks ∙ marked;

@@ -95,7 +95,7 @@ hit_load header h outside doing past k ids w top events steps key row address si
     let works = works_loaded header h moment k ids w key value waits2 (subst IsOfNumber (sym is) tt) t.works t.is t.now put in
     let to = leads_there header h moment k ids w top t in
     let s = shown_at t.works.matches in
-    let enough = suffices header h k.memory.frames (loaded ∷ moment) works.matches.frames in
+    let enough = suffices header h k.memory.frames (loaded ∷ moment) works.matches.core.pages.counted in
     subst (λ (z : Event). Reaches header h outside doing past events (record k { memory = m2; waits = waits2 }) ids (z ∷ events)) (sym hits.2)
     (record {
       works = works_touched header h (loaded ∷ moment) (record k { waits = waits2 }) ids woken.Nobody row.frame m2 hits.1 works;
@@ -117,7 +117,7 @@ hit_store header h outside doing past k ids w top events row address size number
     t.is t.now put hits.1.1 finds.found finds.here out in
     let to = leads_there header h moment k ids w top t in
     let s = shown_at t.works.matches in
-    let enough = suffices header h mid.frames (stored ∷ moment) works.matches.frames in
+    let enough = suffices header h mid.frames (stored ∷ moment) works.matches.core.pages.counted in
     subst (λ (z : Event). Reaches header h outside doing past events (record k { memory = m2; waits = waits2 }) ids (z ∷ events)) (sym hits.2)
     (record {
       works = works_touched header h (stored ∷ moment) (record k { memory = mid; waits = waits2 }) ids woken.Nobody row.frame m2 hits.1.2 works;
@@ -169,9 +169,9 @@ top_temporary : (header : Header) (h : ℕ) (past : List Event) (k : Parts) (ids
     → Sinks k.memory k.chains top → named header ≤ top.object.0
 top_temporary header h past k ids w top t sinks = elim (over.none) [
   | inl without ↦ untold_temporary header k.memory.objects top.object.0 over.row (leads_there header h past k ids w top t).referred over.known
-      (m.kinds.kinds top.object.0 over.row over.known) without
+      (m.core.objects.kinds.kinds top.object.0 over.row over.known) without
   | inr lacked ↦ elim (kind_cases header top.object.0) [
-    | inl declared ↦ absurd (let bad : false ≡ true = sym (m.kinds.present top.object.0 top.page.0 declared) ∙ lacked in cc)
+    | inl declared ↦ absurd (let bad : false ≡ true = sym (m.core.objects.kinds.present top.object.0 top.page.0 declared) ∙ lacked in cc)
     | inr temporary ↦ temporary
   ]
 ]
@@ -199,12 +199,12 @@ ended header h outside doing past k ids w top events value m2 after waits2 numbe
     let s = shown_at t.works.matches in
     let store = store_of w.want stores in
     let works1 = works_raised header h moment k ids steps key top row frame copied t.works finds.walks
-    (at_unfilled header.size w.task.0 w.want top k.maps k.chains [] t.works.matches.entries t.at) to.referred finds.found finds.here raises keeps in
+    (at_unfilled header.size w.task.0 w.want top k.maps k.chains [] t.works.matches.core.spaces.entries t.at) to.referred finds.found finds.here raises keeps in
     let t1 = tries_on header h moment (raised ∷ moment) k ids w top copied t works1 in
     let one = goes_one header h outside doing past events raised t.works.matches.settled
     (raised_follows header h outside doing moment k w.task.0 w.want top t.at store.address store.size store.value steps key row to s store.is (t.clear stores)
     finds out
-    (suffices header h copied.frames (raised ∷ moment) works1.matches.frames)) in
+    (suffices header h copied.frames (raised ∷ moment) works1.matches.core.pages.counted)) in
     let row2 : PageRow = record (clean_row frame unlocked false) { dirty = true } in
     let there : Finds copied k.chains 0 top top row2 = record {
       walks = refl;
@@ -224,11 +224,11 @@ ended header h outside doing past k ids w top events value m2 after waits2 numbe
     let to = leads_there header h moment k ids w top t in
     let s = shown_at t.works.matches in
     let works1 = works_zeroed header h moment k ids top frame brought t.works sinks
-    (at_unfilled header.size w.task.0 w.want top k.maps k.chains [] t.works.matches.entries t.at) to.referred brings keeps in
+    (at_unfilled header.size w.task.0 w.want top k.maps k.chains [] t.works.matches.core.spaces.entries t.at) to.referred brings keeps in
     let t1 = tries_on header h moment (zeros ∷ moment) k ids w top brought t works1 in
     let one = goes_one header h outside doing past events zeros t.works.matches.settled
     (zeroed_follows header h outside doing moment k w.task.0 w.want top t.at (top_temporary header h moment k ids w top t sinks) to s t.clear sinks
-    (suffices header h brought.frames (zeros ∷ moment) works1.matches.frames)) in
+    (suffices header h brought.frames (zeros ∷ moment) works1.matches.core.pages.counted)) in
     let row2 : PageRow = clean_row frame unlocked false in
     let there : Finds brought k.chains 0 top top row2 = record {
       walks = refl;
@@ -278,7 +278,7 @@ asked header h outside doing past k ids w top key events m2 after waits2 t a put
       works = works;
       goes = goes_one header h outside doing past events request t.works.matches.settled
           (request_follows header h outside doing moment k w.task.0 w.want top t.at a.steps key a.object to s t.clear a.comes a.ready
-          (suffices header h m2.frames (request ∷ moment) works.matches.frames));
+          (suffices header h m2.frames (request ∷ moment) works.matches.core.pages.counted));
     })
 
 -- an unlock of its page is asked for
@@ -301,8 +301,8 @@ unlocked_by header h outside doing past k ids w top key events m2 after waits2 t
       works = works;
       goes = goes_one header h outside doing past events unlock t.works.matches.settled
           (unlock_follows header h outside doing moment k w.task.0 w.want top t.at a.steps key a.row a.object to s t.works.matches.replied t.works.referred
-          t.works.matches.controls a.finds a.known (kept_anywhere a.row.lock w.want a.steps a.locked) a.none
-          (suffices header h m2.frames (unlock ∷ moment) works.matches.frames));
+          t.works.matches.core.controls a.finds a.known (kept_anywhere a.row.lock w.want a.steps a.locked) a.none
+          (suffices header h m2.frames (unlock ∷ moment) works.matches.core.pages.counted));
     })
 
 -- the region of a store has an object of its own first, or loses its mark
@@ -362,10 +362,10 @@ prepared header h outside doing past k ids w may answer events new works is now 
         let cause = shadow_caused header h moment k ids w.task w.want before at made.object store.address store.size store.value works to store.is
         both.1 made.shared made.next in
         let works1 = works_shadowed header h outside doing moment k ids f.entry.region f.row (state_of k ids events) f.mid works refl refl refl f.region
-        (entry_some header.size f.entry.region.0 w.task.0 k.maps k.chains [] f.row works.matches.entries f.region
+        (entry_some header.size f.entry.region.0 w.task.0 k.maps k.chains [] f.row works.matches.core.spaces.entries f.region
         (on_its_region (address_in k.maps.size w.want) (rows_in w.task.0 k.maps) f.entry f.found)) both.1 made cause in
         let follows = shadowed_follows header h outside doing moment k ids f.entry.region made.object f.row works.matches f.region both.1 cause
-        (suffices header h f.mid.parts.frames (shadow ∷ moment) works1.matches.frames) in
+        (suffices header h f.mid.parts.frames (shadow ∷ moment) works1.matches.core.pages.counted) in
         let row2 : RegionRow = record f.row { top = made.object; shift = 0; marked = false } in
         let region : region_at f.mid.chains f.entry.region.0 ≡ Some row2 =
         made.chains.at f.entry.region.0 ∙ ap (λ b. if b then Some row2 else region_at k.chains f.entry.region.0) (own_host f.entry.region.0) in
@@ -390,10 +390,10 @@ prepared header h outside doing past k ids w may answer events new works is now 
         let to = leads_of header h k ids moment woken.Nobody w.task.0 w before works.matches works.waits works.used.copies is at in
         let cause = unmark_caused header h moment k ids w.task w.want before at store.address store.size store.value works to store.is both.1 loses.sole in
         let works1 = works_unmarked header h outside doing moment k ids f.entry.region f.row (state_of k ids events) f.mid works refl refl refl f.region
-        (entry_some header.size f.entry.region.0 w.task.0 k.maps k.chains [] f.row works.matches.entries f.region
+        (entry_some header.size f.entry.region.0 w.task.0 k.maps k.chains [] f.row works.matches.core.spaces.entries f.region
         (on_its_region (address_in k.maps.size w.want) (rows_in w.task.0 k.maps) f.entry f.found)) both.1 loses cause in
         let follows = unmarked_follows header h outside doing moment k ids f.entry.region f.row works.matches f.region both.1 cause
-        (suffices header h f.mid.parts.frames (mark ∷ moment) works1.matches.frames) in
+        (suffices header h f.mid.parts.frames (mark ∷ moment) works1.matches.core.pages.counted) in
         let row2 : RegionRow = record f.row { marked = false } in
         let region : region_at f.mid.chains f.entry.region.0 ≡ Some row2 =
         loses.chains.at f.entry.region.0 ∙ ap (λ b. if b then Some row2 else region_at k.chains f.entry.region.0) (own_host f.entry.region.0) in
@@ -453,9 +453,9 @@ done_reaches header h outside doing past k ids w may value events new waits2 num
     let p = prepared header h outside doing past k ids w may (step.Done value) events new works is now f in
     let address = address_in k.maps.size w.want in
     let named = subst (λ (z : HostId). Ended z w.task w.want f.top (address % k.memory.buffers.size) value f.mid.parts new.parts f.mid.chains f.mid.events
-    new.events) (named_host k.host h works.matches.host) f.comes in
+    new.events) (named_host k.host h works.matches.core.setting.numbered) f.comes in
     let sized = subst (λ (z : ℕ). Ended (host_id h) w.task w.want f.top (address % z) value f.mid.parts new.parts f.mid.chains f.mid.events new.events)
-    (works.matches.fits.buffers ∙ works.matches.size) named in
+    (works.matches.core.fits.buffers ∙ works.matches.core.setting.sized) named in
     settle header h outside doing past k events f.mid new waits2 p.goes (ended header h outside doing past (with_state k f.mid) f.mid.ids w f.top f.mid.events
     value new.parts new.events waits2 number p.tries sized put) f.chains f.ids
 
@@ -495,7 +495,7 @@ page_reaches header h outside doing past k ids w may answer key events new waits
     (λ (z : FaultStep). Faulted k.maps k.host w.task w.want may z (state_of k ids events) new) asks faulted in
     let p = prepared header h outside doing past k ids w may (step.Ask key) events new works is now f in
     let named = subst (λ (z : HostId). RequestsPage z w.want f.top key f.mid.parts new.parts f.mid.chains f.mid.events new.events)
-    (named_host k.host h works.matches.host) f.comes in
+    (named_host k.host h works.matches.core.setting.numbered) f.comes in
     settle header h outside doing past k events f.mid new waits2 p.goes (asked header h outside doing past (with_state k f.mid) f.mid.ids w f.top key
     f.mid.events new.parts new.events waits2 p.tries named put) f.chains f.ids
 page_reaches header h outside doing past k ids w may answer key events new waits2 works is now faulted (inr (inl unlocks)) put =
@@ -503,7 +503,7 @@ page_reaches header h outside doing past k ids w may answer key events new waits
     (λ (z : FaultStep). Faulted k.maps k.host w.task w.want may z (state_of k ids events) new) unlocks faulted in
     let p = prepared header h outside doing past k ids w may (step.Unlock key) events new works is now f in
     let named = subst (λ (z : HostId). AsksUnlock z w.want f.top key f.mid.parts new.parts f.mid.chains f.mid.events new.events)
-    (named_host k.host h works.matches.host) f.comes in
+    (named_host k.host h works.matches.core.setting.numbered) f.comes in
     settle header h outside doing past k events f.mid new waits2 p.goes (unlocked_by header h outside doing past (with_state k f.mid) f.mid.ids w f.top key
     f.mid.events new.parts new.events waits2 p.tries named put) f.chains f.ids
 page_reaches header h outside doing past k ids w may answer key events new waits2 works is now faulted (inr (inr joins)) put =

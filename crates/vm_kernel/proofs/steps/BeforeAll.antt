@@ -70,20 +70,39 @@ first_rests header h k count ranged known size host declared hosts start maps re
     record {
       matches =
           record {
-            ranged = ranged;
-            known = known;
-            size = size;
-            host = host;
-            declared = declared;
-            fits =
-                record {
-                  parts = start.fit;
-                  plain = λ o p row is. none_of (row_at k.memory.resident o p) row (rows o p) is;
-                  buffers = ap (λ z. z.size) start.buffers ∙ sym size;
-                };
-            tasks = rw maps (record { sized = refl; hosts = λ task. refl; rows = λ task here. refl });
-            regions =
-                record {
+            core = record {
+              setting = record {
+                ranged = ranged;
+                known = known;
+                sized = size;
+                numbered = host;
+                objects = declared;
+              };
+              fits = record {
+                parts = start.fit;
+                plain = λ o p row is. none_of (row_at k.memory.resident o p) row (rows o p) is;
+                buffers = ap (λ z. z.size) start.buffers ∙ sym size;
+              };
+              spaces = record {
+                tasks = rw maps (record { sized = refl; hosts = λ task. refl; rows = λ task here. refl });
+                entries = rw maps (record {
+                  inside = λ task. tt;
+                  known = tt;
+                  most = λ task le. refl;
+                  few = λ task. omega arith;
+                  counts = λ r row is. none_of (region_at k.chains r) row (regions r) is;
+                });
+                shared = rw maps (λ task. tt);
+                uses = rw maps (record {
+                  used = no_use;
+                  files = λ r file some. let nothing = no_entries header.size r in absurd (omega (arith, some, nothing));
+                  among = λ task rows is. none_of None rows refl is;
+                  apart = λ task r none why. refl;
+                });
+                homes = (λ r row paged is. none_of (region_at k.chains r) row (regions r) is, homes_start header);
+              };
+              objects = record {
+                regions = record {
                   region = refl;
                   object = refl;
                   marks = sym no_marks;
@@ -103,62 +122,45 @@ first_rests header h k count ranged known size host declared hosts start maps re
                       };
                   counts = λ o row is. none_of (object_at k.memory.objects o) row (objects o) is;
                 };
-            kinds =
-                record {
+                kinds = record {
                   kinds = λ o row is. none_of (object_at k.memory.objects o) row (objects o) is;
                   present = λ o p less. marks o p;
                   tops = λ r row least is. none_of (region_at k.chains r) row (regions r) is;
                   unders = λ o row is. none_of (shadow_at k.chains o) row (shadows o) is;
                 };
-            shared = rw maps (λ task. tt);
-            entries =
-                rw maps (record {
-                  inside = λ task. tt;
-                  known = tt;
-                  most = λ task le. refl;
-                  few = λ task. omega arith;
-                  counts = λ r row is. none_of (region_at k.chains r) row (regions r) is;
-                });
-            pages = record { shown = λ o p. rw (rows o p, marks o p) (ap (λ z. record away { absent = z }) (and-false (not (nat_lt o (named header))))) };
-            uses =
-                rw maps (record {
-                  used = no_use;
-                  files = λ r file some. let nothing = no_entries header.size r in absurd (omega (arith, some, nothing));
-                  among = λ task rows is. none_of None rows refl is;
-                  apart = λ task r none why. refl;
-                });
-            controls =
-                record {
-                  last = λ o. sym (ap last_in (objects o));
-                  live = λ o. sym (ap live_in (objects o));
-                  ready = λ o control live. none_of None control refl live;
-                  all_live = record { at = λ o row is. none_of (object_at k.memory.objects o) row (objects o) is };
-                  numbers = record { at = λ o row is. none_of (object_at k.memory.objects o) row (objects o) is };
-                  ended = λ o row is. none_of (object_at k.memory.objects o) row (objects o) is;
-                  home = λ o row least is. none_of (object_at k.memory.objects o) row (objects o) is;
+                files = λ o file. sym (ap is_some (objects o));
+                sizes = record {
+                  at = λ o row least is. none_of (object_at k.memory.objects o) row (objects o) is;
+                  few = λ o row is. none_of (object_at k.memory.objects o) row (objects o) is;
                 };
-            homes = (λ r row paged is. none_of (region_at k.chains r) row (regions r) is, homes_start header);
-            files = λ o file. sym (ap is_some (objects o));
-            sizes = record {
-              at = λ o row least is. none_of (object_at k.memory.objects o) row (objects o) is;
-              few = λ o row is. none_of (object_at k.memory.objects o) row (objects o) is;
-            };
-            settled = record { none_owed = refl; shut = λ region. refl };
-            replied = replied_none refl;
-            laundry =
-                record {
+              };
+              controls = record {
+                last = λ o. sym (ap last_in (objects o));
+                live = λ o. sym (ap live_in (objects o));
+                ready = λ o control live. none_of None control refl live;
+                all_live = record { at = λ o row is. none_of (object_at k.memory.objects o) row (objects o) is };
+                numbers = record { at = λ o row is. none_of (object_at k.memory.objects o) row (objects o) is };
+                ended = λ o row is. none_of (object_at k.memory.objects o) row (objects o) is;
+                home = λ o row least is. none_of (object_at k.memory.objects o) row (objects o) is;
+              };
+              pages = record {
+                shown = record { shown = λ o p. rw (rows o p, marks o p) (ap (λ z. record away { absent = z }) (and-false (not (nat_lt o (named header))))) };
+                washed = record {
                   count = sym (ap length held);
                   room = let none = ap length held in omega (arith, none, room, counted);
                   washed = subst (All (IsWashed k.memory.frames k.memory.resident)) (sym held) (λ f none less. absurd (omega arith));
                   apart = subst EachApart (sym held) tt;
                 };
-            frames =
-                record {
+                counted = record {
                   total = hosts ∙ ap Some (sym counted);
                   held = sym nothing;
                   wired = sym (ap (λ z. z.wired) frames);
                   fits = let none = ap (λ z. z.wired) frames in omega (arith, nothing, none);
                 };
+              };
+            };
+            settled = record { none_owed = refl; shut = λ region. refl };
+            replied = replied_none refl;
           };
       used = record {
         regions = λ r row is. none_of (region_at k.chains r) row (regions r) is;
@@ -197,27 +199,9 @@ rests_line header h k ids line past rests =
     record {
       matches =
           record {
-            ranged = m.ranged;
-            declared = m.declared;
-            kinds = m.kinds;
-            shared = m.shared;
-            known = m.known;
-            size = m.size;
-            host = m.host;
-            fits = m.fits;
-            tasks = m.tasks;
-            regions = m.regions;
-            entries = m.entries;
-            pages = m.pages;
-            uses = m.uses;
-            controls = m.controls;
-            homes = m.homes;
-            files = m.files;
-            sizes = m.sizes;
+            core = m.core;
             settled = record { none_owed = refl; shut = λ region. refl };
             replied = replied_none refl;
-            laundry = m.laundry;
-            frames = m.frames;
           };
       used = rests.used;
       referred = rests.referred;
@@ -235,7 +219,7 @@ may_make header h given past task line k ids same is rests below =
     record {
       rests = rests_line header h k ids line [] rests;
       acts = own_host h;
-      range = (below, rests.matches.known);
+      range = (below, rests.matches.core.setting.known);
       accepted = refl;
       begins = record { line = line; before = []; is = refl };
       nothing = refl;

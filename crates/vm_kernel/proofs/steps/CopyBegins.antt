@@ -1,4 +1,5 @@
 -- A slow copy begins: its region is there at once, over an object of its own, and its task waits.
+use Rattle.vm_kernel.proofs.memory.CoreChanges.{pages_known_so}
 use Rattle.vm_state.proofs.KnownPages.{sizes_made}
 use Rattle.vm_kernel.proofs.Common.{AllUsed, BeganInOrder, Bool, ChainTable, Command, EachOf, Entry, Event, Grows, HasEntries, HasRegions, HasUse, HasWaiters}
 use Rattle.vm_kernel.proofs.Common.{Header, Ids, InOrder, IsAllowed, IsDoneInTurn, IsFilledIn, IsInUse, IsInside, IsLined, LegalEvents, List}
@@ -149,10 +150,10 @@ may_begin header h task address bytes to past k ids before s is_declared order =
     let size = header.size in
     let pages = bytes / size in
     let p = may_place header h task address bytes task to past k ids before s in
-    let all : length k.declared.items ≡ named header = ap length m.declared in
+    let all : length k.declared.items ≡ named header = ap length m.core.setting.objects in
     let declared : p.entry.region.0 < named header = let less = is_declared p.entry p.found in omega (arith, less, all) in
     let test : nat_lt p.entry.region.0 (named header) ≡ true = grind (arith, nat_tests) in
-    let there : entry_at address (entries_of size task.0 past) ≡ Some p.entry = ap (entry_at address) (rows_here m.tasks p.lives) ∙ p.found in
+    let there : entry_at address (entries_of size task.0 past) ≡ Some p.entry = ap (entry_at address) (rows_here m.core.spaces.tasks p.lives) ∙ p.found in
     let own = to_itself header past task address bytes task to p.entry s.accepted there test in
     let from : is_range size address bytes ≡ true = p.from in
     let even_bytes : bytes % size ≡ 0 = grind (arith, nat_tests) in
@@ -164,9 +165,9 @@ may_begin header h task address bytes to past k ids before s is_declared order =
     full in
     let regions : nat_le most_regions (next_region header past) ≡ false = counts.0 in
     let objects : nat_lt most_objects (next_object header past + marked_regions header past + 1) ≡ false = counts.1 in
-    let next = m.regions.region in
-    let number = m.regions.object in
-    let marked : ids.marks ≡ marked_regions header past = m.regions.marks ∙ sym (regions_marked header past) in
+    let next = m.core.objects.regions.region in
+    let number = m.core.objects.regions.object in
+    let marked : ids.marks ≡ marked_regions header past = m.core.objects.regions.marks ∙ sym (regions_marked header past) in
     record {
       row = p.entry;
       lives = p.lives;
@@ -174,7 +175,7 @@ may_begin header h task address bytes to past k ids before s is_declared order =
       allowed = p.allowed;
       declared = declared;
       copied =
-          copied_range header k.maps task.0 address bytes p.entry m.tasks.sized (page_positive size m.ranged.size) order p.found declared own.0 whole p.ends;
+          copied_range header k.maps task.0 address bytes p.entry m.core.spaces.tasks.sized (page_positive size m.core.setting.ranged.size) order p.found declared own.0 whole p.ends;
       even = grind (arith, nat_tests);
       whole = whole;
       some = some_pages pages size bytes whole some_bytes;
@@ -182,8 +183,8 @@ may_begin header h task address bytes to past k ids before s is_declared order =
       below = grind (arith, nat_tests);
       place =
           record {
-            range = rw (m.tasks.sized, whole) p.range;
-            free = rw (m.tasks.sized, whole) p.free;
+            range = rw (m.core.spaces.tasks.sized, whole) p.range;
+            free = rw (m.core.spaces.tasks.sized, whole) p.free;
             room = grind (arith, nat_tests);
           };
       idle = p.idle;
@@ -277,10 +278,10 @@ module _ (header : Header) (h : ℕ) (outside : Outside) (task : TaskId) (addres
   row = copy_row task address (bytes / header.size) to (record { 0 = ids.next_region }) (record { 0 = ids.next_object })
 
   lives : host_of task.0 past ≡ Some h
-  lives = lives_here rests.matches.tasks may.lives
+  lives = lives_here rests.matches.core.spaces.tasks may.lives
 
   here : lives_on h task.0 past ≡ true
-  here = rests.matches.tasks.hosts task.0 ∙ ap is_some may.lives
+  here = rests.matches.core.spaces.tasks.hosts task.0 ∙ ap is_some may.lives
 
   none : region_at k.chains n ≡ None
   none = region_free header h k ids past rests
@@ -289,7 +290,7 @@ module _ (header : Header) (h : ℕ) (outside : Outside) (task : TaskId) (addres
   unknown = object_free header h k ids past rests
 
   numbers : (ids.next_region ≡ next_region header past) × (ids.next_object ≡ next_object header past)
-  numbers = (rests.matches.regions.region, rests.matches.regions.object)
+  numbers = (rests.matches.core.objects.regions.region, rests.matches.core.objects.regions.object)
 
   least : named header ≤ n
   least = (first_temporary header h past k ids rests).region
@@ -337,18 +338,18 @@ module _ (header : Header) (h : ℕ) (outside : Outside) (task : TaskId) (addres
   own_region = made.region_row.at n ∙ ap (λ b. if b then Some (filled_row target pages) else region_at k.chains n) (itself n)
 
   homes_front : KnowsHomes header h k.chains front
-  homes_front = homes_caused header outside h k.chains begun past (command.Copy task address bytes task to, may.idle) rests.matches.homes
+  homes_front = homes_caused header outside h k.chains begun past (command.Copy task address bytes task to, may.idle) rests.matches.core.spaces.homes
 
   regions_front : HasRegions k.chains k.memory.objects ids (λ r. region_of header r front) (λ o. backing_of header o front) (next_region header front)
       (next_object header front) (marks_of header front)
-  regions_front = rests.matches.regions
+  regions_front = rests.matches.core.objects.regions
 
   regions_now : HasRegions k2.chains k2.memory.objects (ids_after ids) (λ r. region_of header r now) (λ o. backing_of header o now) (next_region header now)
       (next_object header now) (marks_of header now)
   regions_now =
       let mid : ChainTable = record k.chains { regions = (region, new_region target pages) ∷ k.chains.regions } in
       let put = put_first region (new_region target pages) k.chains in
-      let few : next_object header past + marks_of header front < most_objects = let room = may.marks in let number = rests.matches.regions.object in let
+      let few : next_object header past + marks_of header front < most_objects = let room = may.marks in let number = rests.matches.core.objects.regions.object in let
       marks = regions_front.marks in omega (arith, room, number, marks) in
       let there = regions_made header front region target (new_region target pages) (new_object pages) pages k.chains mid k.memory.objects k2.memory.objects ids
       (next_region header past) (next_object header past) (marks_of header front)
@@ -361,7 +362,7 @@ module _ (header : Header) (h : ℕ) (outside : Outside) (task : TaskId) (addres
 
   entries_now : HasEntries header.size k.maps k2.chains []
   entries_now =
-      let has = rests.matches.entries in
+      let has = rests.matches.core.spaces.entries in
       let keeps = keeps_new k.chains k2.chains n (filled_row target pages) none made.region_row in
       record {
         inside =
@@ -409,7 +410,7 @@ module _ (header : Header) (h : ℕ) (outside : Outside) (task : TaskId) (addres
                 is = λ needed. subst (λ (z : ℕ). in_use header h z now ≡ true) same.1 use_own;
               }
           | inr apart ↦
-              let was = m.uses.used r temporary in
+              let was = m.core.spaces.uses.used r temporary in
               let other = use_other r apart.1 in
               record {
                 why = λ used. elim (was.why (sym other ∙ used)) [ inl some ↦ inl some | inr filled ↦ inr (filled_now r apart.1 filled) ];
@@ -417,9 +418,9 @@ module _ (header : Header) (h : ℕ) (outside : Outside) (task : TaskId) (addres
               }
         ];
         files =
-            λ r file some. use_other r (λ same. no_file header n least (subst (λ (z : ℕ). is_file header z ≡ true) (sym same) file)) ∙ m.uses.files r file some;
-        among = m.uses.among;
-        apart = λ t r away why. holds_still t r away ∙ m.uses.apart t r away (either r why);
+            λ r file some. use_other r (λ same. no_file header n least (subst (λ (z : ℕ). is_file header z ≡ true) (sym same) file)) ∙ m.core.spaces.uses.files r file some;
+        among = m.core.spaces.uses.among;
+        apart = λ t r away why. holds_still t r away ∙ m.core.spaces.uses.apart t r away (either r why);
       }
     where
       needed_was : (r : ℕ) → (n ≡ r → ⊥) → IsInUse k.maps waits.rows r → IsInUse k.maps k.waits.rows r
@@ -447,11 +448,11 @@ module _ (header : Header) (h : ℕ) (outside : Outside) (task : TaskId) (addres
         tops = λ q found_row found top. elim (region_cases n (Some (filled_row target pages)) k.chains k2.chains made.region_row q) [
           | inl same ↦ sym same.0
           | inr apart ↦ absurd (not_known (object_at k.memory.objects found_row.top.0) (ap (object_at k.memory.objects) top ∙ unknown)
-              (rests.matches.regions.tops q found_row (sym apart.1 ∙ found)))
+              (rests.matches.core.objects.regions.tops q found_row (sym apart.1 ∙ found)))
         ];
         unders = λ s found_row found under.
             not_known (object_at k.memory.objects found_row.under.0) (ap (object_at k.memory.objects) under ∙ unknown)
-            (rests.matches.regions.unders s found_row (sym (ap (λ f. f s) made.region_row.shadows) ∙ found)).1;
+            (rests.matches.core.objects.regions.unders s found_row (sym (ap (λ f. f s) made.region_row.shadows) ∙ found)).1;
       }
     where
       not_known : (x : Option ObjectRow) → x ≡ None → IsSome x → ⊥
@@ -497,7 +498,7 @@ module _ (header : Header) (h : ℕ) (outside : Outside) (task : TaskId) (addres
       let kept = copies_told
       (copies_kept k.maps k.maps k.chains k2.chains k.memory.resident k.memory.resident rests.used.copies (λ t w found. record { size = refl; entries = refl })
       (put_filled n (filled_row target pages) k.chains k2.chains none made.region_row
-      (unknown_unfilled k.chains k.memory.objects ids.next_object rests.matches.regions.tops unknown)) (rows_unmade k.chains k.memory.resident))
+      (unknown_unfilled k.chains k.memory.objects ids.next_object rests.matches.core.objects.regions.tops unknown)) (rows_unmade k.chains k.memory.resident))
       (λ t w found. told_still t (not_waiting t w found)) in
       record {
         regions = λ r found_row found. elim (region_cases n (Some (filled_row target pages)) k.chains k2.chains made.region_row r) [
@@ -525,13 +526,13 @@ module _ (header : Header) (h : ℕ) (outside : Outside) (task : TaskId) (addres
 
   home_now : home_of n now ≡ Some h
   home_now =
-      let none : home_of n past ≡ None = rests.matches.homes.1.regions n (let number = numbers.0 in omega (arith, number)) in
+      let none : home_of n past ≡ None = rests.matches.core.spaces.homes.1.regions n (let number = numbers.0 in omega (arith, number)) in
       ap (λ b. if b then first_of (home_of n past) (host_of task.0 past) else home_of n past) (itself n)
       ∙ (ap (λ z. first_of z (host_of task.0 past)) none ∙ lives)
 
   object_now : object_home ids.next_object now ≡ Some h
   object_now =
-      let none = rests.matches.homes.1.objects ids.next_object (let number = numbers.1 in omega (arith, number)) in
+      let none = rests.matches.core.spaces.homes.1.objects ids.next_object (let number = numbers.1 in omega (arith, number)) in
       ap (home_in (λ r. home_of r now)) (region_made region target pages front none) ∙ home_now
 
   -- the access waits, and is to be run
@@ -539,7 +540,7 @@ module _ (header : Header) (h : ℕ) (outside : Outside) (task : TaskId) (addres
   waits_now : HasWaiters k.maps k2.chains k.memory.resident k2.memory.objects waits.rows (is_woken woken.Nobody) (λ t. waiting t now) (StaysAway header h now)
       (IsUnmet header h now)
   waits_now =
-      let sized = rests.matches.tasks.sized in
+      let sized = rests.matches.core.spaces.tasks.sized in
       let before = waits_known k.maps k2.chains k.memory.resident k.memory.objects k2.memory.objects k.waits.rows (is_woken woken.Nobody) (λ t. waiting t past)
       (waits_kept k.maps k.maps k.chains k2.chains k.memory.resident k.memory.objects k.waits.rows (is_woken woken.Nobody) (λ t. waiting t past) rests.waits
       (λ t w found. record { size = refl; entries = refl })
@@ -566,48 +567,41 @@ module _ (header : Header) (h : ℕ) (outside : Outside) (task : TaskId) (addres
       let m = rests.matches in
       let temporary = first_temporary header h past k ids rests in
       record {
-        ranged = m.ranged;
-        known = m.known;
-        size = m.size;
-        host = m.host;
-        declared = m.declared;
-        fits =
-            record {
-              parts = fit_range k.memory k2.memory.objects k.chains ids.next_object (new_object pages) m.fits.parts rests.referred unknown
-                  made.object_row;
-              plain = m.fits.plain;
-              buffers = m.fits.buffers;
-            };
-        tasks = m.tasks;
-        regions = regions_now;
-        kinds =
-            kinds_region header n (filled_row target pages) k2.memory.objects k.chains k2.chains made.region_row (λ is. temporary.object)
-            (kinds_put header ids.next_object (new_object pages) k.memory.objects k2.memory.objects k.chains made.object_row made.marks
-            (kind_new header ids.next_object (new_object pages) pages temporary.object refl) m.kinds);
-        homes =
-            homes_put header h k.chains k2.chains n (filled_row target pages) now made.region_row.at (λ paged. home_now)
-            (homes_caused header outside h k.chains its front (command.Copy task address bytes task to, numbers) homes_front);
-        files = λ o file.
-            ap (is_on h) (home_made o region target pages front (λ same. no_file header n least (subst (λ (z : ℕ). is_file header z ≡ true) (sym same) file)))
-            ∙ files_temporary header h ids.next_object (Some (new_object pages)) k.memory.objects k2.memory.objects (λ z. home_of z past) temporary.object
-            made.object_row m.files o file;
-        sizes =
-            sizes_made header front (named header) region target pages (new_object pages) k.memory.objects k2.memory.objects made.object_row may.short
-            refl m.sizes;
-        entries = entries_now;
-        shared = m.shared;
-        pages =
-            pages_marked k.memory.frames k.memory.resident k.memory.objects k2.memory.objects
-            (λ o p. known_local header o p (local header h (place_of o p) past)) m.pages made.marks;
-        uses = uses_now;
-        controls =
-            controls_made k.memory.objects k2.memory.objects (λ o. last_control h o past) (λ o. live_control h o past) (λ o. is_ready h o past) ids.next_object
-            pages m.controls unknown made.object_row
-            (λ o is. objects_stay o h (its ∷ begun ∷ []) past is) object_now;
+        core = record {
+          setting = m.core.setting;
+          fits = record {
+            parts = fit_range k.memory k2.memory.objects k.chains ids.next_object (new_object pages) m.core.fits.parts rests.referred unknown
+                made.object_row;
+            plain = m.core.fits.plain;
+            buffers = m.core.fits.buffers;
+          };
+          spaces = record {
+            tasks = m.core.spaces.tasks;
+            entries = entries_now;
+            shared = m.core.spaces.shared;
+            uses = uses_now;
+            homes = homes_put header h k.chains k2.chains n (filled_row target pages) now made.region_row.at (λ paged. home_now)
+                (homes_caused header outside h k.chains its front (command.Copy task address bytes task to, numbers) homes_front);
+          };
+          objects = record {
+            regions = regions_now;
+            kinds = kinds_region header n (filled_row target pages) k2.memory.objects k.chains k2.chains made.region_row (λ is. temporary.object)
+                (kinds_put header ids.next_object (new_object pages) k.memory.objects k2.memory.objects k.chains made.object_row made.marks
+                (kind_new header ids.next_object (new_object pages) pages temporary.object refl) m.core.objects.kinds);
+            files = λ o file.
+                ap (is_on h) (home_made o region target pages front (λ same. no_file header n least (subst (λ (z : ℕ). is_file header z ≡ true) (sym same) file)))
+                ∙ files_temporary header h ids.next_object (Some (new_object pages)) k.memory.objects k2.memory.objects (λ z. home_of z past) temporary.object
+                made.object_row m.core.objects.files o file;
+            sizes = sizes_made header front (named header) region target pages (new_object pages) k.memory.objects k2.memory.objects made.object_row may.short
+                refl m.core.objects.sizes;
+          };
+          controls = controls_made k.memory.objects k2.memory.objects (λ o. last_control h o past) (λ o. live_control h o past) (λ o. is_ready h o past) ids.next_object
+              pages m.core.controls unknown made.object_row
+              (λ o is. objects_stay o h (its ∷ begun ∷ []) past is) object_now;
+          pages = pages_known_so made.marks m.core.pages;
+        };
         settled = record { none_owed = refl; shut = λ r. none_left (r == n) };
         replied = replied_behind tt (replied_behind tt m.replied);
-        laundry = m.laundry;
-        frames = m.frames;
       }
 
   pub works_now : waits.rows ≡ k.waits.rows ++ row ∷ [] → IsLined past → Works header h (with_copy k k2 waits) (ids_after ids) woken.Nobody now
@@ -620,7 +614,7 @@ module _ (header : Header) (h : ℕ) (outside : Outside) (task : TaskId) (addres
             k.memory.resident made.region_row made.object_row (omega arith) (λ is. absurd (let bad : false ≡ true = sym (ap is_live_in unknown) ∙ is in cc))
             rests.referred;
         thin =
-            thin_made ids.next_object (new_object pages) k.chains k2.chains k.memory.objects k2.memory.objects rests.matches.regions.unders
+            thin_made ids.next_object (new_object pages) k.chains k2.chains k.memory.objects k2.memory.objects rests.matches.core.objects.regions.unders
             (λ o shadow found. sym (ap (λ f. f o) made.region_row.shadows) ∙ found) unknown made.object_row rests.thin;
         waits = waits_now;
         order = order_now pushed lined;
@@ -630,7 +624,7 @@ module _ (header : Header) (h : ℕ) (outside : Outside) (task : TaskId) (addres
 
   heads_now : Heads header h outside (command.Copy task address bytes task to) past (its ∷ begun ∷ [])
   heads_now =
-      let fine = suffices header h k.memory.frames past rests.matches.frames in
+      let fine = suffices header h k.memory.frames past rests.matches.core.pages.counted in
       heads_more header h outside (command.Copy task address bytes task to) past (begun ∷ []) its
       (heads_one header h outside (command.Copy task address bytes task to) past begun
       (record {
@@ -657,7 +651,7 @@ module _ (header : Header) (h : ℕ) (outside : Outside) (task : TaskId) (addres
   head_now : head header past (command.Copy task address bytes task to) ≡ Some (begun ∷ its ∷ [])
   head_now =
       let test : nat_lt may.row.region.0 (named header) ≡ true = let less = may.declared in grind (arith, nat_tests) in
-      let there : entry_at address (entries_of header.size task.0 past) ≡ Some may.row = ap (entry_at address) (rows_here rests.matches.tasks may.lives)
+      let there : entry_at address (entries_of header.size task.0 past) ≡ Some may.row = ap (entry_at address) (rows_here rests.matches.core.spaces.tasks may.lives)
       ∙ may.found in
       ap (copy_head (named header) header.size (next_region header past) (next_object header past) task address bytes task to) there
       ∙ (ap (λ b. Some (if b then begun ∷ event.RegionMade (record { 0 = next_region header past }) (record { 0 = next_object header past }) pages ∷ [] else
@@ -700,7 +694,7 @@ has_begun {doing = doing} {task = task} {address = address} {bytes = bytes} {to 
     let may = may_begin header h task address bytes to past k ids before s declared order in
     let region : RegionId = record { 0 = ids.next_region } in
     let target : ObjectId = record { 0 = ids.next_object } in
-    let whole : pages ≡ bytes / header.size = b.pages_are ∙ ap (λ z. bytes / z) s.rests.matches.size in
+    let whole : pages ≡ bytes / header.size = b.pages_are ∙ ap (λ z. bytes / z) s.rests.matches.core.setting.sized in
     let k3 : Parts = record k2 { waits = k.waits } in
     let made : MadeRange region target (bytes / header.size) 0 k k3 =
     subst (λ (z : ℕ). MadeRange region target z 0 k k3) whole
@@ -793,10 +787,10 @@ copy_target_own {header = header} {h = h} {task = task} {address = address} {byt
     {before = before} place s is less =
     let p = may_place header h task address bytes target to past k ids before s in
     let low = copy_declared address place k (rows_in task.0 k.maps) is less p.entry p.found in
-    let all : length k.declared.items ≡ named header = ap length s.rests.matches.declared in
+    let all : length k.declared.items ≡ named header = ap length s.rests.matches.core.setting.objects in
     let test : nat_lt p.entry.region.0 (named header) ≡ true = let below : p.entry.region.0 < named header = omega (arith, low, all) in grind
     (arith, nat_tests) in
-    let there : entry_at address (entries_of header.size task.0 past) ≡ Some p.entry = ap (entry_at address) (rows_here s.rests.matches.tasks p.lives)
+    let there : entry_at address (entries_of header.size task.0 past) ≡ Some p.entry = ap (entry_at address) (rows_here s.rests.matches.core.spaces.tasks p.lives)
     ∙ p.found in
     let own = (to_itself header past task address bytes target to p.entry s.accepted there test).1 in
     let same : target.0 ≡ task.0 = grind (arith, nat_tests) in

@@ -169,7 +169,7 @@ ends_of header h k ids past w address pages target next c =
     let m = c.matches in
     let to = c.slow.to in
     let lives = (c.waits.allowed w.task.0 w c.is).lives in
-    let sized = m.tasks.sized in
+    let sized = m.core.spaces.tasks.sized in
     let range : is_range header.size to.address (pages * header.size) ≡ true = subst (λ (z : ℕ). is_range z to.address (pages * z) ≡ true) sized
     c.slow.place.range in
     let page = some_bytes header.size to.address pages range in
@@ -177,11 +177,11 @@ ends_of header h k ids past w address pages target next c =
     let count = counted_pages header.size pages page in
     let found = c.slow.region in
     let own : region_pages k.chains to.region.0 ≡ pages = ap pages_in found in
-    let temporary = m.homes.1.fills w.task.0 (record { region = to.region.0; object = target.0 }) c.slow.made in
+    let temporary = m.core.spaces.homes.1.fills w.task.0 (record { region = to.region.0; object = target.0 }) c.slow.made in
     record {
       lives = lives;
-      host = lives_here m.tasks lives;
-      here = m.tasks.hosts w.task.0 ∙ ap is_some lives;
+      host = lives_here m.core.spaces.tasks lives;
+      here = m.core.spaces.tasks.hosts w.task.0 ∙ ap is_some lives;
       page = page;
       range = range;
       waits =
@@ -189,9 +189,9 @@ ends_of header h k ids past w address pages target next c =
           ∙ (ap (λ z. Some (access_in k.maps.size (copies_to w.destination) z)) c.what
           ∙ (ap (λ z. Some (Copies address (pages * k.maps.size) (copies_to z))) c.slow.goes ∙ ap (λ z. Some (Copies address (pages * z) to.address)) sized)));
       temporary = temporary;
-      used = (m.uses.used to.region.0 temporary).is (inr (record { task = w.task.0; fills = fills_own c }));
-      made = small_region m.regions to.region.0 (filled_row target pages) found;
-      pages_of = ap (λ z. z.pages) (m.regions.rows to.region.0 (filled_row target pages) found);
+      used = (m.core.spaces.uses.used to.region.0 temporary).is (inr (record { task = w.task.0; fills = fills_own c }));
+      made = small_region m.core.objects.regions to.region.0 (filled_row target pages) found;
+      pages_of = ap (λ z. z.pages) (m.core.objects.regions.rows to.region.0 (filled_row target pages) found);
       inside =
           record {
             region = ap is_some found;
@@ -241,7 +241,7 @@ enters_cause header h k ids past w address pages target next rows2 c now put =
       unfilled =
           unfilled header.size r (tasks past) k.maps rows2 (first ∷ past) (fills_here {past = first ∷ past} (waits_left c now rows2 put) copies_now)
           (fills_nobody c rows2 put)
-          (λ u none. holds_waits header.size t u r k.maps (rows_in t k.maps) past None e.lives none ∙ m.uses.apart u r none (inl e.used));
+          (λ u none. holds_waits header.size t u r k.maps (rows_in t k.maps) past None e.lives none ∙ m.core.spaces.uses.apart u r none (inl e.used));
     }
 
 -- and is owed
@@ -276,7 +276,7 @@ copy_end_goes header h outside doing k ids past events w address pages target ne
     let first : Event = event.CopyEnded w.task in
     let second : Event = got w.task row in
     let due = entry_owed header h k ids front w address pages target next c in
-    let fine = suffices header h k.memory.frames front m.frames in
+    let fine = suffices header h k.memory.frames front m.core.pages.counted in
     record {
       more = copy_ending w.task row;
       is = refl;
@@ -341,10 +341,10 @@ use_ended header h k ids past w address pages target next c rows2 put maps2 chan
     let e = ends_of header h k ids past w address pages target next c in
     uses_entered header k.maps maps2 (λ r. in_use header h r past) (tasks past) (λ u r. holds header.size u r (copy_ending w.task row ++ past))
     (next_region header past) t row (lives_on h t past)
-    (λ r temporary apart. still r (λ same. apart (sym same)) (m.uses.used r temporary)) (λ r file apart some. m.uses.files r file some) (λ paged. e.used)
-    m.uses.among changes e.lives (lives_below header.size t k.maps k.chains [] m.entries e.lives) e.here
+    (λ r temporary apart. still r (λ same. apart (sym same)) (m.core.spaces.uses.used r temporary)) (λ r file apart some. m.core.spaces.uses.files r file some) (λ paged. e.used)
+    m.core.spaces.uses.among changes e.lives (lives_below header.size t k.maps k.chains [] m.core.spaces.entries e.lives) e.here
     (λ u r none why. holds_rows header.size t u r k.maps (rows_in t k.maps) (entered row (entries_of header.size u past)) (event.CopyEnded w.task ∷ past)
-    e.lives none ∙ (holds_waits header.size t u r k.maps (rows_in t k.maps) past None e.lives none ∙ m.uses.apart u r none why))
+    e.lives none ∙ (holds_waits header.size t u r k.maps (rows_in t k.maps) past None e.lives none ∙ m.core.spaces.uses.apart u r none why))
   where
     still : (r : ℕ) {used : Bool} → (c.slow.to.region.0 ≡ r → ⊥) → IsUsed k.maps k.waits.rows r used → IsUsed k.maps rows2 r used
     still r apart is =
@@ -382,36 +382,32 @@ matches_ended header h outside doing k ids past w address pages target next c la
     (λ (z : ℕ). PutsEntries r (z + 1) k.chains k2.chains) (sym none) counts in
     let room = c.slow.place.room in
     record {
-      ranged = m.ranged;
-      known = m.known;
-      size = m.size;
-      host = m.host;
-      declared = m.declared;
-      fits = m.fits;
-      tasks = tasks_entered h size k.maps k2.maps (first ∷ past) w.task row m.tasks changes e.lives;
-      regions =
-          regions_recounted k.chains k2.chains k.memory.objects ids _ _ _ _ _ recount m.regions;
-      kinds = kinds_recounted header _ k.memory.objects k.chains k2.chains (recounts_put r 1 k.chains k2.chains counts) m.kinds;
-      homes =
-          homes_caused header outside h k2.chains second (first ∷ past)
-          (doing, enters_cause header h k ids past w address pages target next waits2.rows c now put)
-          (homes_caused header outside h k2.chains first past (doing, ends_cause header h k ids past w address pages target next c last)
-          (recount_homes _ header h k.chains k2.chains past (recounts_put r 1 k.chains k2.chains counts) m.homes));
-      files =
-          files_entered header h w.task row k.memory.objects (first ∷ past) (λ file. m.homes.0 r (filled_row target pages) (file_paged header r file)
-          c.slow.region) m.files;
-      sizes = m.sizes;
-      entries =
-          entries_share size k.maps k2.maps k.chains k2.chains t row m.entries e.inside counts_more changes
-          (lives_below size t k.maps k.chains [] m.entries e.lives) room;
-      shared = shared_entered (named header) t k.maps k2.maps row changes (temporary_shared (named header) row e.temporary) m.shared;
-      pages = m.pages;
-      uses = use_ended header h k ids past w address pages target next c waits2.rows put k2.maps changes;
-      controls = controls_stay (λ o home. object_stays o h second (first ∷ past) home) m.controls;
+      core = record {
+        setting = m.core.setting;
+        fits = m.core.fits;
+        spaces = record {
+          tasks = tasks_entered h size k.maps k2.maps (first ∷ past) w.task row m.core.spaces.tasks changes e.lives;
+          entries = entries_share size k.maps k2.maps k.chains k2.chains t row m.core.spaces.entries e.inside counts_more changes
+              (lives_below size t k.maps k.chains [] m.core.spaces.entries e.lives) room;
+          shared = shared_entered (named header) t k.maps k2.maps row changes (temporary_shared (named header) row e.temporary) m.core.spaces.shared;
+          uses = use_ended header h k ids past w address pages target next c waits2.rows put k2.maps changes;
+          homes = homes_caused header outside h k2.chains second (first ∷ past)
+              (doing, enters_cause header h k ids past w address pages target next waits2.rows c now put)
+              (homes_caused header outside h k2.chains first past (doing, ends_cause header h k ids past w address pages target next c last)
+              (recount_homes _ header h k.chains k2.chains past (recounts_put r 1 k.chains k2.chains counts) m.core.spaces.homes));
+        };
+        objects = record {
+          regions = regions_recounted k.chains k2.chains k.memory.objects ids _ _ _ _ _ recount m.core.objects.regions;
+          kinds = kinds_recounted header _ k.memory.objects k.chains k2.chains (recounts_put r 1 k.chains k2.chains counts) m.core.objects.kinds;
+          files = files_entered header h w.task row k.memory.objects (first ∷ past) (λ file. m.core.spaces.homes.0 r (filled_row target pages) (file_paged header r file)
+              c.slow.region) m.core.objects.files;
+          sizes = m.core.objects.sizes;
+        };
+        controls = controls_stay (λ o home. object_stays o h second (first ∷ past) home) m.core.controls;
+        pages = m.core.pages;
+      };
       settled = record { none_owed = refl; shut = λ region. refl };
       replied = replied_behind tt (replied_behind tt m.replied);
-      laundry = m.laundry;
-      frames = m.frames;
     }
 
 -- what the tables of a call tell, as the history has it
@@ -464,7 +460,7 @@ pub copy_ends : (header : Header) (h : ℕ) (outside : Outside) (doing : Command
 copy_ends header h outside doing k k2 ids past w address pages target next waits2 before after c last now put did =
     let is = maps_filled w address pages target next c.slow.to (record k { waits = waits2 }) k2 before after c.what c.slow.goes did in
     let changes = subst (λ (z : ℕ). ChangesOnly k.maps k2.maps w.task.0 (Some (entered (filled_entry z pages c.slow.to) (rows_in w.task.0 k.maps))))
-    c.matches.size is.maps in
+    c.matches.core.setting.sized is.maps in
     let works = works_ended header h outside doing k ids past w address pages target next c last now waits2 put k2 changes is.counts in
     let same : record k { alloc = k2.alloc; maps = k2.maps; chains = k2.chains; waits = waits2; skip = k2.skip } ≡ k2 =
     λ i. record {
@@ -487,7 +483,7 @@ pub copy_end_told : (header : Header) (h : ℕ) (k k2 : Parts) (ids : Ids) (past
     → EndsCopyIn w (record k { waits = waits2 }) k2 before after → after ≡ copy_ending w.task (filled_entry header.size pages c.slow.to) ++ before
 copy_end_told header h k k2 ids past w address pages target next waits2 before after c did =
     let is = maps_filled w address pages target next c.slow.to (record k { waits = waits2 }) k2 before after c.what c.slow.goes did in
-    is.told ∙ ap (λ z. copy_ending w.task (filled_entry z pages c.slow.to) ++ before) c.matches.size
+    is.told ∙ ap (λ z. copy_ending w.task (filled_entry z pages c.slow.to) ++ before) c.matches.core.setting.sized
 
 -- both, of what the call told
 pub record HasEndedCopy (header : Header) (h : ℕ) (outside : Outside) (doing : Command) (past : List Event) (k : Parts) (ids : Ids)
@@ -514,7 +510,7 @@ pub can_end_copy : (header : Header) (h : ℕ) (k : Parts) (ids : Ids) (past : L
 can_end_copy header h k ids past w address pages target next waits2 c =
     let t = w.task.0 in
     let to = c.slow.to in
-    let sized : k.maps.size ≡ k.size = c.matches.tasks.sized ∙ sym c.matches.size in
+    let sized : k.maps.size ≡ k.size = c.matches.core.spaces.tasks.sized ∙ sym c.matches.core.setting.sized in
     let place = c.slow.place in
     let page = some_bytes k.maps.size to.address pages place.range in
     let tests = range_is k.maps.size to.address (pages * k.maps.size) place.range in
@@ -529,7 +525,7 @@ can_end_copy header h k ids past w address pages target next waits2 c =
     record {
       lives = lives_some (entries_in t k.maps) (rows_in t k.maps) lives;
       free = rw (range, free, fits) refl;
-      pages = omega (arith, count, few_pages k.maps.size pages (subst IsPageSize (sym c.matches.tasks.sized) c.matches.ranged.size) (omega (arith, end)));
+      pages = omega (arith, count, few_pages k.maps.size pages (subst IsPageSize (sym c.matches.core.spaces.tasks.sized) c.matches.core.setting.ranged.size) (omega (arith, end)));
       region = ap is_some c.slow.region;
     } in
     subst (λ (z : Want). CanEndWant t z w.destination (record k { waits = waits2 })) (sym c.what)

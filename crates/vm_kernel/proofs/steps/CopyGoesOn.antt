@@ -1,4 +1,5 @@
 -- A slow copy makes its next page and goes on: what that leaves of the kernel, and its cause.
+use Rattle.vm_kernel.proofs.memory.CoreChanges.{core_rerowed}
 use Rattle.vm_kernel.proofs.Common.{AllReferred, ChainTable, Command, Event, FrameNo, HasOrder, HasWaits, Header, HostParts, Ids, IsAllowed, IsAt, IsFilledIn}
 use Rattle.vm_kernel.proofs.Common.{IsSizedWant, List, Local, Mapped, Matches, None, ObjectId, On, Option, Outside, PageKey, PageRow, Parts, PutsRow, Raises}
 use Rattle.vm_kernel.proofs.Common.{Reason, Region, RegionRow, ResidentTable, Some, Suffice, Target, TaskId, WaitTable, Waiting, Want, Works, [], absent_at}
@@ -96,36 +97,17 @@ matches_copied header h k ids past task low target next row frame memory m lives
     let lacked = absent_at k.memory.objects low.object.0 low.page.0 in
     let now : PageRow = record (clean_row frame unlocked false) { dirty = true } in
     let seen : known_local header low.object.0 low.page.0 lower ≡ shown_as row true true (page_in k.memory.frames row.frame.0) lacked =
-    m.pages.shown low.object.0 low.page.0 ∙ (ap (λ z. local_of_row k.memory.frames z lacked) found ∙ shown_here k.memory.frames row lacked here) in
+    m.core.pages.shown.shown low.object.0 low.page.0 ∙ (ap (λ z. local_of_row k.memory.frames z lacked) found ∙ shown_here k.memory.frames row lacked here) in
     let same : lower.bytes ≡ page_in memory.frames frame.0 = ap (λ (z : Local). z.bytes) seen ∙ sym (bytes_now top frame _ _ _ _ _ k.memory memory c) in
     let pages2 = known_on header header.size top (Raises lower.bytes) (λ o p. local header h (place_of o p) past) tt
     (pages_moved header.size (Raises lower.bytes) top frame _ _ _ _ _ k.memory memory k.memory.objects
-    (λ o p. known_local header o p (local header h (place_of o p) past)) m.fits.parts m.pages c
+    (λ o p. known_local header o p (local header h (place_of o p) past)) m.core.fits.parts m.core.pages.shown c
     (ap (λ z. shown_as now true true z (absent_at k.memory.objects top.object.0 top.page.0)) same) (λ o p apart. refl)) in
     record {
-      ranged = m.ranged;
-      declared = m.declared;
-      kinds = rw plan.objects m.kinds;
-      shared = m.shared;
-      known = m.known;
-      size = m.size;
-      host = m.host;
-      fits = fits_changed top frame _ _ _ _ _ k memory m.fits plan.fit plan.buffers c (λ away. record { lock = refl; precious = refl; unlock_sent = refl });
-      tasks = m.tasks;
-      regions = rw plan.objects m.regions;
-      homes = m.homes;
-      files = rw plan.objects m.files;
-      sizes = rw plan.objects m.sizes;
-      entries = m.entries;
-      pages = rw (plan.objects, lives, own_host h) pages2;
-      uses = m.uses;
-      controls = rw plan.objects m.controls;
+      core = core_rerowed top frame m.core c plan (λ away. record { lock = refl; precious = refl; unlock_sent = refl }) (rw (lives, own_host h) pages2)
+          (rw (lives, own_host h) (λ held. let more = c.claims in omega arith));
       settled = record { none_owed = refl; shut = λ region. refl };
       replied = replied_behind tt m.replied;
-      laundry = laundry_changed top frame _ _ _ _ _ k.memory memory k.laundry (returns_out h past) m.laundry c;
-      frames =
-          rw (lives, own_host h) (frames_changed (slice_get (reverse header.frames.items) h) top frame _ _ _ _ _ k.memory memory
-          (frames_held header h past) (frames_held header h past + 1) (frames_wired h past) m.frames c (λ held. let more = c.claims in omega arith));
     }
 
 -- of the target's pages those behind it have no row still
@@ -187,7 +169,7 @@ page_made header h past k ids w address pages target next key row frame memory w
     let fills_it : fills_in to (entry k.waits.rows w.task.0) ≡ true = ap (fills_in to) is ∙ (ap (is_destination to) slow.goes ∙ itself to) in
     record {
       matches =
-          matches_copied header h k ids past w.task key target next row frame memory m (lives_here m.tasks (works.waits.allowed w.task.0 w is).lives) found here
+          matches_copied header h k ids past w.task key target next row frame memory m (lives_here m.core.spaces.tasks (works.waits.allowed w.task.0 w is).lives) found here
           c plan;
       regions = works.used.regions;
       is = is;
@@ -215,13 +197,13 @@ page_made header h past k ids w address pages target next key row frame memory w
           (works.used.copies.each t v there));
       apart = works.used.copies.apart;
       referred =
-          page_referred top frame _ _ _ _ _ k memory c plan (refers_region m.regions to (filled_row target pages) slow.region)
+          page_referred top frame _ _ _ _ _ k memory c plan (refers_region m.core.objects.regions to (filled_row target pages) slow.region)
           (λ row2 same. inl (ap (λ (z : PageRow). z.lock) (sym (some_is _ row2 same)))) works.referred;
       thin = rw plan.objects works.thin;
       waits =
           page_waits top frame _ _ _ _ _ k memory (is_woken woken.Nobody) (λ u. waiting u past) c plan (none_unawaited None refl)
           (here_unawaited _ _ refl refl refl)
-          (waits_filled header h k ids past w.task key top (λ t wanted place. place_unfilled header.size t wanted top k.maps k.chains [] m.entries place to
+          (waits_filled header h k ids past w.task key top (λ t wanted place. place_unfilled header.size t wanted top k.maps k.chains [] m.core.spaces.entries place to
           target pages slow.region slow.alone refl) works.waits);
       order = works.order;
     }
@@ -240,7 +222,7 @@ copying_touched header h past k ids w address pages target next frame memory tou
     with_queues =
         record {
           matches =
-              matches_with memory.queues k.memory.buffers k.waits (λ t r. refl) (fit_touched k.memory memory.queues m.fits.parts touched.keeps touched.frames)
+              matches_with memory.queues k.memory.buffers k.waits (λ t r. refl) (fit_touched k.memory memory.queues m.core.fits.parts touched.keeps touched.frames)
               refl m;
           regions = copying.regions;
           is = copying.is;
@@ -283,7 +265,7 @@ pub copy_goes_on : (header : Header) (h : ℕ) (past : List Event) (k : Parts) (
     → Works header h (record k { waits = waits2 }) ids woken.Nobody past
 copy_goes_on header h past k ids w address pages target next waits2 c more now put =
     record {
-      matches = matches_with k.memory.queues k.memory.buffers waits2 same_fills c.matches.fits.parts refl c.matches;
+      matches = matches_with k.memory.queues k.memory.buffers waits2 same_fills c.matches.core.fits.parts refl c.matches;
       used = record {
         regions = regions_filled k.chains k.waits.rows waits2.rows same_fills c.regions;
         copies = record {
@@ -416,7 +398,7 @@ copied_follows header h outside doing past k ids task what top at address pages 
         here = shows.here;
         region = slow.to.region.0;
         filled = slow.made;
-        inside = subst (λ (z : Region). next < z.pages) (sym (m.regions.rows slow.to.region.0 (filled_row target pages) slow.region)) left;
+        inside = subst (λ (z : Region). next < z.pages) (sym (m.core.objects.regions.rows slow.to.region.0 (filled_row target pages) slow.region)) left;
         away = none.away;
         unasked = none.unasked;
       };
@@ -440,7 +422,7 @@ copied_follows header h outside doing past k ids task what top at address pages 
     none = none_away s target.0 next (slow.unmade next (omega arith))
 
     now_at : address_in k.maps.size what ≡ address + next_page task.0 past * header.size
-    now_at = ap (address_in k.maps.size) is ∙ (ap (λ z. address + next * z) m.tasks.sized ∙ ap (λ z. address + z * header.size) (sym slow.next))
+    now_at = ap (address_in k.maps.size) is ∙ (ap (λ z. address + next * z) m.core.spaces.tasks.sized ∙ ap (λ z. address + z * header.size) (sym slow.next))
 
     one : slow.range.entry ≡ at.entry
     one =
@@ -471,4 +453,4 @@ copy_follows header h outside doing past k ids w top address pages target next s
     copied_follows header h outside doing past k ids w.task w.want top at address pages target next w.destination steps key row works.matches
     (leads_of header h k ids past woken.Nobody w.task.0 w top works.matches works.waits works.used.copies is at) what (slow_of works is what)
     (sized_of works is what).1 finds open_it
-    (suffices header h memory.frames (e ∷ past) made.matches.frames)
+    (suffices header h memory.frames (e ∷ past) made.matches.core.pages.counted)

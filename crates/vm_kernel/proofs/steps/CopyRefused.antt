@@ -37,21 +37,21 @@ marked_is k r row there = rw there refl
 
 -- as many objects are declared as the kernel has declarations
 pub declared_are : {header : Header} {h : ℕ} {k : Parts} {ids : Ids} {past : List Event} → Rests header h k ids past → length k.declared.items ≡ named header
-declared_are rests = ap length rests.matches.declared
+declared_are rests = ap length rests.matches.core.setting.objects
 
 full_same : (header : Header) (h : ℕ) (k : Parts) (ids : Ids) (past : List Event) (r : ℕ) → Rests header h k ids past → has_region k.chains r ≡ true
     → refusing.is_copy_full header r past ≡ is_copy_full (length k.declared.items) k.chains ids r
 full_same header h k ids past r rests there =
     let m = rests.matches in
     let row = region_row k.chains r there in
-    let mark : (region_of header r past).mark ≡ is_marked k.chains r = ap (λ z. z.mark) (m.regions.rows r row.0 row.1) ∙ sym (marked_is k r row.0 row.1) in
+    let mark : (region_of header r past).mark ≡ is_marked k.chains r = ap (λ z. z.mark) (m.core.objects.regions.rows r row.0 row.1) ∙ sym (marked_is k r row.0 row.1) in
     is_full_copy header r past (nat_lt r (length k.declared.items)) (is_marked k.chains r) (ap (nat_lt r) (sym (declared_are rests))) mark
     ∙ (ap (λ (z : ℕ). nat_le most_regions z || nat_lt most_objects (next_object header past + marked_regions header
-    past + (if nat_lt r (length k.declared.items) || is_marked k.chains r then 1 else 2))) (sym m.regions.region)
+    past + (if nat_lt r (length k.declared.items) || is_marked k.chains r then 1 else 2))) (sym m.core.objects.regions.region)
     ∙ (ap (λ (z : ℕ). nat_le most_regions ids.next_region || nat_lt most_objects (z + marked_regions header
-    past + (if nat_lt r (length k.declared.items) || is_marked k.chains r then 1 else 2))) (sym m.regions.object)
+    past + (if nat_lt r (length k.declared.items) || is_marked k.chains r then 1 else 2))) (sym m.core.objects.regions.object)
     ∙ ap (λ (z : ℕ). nat_le most_regions ids.next_region || nat_lt most_objects (ids.next_object + z + (if nat_lt r (length k.declared.items) || is_marked
-    k.chains r then 1 else 2))) (regions_marked header past ∙ sym m.regions.marks)))
+    k.chains r then 1 else 2))) (regions_marked header past ∙ sym m.core.objects.regions.marks)))
 
 -- a declared object whose region is there is known by its kind
 wild_is : (header : Header) (h : ℕ) (k : Parts) (ids : Ids) (past : List Event) (r : ℕ) → Rests header h k ids past → has_region k.chains r ≡ true
@@ -59,9 +59,9 @@ wild_is : (header : Header) (h : ℕ) (k : Parts) (ids : Ids) (past : List Event
 wild_is header h k ids past r rests there declared =
     let m = rests.matches in
     let row = region_row k.chains r there in
-    let whole = whole_row m.regions m.homes.1 r row.0 declared row.1 in
-    let known = row_of (object_at k.memory.objects r) (subst (λ (z : ℕ). IsSome (object_at k.memory.objects z)) whole.top (m.regions.tops r row.0 row.1)) in
-    ap is_wild_row known.1 ∙ ap is_wild_kind ((m.kinds.kinds r known.0 known.1).declared declared).kind
+    let whole = whole_row m.core.objects.regions m.core.spaces.homes.1 r row.0 declared row.1 in
+    let known = row_of (object_at k.memory.objects r) (subst (λ (z : ℕ). IsSome (object_at k.memory.objects z)) whole.top (m.core.objects.regions.tops r row.0 row.1)) in
+    ap is_wild_row known.1 ∙ ap is_wild_kind ((m.core.objects.kinds.kinds r known.0 known.1).declared declared).kind
 
 uncopied_same : (header : Header) (h : ℕ) (k : Parts) (ids : Ids) (past : List Event) (own : Bool) (row : Entry) → Rests header h k ids past
     → has_region k.chains row.region.0 ≡ true
@@ -89,7 +89,7 @@ source_same : (header : Header) (h : ℕ) (k : Parts) (ids : Ids) (past : List E
     (rows_in target k.maps) address bytes to x
 source_same header h k ids past task target address bytes to own None rests same found = refl
 source_same header h k ids past task target address bytes to own (Some row) rests same found =
-    let is = found_row (IsInside header.size k.chains) address (rows_in task k.maps) row (rests.matches.entries.inside task) found in
+    let is = found_row (IsInside header.size k.chains) address (rows_in task k.maps) row (rests.matches.core.spaces.entries.inside task) found in
     rw (uncopied_same header h k ids past own row rests is.is.region, same, full_same header h k ids past row.region.0 rests is.is.region) refl
 
 some_waits : (size : ℕ) (o : Option Waiting) → is_some (waiting_in size o) ≡ is_some o
@@ -99,7 +99,7 @@ some_waits size (Some w) = refl
 pub waits_are : (header : Header) (h : ℕ) (k : Parts) (ids : Ids) (past : List Event) (task : ℕ) → Rests header h k ids past → lives_on h task past ≡ true
     → is_some (waiting task past) ≡ is_some (entry k.waits.rows task)
 waits_are header h k ids past task rests acts =
-    ap (λ z. is_some z) (rests.waits.is task (ap (λ z. is_some z) (lives_in task rests.matches.tasks acts))) ∙ some_waits k.maps.size (entry k.waits.rows task)
+    ap (λ z. is_some z) (rests.waits.is task (ap (λ z. is_some z) (lives_in task rests.matches.core.spaces.tasks acts))) ∙ some_waits k.maps.size (entry k.waits.rows task)
 
 pub copy_refused : (header : Header) (h : ℕ) (k : Parts) (ids : Ids) (past : List Event) (elsewhere : Bool) (task : TaskId) (address bytes : ℕ)
     (target : TaskId) (to : ℕ) → Rests header h k ids past → lives_on h task.0 past ≡ true → lives_on h target.0 past ≡ true
@@ -107,8 +107,8 @@ pub copy_refused : (header : Header) (h : ℕ) (k : Parts) (ids : Ids) (past : L
 copy_refused header h k ids past elsewhere task address bytes target to rests acts there =
     let m = rests.matches in
     let size = header.size in
-    let own : entries_of size task.0 past ≡ rows_in task.0 k.maps = rows_here m.tasks (lives_in task.0 m.tasks acts) in
-    let rows : entries_of size target.0 past ≡ rows_in target.0 k.maps = rows_here m.tasks (lives_in target.0 m.tasks there) in
+    let own : entries_of size task.0 past ≡ rows_in task.0 k.maps = rows_here m.core.spaces.tasks (lives_in task.0 m.core.spaces.tasks acts) in
+    let rows : entries_of size target.0 past ≡ rows_in target.0 k.maps = rows_here m.core.spaces.tasks (lives_in target.0 m.core.spaces.tasks there) in
     let found = source_same header h k ids past task.0 target.0 address bytes to (task.0 == target.0) (entry_at address (rows_in task.0 k.maps)) rests rows
     refl in
     let ranges = not (is_range size address bytes && is_range size to bytes) in
@@ -121,7 +121,7 @@ copy_refused header h k ids past elsewhere task address bytes target to rests ac
       waits_are header h k ids past task.0 rests acts,
       waits_are header h k ids past target.0 rests there,
       own,
-      m.tasks.sized,
+      m.core.spaces.tasks.sized,
     )
     (code_both (is_some (entry k.waits.rows task.0)) (is_some (entry k.waits.rows target.0)) code.Blocked _
     ∙ ap (λ (z : Option Code). code_where (is_some (entry k.waits.rows task.0)) code.Blocked

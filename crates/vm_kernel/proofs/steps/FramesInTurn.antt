@@ -309,7 +309,7 @@ pub wanting_of : (header : Header) (h : ℕ) (w : Waiting) (may : Bool) (answer 
     → Works header h new ids woken.Nobody after → Attempts header h w may answer old new before after → wants_frame answer ≡ true
     → Wanting header h w may after
 wanting_of header h w may (attempt.Wants source) old new ids before after now joins wants =
-    record { wants = joins.wants; mine = joins.mine; none = λ can. free_is header h new.memory.frames after now.matches.frames ∙ joins.none can }
+    record { wants = joins.wants; mine = joins.mine; none = λ can. free_is header h new.memory.frames after now.matches.core.pages.counted ∙ joins.none can }
 wanting_of header h w may attempt.Ran old new ids before after now ran wants = absurd (let clash : false ≡ true = wants in cc)
 
 -- what stands in front of a run of the oldest

@@ -35,18 +35,18 @@ some_size n is = grind arith
 
 pub for_here : (header : Header) (h : ℕ) (k : Parts) (ids : Ids) (past : List Event) (doing : Command) → Rests header h k ids past → acts_on h doing past ≡ true
     → targets_here h doing past ≡ true → InRange header doing → IsForHere k.maps (length k.declared.items) doing
-for_here header h k ids past (command.Fork task child) rests acts both range = has_entries task.0 rests.matches.tasks acts
-for_here header h k ids past (command.Allocate task address bytes) rests acts both range = has_entries task.0 rests.matches.tasks acts
+for_here header h k ids past (command.Fork task child) rests acts both range = has_entries task.0 rests.matches.core.spaces.tasks acts
+for_here header h k ids past (command.Allocate task address bytes) rests acts both range = has_entries task.0 rests.matches.core.spaces.tasks acts
 for_here header h k ids past (command.Map task address bytes object offset) rests acts both range =
-    (has_entries task.0 rests.matches.tasks acts, subst (λ (z : ℕ). object.0 < z) (sym (declared_are rests)) range.1)
-for_here header h k ids past (command.Deallocate task address bytes) rests acts both range = has_entries task.0 rests.matches.tasks acts
-for_here header h k ids past (command.Protect task address bytes prot) rests acts both range = has_entries task.0 rests.matches.tasks acts
-for_here header h k ids past (command.Inherit task address bytes inherit) rests acts both range = has_entries task.0 rests.matches.tasks acts
-for_here header h k ids past (command.Load task address size) rests acts both range = (has_entries task.0 rests.matches.tasks acts, some_size size range.size)
+    (has_entries task.0 rests.matches.core.spaces.tasks acts, subst (λ (z : ℕ). object.0 < z) (sym (declared_are rests)) range.1)
+for_here header h k ids past (command.Deallocate task address bytes) rests acts both range = has_entries task.0 rests.matches.core.spaces.tasks acts
+for_here header h k ids past (command.Protect task address bytes prot) rests acts both range = has_entries task.0 rests.matches.core.spaces.tasks acts
+for_here header h k ids past (command.Inherit task address bytes inherit) rests acts both range = has_entries task.0 rests.matches.core.spaces.tasks acts
+for_here header h k ids past (command.Load task address size) rests acts both range = (has_entries task.0 rests.matches.core.spaces.tasks acts, some_size size range.size)
 for_here header h k ids past (command.Store task address size value) rests acts both range =
-    (has_entries task.0 rests.matches.tasks acts, some_size size range.0.size)
+    (has_entries task.0 rests.matches.core.spaces.tasks acts, some_size size range.0.size)
 for_here header h k ids past (command.Copy task address bytes target to) rests acts both range =
-    (has_entries task.0 rests.matches.tasks acts, has_entries target.0 rests.matches.tasks both)
+    (has_entries task.0 rests.matches.core.spaces.tasks acts, has_entries target.0 rests.matches.core.spaces.tasks both)
 for_here header h k ids past other rests acts both range = tt
 
 -- whether a task that lives here can act
@@ -59,7 +59,7 @@ acting_is header h k ids past task later mine rests acts same = rw (on_is h (hos
 objects_are : (header : Header) (h : ℕ) (k : Parts) (ids : Ids) (past : List Event) → Rests header h k ids past
     → next_object header past + marked_regions header past ≡ object_total ids
 objects_are header h k ids past rests =
-    let regions = rests.matches.regions in
+    let regions = rests.matches.core.objects.regions in
     omega (arith, regions.object, regions.marks, regions_marked header past)
 
 -- why a range is not allocated
@@ -70,7 +70,7 @@ allocate_code : (header : Header) (h : ℕ) (k : Parts) (ids : Ids) (past : List
 allocate_code header h k ids past elsewhere task address bytes rests acts =
     let m = rests.matches in
     acting_is header h k ids past task.0 _ _ rests acts
-    (rw (m.size, entries_same task.0 m.tasks acts, objects_are header h k ids past rests, ← m.regions.region) refl)
+    (rw (m.core.setting.sized, entries_same task.0 m.core.spaces.tasks acts, objects_are header h k ids past rests, ← m.core.objects.regions.region) refl)
 
 -- why a declared object is not mapped
 
@@ -81,9 +81,9 @@ map_refused : (header : Header) (h : ℕ) (k : Parts) (ids : Ids) (past : List E
 map_refused header h k ids past elsewhere task address bytes object offset rests acts away =
     let m = rests.matches in
     let pages : declared_pages header object.0 ≡ pages_declared k object.0 = ap (λ (z : List Declared). pages_kept (slice_get (reverse z) object.0))
-    (sym m.declared) in
+    (sym m.core.setting.objects) in
     acting_is header h k ids past task.0 _ _ rests acts
-    (rw (m.size, entries_same task.0 m.tasks acts, on_is h (host_of task.0 past) acts, pages, away) refl)
+    (rw (m.core.setting.sized, entries_same task.0 m.core.spaces.tasks acts, on_is h (host_of task.0 past) acts, pages, away) refl)
 
 -- why an inheritance is refused
 
@@ -101,8 +101,8 @@ inherit_code header h k ids past elsewhere task address bytes inherit rests acts
     let rows = rows_in task.0 k.maps in
     acting_is header h k ids past task.0 _ _ rests acts
     (rw (
-      entries_same task.0 m.tasks acts,
-      m.tasks.sized,
+      entries_same task.0 m.core.spaces.tasks acts,
+      m.core.spaces.tasks.sized,
       declared_are rests,
     ) (code_swap (not (is_range header.size address bytes)) (is_copied inherit && meets_declared (named header) address bytes rows)
     code.InvalidArgument _))
@@ -121,7 +121,7 @@ mark_is : (header : Header) (h : ℕ) (k : Parts) (ids : Ids) (past : List Event
     → has_copy_mark header past r ≡ is_marked k.chains r
 mark_is header h k ids past r rests there =
     let row = region_row k.chains r there in
-    let mark : has_copy_mark header past r ≡ row.0.marked = ap (λ (z : Region). z.mark) (rests.matches.regions.rows r row.0 row.1) in
+    let mark : has_copy_mark header past r ≡ row.0.marked = ap (λ (z : Region). z.mark) (rests.matches.core.objects.regions.rows r row.0 row.1) in
     mark ∙ sym (rw row.1 refl)
 
 marks_are : (header : Header) (h : ℕ) (k : Parts) (ids : Ids) (past : List Event) (task : ℕ) → Rests header h k ids past
@@ -129,7 +129,7 @@ marks_are : (header : Header) (h : ℕ) (k : Parts) (ids : Ids) (past : List Eve
 marks_are header h k ids past task rests =
     marks_same (has_copy_mark header past) (is_marked k.chains) (rows_in task k.maps)
     (rows_map (IsInside header.size k.chains) (λ row. has_copy_mark header past row.region.0 ≡ is_marked k.chains row.region.0)
-    (λ row inside. mark_is header h k ids past row.region.0 rests inside.region) (rows_in task k.maps) (rests.matches.entries.inside task))
+    (λ row inside. mark_is header h k ids past row.region.0 rests inside.region) (rows_in task k.maps) (rests.matches.core.spaces.entries.inside task))
 
 fork_code : (header : Header) (h : ℕ) (k : Parts) (ids : Ids) (past : List Event) (elsewhere : Bool) (task child : TaskId) → Rests header h k ids past
     → lives_on h task.0 past ≡ true → is_some (host_of child.0 past) ≡ false
@@ -140,9 +140,9 @@ fork_code header h k ids past elsewhere task child rests acts unnamed =
       on_is h (host_of task.0 past) acts,
       unnamed,
       waits_are header h k ids past task.0 rests acts,
-      entries_same task.0 m.tasks acts,
+      entries_same task.0 m.core.spaces.tasks acts,
       objects_are header h k ids past rests,
-      ← m.regions.region,
+      ← m.core.objects.regions.region,
       marks_are header h k ids past task.0 rests,
     ) refl
 
@@ -153,14 +153,14 @@ wire_code : (header : Header) (h : ℕ) (k : Parts) (ids : Ids) (past : List Eve
     → refusal header past (command.Wire host count) ≡ code_of k ids elsewhere (command.Wire host count)
 wire_code header h k ids past elsewhere host count rests acts =
     ap (λ (z : ℕ). code_where (nat_lt z count) code.ResourceShortage None)
-    (ap (λ (z : HostId). frames_free header z.0 past) (host_same host h acts) ∙ free_is header h k.memory.frames past rests.matches.frames)
+    (ap (λ (z : HostId). frames_free header z.0 past) (host_same host h acts) ∙ free_is header h k.memory.frames past rests.matches.core.pages.counted)
 
 unwire_code : (header : Header) (h : ℕ) (k : Parts) (ids : Ids) (past : List Event) (elsewhere : Bool) (host : HostId) (count : ℕ) → Rests header h k ids past
     → (host.0 == h) ≡ true
     → refusal header past (command.Unwire host count) ≡ code_of k ids elsewhere (command.Unwire host count)
 unwire_code header h k ids past elsewhere host count rests acts =
     ap (λ (z : ℕ). code_where (nat_lt z count) code.InvalidArgument None) (ap (λ (z : HostId). frames_wired z.0 past) (host_same host h acts)
-    ∙ rests.matches.frames.wired)
+    ∙ rests.matches.core.pages.counted.wired)
 
 -- the code of a command that acts on the host, and whose new names are free
 pub refusal_is : (header : Header) (h : ℕ) (k : Parts) (ids : Ids) (past : List Event) (elsewhere : Bool) (doing : Command) → Rests header h k ids past
@@ -176,15 +176,15 @@ refusal_is header h k ids past elsewhere (command.Allocate task address bytes) r
 refusal_is header h k ids past elsewhere (command.Map task address bytes object offset) rests acts both built unnamed away =
     map_refused header h k ids past elsewhere task address bytes object offset rests acts away
 refusal_is header h k ids past elsewhere (command.Deallocate task address bytes) rests acts both built unnamed away =
-    acting_is header h k ids past task.0 _ _ rests acts (rw (entries_same task.0 rests.matches.tasks acts, rests.matches.tasks.sized) refl)
+    acting_is header h k ids past task.0 _ _ rests acts (rw (entries_same task.0 rests.matches.core.spaces.tasks acts, rests.matches.core.spaces.tasks.sized) refl)
 refusal_is header h k ids past elsewhere (command.Protect task address bytes prot) rests acts both built unnamed away =
-    acting_is header h k ids past task.0 _ _ rests acts (rw (entries_same task.0 rests.matches.tasks acts, rests.matches.tasks.sized) refl)
+    acting_is header h k ids past task.0 _ _ rests acts (rw (entries_same task.0 rests.matches.core.spaces.tasks acts, rests.matches.core.spaces.tasks.sized) refl)
 refusal_is header h k ids past elsewhere (command.Inherit task address bytes inherit) rests acts both built unnamed away =
     inherit_code header h k ids past elsewhere task address bytes inherit rests acts
 refusal_is header h k ids past elsewhere (command.Load task address size) rests acts both built unnamed away =
-    acting_is header h k ids past task.0 _ _ rests acts (rw (entries_same task.0 rests.matches.tasks acts) refl)
+    acting_is header h k ids past task.0 _ _ rests acts (rw (entries_same task.0 rests.matches.core.spaces.tasks acts) refl)
 refusal_is header h k ids past elsewhere (command.Store task address size value) rests acts both built unnamed away =
-    acting_is header h k ids past task.0 _ _ rests acts (rw (entries_same task.0 rests.matches.tasks acts) refl)
+    acting_is header h k ids past task.0 _ _ rests acts (rw (entries_same task.0 rests.matches.core.spaces.tasks acts) refl)
 refusal_is header h k ids past elsewhere (command.Copy task address bytes target to) rests acts both built unnamed away =
     copy_refused header h k ids past elsewhere task address bytes target to rests acts both
 refusal_is header h k ids past elsewhere (command.Pageout host count) rests acts both built unnamed away = refl
@@ -196,4 +196,4 @@ refusal_is header h k ids past elsewhere other rests acts both built unnamed awa
 
 -- the parts have the size of a page that the maps have
 pub maps_sized : {header : Header} {h : ℕ} {k : Parts} {ids : Ids} {past : List Event} → Rests header h k ids past → k.maps.size ≡ k.size
-maps_sized rests = rests.matches.tasks.sized ∙ sym rests.matches.size
+maps_sized rests = rests.matches.core.spaces.tasks.sized ∙ sym rests.matches.core.setting.sized

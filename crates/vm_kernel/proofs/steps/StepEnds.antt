@@ -44,12 +44,12 @@ has_row header h k past task access has here waits = go (entry k.waits.rows task
 -- a task that waits on the host is in its maps
 pub at_home : (header : Header) (h : ℕ) (k : Parts) (ids : Ids) (past : List Event) (task : ℕ) (access : Access) → Matches header h k ids [] past
     → (waits : Waits header task access past) → waits.at.host ≡ h → is_some (entries_in task k.maps) ≡ true
-at_home header h k ids past task access m waits home = sym (m.tasks.hosts task) ∙ (ap (is_on h) (waits.at.lives ∙ ap Some home) ∙ own_host h)
+at_home header h k ids past task access m waits home = sym (m.core.spaces.tasks.hosts task) ∙ (ap (is_on h) (waits.at.lives ∙ ap Some home) ∙ own_host h)
 
 -- whoever waits on the host has a page left, and an entry that leads to it
 each_leads : (header : Header) (h : ℕ) (k : Parts) (ids : Ids) (past : List Event) → Rests header h k ids past → EachLeads header h past
 each_leads header h k ids past rests task access waits lives =
-    let row = has_row header h k past task access rests.waits (sym (rests.matches.tasks.hosts task) ∙ lives) waits in
+    let row = has_row header h k past task access rests.waits (sym (rests.matches.core.spaces.tasks.hosts task) ∙ lives) waits in
     subst (λ (z : Access). Waits header task z past) (sym row.is) (here_waits header h k ids past task row.row rests.matches rests.waits rests.used.copies
     row.found)
 
@@ -108,10 +108,10 @@ no_pair : (header : Header) (h : ℕ) (k : Parts) (ids : Ids) (past : List Event
 no_pair header h k ids past rests upper lower pair =
     let m = rests.matches in
     let knows : KnowsPairs header h k.chains k.memory.objects ids (next_region header past) (next_object header past) (marks_of header past) past = record {
-      regions = m.regions;
-      kinds = m.kinds;
-      homes = m.homes.1;
-      last = m.controls.last;
+      regions = m.core.objects.regions;
+      kinds = m.core.objects.kinds;
+      homes = m.core.spaces.homes.1;
+      last = m.core.controls.last;
       shadows = rests.referred.shadows;
       all = λ r row least found. regions_used header h k ids past (whole_of rests) r row least found;
       there = λ r least used. used_there header h k ids [] past r m rests.used.copies least used;

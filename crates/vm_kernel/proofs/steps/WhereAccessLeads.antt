@@ -44,14 +44,14 @@ declared_bottom {header = header} {k = k} {past = past} r row m declared found =
     record {
       bottom = by (shadow_at k.chains row.top.0) refl;
       told =
-          λ known there without. let temporary = untold_temporary header k.memory.objects row.top.0 known (refers_region m.regions r row found) there
-          (m.kinds.kinds row.top.0 known there) without in
+          λ known there without. let temporary = untold_temporary header k.memory.objects row.top.0 known (refers_region m.core.objects.regions r row found) there
+          (m.core.objects.kinds.kinds row.top.0 known there) without in
           absurd (omega (arith, temporary, low));
-      present = λ p. m.kinds.present row.top.0 p low;
+      present = λ p. m.core.objects.kinds.present row.top.0 p low;
     }
   where
     top : row.top.0 ≡ r
-    top = ap (λ (z : Region). z.top) (sym (m.regions.rows r row found) ∙ m.homes.1.whole r declared)
+    top = ap (λ (z : Region). z.top) (sym (m.core.objects.regions.rows r row found) ∙ m.core.spaces.homes.1.whole r declared)
 
     low : row.top.0 < named header
     low = omega (arith, top, declared)
@@ -59,7 +59,7 @@ declared_bottom {header = header} {k = k} {past = past} r row m declared found =
     by : (x : Option ShadowRow) → shadow_at k.chains row.top.0 ≡ x → x ≡ None
     by None is = refl
     by (Some under) is =
-        let bad : false ≡ true = sym (m.homes.1.bare row.top.0 low) ∙ ap (λ (z : Backing). z.backed) (m.regions.shadows row.top.0 under is) in
+        let bad : false ≡ true = sym (m.core.spaces.homes.1.bare row.top.0 low) ∙ ap (λ (z : Backing). z.backed) (m.core.objects.regions.shadows row.top.0 under is) in
         absurd (cc)
 
 -- the page of an entry lies in its region
@@ -67,10 +67,10 @@ page_inside : {header : Header} {h : ℕ} {k : Parts} {ids : Ids} {lost : List E
     → Matches header h k ids lost past → entry_at address (rows_in task k.maps) ≡ Some e → region_at k.chains e.region.0 ≡ Some row
     → page_at k.maps.size address e < row.pages
 page_inside {header = header} {k = k} task address e row m found region =
-    let there = found_row (IsInside header.size k.chains) address (rows_in task k.maps) e (m.entries.inside task) found in
+    let there = found_row (IsInside header.size k.chains) address (rows_in task k.maps) e (m.core.spaces.entries.inside task) found in
     let below : page_at header.size address e < region_pages k.chains e.region.0 = there.is.inside.each address there.from there.below in
     let pages : region_pages k.chains e.region.0 ≡ row.pages = ap pages_in region in
-    let sized : page_at k.maps.size address e ≡ page_at header.size address e = ap (λ z. page_at z address e) m.tasks.sized in
+    let sized : page_at k.maps.size address e ≡ page_at header.size address e = ap (λ z. page_at z address e) m.core.spaces.tasks.sized in
     omega (arith, below, pages, sized)
 
 -- an access lies within its region, a slow copy with each of its pages
@@ -102,7 +102,7 @@ can_copy {header = header} {k = k} w (want.CopyTo address pages target next) e r
       bottom = is.bottom;
       told = is.told;
       present = is.present;
-      inside = (let within = m.regions.fits.tops fits.to.region.0 (filled_row target pages) fits.region in omega (arith, within));
+      inside = (let within = m.core.objects.regions.fits.tops fits.to.region.0 (filled_row target pages) fits.region in omega (arith, within));
       unmade = fits.unmade;
     }
 
@@ -115,11 +115,11 @@ can_fault header h past k ids who w events works is =
     let walk = walks_down header h k ids past [] w.task.0 w.want m (works.waits.allowed w.task.0 w is) (works.waits.sized w.task.0 w is) in
     let fits = works.used.copies.each w.task.0 w is in
     let sized = works.waits.sized w.task.0 w is in
-    let object = m.regions.object in
-    let few = m.regions.few in
+    let object = m.core.objects.regions.object in
+    let few = m.core.objects.regions.few in
     record {
-      fit = m.fits.parts;
-      chains = m.regions.fits;
+      fit = m.core.fits.parts;
+      chains = m.core.objects.regions.fits;
       size = walk.size;
       allowed = walk.allowed;
       sized = walk.sized;
@@ -130,13 +130,13 @@ can_fault header h past k ids who w events works is =
       inside = lies_within w w.want walk.entry walk.row m fits sized walk.found walk.region;
       copies = can_copy w w.want walk.entry walk.row m fits sized walk.found walk.region;
       counted = λ marked.
-          (let some = marked_some header past walk.entry.region.0 (small_region m.regions walk.entry.region.0 walk.row walk.region)
-          (ap (λ (z : Region). z.mark) (m.regions.rows walk.entry.region.0 walk.row walk.region) ∙ marked) in
-          let marks = m.regions.marks in
+          (let some = marked_some header past walk.entry.region.0 (small_region m.core.objects.regions walk.entry.region.0 walk.row walk.region)
+          (ap (λ (z : Region). z.mark) (m.core.objects.regions.rows walk.entry.region.0 walk.row walk.region) ∙ marked) in
+          let marks = m.core.objects.regions.marks in
           omega (arith, some, marks));
-      referred = λ marked. top_counted m.regions walk.entry.region.0 walk.row walk.region;
-      named = subst (λ (z : ℕ). ObjectsBelow z k.chains) (sym object) (objects_below m.regions);
-      unmade = λ o less. m.regions.unknown o (omega (arith, object, less));
+      referred = λ marked. top_counted m.core.objects.regions walk.entry.region.0 walk.row walk.region;
+      named = subst (λ (z : ℕ). ObjectsBelow z k.chains) (sym object) (objects_below m.core.objects.regions);
+      unmade = λ o less. m.core.objects.regions.unknown o (omega (arith, object, less));
       few = below_last ids.next_object (omega (arith, object, few));
     }
   where
@@ -165,21 +165,21 @@ leads_of header h k ids past who task w top m waits copies is at =
     let r = at.entry.region.0 in
     let address = address_in k.maps.size w.want in
     let s = shown_at m in
-    let sized : top ≡ top_place at.row (page_at header.size address at.entry) = at.is ∙ ap (λ z. top_place at.row (page_at z address at.entry)) m.tasks.sized in
+    let sized : top ≡ top_place at.row (page_at header.size address at.entry) = at.is ∙ ap (λ z. top_place at.row (page_at z address at.entry)) m.core.spaces.tasks.sized in
     record {
-      lives = lives_here m.tasks (waits.allowed task w is).lives;
+      lives = lives_here m.core.spaces.tasks (waits.allowed task w is).lives;
       agrees = copies_next copies task w is;
-      sized = m.tasks.sized;
-      some = page_positive header.size m.ranged.size;
+      sized = m.core.spaces.tasks.sized;
+      some = page_positive header.size m.core.setting.ranged.size;
       shape = waits.sized task w is;
       destination = copies_to w.destination;
-      found = ap (entry_at address) (rows_here m.tasks (waits.allowed task w is).lives) ∙ at.found;
+      found = ap (entry_at address) (rows_here m.core.spaces.tasks (waits.allowed task w is).lives) ∙ at.found;
       waits = waits.is task (ap is_some (waits.allowed task w is).lives) ∙ ap (waiting_in k.maps.size) is;
       is_top =
           subst (λ (z : PageKey). IsTop (region_of header r past) (page_at header.size address at.entry) z.object.0 z.page.0) (sym sized)
           (top_of s r at.row at.region (page_at header.size address at.entry));
-      marks = ap (λ (z : Region). z.mark) (m.regions.rows r at.row at.region);
-      referred = subst (λ (z : PageKey). IsReferred k.memory.objects z.object.0) (sym sized) (refers_region m.regions r at.row at.region);
+      marks = ap (λ (z : Region). z.mark) (m.core.objects.regions.rows r at.row at.region);
+      referred = subst (λ (z : PageKey). IsReferred k.memory.objects z.object.0) (sym sized) (refers_region m.core.objects.regions r at.row at.region);
     }
 
 -- the waiting access, as licences want it

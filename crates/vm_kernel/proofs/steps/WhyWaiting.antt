@@ -80,7 +80,7 @@ error_asked h header object control other past host o p is = absurd (let bad : N
 asked_ready : (header : Header) (h : ℕ) (k : Parts) (ids : Ids) (past : List Event) (o p : ℕ) → Rests header h k ids past
     → (local header h (place_of o p) past).asked ≡ true → ready_in (object_at k.memory.objects o) ≡ true
 asked_ready header h k ids past o p rests asked =
-    by (row_at k.memory.resident o p) refl (sym (ap (λ (z : Local). z.asked) (rests.matches.pages.shown o p)) ∙ asked)
+    by (row_at k.memory.resident o p) refl (sym (ap (λ (z : Local). z.asked) (rests.matches.core.pages.shown.shown o p)) ∙ asked)
   where
     by : (x : Option PageRow) → row_at k.memory.resident o p ≡ x → (local_of_row k.memory.frames x (absent_at k.memory.objects o p)).asked ≡ true
         → ready_in (object_at k.memory.objects o) ≡ true

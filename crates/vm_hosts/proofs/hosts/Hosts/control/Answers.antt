@@ -9,7 +9,7 @@ use Rattle.vm_hosts.proofs.hosts.Hosts.control.Goals as goal
 lives_known : (header : Header) (hosts : HostTable) (past : List Event) (h : ℕ) (k : Parts) (o : ℕ) (known : Option ObjectRow) → AllRest header hosts past
     → slice_get hosts.kernels h ≡ Some k → known ≡ object_at k.memory.objects o
     → live_in known ≡ live_control h o past
-lives_known header hosts past h k o known all at is = ap live_in is ∙ sym ((all.rests h k at).matches.controls.live o)
+lives_known header hosts past h k o known all at is = ap live_in is ∙ sym ((all.rests h k at).matches.core.controls.live o)
 
 pub returns-then-known : goal.returns-then-known
 returns-then-known g c =

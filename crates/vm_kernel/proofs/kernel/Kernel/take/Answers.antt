@@ -24,7 +24,7 @@ take-requires g c =
     let rests = subst (λ (z : Parts). Rests g.given.header g.given.host z c.args.ids.now g.given.past) (sym c.self.view_is) c.requires.0 in
     let now = subst (λ (z : Parts). Rests g.given.header g.given.host z c.args.ids.now g.given.past) (sym c.in_ok-reserve_for_word.ensures.is)
     (rests_buffers c.self.inside.parts count g.given.header g.given.host c.args.ids.now g.given.past rests) in
-    (now, (c.requires.1.0, (subst (λ (n : ℕ). IsWord n c.args.message.now) (sym now.matches.size) c.requires.1.1.0, c.requires.1.1.1)))
+    (now, (c.requires.1.0, (subst (λ (n : ℕ). IsWord n c.args.message.now) (sym now.matches.core.setting.sized) c.requires.1.1.0, c.requires.1.1.1)))
 
 pub returns-clause-ended : goal.returns-clause-ended
 returns-clause-ended g c queue =

@@ -303,7 +303,7 @@ pub returns-in_err-step-clause-room : goal.returns-in_err-step-clause-room
 returns-in_err-step-clause-room g c = λ more has.
     let w = c.args.waiting in
     let some = some_run c.args.self.now.waits.rows w c.requires.1.0 c.requires.1.1 in
-    absurd (let bad : false ≡ true = c.in_err-step.ensures.succeeds (room_to_run w.want has c.requires.0.matches.fits.parts some
+    absurd (let bad : false ≡ true = c.in_err-step.ensures.succeeds (room_to_run w.want has c.requires.0.matches.core.fits.parts some
     (copies_some c.args.self.now.waits.rows w.task.0 w c.requires.1.0)) in cc)
 
 pub returns-in_err-end_copy-in-Done-clause-room : goal.returns-in_err-end_copy-in-Done-clause-room

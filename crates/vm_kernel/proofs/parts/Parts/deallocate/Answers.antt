@@ -50,7 +50,7 @@ pub count_cuts-requires-clause-few : goal.count_cuts-requires-clause-few
 count_cuts-requires-clause-few g c =
     let starts = starts_more g (command.Deallocate c.args.task c.args.address c.args.bytes) c.args.self.now c.room_to_merge.new.self c.args.ids.now
     c.args.log.now.items c.in_ok-losers.ensures.is c.requires.0 c.requires.1 in
-    entries_few g.given.header.size c.room_to_merge.new.self.maps c.room_to_merge.new.self.chains starts.rests.matches.entries
+    entries_few g.given.header.size c.room_to_merge.new.self.maps c.room_to_merge.new.self.chains starts.rests.matches.core.spaces.entries
 
 pub sweep_and_merge-requires : goal.sweep_and_merge-requires
 sweep_and_merge-requires g c =

@@ -15,7 +15,7 @@ all_done g c =
     c.requires.0 c.requires.1.0 c.requires.1.1.0 c.requires.1.1.1 c.in_ok-woken.ensures.fit c.in_ok-woken.ensures.buffers c.in_ok-woken.ensures.answered
 
 pub answer-requires-clause-answer : goal.answer-requires-clause-answer
-answer-requires-clause-answer g c = subst (λ (z : ℕ). IsAnswer z c.args.message.now) (sym c.requires.0.matches.fits.buffers) c.requires.1.1.0
+answer-requires-clause-answer g c = subst (λ (z : ℕ). IsAnswer z c.args.message.now) (sym c.requires.0.matches.core.fits.buffers) c.requires.1.1.0
 
 pub returns-clause-works : goal.returns-clause-works
 returns-clause-works g c = (all_done g c).works

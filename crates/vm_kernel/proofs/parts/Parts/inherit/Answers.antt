@@ -22,7 +22,7 @@ count_cuts-requires-clause-high g c =
     c.cuts_of-cuts.ensures.high
 
 pub count_cuts-requires-clause-few : goal.count_cuts-requires-clause-few
-count_cuts-requires-clause-few g c = entries_few g.given.header.size c.args.self.now.maps c.args.self.now.chains c.requires.rests.matches.entries
+count_cuts-requires-clause-few g c = entries_few g.given.header.size c.args.self.now.maps c.args.self.now.chains c.requires.rests.matches.core.spaces.entries
 
 pub returns-clause-ran : goal.returns-clause-ran
 returns-clause-ran g c =

@@ -25,7 +25,7 @@ set_count-requires g c =
     let now = c.args.self.now in
     let sweeps = sweeps_next g.given.header g.given.host g.given.outside g.given.command g.given.past now c.args.ids.now (by_address c.args.gone.now)
     g.given.rest c.args.i c.at.result.now c.args.log.now.items c.at.ensures c.requires.1.0 c.requires.1.1.0 in
-    sweeps.runs.matches.entries.known.0
+    sweeps.runs.matches.core.spaces.entries.known.0
 
 pub end_region-requires : goal.end_region-requires
 end_region-requires g c =

@@ -16,7 +16,7 @@ returns-in-ReadyOf-clause-works g c =
     record {
       matches =
           matches_with _ _ c.wake_ready.new.self (fills_waked _ c.args.self.now.waits.rows c.wake_ready.new.self.rows c.wake_ready.ensures.entry)
-          c.requires.0.matches.fits.parts refl c.requires.0.matches;
+          c.requires.0.matches.core.fits.parts refl c.requires.0.matches;
       used = used_waked _ c.args.self.now.waits.rows c.wake_ready.new.self.rows c.requires.0.used c.wake_ready.ensures.entry;
       referred = search rules;
       thin = c.requires.0.thin;
@@ -33,7 +33,7 @@ returns-in-Page-clause-works g c =
     record {
       matches =
           matches_with _ _ c.wake_page.new.self (fills_waked _ c.args.self.now.waits.rows c.wake_page.new.self.rows c.wake_page.ensures.entry)
-          c.requires.0.matches.fits.parts refl c.requires.0.matches;
+          c.requires.0.matches.core.fits.parts refl c.requires.0.matches;
       used = used_waked _ c.args.self.now.waits.rows c.wake_page.new.self.rows c.requires.0.used c.wake_page.ensures.entry;
       referred = search rules;
       thin = c.requires.0.thin;

@@ -1,0 +1,115 @@
+-- What a kernel's core says once some of its tables have changed, whatever the reason, and the others not.
+use Rattle.vm_kernel.proofs.Common.{ChainTable, Mapped, Waiting}
+use Rattle.vm_state.proofs.Filling.{SameFills, uses_refilled}
+use Rattle.vm_kernel.proofs.Common.{Bool, Changes, Entry, Event, FrameNo, Rests, HasPages, HasUse, Header, IfSome, Ids, List, Local, ObjectTable, Option}
+use Rattle.vm_kernel.proofs.Common.{PageKey}
+use Rattle.vm_kernel.proofs.Common.{PageRow, Parts, HostParts, Queues, SameMarks, WaitTable, claimed, named, refl, reverse, slice_get, ℕ, ◌≡◌}
+use Rattle.vm_fault.specs.Faults.{KeepsPlan}
+use Rattle.vm_frames.specs.Frames.{FrameTable}
+use Rattle.vm_kernel.proofs.memory.PagesShown.{frames_changed, laundry_changed, pages_marked}
+use Rattle.vm_kernel.proofs.memory.PartsStillFit.{IsPlainAway, fits_changed}
+use Rattle.vm_kernel.specs.Matches.{ControlFacts, Core, MemoryFacts, Pages, SpaceFacts, Spaces}
+use Rattle.vm_pageout.specs.Laundry.{LaundryList}
+use Rattle.vm_resident.specs.Resident.{ResidentTable}
+
+-- the tables of a kernel, in another one
+abbrev pub with_tables : Parts → Parts → Parts
+with_tables k other =
+    record other {
+      host = k.host;
+      size = k.size;
+      declared = k.declared;
+      memory = k.memory;
+      maps = k.maps;
+      chains = k.chains;
+      laundry = k.laundry;
+      waits = k.waits;
+    }
+
+-- a core is of these alone
+pub core_within : {header : Header} {h : ℕ} {k : Parts} {ids : Ids} {gone : List Entry} {s : SpaceFacts} {c : ControlFacts} {m : MemoryFacts} (other : Parts)
+    → Core header h k ids gone s c m → Core header h (with_tables k other) ids gone s c m
+core_within other core =
+    record {
+      setting = core.setting;
+      fits = core.fits;
+      spaces = core.spaces;
+      objects = core.objects;
+      controls = core.controls;
+      pages = core.pages;
+    }
+
+pub rests_within : {header : Header} {h : ℕ} {k : Parts} {ids : Ids} {past : List Event} (other : Parts) → Rests header h k ids past
+    → Rests header h (with_tables k other) ids past
+rests_within other rests =
+    record {
+      matches = record { core = core_within other rests.matches.core; settled = rests.matches.settled; replied = rests.matches.replied };
+      used = rests.used;
+      referred = rests.referred;
+      thin = rests.thin;
+      waits = rests.waits;
+      order = rests.order;
+      idle = rests.idle;
+    }
+
+-- the row of a page changes, and no object does
+pub core_rerowed : {header : Header} {h : ℕ} {k : Parts} {ids : Ids} {gone : List Entry} {s : SpaceFacts} {c : ControlFacts} {m : MemoryFacts}
+    {seen : ℕ → ℕ → Local} {held_now : ℕ} {was now : Option PageRow} {held : Bool} {bytes : List ℕ} {lists : Queues} {memory : HostParts} (key : PageKey)
+    (frame : FrameNo) → Core header h k ids gone s c m → Changes key frame was now held bytes lists k.memory memory → KeepsPlan k.memory memory
+    → IfSome now IsPlainAway → HasPages memory.frames memory.resident k.memory.objects seen
+    → (m.held ≡ claimed k.memory.frames → held_now ≡ claimed memory.frames)
+    → Core header h (record k { memory = memory }) ids gone s c (record m { seen = seen; held = held_now })
+core_rerowed {header = header} {h = h} {k = k} {m = m} {held_now = held_now} {memory = memory} key frame core changes plan plain pages claims =
+    record {
+      setting = core.setting;
+      fits = fits_changed key frame _ _ _ _ _ k memory core.fits plan.fit plan.buffers changes plain;
+      spaces = core.spaces;
+      objects = rw plan.objects core.objects;
+      controls = rw plan.objects core.controls;
+      pages = record {
+        shown = rw plan.objects pages;
+        washed = laundry_changed key frame _ _ _ _ _ k.memory memory k.laundry m.out core.pages.washed changes;
+        counted =
+            frames_changed (slice_get (reverse header.frames.items) h) key frame _ _ _ _ _ k.memory memory m.held held_now m.wired core.pages.counted changes
+            claims;
+      };
+    }
+
+-- other accesses wait, and fill what they filled
+pub spaces_refilled : {header : Header} {h : ℕ} {maps : Mapped} {chains : ChainTable} {rows rows2 : List Waiting} {gone : List Entry} {s : SpaceFacts}
+    → SameFills rows rows2 → Spaces header h maps chains rows gone s → Spaces header h maps chains rows2 gone s
+spaces_refilled {rows = rows} {rows2 = rows2} same spaces =
+    record {
+      tasks = spaces.tasks;
+      entries = spaces.entries;
+      shared = spaces.shared;
+      uses = uses_refilled rows rows2 same spaces.uses;
+      homes = spaces.homes;
+    }
+
+-- other accesses wait, and tasks hold other regions
+pub core_holds : {header : Header} {h : ℕ} {k : Parts} {ids : Ids} {gone : List Entry} {s : SpaceFacts} {c : ControlFacts} {m : MemoryFacts}
+    {holds_at : ℕ → ℕ → Bool} {waits : WaitTable} → Core header h k ids gone s c m
+    → HasUse header k.maps waits.rows (s.used_at h) s.made holds_at s.objects.regions_made
+    → Core header h (record k { waits = waits }) ids gone (record s { holds_at = holds_at }) c m
+core_holds core uses =
+    record {
+      setting = core.setting;
+      fits = core.fits;
+      spaces = record {
+        tasks = core.spaces.tasks;
+        entries = core.spaces.entries;
+        shared = core.spaces.shared;
+        uses = uses;
+        homes = core.spaces.homes;
+      };
+      objects = core.objects;
+      controls = core.controls;
+      pages = core.pages;
+    }
+
+-- objects are known as before, page by page
+pub pages_known_so : {header : Header} {h : ℕ} {frames : FrameTable} {resident : ResidentTable} {os os2 : ObjectTable} {laundry : LaundryList}
+    {m : MemoryFacts} → SameMarks os os2 → Pages header h frames resident os laundry m → Pages header h frames resident os2 laundry m
+pages_known_so {frames = frames} {resident = resident} {os = os} {os2 = os2} marks pages =
+    record { shown = pages_marked frames resident os os2 _ pages.shown marks; washed = pages.washed; counted = pages.counted }
