@@ -92,7 +92,8 @@ own_region header h k ids past rests r has temporary = by_row (region_at k.chain
     by_row : (x : Option RegionRow) → region_at k.chains r ≡ x → is_some x ≡ true → is_used header h r past ≡ true
     by_row None found has = absurd (let bad : false ≡ true = has in cc)
     by_row (Some row) found has =
-        used_of header h r past (rests.matches.settled.shut r) ((rests.matches.core.spaces.uses.used r temporary).is (row_use r row rests.matches.core.spaces.entries found rests.used))
+        used_of header h r past (rests.matches.settled.shut r) ((rests.matches.core.spaces.uses.used r temporary).is
+        (row_use r row rests.matches.core.spaces.entries found rests.used))
 
 held_on : (header : Header) (h : ℕ) (k : Parts) (ids : Ids) (past : List Event) → Rests header h k ids past → (r : ℕ) → named header ≤ r
     → is_used header h r past ≡ true → IsHeldOn header h r past
@@ -144,7 +145,8 @@ pub knows_of : (header : Header) (h : ℕ) (k : Parts) (ids : Ids) (past : List 
 knows_of header h k ids past rests = record {
   held = λ r temporary used. held_on header h k ids past rests r temporary used;
   entries = λ task lives.
-      subst (AllRows (λ row. IsRegionOf header h row.region.0 past)) (sym (rests.matches.core.spaces.tasks.rows task (sym (rests.matches.core.spaces.tasks.hosts task) ∙ lives)))
+      subst (AllRows (λ row. IsRegionOf header h row.region.0 past)) (sym (rests.matches.core.spaces.tasks.rows task
+      (sym (rests.matches.core.spaces.tasks.hosts task) ∙ lives)))
       (rows_map (IsInside header.size k.chains) (λ row. IsRegionOf header h row.region.0 past)
       (λ row is. own_region header h k ids past rests row.region.0 is.region) (rows_in task k.maps) (rests.matches.core.spaces.entries.inside task));
   chains = λ r small own n u below. chain_made header h k ids past rests r n u own below;
@@ -258,7 +260,8 @@ module _ (header : Header) (h : ℕ) (k : Parts) (ids next : Ids) (past new : Li
             (use_same header h r past new same temporary (rests.matches.settled.shut r) (common.settled.shut r))) (has.used r temporary);
         files = λ r file some.
             let task = by_some all_tasks r k.maps some in
-            let row = region_row k.chains r (entry_there header.size r k.chains (rows_in task.0 k.maps) (rests.matches.core.spaces.entries.inside task.0) task.1) in
+            let row = region_row k.chains r (entry_there header.size r k.chains (rows_in task.0 k.maps) (rests.matches.core.spaces.entries.inside task.0)
+            task.1) in
             common.homes.files r h file (inr (home r (rests.matches.core.spaces.homes.0 r row.0 (file_paged header r file) row.1)));
         among =
             λ task rows found. subst (λ (z : List ℕ). is_among task z ≡ true) (sym same.made.is)
@@ -330,7 +333,12 @@ module _ (header : Header) (h : ℕ) (k : Parts) (ids next : Ids) (past new : Li
 
   frames_same : HasFrames (slice_get (reverse header.frames.items) h) k.memory.frames (frames_held header h new) (frames_wired h new)
   frames_same =
-      let has = rests.matches.core.pages.counted in record { total = has.total; held = same.pages.held ∙ has.held; wired = same.pages.wired ∙ has.wired; fits = has.fits }
+      let has = rests.matches.core.pages.counted in record {
+        total = has.total;
+        held = same.pages.held ∙ has.held;
+        wired = same.pages.wired ∙ has.wired;
+        fits = has.fits;
+      }
 
   -- tasks elsewhere hold none of its regions, and its regions and objects stay on their host
   pub rests_same : SameReturns (named header) h past new → ApartElsewhere header h new → ((r : ℕ) → home_of r past ≡ Some h → home_of r new ≡ Some h)
@@ -354,7 +362,9 @@ module _ (header : Header) (h : ℕ) (k : Parts) (ids next : Ids) (past new : Li
               kinds = rests.matches.core.objects.kinds;
               files = λ o file. known o ∙ rests.matches.core.objects.files o file;
               sizes = record {
-                at = λ o row least found. rests.matches.core.objects.sizes.at o row least found ∙ sym (same.sizes o (small_object rests.matches.core.objects.regions o row found));
+                at =
+                    λ o row least found. rests.matches.core.objects.sizes.at o row least found
+                    ∙ sym (same.sizes o (small_object rests.matches.core.objects.regions o row found));
                 few = rests.matches.core.objects.sizes.few;
               };
             };

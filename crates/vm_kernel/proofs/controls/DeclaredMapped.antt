@@ -139,7 +139,8 @@ may_map header h task address bytes object offset past k ids events s =
       end = end;
       inside = grind (arith, nat_tests);
       used =
-          here_of (is_file header object.0) (in_use header h object.0 past) (sym (ap (λ z. is_elsewhere header object.0 z past) (lives_here m.core.spaces.tasks lives))
+          here_of (is_file header object.0) (in_use header h object.0 past) (sym (ap (λ z. is_elsewhere header object.0 z past)
+          (lives_here m.core.spaces.tasks lives))
           ∙ second.0);
       free = free;
       room = grind (arith, nat_tests);
@@ -179,7 +180,8 @@ pub map_enters : (header : Header) (h : ℕ) (task : TaskId) (address bytes : �
     → Enters header task.0 bytes object.0 offset past
 map_enters header h task address bytes object offset past k ids rests may =
     let m = rests.matches in
-    let pages : (region_of header object.0 past).pages ≡ declared_pages header object.0 = ap (λ z. z.pages) (m.core.spaces.homes.1.whole object.0 may.declared) in
+    let pages : (region_of header object.0 past).pages ≡ declared_pages header object.0 = ap (λ z. z.pages)
+    (m.core.spaces.homes.1.whole object.0 may.declared) in
     let inside = may.inside in
     let less = may.declared in
     let more = named_regions header past in
@@ -258,7 +260,8 @@ map_opens header h task address bytes object offset new past k ids rests may kno
             lives = lives_here m.core.spaces.tasks may.lives;
             found =
                 ap (λ b. entry_at address (if b then entered row (entries_of header.size task.0 past) else entries_of header.size task.0 past)) (itself task.0)
-                ∙ (ap (λ z. entry_at address (entered row z)) (rows_here m.core.spaces.tasks may.lives) ∙ found_entered row (rows_in task.0 k.maps) may.some may.free);
+                ∙ (ap (λ z. entry_at address (entered row z)) (rows_here m.core.spaces.tasks may.lives)
+                ∙ found_entered row (rows_in task.0 k.maps) may.some may.free);
           };
       on_host = refl;
       region = refl;
@@ -330,11 +333,17 @@ rests_opened header h outside doing task address bytes object offset pages new p
               };
               spaces = record {
                 tasks = tasks_entered h size k.maps maps past task row m.core.spaces.tasks o.changes lives;
-                entries = entries_declared size k.maps maps k.chains chains task.0 object pages row m.core.spaces.entries o.free o.region o.changes refl below may.whole may.some
+                entries =
+                    entries_declared size k.maps maps k.chains chains task.0 object pages row m.core.spaces.entries o.free o.region o.changes refl below
+                    may.whole may.some
                     may.end (let inside = may.inside in let all = o.sized in omega (arith, inside, all)) may.room;
-                shared = shared_entered (named header) task.0 k.maps maps row o.changes (λ less same. let bad : inherit.Share ≡ inherit.Copy = same in cc) m.core.spaces.shared;
-                uses = uses_entered header k.maps maps (λ r. in_use header h r past) (tasks past) (λ t r. holds size t r now) (next_region header past) task.0 row
-                    (lives_on h task.0 past) (λ r temporary apart. m.core.spaces.uses.used r temporary) (λ r file apart some. m.core.spaces.uses.files r file some) used m.core.spaces.uses.among
+                shared =
+                    shared_entered (named header) task.0 k.maps maps row o.changes (λ less same. let bad : inherit.Share ≡ inherit.Copy = same in cc)
+                    m.core.spaces.shared;
+                uses =
+                    uses_entered header k.maps maps (λ r. in_use header h r past) (tasks past) (λ t r. holds size t r now) (next_region header past) task.0 row
+                    (lives_on h task.0 past) (λ r temporary apart. m.core.spaces.uses.used r temporary)
+                    (λ r file apart some. m.core.spaces.uses.files r file some) used m.core.spaces.uses.among
                     o.changes lives below
                     (m.core.spaces.tasks.hosts task.0 ∙ ap is_some lives)
                     (λ t r away why. holds_rows size task.0 t r k.maps (rows_in task.0 k.maps) (entered row (entries_of size t past)) past lives away
@@ -347,15 +356,21 @@ rests_opened header h outside doing task address bytes object offset pages new p
                     m.core.spaces.homes));
               };
               objects = record {
-                regions = regions_declared header past object new pages k.chains chains k.memory.objects objects ids (next_region header past) (next_object header past)
-                    (marks_of header past) m.core.objects.regions m.core.objects.kinds m.core.spaces.homes.1 may.declared regions known_objects o.free o.sized o.known o.region o.put;
-                kinds = kinds_declared header object new pages k.chains chains k.memory.objects objects may.declared o.known o.region o.put o.marks m.core.objects.kinds;
+                regions =
+                    regions_declared header past object new pages k.chains chains k.memory.objects objects ids (next_region header past)
+                    (next_object header past)
+                    (marks_of header past) m.core.objects.regions m.core.objects.kinds m.core.spaces.homes.1 may.declared regions known_objects o.free o.sized
+                    o.known o.region o.put;
+                kinds =
+                    kinds_declared header object new pages k.chains chains k.memory.objects objects may.declared o.known o.region o.put o.marks
+                    m.core.objects.kinds;
                 files = λ x file. elim (known_cases object.0 new k.memory.objects objects o.put x) [
                   | inl this ↦
                       ap (is_on h) (subst (λ (z : ℕ). home_of z now ≡ Some h) this.0 (map_home header h task address bytes object offset past k ids rests may
                       (ap (is_file header) this.0 ∙ file)))
                       ∙ (own_host h ∙ sym (ap is_some this.1))
-                  | inr other ↦ ap (is_on h) (other_home task address bytes object offset past x other.0) ∙ (m.core.objects.files x file ∙ sym (ap is_some other.1))
+                  | inr other ↦ ap (is_on h) (other_home task address bytes object offset past x other.0)
+                      ∙ (m.core.objects.files x file ∙ sym (ap is_some other.1))
                 ];
                 sizes = sizes_new (named header) object.0 new k.memory.objects objects (λ x. object_pages header x past) (λ x. object_pages header x past) o.put
                     (let pages = o.known.pages in let most = declared_few header object.0 m.core.setting.ranged may.declared in omega (arith, pages, most))
@@ -363,7 +378,8 @@ rests_opened header h outside doing task address bytes object offset pages new p
               };
               controls = controls_stay (λ x at_home. object_stays x h enters past at_home) controls;
               pages = record {
-                shown = pages_marked k.memory.frames k.memory.resident k.memory.objects objects (λ x p. known_local header x p (local header h (place_of x p) now))
+                shown =
+                    pages_marked k.memory.frames k.memory.resident k.memory.objects objects (λ x p. known_local header x p (local header h (place_of x p) now))
                     (pages_opened header h task row object new.control past k ids rests (was_dead header h past k ids object.0 new rests o.known)) o.marks;
                 washed = m.core.pages.washed;
                 counted = m.core.pages.counted;
@@ -821,7 +837,8 @@ known_held header h task address bytes object offset past k k2 ids before s hold
     by : Holds object d k k2 → IsSome (object_at k2.memory.objects object.0)
     by (Again region found put same) =
         ap (λ (z : Parts). is_some (object_at z.memory.objects object.0)) same
-        ∙ subst (λ (z : ℕ). is_some (object_at k.memory.objects z) ≡ true) (whole_row m.core.objects.regions m.core.spaces.homes.1 object.0 region s.range.1 found).top
+        ∙ subst (λ (z : ℕ). is_some (object_at k.memory.objects z) ≡ true) (whole_row m.core.objects.regions m.core.spaces.homes.1 object.0 region s.range.1
+        found).top
         (m.core.objects.regions.tops object.0 region found)
     by (First free put known marks same) =
         ap is_some (known_put object.0 (referred d (object_at k.memory.objects object.0)) k.memory.objects k2.memory.objects known)

@@ -80,7 +80,9 @@ can_lock header h k ids past object control m events rests word asks lives once 
       row = live.known;
       known = live.is;
       live = live.live;
-      room = room_once k.memory k.laundry (returns_out h past) m2.core.fits.parts m2.core.pages.washed (let fits = m2.core.pages.counted.fits in omega (arith, fits)) once;
+      room =
+          room_once k.memory k.laundry (returns_out h past) m2.core.fits.parts m2.core.pages.washed
+          (let fits = m2.core.pages.counted.fits in omega (arith, fits)) once;
     }
 
 -- what the request comes to
@@ -115,7 +117,8 @@ heeds_dead header h outside doing k ids past object control page count returns f
     }) else None) dead_now in
     record {
       works =
-          heard_works header h k ids woken.Nobody k.memory past now rests (stays_heard header h k ids past object control m rests none) rests.matches.core.fits.parts
+          heard_works header h k ids woken.Nobody k.memory past now rests (stays_heard header h k ids past object control m rests none)
+          rests.matches.core.fits.parts
           refl (changed_none header h k ids past object control m rests (nothing_dead header h object control m past dead_now));
       fails = refl;
       goes = goes_none header h outside doing now [];

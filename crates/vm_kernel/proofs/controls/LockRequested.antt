@@ -5,7 +5,7 @@ use Rattle.vm_kernel.proofs.Common.{LocalEffect, Mapped, None, ObjectId, ObjectR
 use Rattle.vm_kernel.proofs.Common.{Rests, Some, TakesLock, WaitTable, Waiting, Want, absent_at, ap, entry, eqb_tells, false, if◌then◌else◌, inl, inr}
 use Rattle.vm_kernel.proofs.Common.{is_control, is_woken, live_control, local, local_after, local_of_row, map, not, object_at, owner_of, page_key, place_of}
 use Rattle.vm_kernel.proofs.Common.{refl, row_at, subst, sym, true, waiting, ℕ, ◌&&◌, ◌<◌, ◌==◌, ◌||◌, ◌∙◌, ◌∷◌, ◌≡◌, ◌⊎◌}
-use Rattle.vm_state.proofs.Filling.{KeepsAway, away_back, fills_waked, used_away, used_waked, uses_refilled}
+use Rattle.vm_state.proofs.Filling.{KeepsAway, away_back, fills_waked, used_away, used_waked}
 use Rattle.vm_waits.specs.Waits.{Waked}
 use Rattle.std.specs.Prelude.{nat_le, nat_lt, option_map, ◌+◌}
 use Rattle.vm_kernel.proofs.controls.AnswerEffects.{on_page}
@@ -386,7 +386,8 @@ mid_taken header h k ids past object control page count returns lock flush reply
         → IsPlainRow row
     plain o p row was away_now =
         let gone : was.0.here ≡ false = sym (ap (λ (z : PageRow). z.here) was.2 ∙ pended_here its o p was.0) ∙ away_now in
-        subst IsPlainRow (sym (was.2 ∙ ap (λ b. if b && is_ahead its o p then aimed its was.0 else was.0) gone)) (rests.matches.core.fits.plain o p was.0 was.1 gone)
+        subst IsPlainRow (sym (was.2 ∙ ap (λ b. if b && is_ahead its o p then aimed its was.0 else was.0) gone))
+        (rests.matches.core.fits.plain o p was.0 was.1 gone)
 
     -- a page of the object may be locked, and each other is as it was
     locks : (o p : ℕ) (row : PageRow) → ((was : PageRow) × (row_at k.memory.resident o p ≡ Some was) × (row ≡ pended its o p was))

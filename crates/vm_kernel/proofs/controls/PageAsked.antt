@@ -1,9 +1,9 @@
 -- What a request for a page leaves of the kernel, and an access that waits for something else.
 use Rattle.vm_kernel.proofs.memory.CoreChanges.{core_rerowed}
 use Rattle.vm_kernel.proofs.Common.{Asks, AsksPage, Bool, Event, FrameNo, HasWaiters, Header, HostParts, Ids, List, Matches, ObjectRow, ObjectTable, On}
-use Rattle.vm_kernel.proofs.Common.{PageKey, PageRow, Parts, Reason, Some, Up, WaitTable, Waiting, Works, [], ap, arith, begun_at, entry, false, frames_held}
-use Rattle.vm_kernel.proofs.Common.{frames_wired, host_id, inl, is_control, is_ready_state, live_control, local, local_after, object_at, place_of, ready_in}
-use Rattle.vm_kernel.proofs.Common.{refl, returns_out, reverse, slice_get, some_is, subst, sym, true, waiting, with_on, ℕ, ◌&&◌, ◌+◌, ◌==◌, ◌∙◌, ◌∷◌, ◌≡◌}
+use Rattle.vm_kernel.proofs.Common.{PageKey, PageRow, Parts, Reason, Some, Up, WaitTable, Waiting, Works, [], ap, arith, begun_at, entry, false}
+use Rattle.vm_kernel.proofs.Common.{host_id, inl, is_control, is_ready_state, live_control, local, local_after, object_at, place_of, ready_in}
+use Rattle.vm_kernel.proofs.Common.{refl, some_is, subst, sym, true, waiting, with_on, ℕ, ◌&&◌, ◌==◌, ◌∙◌, ◌∷◌, ◌≡◌}
 use Rattle.vm_kernel.proofs.space.RegionsFilled.{place_unfilled}
 use Rattle.vm_state.proofs.Filling.{fills_turned, used_page, used_turned}
 use Rattle.vm_fault.specs.Faults.{KeepsPlan}
@@ -19,10 +19,9 @@ use Rattle.vm_kernel.specs.Serving.{runs_now}
 use Rattle.vm_state.specs.Places.{known_local}
 use Rattle.vm_kernel.proofs.memory.WhatIsKnown.{IsOther, pages_known}
 use Rattle.vm_kernel.proofs.memory.ComesForAccess.{asks_none_now, page_referred}
-use Rattle.vm_kernel.proofs.memory.PartsStillFit.{fits_changed}
 use Rattle.vm_kernel.proofs.steps.RowsInOrder.{PutsInOrder}
 use Rattle.vm_kernel.proofs.abroad.OwnHost.{own_host}
-use Rattle.vm_kernel.proofs.memory.PagesShown.{asking, asking_it, asking_other, frames_changed, itself, laundry_changed, pages_changed}
+use Rattle.vm_kernel.proofs.memory.PagesShown.{asking, asking_it, asking_other, itself, pages_changed}
 use Rattle.vm_kernel.proofs.abroad.OtherLists.{matches_with}
 use Rattle.vm_kernel.proofs.controls.LockReplied.{replied_behind}
 use Rattle.vm_legal.specs.Walks.{page_on}
@@ -86,7 +85,8 @@ works_asked header h past k ids w key object access frame memory waits2 works is
     let m = matches_asked header h k ids past key object.control access frame memory works.matches live c plan in
     record {
       matches =
-          matches_with memory.queues memory.buffers waits2 (fills_turned w.task.0 w (on.Page key) k.waits.rows waits2.rows is put.entry) m.core.fits.parts refl m;
+          matches_with memory.queues memory.buffers waits2 (fills_turned w.task.0 w (on.Page key) k.waits.rows waits2.rows is put.entry) m.core.fits.parts refl
+          m;
       used = used_turned w.task.0 w (on.Page key) k.waits.rows waits2.rows
           (used_page key.object.0 key.page.0 _ k.memory.resident memory.resident works.used
           (place_unfilled header.size w.task.0 w.want key k.maps k.chains [] works.matches.core.spaces.entries (behind_place place)) c.row) is put.entry;
@@ -115,7 +115,8 @@ pub works_turned : (header : Header) (h : ℕ) (past : List Event) (k : Parts) (
 works_turned header h past k ids w reason waits2 works is now holds passed put =
     record {
       matches =
-          matches_with k.memory.queues k.memory.buffers waits2 (fills_turned w.task.0 w reason k.waits.rows waits2.rows is put.entry) works.matches.core.fits.parts
+          matches_with k.memory.queues k.memory.buffers waits2 (fills_turned w.task.0 w reason k.waits.rows waits2.rows is put.entry)
+          works.matches.core.fits.parts
           refl works.matches;
       used = used_turned w.task.0 w reason k.waits.rows waits2.rows works.used is put.entry;
       referred = works.referred;

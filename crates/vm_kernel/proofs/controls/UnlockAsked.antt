@@ -2,14 +2,14 @@
 use Rattle.vm_kernel.proofs.memory.CoreChanges.{core_rerowed}
 use Rattle.vm_kernel.proofs.Common.{Bool, Command, Elsewhere, Event, HasWaiters, Header, HostParts, Ids, IsAt, List, LocalEffect, Matches, None, ObjectRow}
 use Rattle.vm_kernel.proofs.Common.{ObjectTable, Option, Outside, PageKey, PageRow, Parts, Some, Suffice, Unlocks, Up, WaitTable, Waiting, Want, Works, []}
-use Rattle.vm_kernel.proofs.Common.{absent_at, access_in, ap, arith, begun_at, entry, false, frames_held, frames_wired, host_id, if◌then◌else◌, inl, inr}
-use Rattle.vm_kernel.proofs.Common.{live_control, live_in, local, local_after, named, nat_tests, object_at, place_of, refl, returns_out, reverse, slice_get}
+use Rattle.vm_kernel.proofs.Common.{absent_at, access_in, ap, arith, begun_at, entry, false, host_id, if◌then◌else◌, inl, inr}
+use Rattle.vm_kernel.proofs.Common.{live_control, live_in, local, local_after, named, nat_tests, object_at, place_of, refl}
 use Rattle.vm_kernel.proofs.Common.{subst, sym, true, waiting, with_on, ℕ, ◌&&◌, ◌==◌, ◌∙◌, ◌∷◌, ◌≡◌}
 use Rattle.vm_state.proofs.Filling.{away_put, fills_turned, used_away, used_turned}
 use Rattle.vm_fault.specs.Faults.{KeepsPlan}
 use Rattle.vm_fault.specs.Walks.{Finds, is_storing, keeps_out, wanted_number}
 use Rattle.vm_kernel.proofs.memory.ComesForAccess.{asks_none_now, page_referred, same_lock}
-use Rattle.vm_kernel.proofs.memory.PartsStillFit.{fits_changed, plain_here}
+use Rattle.vm_kernel.proofs.memory.PartsStillFit.{plain_here}
 use Rattle.vm_kernel.proofs.steps.AccessCauses.{asks_for, comes_at}
 use Rattle.vm_kernel.proofs.steps.EventsGrow.{Follows}
 use Rattle.vm_kernel.proofs.memory.WhatIsKnown.{nested, other_nested, pages_known}
@@ -18,7 +18,7 @@ use Rattle.vm_state.proofs.Locks.{kept_locked, names_at}
 use Rattle.vm_kernel.proofs.abroad.OwnEvents.{own_named}
 use Rattle.vm_kernel.proofs.steps.RowsInOrder.{PutsInOrder}
 use Rattle.vm_kernel.proofs.abroad.OwnHost.{own_host}
-use Rattle.vm_kernel.proofs.memory.PagesShown.{bytes_now, frames_changed, laundry_changed, pages_moved, shown_as, shown_here}
+use Rattle.vm_kernel.proofs.memory.PagesShown.{bytes_now, pages_moved, shown_as, shown_here}
 use Rattle.vm_kernel.proofs.controls.LockReplied.{replied_behind}
 use Rattle.vm_kernel.proofs.abroad.OtherLists.{matches_with}
 use Rattle.vm_kernel.specs.Matches.{IsReplied}
@@ -59,7 +59,8 @@ matches_unlocked header h k ids past key row control access memory m here c plan
     let shows = ap (local_after header.size model.Unlocks) (shown_here k.memory.frames row lacked here)
     ∙ (ap (λ z. shown_as row2 true true z lacked) (sym (bytes_now key row.frame _ _ _ _ _ k.memory memory c))
     ∙ sym (shown_here memory.frames row2 lacked here)) in
-    let moved = pages_moved header.size model.Unlocks key row.frame _ _ _ _ _ k.memory memory k.memory.objects moment m.core.fits.parts m.core.pages.shown c shows
+    let moved = pages_moved header.size model.Unlocks key row.frame _ _ _ _ _ k.memory memory k.memory.objects moment m.core.fits.parts m.core.pages.shown c
+    shows
     (λ o p apart. refl) in
     let pages2 = pages_known header header.size effect_at there (λ o p. other_nested (key.object.0 == o) (key.page.0 == p) model.Unlocks tt)
     (record {
@@ -87,7 +88,8 @@ works_unlocked header h past k ids w key row object access memory waits2 works i
     let m = matches_unlocked header h k ids past key row object.control access memory works.matches here c plan in
     record {
       matches =
-          matches_with memory.queues memory.buffers waits2 (fills_turned w.task.0 w (on.Page key) k.waits.rows waits2.rows is put.entry) m.core.fits.parts refl m;
+          matches_with memory.queues memory.buffers waits2 (fills_turned w.task.0 w (on.Page key) k.waits.rows waits2.rows is put.entry) m.core.fits.parts refl
+          m;
       used =
           used_turned w.task.0 w (on.Page key) k.waits.rows waits2.rows (used_away k.memory.resident memory.resident works.used
           (away_put o p (Some row2) row k.memory.resident memory.resident c.found c.row)) is put.entry;

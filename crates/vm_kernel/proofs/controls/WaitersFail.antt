@@ -369,7 +369,9 @@ bare_filled header h outside doing past old events key k ids w to waits f found 
       known = known.0;
       top = known.1;
       one = only_one m.core.objects.regions to.region.0 row known.0 there.region known.1 (record { tops = there.alone.tops; bare = there.alone.unders });
-      bare = target_unshadowed (events ++ past) m.core.objects.regions m.core.spaces.homes.1 w.task.0 (record { region = to.region.0; object = there.object.0 }) there.made;
+      bare =
+          target_unshadowed (events ++ past) m.core.objects.regions m.core.spaces.homes.1 w.task.0 (record { region = to.region.0; object = there.object.0 })
+          there.made;
     }
   where
     m : Matches header h k ids [] (events ++ past)

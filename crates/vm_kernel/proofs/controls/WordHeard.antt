@@ -116,7 +116,8 @@ heard_zeros : (header : Header) (h : ℕ) (outside : Outside) (doing : Command) 
     → supply.Zeroes k.host (key_of object page) who k.memory new [] after → lives h object control past ≡ true → object.0 < named header
     → Heard header h outside doing k ids who new after (hears h object control (message.Unavailable page) ∷ past)
 heard_zeros header h outside doing k ids after past object control page who new was zeroes lives_now declared =
-    let told : after ≡ zeros h object page ∷ [] = zeroes.events ∙ ap (λ z. event.Zeroed z object page ∷ []) (named_host k.host h was.rests.matches.core.setting.numbered) in
+    let told : after ≡ zeros h object page ∷ [] = zeroes.events
+    ∙ ap (λ z. event.Zeroed z object page ∷ []) (named_host k.host h was.rests.matches.core.setting.numbered) in
     let c = changed_zeroed header h k ids k.host after past object control page who new was.rests zeroes lives_now declared in
     let lacks = lacking header h k past object control page zeroes.was was.rests.matches.core.pages.shown zeroes.asked lives_now in
     subst (λ (z : List Event). Heard header h outside doing k ids who new z (hears h object control (message.Unavailable page) ∷ past)) (sym told)

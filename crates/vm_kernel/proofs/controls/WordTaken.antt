@@ -343,7 +343,9 @@ changed_none header h k ids past object control m rests nothing =
           controls_of k.memory.objects k.memory.objects (λ o. last_control h o past) (λ o. live_control h o past) (λ o. is_ready h o past)
           (λ o. is_ready h o (hears h object control m ∷ past)) was.core.controls (itself k.memory.objects) nothing.ready;
       laundry = was.core.pages.washed;
-      frames = subst (λ (z : ℕ). HasFrames (slice_get (reverse header.frames.items) h) k.memory.frames z (frames_wired h past)) (sym nothing.held) was.core.pages.counted;
+      frames =
+          subst (λ (z : ℕ). HasFrames (slice_get (reverse header.frames.items) h) k.memory.frames z (frames_wired h past)) (sym nothing.held)
+          was.core.pages.counted;
       referred = rests.referred;
       thin = rests.thin;
       waits = waits_taken header h (host_id h) object control m past rests.waits;
@@ -665,7 +667,8 @@ changed_ended header h k ids past object control page m effect who row new rests
     let waits = waits_page header h k ids past object.0 page.0 None who new rests is.test ends.row (none_unawaited None refl) same in
     let local_at = λ (o p : ℕ). local header h (place_of o p) past in
     let pages = known_at header header.size key effect local_at is.known
-    (pages_moved header.size effect key row.frame _ _ _ _ _ k.memory new new.objects (λ o p. known_local header o p (local_at o p)) was.core.fits.parts was.core.pages.shown
+    (pages_moved header.size effect key row.frame _ _ _ _ _ k.memory new new.objects (λ o p. known_local header o p (local_at o p)) was.core.fits.parts
+    was.core.pages.shown
     ends
     (ap (local_after header.size effect) (asked_shows k.memory.frames row (absent_at k.memory.objects object.0 page.0)
     (was.core.fits.plain object.0 page.0 row asked.0 asked.1) asked.1) ∙ left.here) left.others) in
@@ -818,7 +821,8 @@ changed_zeroed header h k ids host after past object control page who new rests 
     ) (zeroed_shows header object.0 page.0 header.size (local header h (place_of object.0 page.0) past) lacked declared
     (is ∙ asked_shows k.memory.frames row lacked (was.core.fits.plain object.0 page.0 row asked.0 asked.1) asked.1))
     ∙ (ap (λ z. record away { here = true; bytes = z }) (sym (bytes_now key row.frame _ _ _ _ _ k.memory new comes))
-    ∙ ap (λ z. record away { here = true; bytes = page_in new.frames row.frame.0; absent = z }) (sym (was.core.objects.kinds.present object.0 page.0 declared))) in
+    ∙ ap (λ z. record away { here = true; bytes = page_in new.frames row.frame.0; absent = z })
+    (sym (was.core.objects.kinds.present object.0 page.0 declared))) in
     let others : (o p : ℕ) → (object.0 == o && page.0 == p) ≡ false → (local_now o p ≡ local_at o p)
     × (absent_at k.memory.objects o p ≡ absent_at k.memory.objects o p) = λ o p apart. (
       rw (own_host h)
@@ -829,7 +833,8 @@ changed_zeroed header h k ids host after past object control page who new rests 
           ∙ ap (λ b. known_local header o p (local_after header.size (if b then Zeroes else Elsewhere) (local header h (place_of o p) past))) apart),
       refl,
     ) in
-    let pages = pages_changed key row.frame _ _ _ _ _ k.memory new k.memory.objects local_at local_now was.core.fits.parts was.core.pages.shown comes shows others in
+    let pages = pages_changed key row.frame _ _ _ _ _ k.memory new k.memory.objects local_at local_now was.core.fits.parts was.core.pages.shown comes shows
+    others in
     let some = count_released k.memory.frames.claims row.frame.0 comes.had in
     subst (λ (z : Woken). Changed header h k ids z new past (zeros h object page ∷ hears h object control (message.Unavailable page) ∷ past)) (sym zeroes.woken)
     (record {

@@ -45,7 +45,8 @@ here_waits header h k ids past task w m waits copies found =
             ∙ (ap (entry_at (address_in k.maps.size w.want)) (rows_here m.core.spaces.tasks allowed.lives) ∙ allowed.found);
       };
       left =
-          page_left k.maps.size header.size (next_page task past) (copies_to w.destination) w.want m.core.spaces.tasks.sized (page_positive header.size m.core.setting.ranged.size)
+          page_left k.maps.size header.size (next_page task past) (copies_to w.destination) w.want m.core.spaces.tasks.sized
+          (page_positive header.size m.core.setting.ranged.size)
           (waits.sized task w found) (copies_next copies task w found);
     }
 

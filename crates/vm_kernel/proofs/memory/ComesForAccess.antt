@@ -2,10 +2,10 @@
 use Rattle.vm_kernel.proofs.memory.CoreChanges.{core_holds, core_rerowed}
 use Rattle.vm_kernel.proofs.Common.{Access, AllReferred, Bool, Brings, Changes, Event, FrameNo, HasPages, HasWaiters, Header, HostParts, Ids, List, Local}
 use Rattle.vm_kernel.proofs.Common.{Matches, None, ObjectTable, On, Option, PageKey, PageRow, Parts, Queues, Raises, Some, Stores, WaitTable, Waiting, Woken}
-use Rattle.vm_kernel.proofs.Common.{Works, Zeroes, [], absent_at, ap, arith, begun_at, clean_row, copy_target, entry, false, fit_touched, frames_held}
-use Rattle.vm_kernel.proofs.Common.{frames_wired, host_id, host_of, inl, inr, is_again, is_frame, little_endian_bytes, local, local_after, local_of_row}
-use Rattle.vm_kernel.proofs.Common.{next_page, page_in, place_of, refl, replicate, returns_out, reverse, row_at, rows_in, slice_get, some_is, subst, suc, sym}
-use Rattle.vm_kernel.proofs.Common.{true, unlocked, waiting, with_bytes, ℕ, ◌&&◌, ◌+◌, ◌==◌, ◌||◌, ◌∙◌, ◌∷◌, ◌≡◌}
+use Rattle.vm_kernel.proofs.Common.{Works, Zeroes, [], absent_at, ap, arith, begun_at, clean_row, copy_target, entry, false, fit_touched}
+use Rattle.vm_kernel.proofs.Common.{host_id, host_of, inl, inr, is_again, is_frame, little_endian_bytes, local, local_after, local_of_row}
+use Rattle.vm_kernel.proofs.Common.{next_page, page_in, place_of, refl, replicate, row_at, rows_in, some_is, subst, suc, sym}
+use Rattle.vm_kernel.proofs.Common.{true, unlocked, waiting, with_bytes, ℕ, ◌&&◌, ◌==◌, ◌||◌, ◌∙◌, ◌∷◌, ◌≡◌}
 use Rattle.vm_state.proofs.Filling.{IsUnfilled, away_put, fills_over, number_fills, used_away, used_over, used_page, uses_refilled}
 use Rattle.vm_fault.specs.Faults.{KeepsPlan, References, WritesPage}
 use Rattle.vm_fault.specs.Walks.{keeps_out}
@@ -20,10 +20,10 @@ use Rattle.vm_terminate.specs.Finishes.{IsReferred}
 use Rattle.vm_kernel.specs.Serving.{runs_now}
 use Rattle.vm_state.specs.Places.{known_local}
 use Rattle.vm_kernel.proofs.memory.WhatIsKnown.{known_on}
-use Rattle.vm_kernel.proofs.memory.PartsStillFit.{fits_changed, plain_here}
+use Rattle.vm_kernel.proofs.memory.PartsStillFit.{plain_here}
 use Rattle.vm_kernel.proofs.steps.RowsInOrder.{PutsInOrder}
 use Rattle.vm_kernel.proofs.abroad.OwnHost.{lives_here, own_host}
-use Rattle.vm_kernel.proofs.memory.PagesShown.{bytes_now, frames_changed, laundry_changed, pages_moved, shown_as, shown_here}
+use Rattle.vm_kernel.proofs.memory.PagesShown.{bytes_now, pages_moved, shown_as, shown_here}
 use Rattle.vm_kernel.proofs.space.RegionsInUse.{holds_waits, uses_still}
 use Rattle.vm_kernel.proofs.abroad.OtherLists.{matches_with}
 use Rattle.vm_kernel.proofs.controls.LockReplied.{replied_behind}
@@ -165,7 +165,8 @@ works_touched header h past k ids who frame memory touched works =
     with_queues =
         record {
           matches =
-              matches_with memory.queues k.memory.buffers k.waits (λ t r. refl) (fit_touched k.memory memory.queues m.core.fits.parts touched.keeps touched.frames)
+              matches_with memory.queues k.memory.buffers k.waits (λ t r. refl) (fit_touched k.memory memory.queues m.core.fits.parts touched.keeps
+              touched.frames)
               refl m;
           used = works.used;
           referred = works.referred;
@@ -197,7 +198,8 @@ works_loaded header h past k ids w key value waits2 number works is now put =
       matches = record {
         core = core_holds m.core
             (uses_refilled k.waits.rows waits2.rows (fills_over w.task.0 w k.waits.rows waits2.rows is none_filled put.entry)
-            (uses_still header k.maps _ _ _ _ _ m.core.spaces.uses (λ t r none. holds_waits header.size w.task.0 t r k.maps (rows_in w.task.0 k.maps) past None there
+            (uses_still header k.maps _ _ _ _ _ m.core.spaces.uses (λ t r none. holds_waits header.size w.task.0 t r k.maps (rows_in w.task.0 k.maps) past None
+            there
             none)));
         settled = record { none_owed = refl; shut = λ region. refl };
         replied = replied_behind tt m.replied;
@@ -255,7 +257,8 @@ works_stored header h past k ids w key frame at size value row memory waits2 num
       matches = record {
         core = core_holds (core_rerowed key was.frame m.core c plan (plain_here row2 its) pages3 (λ held. let same = c.claims in omega arith))
             (uses_refilled k.waits.rows waits2.rows (fills_over w.task.0 w k.waits.rows waits2.rows is none_filled put.entry)
-            (uses_still header k.maps _ _ _ _ _ m.core.spaces.uses (λ t r none. holds_waits header.size w.task.0 t r k.maps (rows_in w.task.0 k.maps) past None there
+            (uses_still header k.maps _ _ _ _ _ m.core.spaces.uses (λ t r none. holds_waits header.size w.task.0 t r k.maps (rows_in w.task.0 k.maps) past None
+            there
             none)));
         settled = record { none_owed = refl; shut = λ region. refl };
         replied = replied_behind tt m.replied;

@@ -3,7 +3,7 @@ use Rattle.vm_kernel.proofs.Common.{ChainTable, Mapped, Waiting}
 use Rattle.vm_state.proofs.Filling.{SameFills, uses_refilled}
 use Rattle.vm_kernel.proofs.Common.{Bool, Changes, Entry, Event, FrameNo, Rests, HasPages, HasUse, Header, IfSome, Ids, List, Local, ObjectTable, Option}
 use Rattle.vm_kernel.proofs.Common.{PageKey}
-use Rattle.vm_kernel.proofs.Common.{PageRow, Parts, HostParts, Queues, SameMarks, WaitTable, claimed, named, refl, reverse, slice_get, ℕ, ◌≡◌}
+use Rattle.vm_kernel.proofs.Common.{PageRow, Parts, HostParts, Queues, SameMarks, WaitTable, claimed, reverse, slice_get, ℕ, ◌≡◌}
 use Rattle.vm_fault.specs.Faults.{KeepsPlan}
 use Rattle.vm_frames.specs.Frames.{FrameTable}
 use Rattle.vm_kernel.proofs.memory.PagesShown.{frames_changed, laundry_changed, pages_marked}

@@ -86,7 +86,8 @@ ran_wired header h outside doing past k ids wired rests few first done =
               objects = m.core.objects;
               controls = m.core.controls;
               pages = record {
-                shown = pages_wired k.memory.frames k.memory.resident k.memory.objects (λ o p. known_local header o p (local header h (place_of o p) past)) wired
+                shown =
+                    pages_wired k.memory.frames k.memory.resident k.memory.objects (λ o p. known_local header o p (local header h (place_of o p) past)) wired
                     m.core.pages.shown;
                 washed = laundry_wired k.memory.frames k.memory.resident k.laundry (returns_out h past) wired m.core.pages.washed;
                 counted = frames;
@@ -148,7 +149,8 @@ ran_unwire header h outside count past k ids before after frames enough s test i
     (λ z. Some (event.Wired (host_id h) (z - count) ∷ [])) m.core.pages.counted.wired ∙ ap (λ z. Some (event.Wired (host_id h) z ∷ [])) left in
     let ran = ran_wired header h outside (command.Unwire (host_id h) count) past k ids frames.wired s.rests (omega (arith, number, fits)) first tt in
     let log : after ≡ event.Wired (host_id h) frames.wired ∷ [] = told
-    ∙ (ap (λ z. event.Wired z frames.wired ∷ before) (named_host k.host h m.core.setting.numbered) ∙ ap (λ z. event.Wired (host_id h) frames.wired ∷ z) s.nothing) in
+    ∙ (ap (λ z. event.Wired z frames.wired ∷ before) (named_host k.host h m.core.setting.numbered)
+    ∙ ap (λ z. event.Wired (host_id h) frames.wired ∷ z) s.nothing) in
     subst (λ (z : List Event). Ran header h outside (command.Unwire (host_id h) count) past (record k { memory = record k.memory { frames = frames } }) ids z)
     (sym log)
     (subst (λ (z : FrameTable). Ran header h outside (command.Unwire (host_id h) count) past (record k { memory = record k.memory { frames = z } }) ids

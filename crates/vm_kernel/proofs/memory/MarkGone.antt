@@ -42,11 +42,14 @@ unmarked_with header h outside doing past k ids region row chains works there co
             entries = entries_kept header.size k chains m.core.spaces.entries keeps;
             shared = m.core.spaces.shared;
             uses = m.core.spaces.uses;
-            homes = homes_put header h k.chains chains region.0 (record row { marked = false }) (e ∷ past) put.at (λ paged. m.core.spaces.homes.0 region.0 row paged there)
+            homes =
+                homes_put header h k.chains chains region.0 (record row { marked = false }) (e ∷ past) put.at
+                (λ paged. m.core.spaces.homes.0 region.0 row paged there)
                 (homes_caused header outside h k.chains e past (doing, cause) m.core.spaces.homes);
           };
           objects = record {
-            regions = regions_unmarked header past region row k.chains chains k.memory.objects ids (record ids { marks = ids.marks - 1 }) (next_region header past)
+            regions =
+                regions_unmarked header past region row k.chains chains k.memory.objects ids (record ids { marks = ids.marks - 1 }) (next_region header past)
                 (next_object header past) (marks_of header past) (marks_of header (e ∷ past)) put there fits refl refl marks_now (omega (arith, one_less))
                 m.core.objects.regions;
             kinds = kinds_unmarked header region.0 row k.memory.objects k.chains chains put there m.core.objects.kinds;

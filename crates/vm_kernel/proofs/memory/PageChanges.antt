@@ -1,6 +1,6 @@
 -- What a kernel stands for once one of its pages has changed, whatever the reason: a page goes, goes back to its pager, or stays with another row.
 use Rattle.vm_state.proofs.KnownPages.{sizes_put, sizes_same}
-use Rattle.vm_kernel.specs.Matches.{AccessFacts, Amidst, ControlFacts, Core, MemoryFacts, ObjectFacts, Objects, Pages, SpaceFacts, access_facts, control_facts}
+use Rattle.vm_kernel.specs.Matches.{AccessFacts, Amidst, ControlFacts, Core, ObjectFacts, Objects, Pages, SpaceFacts, access_facts, control_facts}
 use Rattle.vm_kernel.specs.Matches.{memory_facts, space_facts}
 use Rattle.vm_kernel.proofs.memory.CoreChanges.{core_within, with_tables}
 use Rattle.vm_state.proofs.Passing.{quiet_if}

@@ -445,7 +445,8 @@ took_returned header h outside doing past ids skip k k2 before after rests besid
     log : (pager : PagerState) → is.object.state ≡ pager → after ≡ sent_back is.key is.row.dirty is.object bytes before header.size pager (host_id h)
     log pager same =
         is.events
-        ∙ (ap (λ z. sent_back is.key is.row.dirty is.object bytes before z is.object.state k.host) (rests.matches.core.fits.buffers ∙ rests.matches.core.setting.sized)
+        ∙ (ap (λ z. sent_back is.key is.row.dirty is.object bytes before z is.object.state k.host)
+        (rests.matches.core.fits.buffers ∙ rests.matches.core.setting.sized)
         ∙ (ap (sent_back is.key is.row.dirty is.object bytes before header.size is.object.state) (named_host k.host h rests.matches.core.setting.numbered)
         ∙ ap (λ z. sent_back is.key is.row.dirty is.object bytes before header.size z (host_id h)) same))
 

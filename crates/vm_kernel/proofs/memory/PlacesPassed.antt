@@ -258,7 +258,8 @@ passed_away header h k ids past m key least referred over = (
     same = some_is referred.row over.row (sym referred.known ∙ over.known)
 
     number : over.row.control ≡ (if has_pager over.row.state then 1 else 0)
-    number = ((m.core.objects.kinds.kinds key.object.0 over.row over.known).temporary least).number (subst (λ (z : ObjectRow). 0 < z.references) same referred.some)
+    number =
+        ((m.core.objects.kinds.kinds key.object.0 over.row over.known).temporary least).number (subst (λ (z : ObjectRow). 0 < z.references) same referred.some)
 
 pub over_walk : (header : Header) (h : ℕ) (k : Parts) (ids : Ids) (past : List Event) → Matches header h k ids [] past → (n : ℕ) (from to : PageKey)
     → IsReferred k.memory.objects from.object.0 → WalksTo k.memory k.chains n from to → LeadsOver (StaysAway header h past) k.chains n from to
@@ -266,7 +267,8 @@ over_walk header h k ids past m zero from to referred walks = walks
 over_walk header h k ids past m (suc n) from to referred walks =
     let next = walks.1.0 in
     let under = walks.1.1 in (
-      passed_away header h k ids past m from (shadow_temporary m.core.objects.regions m.core.spaces.homes.1 from.object.0 under.row under.found) referred walks.0,
+      passed_away header h k ids past m from (shadow_temporary m.core.objects.regions m.core.spaces.homes.1 from.object.0 under.row under.found) referred
+          walks.0,
       (next, under, over_walk header h k ids past m n next to (referred_down (shown_at m) 1 from next referred (next, under, refl)) walks.1.2),
     )
 

@@ -101,9 +101,12 @@ rests_taken header h k ids past object control page dirty bytes f fs laundry res
               objects = was.core.objects;
               controls = was.core.controls;
               pages = record {
-                shown = pages_same k.memory.frames fs k.memory.resident k.memory.objects (λ o p. known_local header o p (local header h (place_of o p) past)) f.0
+                shown =
+                    pages_same k.memory.frames fs k.memory.resident k.memory.objects (λ o p. known_local header o p (local header h (place_of o p) past)) f.0
                     was.core.pages.shown releases;
-                washed = rw (own_host h) (laundry_less k.memory.frames fs k.memory.resident k.laundry laundry (returns_out h past) f was.core.pages.washed held room washed.claimed
+                washed =
+                    rw (own_host h) (laundry_less k.memory.frames fs k.memory.resident k.laundry laundry (returns_out h past) f was.core.pages.washed held room
+                    washed.claimed
                     releases);
                 counted = rw (own_host h) (frames_less (slice_get (reverse header.frames.items) h) k.memory.frames fs f.0 (frames_held header h past)
                     (frames_wired h past) was.core.pages.counted releases);

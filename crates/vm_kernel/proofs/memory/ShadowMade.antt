@@ -3,8 +3,8 @@ use Rattle.vm_kernel.proofs.memory.CoreChanges.{pages_known_so}
 use Rattle.vm_state.proofs.KnownPages.{object_few, sizes_shadowed}
 use Rattle.vm_kernel.proofs.Common.{ChainTable, Event, HasEntries, Header, HostParts, Ids, Inside, IsInside, List, Matches, None, ObjectId, ObjectTable, Parts}
 use Rattle.vm_kernel.proofs.Common.{PutsObject, Region, RegionRow, SameMarks, Some, Works, [], ap, arith, false, has_region, home_of, inl, inr}
-use Rattle.vm_kernel.proofs.Common.{is_some, is_woken, local_of_row, marks_of, next_object, next_region, object_at, one_case, pages_in, refl, region_at}
-use Rattle.vm_kernel.proofs.Common.{region_pages, row_at, rows_in, rows_map, some_is, subst, sym, true, waiting, ℕ, ◌+◌, ◌-◌, ◌<◌, ◌∙◌, ◌∷◌, ◌≡◌, ◌≤◌}
+use Rattle.vm_kernel.proofs.Common.{is_some, is_woken, marks_of, next_object, next_region, object_at, one_case, pages_in, refl, region_at}
+use Rattle.vm_kernel.proofs.Common.{region_pages, rows_in, rows_map, some_is, subst, sym, true, waiting, ℕ, ◌+◌, ◌-◌, ◌<◌, ◌∙◌, ◌∷◌, ◌≡◌, ◌≤◌}
 use Rattle.vm_kernel.proofs.Common.{◌⊎◌}
 use Rattle.vm_kernel.proofs.Common.{if◌then◌else◌, ◌==◌}
 use Rattle.vm_kernel.proofs.space.RegionsFilled.{shadowed_filled, unknown_unfilled}
@@ -126,7 +126,8 @@ shadowed_with header h outside doing past k ids region object row chains objects
                 (kind_new header object.0 (new_object row.pages) row.pages new refl) m.core.objects.kinds);
             files = files_temporary header h object.0 (Some (new_object row.pages)) k.memory.objects objects (λ o. home_of o past) new put m.core.objects.files;
             sizes = sizes_shadowed header past (named header) region object row.top (new_object row.pages) k.memory.objects objects put
-                (let within = m.core.objects.regions.fits.tops region.0 row there in let most = object_few m.core.objects.sizes row.top.0 in omega (arith, within, most))
+                (let within = m.core.objects.regions.fits.tops region.0 row there in let most = object_few m.core.objects.sizes row.top.0 in omega
+                (arith, within, most))
                 (sym (ap (λ (z : Region). z.pages) (m.core.objects.regions.rows region.0 row there))) m.core.objects.sizes;
           };
           controls = controls_made k.memory.objects objects _ _ _ object.0 row.pages m.core.controls unknown put (λ o home. object_stays o h e past home)

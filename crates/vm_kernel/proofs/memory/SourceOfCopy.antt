@@ -92,11 +92,13 @@ source_is header h k ids past who w source key row steps m waits copies found re
             entry = e;
             lives = lives_here m.core.spaces.tasks lives;
             found =
-                ap (λ z. entry_at z (entries_of header.size task past)) (want_address size header.size (next_page task past) to what m.core.spaces.tasks.sized agrees)
+                ap (λ z. entry_at z (entries_of header.size task past)) (want_address size header.size (next_page task past) to what m.core.spaces.tasks.sized
+                agrees)
                 ∙ (ap (entry_at (address_in size what)) (rows_here m.core.spaces.tasks lives) ∙ at.found);
           };
           left =
-              page_left size header.size (next_page task past) to what m.core.spaces.tasks.sized (page_positive header.size m.core.setting.ranged.size) (waits.sized task w found)
+              page_left size header.size (next_page task past) to what m.core.spaces.tasks.sized (page_positive header.size m.core.setting.ranged.size)
+              (waits.sized task w found)
               agrees;
         };
         on_host = refl;

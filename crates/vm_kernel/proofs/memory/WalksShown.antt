@@ -72,7 +72,8 @@ waiting_place {header = header} {k = k} {past = past} {task = task} {what = what
     let size = k.maps.size in
     let found : entry_at (address_in size what) (rows_in task k.maps) ≡ Some waits.at.entry =
     ap (entry_at (address_in size what)) (sym (m.core.spaces.tasks.rows task here))
-    ∙ (ap (λ z. entry_at z (entries_of header.size task past)) (sym (want_address size header.size (next_page task past) to what m.core.spaces.tasks.sized agrees))
+    ∙ (ap (λ z. entry_at z (entries_of header.size task past)) (sym (want_address size header.size (next_page task past) to what m.core.spaces.tasks.sized
+    agrees))
     ∙ waits.at.found) in
     subst (λ (z : Entry). HasPlace header z.region.0 (page_of header task (access_in size to what) past z) key.object.0 key.page.0 past)
     (some_is place.at.entry waits.at.entry (sym place.at.found ∙ found)) (place_at m to agrees place)

@@ -59,7 +59,9 @@ pub ends_made : (header : Header) (h : ℕ) (past : List Event) (who : Woken) (k
 ends_made header h past who k ids rest object e = each
   where
     made : (o : ℕ) (row : ObjectRow) → object_at k.memory.objects o ≡ Some row → o < ids.next_object
-    made o row known = let small = small_object e.runs.matches.core.objects.regions o row known in let next = e.runs.matches.core.objects.regions.object in omega (arith, small, next)
+    made o row known =
+        let small = small_object e.runs.matches.core.objects.regions o row known in let next = e.runs.matches.core.objects.regions.object in omega
+        (arith, small, next)
 
     each : (o : ℕ) → EndsWith k.chains k.memory.objects object o → o < ids.next_object
     each _ Itself = made object e.row e.known

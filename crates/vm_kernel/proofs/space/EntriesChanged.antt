@@ -1,16 +1,15 @@
 -- Commands that change a task's entries, from their beginning to their end.
-use Rattle.vm_kernel.proofs.Common.{Access, AllReferred, AllRows, AllUsed, ChainTable, ChangesOnly, Code, Entry, Event, HasEntries, HasKinds}
-use Rattle.vm_kernel.proofs.Common.{HasPages, HasRegions, HasUse, HasWaiters, Header, Ids, Inherit, IsInside, List, MapChange, Mapped, None, Option, Outside}
-use Rattle.vm_kernel.proofs.Common.{Parts, Prot, Raised, Ran, RegionRow, Rests, Some, Starts, TaskId, Waiting, [], acting, all_tasks, ap, arith, backing_of}
+use Rattle.vm_kernel.proofs.Common.{Access, AllReferred, AllRows, AllUsed, ChainTable, ChangesOnly, Code, Entry, Event, HasEntries}
+use Rattle.vm_kernel.proofs.Common.{HasUse, HasWaiters, Header, Ids, Inherit, IsInside, List, MapChange, Mapped, None, Option, Outside}
+use Rattle.vm_kernel.proofs.Common.{Parts, Prot, Raised, Ran, RegionRow, Rests, Some, Starts, TaskId, Waiting, [], acting, all_tasks, ap, arith}
 use Rattle.vm_kernel.proofs.Common.{code_where, copy_target, count_by, count_on, cut_at_ends, entries_in, entries_in_row, entries_of, entry, eqb_tells, false}
 use Rattle.vm_kernel.proofs.Common.{fills, has_entry, has_region, holds, host_of, if◌then◌else◌, in_use, inheritance, inherited, inl, inr, is_copied}
-use Rattle.vm_kernel.proofs.Common.{is_none, is_range, is_some, is_woken, local, marks_of, meets_declared, most_entries, named, next_object, next_page}
-use Rattle.vm_kernel.proofs.Common.{next_region, not-false, place_of, protected, protection, refl, region_at, region_entries, region_of, removed, rows_in}
+use Rattle.vm_kernel.proofs.Common.{is_none, is_range, is_some, is_woken, meets_declared, most_entries, named, next_page}
+use Rattle.vm_kernel.proofs.Common.{next_region, not-false, protected, protection, refl, region_at, region_entries, removed, rows_in}
 use Rattle.vm_kernel.proofs.Common.{rows_map, subst, suc, sym, tasks, true, unwrap_or, waiting, waiting_in, zero, ℕ, ◌&&◌, ◌*◌, ◌+◌, ◌-◌, ◌<◌, ◌==◌, ◌^◌, ◌||◌}
 use Rattle.vm_kernel.proofs.Common.{◌∙◌, ◌∷◌, ◌≡◌, ◌≤◌}
 use Rattle.vm_kernel.proofs.space.RegionsFilled.{recount_filled, same_waiting}
 use Rattle.vm_state.proofs.Filling.{copies_kept, rows_unmade}
-use Rattle.vm_state.specs.Places.{known_local}
 use Rattle.std.proofs.Common.{not}
 use Rattle.std.proofs.lemmas.Bool.{or_parts}
 use Rattle.vm_base.specs.Entries.{is_mapped}
@@ -148,7 +147,8 @@ changed_by header h past k ids maps chains task rows lost more rests idle change
     -- a region without entries has none of the new ones
     none_counted : (r : ℕ) → has_region k.chains r ≡ true → region_entries k.chains r ≡ 0 → count r ≡ 0
     none_counted r there none =
-        let had : count_on r (rows_in task k.maps) ≤ region_entries k.chains r = counted header.size task k.maps k.chains [] rests.matches.core.spaces.entries lives r
+        let had : count_on r (rows_in task k.maps) ≤ region_entries k.chains r = counted header.size task k.maps k.chains [] rests.matches.core.spaces.entries
+        lives r
         there in
         let made_none = none_among r (rows_in task k.maps) (unwrap_or rows []) cuts.own (omega (arith, had, none)) in
         let lost_none = none_among r (rows_in task k.maps) lost cuts.gone (omega (arith, had, none)) in
@@ -178,7 +178,8 @@ pub uses_kept : (header : Header) (h : ℕ) (past : List Event) (k : Parts) (ids
     (if task == t then own t else entries_of header.size t past) || fills r (waiting t past) (copy_target t past)) (next_region header past)
 uses_kept header h past k ids maps task two more rests changes lives cuts own =
     let m = rests.matches in
-    uses_same header k.maps maps (λ r. in_use header h r past) (tasks past) (λ t r. holds header.size t r past) _ (next_region header past) task two m.core.spaces.uses
+    uses_same header k.maps maps (λ r. in_use header h r past) (tasks past) (λ t r. holds header.size t r past) _ (next_region header past) task two
+    m.core.spaces.uses
     changes lives
     (λ r some. let moved = by_changed all_tasks r task k.maps maps (Some two) (lives_below header.size task k.maps k.chains [] m.core.spaces.entries lives)
     changes in let sum = cuts.sums r in omega arith)
@@ -253,7 +254,8 @@ may_protect {header = header} {task = task} {address = address} {bytes = bytes} 
     let third = passed full code.TableFull None second.1 in
     may_cut header.size address bytes (protected header.size address bytes prot (rows_in task.0 k.maps))
     (not-false (is_range header.size address bytes) first.0)
-    (ap (λ z. are_too_many (protected header.size address bytes prot z)) (sym (rows_here m.core.spaces.tasks (lives_in task.0 m.core.spaces.tasks s.acts))) ∙ third.0)
+    (ap (λ z. are_too_many (protected header.size address bytes prot z)) (sym (rows_here m.core.spaces.tasks (lives_in task.0 m.core.spaces.tasks s.acts)))
+    ∙ third.0)
 
 pub ran_protect : (header : Header) (h : ℕ) (outside : Outside) (task : TaskId) (address bytes : ℕ) (prot : Prot) (past events : List Event) (k : Parts)
     (ids : Ids) (maps : Mapped) (chains : ChainTable) (change : MapChange)
@@ -274,7 +276,8 @@ ran_protect header h outside task address bytes prot past events k ids maps chai
     record {
       size = changes.size;
       changed = changes.changed
-          ∙ ap Some (ap (λ z. protected k.maps.size z.address z.bytes z.prot rows) is ∙ ap (λ z. protected z address bytes prot rows) m.core.spaces.tasks.sized);
+          ∙ ap Some (ap (λ z. protected k.maps.size z.address z.bytes z.prot rows) is
+          ∙ ap (λ z. protected z address bytes prot rows) m.core.spaces.tasks.sized);
       others = changes.others;
     } in
     let c = changed_by header h past k ids maps chains task.0 (Some made) [] more s.rests idle same lives cuts up in
@@ -354,7 +357,8 @@ ran_inherit header h outside task address bytes inherit past events k ids maps c
     record {
       size = changes.size;
       changed = changes.changed
-          ∙ ap Some (ap (λ z. inherited k.maps.size z.address z.bytes z.inherit rows) is ∙ ap (λ z. inherited z address bytes inherit rows) m.core.spaces.tasks.sized);
+          ∙ ap Some (ap (λ z. inherited k.maps.size z.address z.bytes z.inherit rows) is
+          ∙ ap (λ z. inherited z address bytes inherit rows) m.core.spaces.tasks.sized);
       others = changes.others;
     } in
     let c = changed_by header h past k ids maps chains task.0 (Some made) [] more s.rests idle same lives cuts up in

@@ -2,9 +2,9 @@
 use Rattle.vm_kernel.proofs.space.EntriesRewritten.{objects_recounted}
 use Rattle.vm_kernel.proofs.Common.{ChainTable, Command, EachOf, EndsOnly, EndsRegion, Entry, Event, HasEntries, HasSlow, Header, Ids, IsEnding, IsFilledIn}
 use Rattle.vm_kernel.proofs.Common.{IsInStep, IsWhole, LegalEvents, List, Mapped, Outside, Parts, PutsEntries, QueueIsStill, RegionRow, RunsNobody, RunsNone}
-use Rattle.vm_kernel.proofs.Common.{Some, Sweeps, TaskId, WaitTable, Waiting, [], ap, append_assoc, arith, backing_of, count_again, count_on, drop}
-use Rattle.vm_kernel.proofs.Common.{entries_in_row, eqb_tells, if◌then◌else◌, inl, inr, is_woken, marks_of, next_object, next_region, of_both}
-use Rattle.vm_kernel.proofs.Common.{refl, region_at, region_entries, region_of, rows_in, slice_get, subst, suc, sym, waiting, zero, ℕ, ◌++◌, ◌+◌, ◌-◌, ◌<◌}
+use Rattle.vm_kernel.proofs.Common.{Some, Sweeps, TaskId, WaitTable, Waiting, [], ap, append_assoc, arith, count_again, count_on, drop}
+use Rattle.vm_kernel.proofs.Common.{entries_in_row, eqb_tells, if◌then◌else◌, inl, inr, is_woken, of_both}
+use Rattle.vm_kernel.proofs.Common.{refl, region_at, region_entries, rows_in, slice_get, subst, suc, sym, waiting, zero, ℕ, ◌++◌, ◌+◌, ◌-◌, ◌<◌}
 use Rattle.vm_kernel.proofs.Common.{◌==◌, ◌∙◌, ◌∷◌, ◌≡◌, ◌≢◌, ◌≤◌, ◌⊎◌}
 use Rattle.vm_kernel.proofs.space.RegionsFilled.{counted_unfilled, recount_filled}
 use Rattle.vm_state.proofs.Filling.{copies_kept, rows_unmade}
@@ -17,9 +17,8 @@ use Rattle.vm_kernel.proofs.memory.PagesShown.{itself}
 use Rattle.vm_state.proofs.Changing.{Recounts, row_before}
 use Rattle.vm_kernel.proofs.space.CountsChanged.{entries_are, has_same, next_row, recounts_put}
 use Rattle.vm_kernel.proofs.space.RegionRows.{region_row, tops_recounted}
-use Rattle.vm_kernel.proofs.space.EntriesRewritten.{recount_homes, recount_inside, recount_known, recount_referred, recount_regions}
+use Rattle.vm_kernel.proofs.space.EntriesRewritten.{recount_homes, recount_inside, recount_known, recount_referred}
 use Rattle.vm_kernel.proofs.space.RegionCases.{region_cases}
-use Rattle.vm_kernel.proofs.space.SharedEntries.{kinds_recounted}
 use Rattle.vm_state.proofs.Waited.{waits_kept}
 
 -- what its region counts then
@@ -174,7 +173,8 @@ ends_less header h outside doing past k ids entry rest events chains s put last 
       others = others_less k.chains chains entry.region.0 put k.waits.rows s.used.regions;
       copies = copies_less header h outside doing past k ids entry rest events chains s put;
       unfilled =
-          let row = region_row k.chains entry.region.0 s.runs.matches.core.spaces.entries.known.0 in let is_row = ap entries_in_row row.1 in let some = some_left header h
+          let row = region_row k.chains entry.region.0 s.runs.matches.core.spaces.entries.known.0 in let is_row = ap entries_in_row
+          row.1 in let some = some_left header h
           outside doing past k ids entry rest events s in counted_unfilled entry.region.0 row.0 s.used.copies row.1 (omega (arith, is_row, some));
       referred =
           recount_referred (count_less k.chains entry.region.0) k.chains chains k.memory.objects k.memory.resident

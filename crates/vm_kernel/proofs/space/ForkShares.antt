@@ -160,7 +160,8 @@ share_enters header h task row past k ids rests may =
     let r = row.region.0 in
     let there = region_row k.chains r may.inside.region in
     let used = used_there header h k ids past r there.0 rests there.1 in
-    let pages : (region_of header r past).pages ≡ region_pages k.chains r = ap (λ z. z.pages) (m.core.objects.regions.rows r there.0 there.1) ∙ sym (ap pages_in there.1) in
+    let pages : (region_of header r past).pages ≡ region_pages k.chains r = ap (λ z. z.pages) (m.core.objects.regions.rows r there.0 there.1)
+    ∙ sym (ap pages_in there.1) in
     let inside = may.inside.inside.whole in
     record {
       idle = may.idle;
@@ -213,17 +214,22 @@ rests_shared header h outside doing task row past k k2 ids before after rests ma
                 shared = shared_entered (named header) task.0 k.maps k2.maps row s.maps may.shared m.core.spaces.shared;
                 uses = rw s.waits (uses_entered header k.maps k2.maps (λ q. in_use header h q past) (tasks past) (λ t q. holds header.size t q (e ∷ past))
                     (next_region header past) task.0 row (lives_on h task.0 past) (λ q temporary apart. m.core.spaces.uses.used q temporary)
-                    (λ q file apart some. m.core.spaces.uses.files q file some) (used_there header h k ids past r there.0 rests there.1) m.core.spaces.uses.among s.maps lives below
+                    (λ q file apart some. m.core.spaces.uses.files q file some) (used_there header h k ids past r there.0 rests there.1)
+                    m.core.spaces.uses.among s.maps lives below
                     (m.core.spaces.tasks.hosts task.0 ∙ ap is_some lives)
-                    (λ t q away why. holds_rows header.size task.0 t q k.maps (rows_in task.0 k.maps) _ past lives away ∙ m.core.spaces.uses.apart t q away why));
+                    (λ t q away why. holds_rows header.size task.0 t q k.maps (rows_in task.0 k.maps) _ past lives away
+                    ∙ m.core.spaces.uses.apart t q away why));
                 homes = homes_caused header outside h k2.chains e past (doing, share_enters header h task row past k ids rests may)
-                    (recount_homes _ header h k.chains k2.chains past (recounts_put r (region_entries k.chains r + 1) k.chains k2.chains s.counts) m.core.spaces.homes);
+                    (recount_homes _ header h k.chains k2.chains past (recounts_put r (region_entries k.chains r + 1) k.chains k2.chains s.counts)
+                    m.core.spaces.homes);
               };
               objects = rw s.memory (record {
                 regions = regions_recounted k.chains k2.chains k.memory.objects ids _ _ _ _ _ recount m.core.objects.regions;
                 kinds = kinds_recounted header _ k.memory.objects k.chains k2.chains
                     (recounts_put r (region_entries k.chains r + 1) k.chains k2.chains s.counts) m.core.objects.kinds;
-                files = files_entered header h task row k.memory.objects past (λ file. m.core.spaces.homes.0 r there.0 (file_paged header r file) there.1) m.core.objects.files;
+                files =
+                    files_entered header h task row k.memory.objects past (λ file. m.core.spaces.homes.0 r there.0 (file_paged header r file) there.1)
+                    m.core.objects.files;
                 sizes = m.core.objects.sizes;
               });
               controls = rw s.memory (controls_stay (λ o at_home. object_stays o h e past at_home) m.core.controls);
@@ -386,10 +392,12 @@ is_next header h outside task child rows i row past k ids events f sound found =
     record {
       leads =
           (row_among (λ mine. IsInside header.size k.chains mine × (has_entry mine.region.0 rows ≡ true)) rows i row
-          (rows_known (IsInside header.size k.chains) rows (subst (AllRows (IsInside header.size k.chains)) here (f.rests.matches.core.spaces.entries.inside task.0)))
+          (rows_known (IsInside header.size k.chains) rows (subst (AllRows (IsInside header.size k.chains)) here
+          (f.rests.matches.core.spaces.entries.inside task.0)))
           found).1;
       inside = inside;
-      shared = row_among (IsShared (named header)) rows i row (subst (AllRows (IsShared (named header))) here (f.rests.matches.core.spaces.shared task.0)) found;
+      shared =
+          row_among (IsShared (named header)) rows i row (subst (AllRows (IsShared (named header))) here (f.rests.matches.core.spaces.shared task.0)) found;
       whole = whole;
       free = rw (range, free, fits) refl;
       own =
@@ -615,5 +623,6 @@ ran_fork header h outside task child i past k k2 ids ids2 before events s f end 
     let first = forked header h child rows past in
     let whole : reverse first ≡ events = f.told ∙ ap (λ (z : List Entry). reverse (inherits_all header.size child ids2.next_region z) ++ events)
     (drop_past rows i end) in
-    let is : head header past (command.Fork task child) ≡ Some first = rw (lives_here m.core.spaces.tasks may.lives, rows_here m.core.spaces.tasks may.lives) refl in
+    let is : head header past (command.Fork task child) ≡ Some first = rw (lives_here m.core.spaces.tasks may.lives, rows_here m.core.spaces.tasks may.lives)
+    refl in
     ran_head header h outside (command.Fork task child) past k2 ids2 events first is (sym whole) f.heads tt f.rests

@@ -25,7 +25,7 @@ use Rattle.vm_kernel.proofs.memory.WhatIsKnown.{other_if, pages_known}
 use Rattle.vm_kernel.proofs.memory.MayLeave.{IsSeen}
 use Rattle.vm_kernel.proofs.abroad.OwnEvents.{own_named}
 use Rattle.vm_kernel.proofs.abroad.OwnHost.{own_host}
-use Rattle.vm_kernel.proofs.memory.PagesShown.{itself, pages_marked}
+use Rattle.vm_kernel.proofs.memory.PagesShown.{itself}
 use Rattle.vm_kernel.proofs.lists.ListsAsTold.{frames_put, here_is, same_paging}
 use Rattle.vm_kernel.proofs.space.RegionRows.{region_row}
 use Rattle.vm_kernel.proofs.space.RegionEnds.{controls_referred}
@@ -71,7 +71,8 @@ pub used_there : (header : Header) (h : ℕ) (k : Parts) (ids : Ids) (rest : Lis
     → HasSlow header k past → named header ≤ r → in_use header h r past ≡ true → (row : RegionRow) × (region_at k.chains r ≡ Some row)
 used_there header h k ids rest past r m copies temporary used = elim ((m.core.spaces.uses.used r temporary).why used) [
   | inl some ↦ let task =
-      by_some all_tasks r k.maps some in region_row k.chains r (entry_there header.size r k.chains (rows_in task.0 k.maps) (m.core.spaces.entries.inside task.0) task.1)
+      by_some all_tasks r k.maps some in region_row k.chains r (entry_there header.size r k.chains (rows_in task.0 k.maps) (m.core.spaces.entries.inside task.0)
+      task.1)
   | inr filled ↦ let there = filled_there copies filled.task r filled.fills in (filled_row there.object there.pages, there.region)
 ]
 
@@ -103,7 +104,8 @@ unheld header h k ids rest past o row m known none declared task lives = by_test
     by_test true is =
         let there = region_row k.chains o (entry_there header.size o k.chains (rows_in task k.maps) (m.core.spaces.entries.inside task)
         (sym (ap (has_entry o) (m.core.spaces.tasks.rows task here)) ∙ is)) in
-        absurd (unreferred_region m.core.objects.regions o row known none o there.0 there.1 (whole_row m.core.objects.regions m.core.spaces.homes.1 o there.0 declared there.1).top)
+        absurd (unreferred_region m.core.objects.regions o row known none o there.0 there.1
+        (whole_row m.core.objects.regions m.core.spaces.homes.1 o there.0 declared there.1).top)
 
 -- the kernel in groups, and back
 inside : {header : Header} {h : ℕ} {who : Woken} {k : Parts} {ids : Ids} {rest : List Entry} {object : ℕ} {past : List Event}
@@ -122,7 +124,8 @@ unsent header h past who k ids rest key row events e found =
     let m = e.runs.matches in
     unsent_apart k.maps k.chains k.memory.resident k.memory.objects k.waits.rows (is_woken who) (λ t. waiting t (events ++ past)) key.object.0 key.page.0 row
     e.runs.waits
-    (unreferred_region m.core.objects.regions key.object.0 e.row e.known e.none) (unreferred_shadow m.core.objects.regions key.object.0 e.row e.known e.none) found
+    (unreferred_region m.core.objects.regions key.object.0 e.row e.known e.none) (unreferred_shadow m.core.objects.regions key.object.0 e.row e.known e.none)
+    found
 
 -- none of its pages in front is here
 none_in_front : {header : Header} {h : ℕ} {k : Parts} {ids : Ids} {rest : List Entry} {past : List Event} → Matches header h k ids rest past → (o p : ℕ)
@@ -484,7 +487,8 @@ ends_told header h outside doing past who k ids rest object events row objects s
               Elsewhere)
               Elsewhere (quiet_if (is_control row.control (live_control h place.object.0 moment)) EndsControl Elsewhere tt tt) tt)
               (waits_told k.maps k.chains k.memory.resident k.memory.objects objects k.waits.rows (is_woken who) (λ t. waiting t moment) s.runs.waits
-              (told_apart k.maps k.chains k.memory.objects objects o (Some (quiet_row row)) put (unreferred_region m.core.objects.regions o row found unreferred)
+              (told_apart k.maps k.chains k.memory.objects objects o (Some (quiet_row row)) put
+              (unreferred_region m.core.objects.regions o row found unreferred)
               (unreferred_shadow m.core.objects.regions o row found unreferred))
               (λ o2 p page there is. elim (one_case o o2 (Some (quiet_row row)) (object_at k.memory.objects o2) (object_at objects o2) (put.at o2)) [
                 | inl this ↦ absurd (let bad : None ≡ Some page = sym (subst (λ (z : ℕ). row_at k.memory.resident z p ≡ None) this.0 (none p)) ∙ there in cc)

@@ -74,7 +74,9 @@ can_finish header h past who k ids rest object events e once =
       none = e.none;
       under = λ o shadow ends found. refers_shadow e.runs.matches.core.objects.regions o shadow found;
       here = λ o p page ends found. by_test o p page ends found page.here refl;
-      room = room_once k.memory k.laundry (returns_out h (events ++ past)) m.core.fits.parts m.core.pages.washed (let fits = m.core.pages.counted.fits in omega (arith, fits)) once;
+      room =
+          room_once k.memory k.laundry (returns_out h (events ++ past)) m.core.fits.parts m.core.pages.washed
+          (let fits = m.core.pages.counted.fits in omega (arith, fits)) once;
     }
   where
     m : Matches header h k ids rest (events ++ past)
@@ -85,7 +87,8 @@ can_finish header h past who k ids rest object events e once =
     by_test o p page ends found true here = refl
     by_test o p page ends found false away =
         let asker : Asker k.waits.rows o p = e.runs.waits.askers o p page found (away_awaited page away) in
-        absurd (place_ends k.maps k.chains k.memory.objects ids _ _ _ _ _ object e.row e.runs.matches.core.objects.regions e.known e.none o ends asker.task asker.row.want
+        absurd (place_ends k.maps k.chains k.memory.objects ids _ _ _ _ _ object e.row e.runs.matches.core.objects.regions e.known e.none o ends asker.task
+        asker.row.want
         (page_key o p) (e.runs.waits.aims asker.task asker.row (page_key o p) asker.is asker.waits) refl)
 
 -- the kernel with this state; what buffers it has stands aside
@@ -255,7 +258,8 @@ page_leaves header h outside doing past who k ids rest object known page row old
 
     clean : object.0 < named header → (row.dirty || row.precious) ≡ false
     clean less = elim why [
-      | inl temporary ↦ absurd (declared_kind header object.0 m.core.setting.ranged less (sym ((m.core.objects.kinds.kinds object.0 known found).declared less).kind ∙ temporary))
+      | inl temporary ↦ absurd (declared_kind header object.0 m.core.setting.ranged less
+          (sym ((m.core.objects.kinds.kinds object.0 known found).declared less).kind ∙ temporary))
       | inr is ↦ is
     ]
 

@@ -141,30 +141,38 @@ module _ {header : Header} {h : ℕ} {outside : Outside} {doing : Command} {past
         entries = entries_kept header.size k.maps old.chains cs2 [] (λ r. ap (λ f. f r) merges.chain.regions) m.core.spaces.entries;
         shared = m.core.spaces.shared;
         uses = m.core.spaces.uses;
-        homes = homes_caused header outside h cs2 (event.Merged upper lower) (old.events ++ past) why
-            (homes_merged header h upper.0 lower.0 old.chains cs2 old.parts.objects os2 (λ r. home_of r (old.events ++ past)) merges m.core.spaces.homes.0, m.core.spaces.homes.1);
+        homes = homes_caused header outside h cs2 (event.Merged upper lower) (old.events ++ past) why (
+          homes_merged header h upper.0 lower.0 old.chains cs2 old.parts.objects os2 (λ r. home_of r (old.events ++ past)) merges m.core.spaces.homes.0,
+          m.core.spaces.homes.1,
+        );
       };
       objects = record {
         regions = regions_merged header (old.events ++ past) upper lower old.chains cs2 old.parts.objects os2 ids _ _ _ merges m.core.objects.regions;
         kinds = kinds_merged header upper.0 lower.0 old.chains cs2 old.parts.objects os2 merges m.core.objects.kinds;
         files = files_merged header h upper.0 lower.0 old.chains cs2 old.parts.objects os2 (λ o. home_of o (old.events ++ past)) merges m.core.objects.files;
-        sizes = pages_merged (named header) upper.0 lower.0 old.chains cs2 old.parts.objects os2 (λ o. object_pages header o (old.events ++ past)) merges m.core.objects.sizes;
+        sizes =
+            pages_merged (named header) upper.0 lower.0 old.chains cs2 old.parts.objects os2 (λ o. object_pages header o (old.events ++ past)) merges
+            m.core.objects.sizes;
       };
       controls = controls_merged upper.0 lower.0 old.chains cs2 old.parts.objects os2 merges m.core.controls;
       pages = record {
         shown = shown_merged header h (old.events ++ past) upper lower old.chains cs2 old.parts.objects os2 old.parts.resident moved.resident old.parts.frames
-            moved.frames merges tables.rows (record { at = λ o p row found. tables.bytes row.frame.0 }) m.core.objects.regions m.core.objects.kinds m.core.spaces.homes.1 m.core.objects.sizes home here
+            moved.frames merges tables.rows (record { at = λ o p row found. tables.bytes row.frame.0 }) m.core.objects.regions m.core.objects.kinds
+            m.core.spaces.homes.1 m.core.objects.sizes home here
             m.core.fits.parts.inside m.core.pages.shown;
-        washed = laundry_merged upper lower merges.can.link.shift merges.can.upper_row.pages 0 old.parts moved k.laundry (returns_out h (old.events ++ past)) apart
+        washed =
+            laundry_merged upper lower merges.can.link.shift merges.can.upper_row.pages 0 old.parts moved k.laundry (returns_out h (old.events ++ past)) apart
             m.core.fits.parts.owned pages tables m.core.pages.washed;
         counted = frames_merged (frames_held header h (old.events ++ past)) (frames_held header h (event.Merged upper lower ∷ (old.events ++ past)))
             (frames_wired h (old.events ++ past))
-            (pages_gone (here_at old.parts.resident) upper.0 lower.0 merges.can.link.shift merges.can.upper_row.pages merges.can.lower_row.pages) old.parts moved
+            (pages_gone (here_at old.parts.resident) upper.0 lower.0 merges.can.link.shift merges.can.upper_row.pages merges.can.lower_row.pages) old.parts
+            moved
             tables
             (claims_merged upper lower merges.can.link.shift merges.can.upper_row.pages 0 merges.can.lower_row.pages old.parts moved apart
             (λ p small. absurd (omega (arith, small)))
             (λ p row found. subst (λ (z : ℕ). p < z) (ap pages_of_row merges.can.lower_known) (m.core.fits.parts.inside lower.0 p row found)) here pages)
-            (held_merged header h (old.events ++ past) upper lower old.chains old.parts.objects old.parts.resident old.parts.frames merges.can m.core.objects.regions m.core.objects.kinds
+            (held_merged header h (old.events ++ past) upper lower old.chains old.parts.objects old.parts.resident old.parts.frames merges.can
+            m.core.objects.regions m.core.objects.kinds
             m.core.spaces.homes.1 m.core.objects.sizes home m.core.pages.shown) m.core.pages.counted;
       };
     };
@@ -187,7 +195,8 @@ module _ {header : Header} {h : ℕ} {outside : Outside} {doing : Command} {past
           matches = after;
           waits =
               waits_merged header h (old.events ++ past) upper lower k.maps old.chains cs2 old.parts.objects os2 old.parts.resident moved.resident k.waits.rows
-              (is_woken woken.Nobody) (λ task. waiting task (old.events ++ past)) merges tables.rows m.core.objects.regions m.core.objects.kinds m.core.spaces.homes.1 sweeps.referred m.core.objects.sizes home
+              (is_woken woken.Nobody) (λ task. waiting task (old.events ++ past)) merges tables.rows m.core.objects.regions m.core.objects.kinds
+              m.core.spaces.homes.1 sweeps.referred m.core.objects.sizes home
               (λ why. refl) sweeps.runs.waits;
           order = sweeps.runs.order;
           idle = sweeps.runs.idle;
@@ -289,7 +298,8 @@ may_merge {header = header} {h = h} {past = past} {ids = ids} k events sweeps =
       shadows = m.core.objects.regions.fits.unders;
       counts = λ u l can. record {
         bare = λ r row found top. sole_region m.core.objects.regions l can.lower_row can.lower_known can.sole u can.link can.over can.under r row found top;
-        shadows = λ o row found under. sole_shadow m.core.objects.regions l can.lower_row can.lower_known can.sole u can.link can.over can.under o row found under;
+        shadows =
+            λ o row found under. sole_shadow m.core.objects.regions l can.lower_row can.lower_known can.sole u can.link can.over can.under o row found under;
       };
     }
   where

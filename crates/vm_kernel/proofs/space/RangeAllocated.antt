@@ -47,7 +47,6 @@ use Rattle.vm_state.proofs.Told.{knows_made, waits_known}
 use Rattle.vm_state.proofs.Waited.{told_changed, waits_changed}
 use Rattle.vm_kernel.proofs.abroad.OwnHost.{lives_here, lives_in, rows_here}
 use Rattle.vm_kernel.proofs.space.RegionRows.{apart_there, none_leads}
-use Rattle.vm_kernel.proofs.memory.PagesShown.{pages_marked}
 use Rattle.vm_kernel.proofs.controls.LockReplied.{replied_behind}
 use Rattle.std.proofs.lemmas.Bool.{not-false, or_parts}
 use Rattle.vm_state.specs.References.{is_live_in}
@@ -126,11 +125,13 @@ may_range header h task address bytes past k ids events s =
 
 -- what is free has no number yet
 pub region_free : (header : Header) (h : ℕ) (k : Parts) (ids : Ids) (past : List Event) → Rests header h k ids past → region_at k.chains ids.next_region ≡ None
-region_free header h k ids past rests = let number = rests.matches.core.objects.regions.region in rests.matches.core.objects.regions.unmade ids.next_region (omega arith)
+region_free header h k ids past rests =
+    let number = rests.matches.core.objects.regions.region in rests.matches.core.objects.regions.unmade ids.next_region (omega arith)
 
 pub object_free : (header : Header) (h : ℕ) (k : Parts) (ids : Ids) (past : List Event) → Rests header h k ids past
     → object_at k.memory.objects ids.next_object ≡ None
-object_free header h k ids past rests = let number = rests.matches.core.objects.regions.object in rests.matches.core.objects.regions.unknown ids.next_object (omega arith)
+object_free header h k ids past rests =
+    let number = rests.matches.core.objects.regions.object in rests.matches.core.objects.regions.unknown ids.next_object (omega arith)
 
 -- a new region's row
 abbrev pub new_region : ObjectId → ℕ → RegionRow
@@ -310,7 +311,8 @@ range_uses header h task address bytes past k ids maps object pages lined rests 
     let made : Event = event.RegionMade (record { 0 = n }) object pages in
     uses_entered header k.maps maps (λ r. in_use header h r (made ∷ past)) (tasks past) _ _ task.0 (whole_entry address bytes (record { 0 = n }))
     (lives_on h task.0 (made ∷ past))
-    (λ r temporary apart. subst (λ (b : Bool). IsUsed k.maps k.waits.rows r b) (sym (other_use header h n r pages object past apart)) (m.core.spaces.uses.used r temporary))
+    (λ r temporary apart. subst (λ (b : Bool). IsUsed k.maps k.waits.rows r b) (sym (other_use header h n r pages object past apart))
+    (m.core.spaces.uses.used r temporary))
     (λ r file apart some. other_use header h n r pages object past apart ∙ m.core.spaces.uses.files r file some)
     (λ paged. made_use header h n n pages object past lined refl) m.core.spaces.uses.among changes may.lives below
     (m.core.spaces.tasks.hosts task.0 ∙ ap is_some may.lives)
@@ -343,7 +345,8 @@ range_enters header h task address bytes past k ids lined rests may =
       unfilled =
           unfilled header.size n (tasks past) k.maps k.waits.rows (made ∷ past) (fills_here {past = made ∷ past} waits_made copies_made)
           (free_unfilled n rests.used.copies (region_free header h k ids past rests))
-          (λ t none. holds_range header task past t n lined object n pages ∙ m.core.spaces.uses.apart t n none (inr (omega (arith, m.core.objects.regions.region))));
+          (λ t none. holds_range header task past t n lined object n pages
+          ∙ m.core.spaces.uses.apart t n none (inr (omega (arith, m.core.objects.regions.region))));
     }
 
 range_licensed : (header : Header) (h : ℕ) (outside : Outside) (task : TaskId) (address bytes : ℕ) (past : List Event) (k : Parts) (ids : Ids) → IsLined past
@@ -353,7 +356,10 @@ range_licensed header h outside task address bytes past k ids lined rests may =
     let m = rests.matches in
     let n = ids.next_region in
     let made : Event = event.RegionMade (record { 0 = n }) (record { 0 = ids.next_object }) (bytes / header.size) in
-    let numbers : (n ≡ next_region header past) × (ids.next_object ≡ next_object header past) = (m.core.objects.regions.region, m.core.objects.regions.object) in (
+    let numbers : (n ≡ next_region header past) × (ids.next_object ≡ next_object header past) = (
+      m.core.objects.regions.region,
+      m.core.objects.regions.object,
+    ) in (
       licensed header outside (command.Allocate task address bytes) (got task (whole_entry address bytes (record { 0 = n }))) (made ∷ past) refl
           (range_enters header h task address bytes past k ids lined rests may),
       (licensed header outside (command.Allocate task address bytes) made past m.settled.none_owed numbers, tt),
@@ -429,10 +435,12 @@ range_regions header h task address bytes past k k2 ids rests may made =
     let region : RegionId = record { 0 = ids.next_region } in
     let object : ObjectId = record { 0 = ids.next_object } in
     let e : Event = event.RegionMade region object pages in
-    let room : next_object header past + marks_of header past < most_objects = omega (arith, may.marks, m.core.objects.regions.object, m.core.objects.regions.marks) in
+    let room : next_object header past + marks_of header past < most_objects = omega
+    (arith, may.marks, m.core.objects.regions.object, m.core.objects.regions.marks) in
     let now = regions_made header past region object (new_region object pages) (new_object pages) pages k.chains k2.chains k.memory.objects k2.memory.objects
     ids (next_region header past) (next_object header past) (marks_of header past)
-    m.core.objects.regions.region m.core.objects.regions.object room (next_bare header past m.core.spaces.homes.1) refl refl made.region_row made.object_row m.core.objects.regions in
+    m.core.objects.regions.region m.core.objects.regions.object room (next_bare header past m.core.spaces.homes.1) refl refl made.region_row made.object_row
+    m.core.objects.regions in
     let marks : marks_of header (e ∷ past) ≡ marks_of header past = marked_made header past region object pages m.core.objects.regions.region in
     subst (λ (z : ℕ). HasRegions k2.chains k2.memory.objects (ids_after ids) (λ r. region_of header r (e ∷ past)) (λ o. backing_of header o (e ∷ past))
     (next_region header past + 1) (next_object header past + 1) z) (sym marks) now
@@ -489,7 +497,9 @@ rests_range header h outside task address bytes past k k2 ids maps lined rests m
               spaces = record {
                 tasks = tasks_entered h header.size k.maps maps (event.RegionMade (record { 0 = n }) object pages ∷ past) task
                     (whole_entry address bytes (record { 0 = n })) m.core.spaces.tasks changes may.lives;
-                entries = entries_range header.size k.maps maps k.chains k2.chains task.0 n address bytes object m.core.spaces.entries none made.region_row changes below may.whole
+                entries =
+                    entries_range header.size k.maps maps k.chains k2.chains task.0 n address bytes object m.core.spaces.entries none made.region_row changes
+                    below may.whole
                     may.some may.below may.room;
                 shared = shared_entered (named header) task.0 k.maps maps row changes (temporary_shared (named header) row
                     (first_temporary header h past k ids rests).region) m.core.spaces.shared;
@@ -506,7 +516,8 @@ rests_range header h outside task address bytes past k k2 ids maps lined rests m
                     (λ o file. ap (is_on h) (range_homes past lined o (record { 0 = n }) object pages)
                     ∙ files_temporary header h ids.next_object (Some (new_object pages)) k.memory.objects k2.memory.objects (λ z. home_of z past)
                     (first_temporary header h past k ids rests).object made.object_row m.core.objects.files o file);
-                sizes = sizes_made header past (named header) (record { 0 = n }) object pages (new_object pages) k.memory.objects k2.memory.objects made.object_row
+                sizes =
+                    sizes_made header past (named header) (record { 0 = n }) object pages (new_object pages) k.memory.objects k2.memory.objects made.object_row
                     may.few refl m.core.objects.sizes;
               };
               controls = controls_made k.memory.objects k2.memory.objects (λ o. last_control h o past) (λ o. live_control h o past) (λ o. is_ready h o past)

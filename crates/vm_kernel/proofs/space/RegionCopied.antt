@@ -9,9 +9,9 @@ use Rattle.vm_kernel.proofs.Common.{Region, RegionRow, ResidentTable, Rests, Sam
 use Rattle.vm_kernel.proofs.Common.{code_where, count_again, count_by, count_on, entered, entering, entries_in, entries_of, entry, entry_at, eqb_tells, false}
 use Rattle.vm_kernel.proofs.Common.{fit_objects, found_row, got, has_entry, head, holds, home_entered, home_of, host_of, if◌then◌else◌}
 use Rattle.vm_kernel.proofs.Common.{in_use, inl, inr, is_none, is_on, is_range, is_ready, is_some, is_woken, last_control, length, length_entered, live_control}
-use Rattle.vm_kernel.proofs.Common.{lives_on, local_of_row, marks_of, meets_range, most_entries, named, nat_le, nat_tests, next_object, next_region}
+use Rattle.vm_kernel.proofs.Common.{lives_on, marks_of, meets_range, most_entries, named, nat_le, nat_tests, next_object, next_region}
 use Rattle.vm_kernel.proofs.Common.{object_at, one_case, page_at, page_below, pages_in, pages_of_row, place_at, refl, region_at, region_entries, region_of}
-use Rattle.vm_kernel.proofs.Common.{region_pages, row_at, rows_entered, rows_in, rows_map, same_pages, some_is, subst, suc, sym, tasks, true, waiting}
+use Rattle.vm_kernel.proofs.Common.{region_pages, rows_entered, rows_in, rows_map, same_pages, some_is, subst, suc, sym, tasks, true, waiting}
 use Rattle.vm_kernel.proofs.Common.{waiting_in, whole_entry, zero, ℕ, ◌%◌, ◌&&◌, ◌++◌, ◌+◌, ◌-◌, ◌/◌, ◌<◌, ◌==◌, ◌^◌, ◌||◌, ◌∙◌, ◌∷◌, ◌≡◌, ◌≤◌, ◌⊎◌}
 use Rattle.vm_kernel.proofs.space.RegionsFilled.{entry_some, filled_temporary, free_unfilled, row_use, same_waiting}
 use Rattle.vm_legal.proofs.Served.{later_paged as paged_temporary}
@@ -546,22 +546,27 @@ rests_copied header h outside doing task source offset row past k k2 ids ids2 be
               };
               spaces = record {
                 tasks = tasks_entered h size k.maps k2.maps (now ∷ past) task new m.core.spaces.tasks s.maps lives;
-                entries = entries_copy size k.maps k2.maps source.0 offset s.region k.chains s.mid k2.chains task.0 s.copy row m.core.spaces.entries once s.maps below free;
+                entries =
+                    entries_copy size k.maps k2.maps source.0 offset s.region k.chains s.mid k2.chains task.0 s.copy row m.core.spaces.entries once s.maps below
+                    free;
                 shared = shared_entered (named header) task.0 k.maps k2.maps new s.maps (temporary_shared (named header) new
                     (let more = named_regions header past in omega (arith, number, more))) m.core.spaces.shared;
                 uses = rw s.waits (uses_entered header k.maps k2.maps (λ r. in_use header h r (now ∷ past)) (tasks past)
                     (λ t r. holds header.size t r (e ∷ now ∷ past)) (next_region header past + 1) task.0 new (lives_on h task.0 (now ∷ past))
-                    (λ r temporary apart. subst (λ (b : Bool). IsUsed k.maps k.waits.rows r b) (sym (others_use header h s.copy source offset pages past r apart))
+                    (λ r temporary apart. subst (λ (b : Bool). IsUsed k.maps k.waits.rows r b)
+                    (sym (others_use header h s.copy source offset pages past r apart))
                     (m.core.spaces.uses.used r temporary))
                     (λ r file apart some. others_use header h s.copy source offset pages past r apart ∙ m.core.spaces.uses.files r file some)
                     (λ paged. copy_use header h s.copy source offset pages past
-                    ∙ used_there header h k ids past source.0 s.region rests s.there (paged_temporary header source.0 may.temporary)) m.core.spaces.uses.among s.maps lives
+                    ∙ used_there header h k ids past source.0 s.region rests s.there (paged_temporary header source.0 may.temporary)) m.core.spaces.uses.among
+                    s.maps lives
                     below
                     (m.core.spaces.tasks.hosts task.0 ∙ ap is_some lives)
                     (λ t r away why. holds_rows header.size task.0 t r k.maps (rows_in task.0 k.maps) _ (now ∷ past) lives away
                     ∙ m.core.spaces.uses.apart t r away (use_before header h s.copy source offset pages past r number why)));
                 homes = (
-                  λ r found_row paged found. by_row number knows r found_row paged (row_now source.0 s.copy.0 offset pages s.region k.chains s.mid k2.chains once r
+                  λ r found_row paged found. by_row number knows r found_row paged
+                      (row_now source.0 s.copy.0 offset pages s.region k.chains s.mid k2.chains once r
                       found_row found),
                   knows.1,
                 );
@@ -573,7 +578,8 @@ rests_copied header h outside doing task source offset row past k k2 ids ids2 be
                     copies s.object s.refers
                     (ap (λ z. z.next_region) s.ids) (ap (λ z. z.next_object) s.ids) marks few m.core.objects.regions);
                 kinds = kinds_copied header source.0 s.copy.0 offset pages s.region s.known k.chains s.mid k2.chains k.memory.objects k2.memory.objects once
-                    may.temporary (referred_source m.core.objects.regions source.0 s.region s.known s.there s.object) s.object s.refers s.absent m.core.objects.kinds;
+                    may.temporary (referred_source m.core.objects.regions source.0 s.region s.known s.there s.object) s.object s.refers s.absent
+                    m.core.objects.kinds;
                 files = files_entered header h task new k2.memory.objects (now ∷ past) (λ file. absurd
                     (no_file header s.copy.0 (let more = named_regions header past in omega (arith, number, more)) file))
                     (files_put header h top s.known (record s.known { references = s.known.references + 1 }) k.memory.objects k2.memory.objects
@@ -601,7 +607,8 @@ rests_copied header h outside doing task source offset row past k k2 ids ids2 be
           thin_chains s.mid k2.chains k2.memory.objects recount.recounts.shadows (thin_grown top s.known
           (record s.known { references = s.known.references + 1 }) k.chains s.mid k.memory.objects k2.memory.objects
           (λ o shadow found. sym (ap (λ f. f o) copies.shadows) ∙ found) s.object (λ none. none)
-          (λ one. let some = referred_source m.core.objects.regions source.0 s.region s.known s.there s.object in omega (arith, one, some)) s.refers rests.thin);
+          (λ one. let some = referred_source m.core.objects.regions source.0 s.region s.known s.there s.object in omega (arith, one, some)) s.refers
+          rests.thin);
       waits = rw (rows_are, s.waits) now_waits;
       order = rw s.waits rests.order;
       idle = ap (λ z. count_again z.rows) s.waits ∙ rests.idle;
@@ -654,7 +661,9 @@ heads_copied header h outside doing task copy source offset row past events k id
       frames = fine;
       inner = tt;
       said = tt;
-      own = λ g used. m.core.spaces.homes.1.stay g h source.0 used (m.core.spaces.homes.0 source.0 may.region (paged_temporary header source.0 may.temporary) may.there);
+      own =
+          λ g used. m.core.spaces.homes.1.stay g h source.0 used (m.core.spaces.homes.0 source.0 may.region (paged_temporary header source.0 may.temporary)
+          may.there);
       creates = tt;
     }))
     (record {
@@ -767,7 +776,8 @@ may_place header h task address bytes target to past k ids events s =
     (is_uncopied header (task.0 == target.0) (entry_at address own)) sized.1 in
     let source = source_of header address bytes target.0 to past (entry_at address own) three.1 in
     let lives = lives_in task.0 m.core.spaces.tasks s.acts in
-    let home : is_on h (host_of target.0 past) ≡ true = subst (λ (z : Option ℕ). refusing.same_host z (host_of target.0 past) ≡ true) (lives_here m.core.spaces.tasks lives)
+    let home : is_on h (host_of target.0 past) ≡ true = subst (λ (z : Option ℕ). refusing.same_host z (host_of target.0 past) ≡ true)
+    (lives_here m.core.spaces.tasks lives)
     (not-false (refusing.same_host (host_of task.0 past) (host_of target.0 past)) hosts.0) in
     let there = lives_in target.0 m.core.spaces.tasks home in
     let entry = source.entry in
@@ -816,7 +826,9 @@ may_place header h task address bytes target to past k ids events s =
                 entry_some size entry.region.0 task.0 k.maps k.chains [] region.0 m.core.spaces.entries region.1
                 (on_its_region address (rows_in task.0 k.maps) entry found);
             temporary = grind (arith, nat_tests);
-            inside = subst (λ (z : ℕ). page_at z address entry + bytes / size ≤ region.0.pages) (sym m.core.spaces.tasks.sized) (omega (arith, within, inside, pages));
+            inside =
+                subst (λ (z : ℕ). page_at z address entry + bytes / size ≤ region.0.pages) (sym m.core.spaces.tasks.sized)
+                (omega (arith, within, inside, pages));
             regions = grind (arith, nat_tests);
             objects = few_objects (if (region_of header entry.region.0 past).mark then 1 else 2) objects;
             from =

@@ -7,9 +7,9 @@ use Rattle.vm_state.proofs.KnownPages.{sizes_put}
 use Rattle.vm_kernel.proofs.Common.{AllEntriesInside, AllRows, Bool, ChainTable, EndsObject, EndsRegion, Entry, Event, HasControls, HasEntries, Header, Ids}
 use Rattle.vm_kernel.proofs.Common.{IfSome, Inside, IsAmid, IsReferred, IsWhole, List, Mapped, Matches, None, ObjectId, ObjectRow, ObjectTable, Option}
 use Rattle.vm_kernel.proofs.Common.{Parts, PutsObject, PutsRegion, RegionRow, SameMarks, Some, UsesAll, Woken, [], all_tasks, ap, arith, backing_of, count_by}
-use Rattle.vm_kernel.proofs.Common.{count_on, entries_in_row, eqb_tells, false, fit_objects, has_entry, has_region, home_of, inl, inr, is_some, is_woken}
-use Rattle.vm_kernel.proofs.Common.{last_in, live_in, local_of_row, marks_of, nat_lt, nat_tests, next_object, next_region, object_at, one_case, pages_in}
-use Rattle.vm_kernel.proofs.Common.{ready_in, refl, region_at, region_entries, region_of, row_at, rows_in, same_pages, some_is, subst, sym, true, unwrap_or}
+use Rattle.vm_kernel.proofs.Common.{count_on, entries_in_row, eqb_tells, false, has_entry, has_region, home_of, inl, inr, is_some, is_woken}
+use Rattle.vm_kernel.proofs.Common.{last_in, live_in, marks_of, nat_lt, nat_tests, next_object, next_region, object_at, one_case, pages_in}
+use Rattle.vm_kernel.proofs.Common.{ready_in, refl, region_at, region_entries, region_of, rows_in, some_is, subst, sym, true, unwrap_or}
 use Rattle.vm_kernel.proofs.Common.{waiting, ℕ, ◌++◌, ◌+◌, ◌-◌, ◌<◌, ◌^◌, ◌∙◌, ◌∷◌, ◌≡◌, ◌≢◌, ◌≤◌}
 use Rattle.vm_kernel.proofs.space.RegionsFilled.{copies_gone}
 use Rattle.vm_kernel.proofs.space.EntriesCounted.{by_zero, on_zero}
@@ -223,14 +223,23 @@ runs_gone header h past who k ids rest r left events object chains objects e los
             homes = (λ r2 row paged found. m.core.spaces.homes.0 r2 row paged (other_row r k.chains chains loses.region r2 row found).1, m.core.spaces.homes.1);
           };
           objects = record {
-            regions = regions_gone r left loses.row was k.chains chains k.memory.objects objects ids (λ r. region_of header r moment) (λ o. backing_of header o moment)
+            regions =
+                regions_gone r left loses.row was k.chains chains k.memory.objects objects ids (λ r. region_of header r moment)
+                (λ o. backing_of header o moment)
                 (next_region header moment) (next_object header moment) (marks_of header moment) loses.found loses.region loses.known loses.less loses.put
                 m.core.objects.regions;
-            kinds = kinds_gone header r objects k.chains chains loses.region (kinds_put header top (record was { references = left }) k.memory.objects objects k.chains
-                loses.put loses.marks (kind_referred header top was left (let less = loses.less in omega (arith, less)) (m.core.objects.kinds.kinds top was loses.known))
+            kinds =
+                kinds_gone header r objects k.chains chains loses.region (kinds_put header top (record was { references = left }) k.memory.objects objects
+                k.chains
+                loses.put loses.marks (kind_referred header top was left (let less = loses.less in omega (arith, less))
+                (m.core.objects.kinds.kinds top was loses.known))
                 m.core.objects.kinds);
-            files = files_put header h top was (record was { references = left }) k.memory.objects objects (λ o. home_of o moment) loses.known loses.put m.core.objects.files;
-            sizes = sizes_put (named header) top was (record was { references = left }) k.memory.objects objects (λ o. object_pages header o moment) loses.known refl
+            files =
+                files_put header h top was (record was { references = left }) k.memory.objects objects (λ o. home_of o moment) loses.known loses.put
+                m.core.objects.files;
+            sizes =
+                sizes_put (named header) top was (record was { references = left }) k.memory.objects objects (λ o. object_pages header o moment) loses.known
+                refl
                 loses.put m.core.objects.sizes;
           };
           controls = controls_referred top left was k.memory.objects objects _ _ _ loses.known loses.put m.core.controls;

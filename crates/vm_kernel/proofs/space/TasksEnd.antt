@@ -99,8 +99,10 @@ sweeps_exit header h outside task past events k ids maps gone s value changes =
               tasks = shown_tasks;
               entries = c.entries;
               shared = shared_changed (named header) task.0 k.maps maps None changes tt m.core.spaces.shared;
-              uses = uses_cut header k.maps maps k.waits.rows (λ r. in_use header h r past) _ (next_region header past) (event.TaskEnded task ∷ past) task.0 None
-                  m.core.spaces.uses changes live.1 (λ r some. uses_fewer header.size task.0 r k.maps maps k.chains None m.core.spaces.entries changes live.1 cuts.own some)
+              uses =
+                  uses_cut header k.maps maps k.waits.rows (λ r. in_use header h r past) _ (next_region header past) (event.TaskEnded task ∷ past) task.0 None
+                  m.core.spaces.uses changes live.1 (λ r some. uses_fewer header.size task.0 r k.maps maps k.chains None m.core.spaces.entries changes live.1
+                  cuts.own some)
                   (record { rows = shown_tasks.rows; filled = fills_here {past = event.TaskEnded task ∷ past} shown_waits c.used.copies }) c.entries.most
                   (apart_ended header header.size k.maps maps (λ r. in_use header h r past) _ (next_region header past) task past m.core.spaces.uses changes);
               homes = homes_caused header outside h k.chains (event.TaskEnded task) past (command.Exit task, idle) c.homes;
@@ -168,7 +170,8 @@ sweeps_removed header h outside task address bytes past events k ids maps chains
     let c = changed_by header h past k ids maps chains task.0 (Some made) gone more s.rests idle same lives cuts up in
     let shown_tasks : HasTasks h header.size maps (λ t. host_of t (event.Removed task address bytes ∷ past))
     (λ t. entries_of header.size t (event.Removed task address bytes ∷ past)) =
-    tasks_changed h header.size task.0 k.maps maps (λ t. host_of t past) (λ t. entries_of header.size t past) (removed header.size address bytes) m.core.spaces.tasks same
+    tasks_changed h header.size task.0 k.maps maps (λ t. host_of t past) (λ t. entries_of header.size t past) (removed header.size address bytes)
+    m.core.spaces.tasks same
     lives in
     record {
       runs = record {
@@ -180,12 +183,17 @@ sweeps_removed header h outside task address bytes past events k ids maps chains
             spaces = record {
               tasks = shown_tasks;
               entries = c.entries;
-              shared = shared_changed (named header) task.0 k.maps maps (Some made) same (shared_removed (named header) header.size address bytes rows (m.core.spaces.shared task.0))
+              shared =
+                  shared_changed (named header) task.0 k.maps maps (Some made) same
+                  (shared_removed (named header) header.size address bytes rows (m.core.spaces.shared task.0))
                   m.core.spaces.shared;
-              uses = uses_cut header k.maps maps k.waits.rows (λ r. in_use header h r past) _ (next_region header past) (event.Removed task address bytes ∷ past)
-                  task.0 (Some made) m.core.spaces.uses same lives (λ r some. uses_fewer header.size task.0 r k.maps maps k.chains (Some made) m.core.spaces.entries same lives cuts.own
+              uses =
+                  uses_cut header k.maps maps k.waits.rows (λ r. in_use header h r past) _ (next_region header past) (event.Removed task address bytes ∷ past)
+                  task.0 (Some made) m.core.spaces.uses same lives (λ r some. uses_fewer header.size task.0 r k.maps maps k.chains (Some made)
+                  m.core.spaces.entries same lives cuts.own
                   some)
-                  (record { rows = shown_tasks.rows; filled = fills_here {past = event.Removed task address bytes ∷ past} c.waits c.used.copies }) c.entries.most
+                  (record { rows = shown_tasks.rows; filled = fills_here {past = event.Removed task address bytes ∷ past} c.waits c.used.copies })
+                  c.entries.most
                   (λ t r none why.
                   let other = elsewhere maps task.0 t made same.changed none in
                   let was = sym (changes.others t (λ e. other (sym e))) ∙ none in

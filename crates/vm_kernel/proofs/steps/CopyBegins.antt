@@ -7,8 +7,8 @@ use Rattle.vm_kernel.proofs.Common.{MadeRange, Mapped, Matches, None, ObjectId, 
 use Rattle.vm_kernel.proofs.Common.{QueueIsStill, Ran, RegionId, RegionRow, Rests, RunsNone, Some, Starts, TaskId, WaitTable, Waiting, Works, [], all_tasks, ap}
 use Rattle.vm_kernel.proofs.Common.{arith, backing_of, begun_at, copy_target, count_by, entries_in, entries_of, entry, entry_at, eqb_tells, false, fills}
 use Rattle.vm_kernel.proofs.Common.{fills_in, has_entry, head, holds, home_of, host_of, if◌then◌else◌, in_use, inl, inr, is_on}
-use Rattle.vm_kernel.proofs.Common.{is_range, is_ready, is_some, is_woken, last_control, length, live_control, lives_on, local, made_here, marked_regions}
-use Rattle.vm_kernel.proofs.Common.{named, nat_le, nat_lt, nat_tests, next_object, next_page, next_region, object_at, object_home, page_at, place_at, place_of}
+use Rattle.vm_kernel.proofs.Common.{is_range, is_ready, is_some, is_woken, last_control, length, live_control, lives_on, made_here, marked_regions}
+use Rattle.vm_kernel.proofs.Common.{named, nat_le, nat_lt, nat_tests, next_object, next_page, next_region, object_at, object_home, page_at, place_at}
 use Rattle.vm_kernel.proofs.Common.{puts_cases, refl, region_at, region_of, row_at, rows_in, rows_map, some_is, subst, suc, sym, tasks, true, waiting}
 use Rattle.vm_kernel.proofs.Common.{with_entries, zero, ℕ, ◌%◌, ◌&&◌, ◌*◌, ◌++◌, ◌+◌, ◌/◌, ◌<◌, ◌==◌, ◌^◌, ◌||◌, ◌∙◌, ◌∷◌, ◌≡◌, ◌≤◌, ◌⊎◌}
 use Rattle.std.proofs.Math.Nat.{mul-lt-mul_of_pos_right}
@@ -30,7 +30,7 @@ use Rattle.vm_kernel.proofs.space.TaskMade.{controls_made, new_object}
 use Rattle.vm_kernel.proofs.abroad.OwnEvents.{own_task}
 use Rattle.vm_kernel.proofs.steps.RowsInOrder.{begun_order}
 use Rattle.vm_kernel.proofs.abroad.OwnHost.{lives_here, rows_here}
-use Rattle.vm_kernel.proofs.memory.PagesShown.{itself, pages_marked}
+use Rattle.vm_kernel.proofs.memory.PagesShown.{itself}
 use Rattle.vm_kernel.proofs.space.RangeAllocated.{first_temporary, fit_range, ids_after, keeps_new, new_region, object_free, region_free}
 use Rattle.vm_kernel.proofs.space.RegionRows.{none_leads}
 use Rattle.vm_kernel.proofs.controls.LockReplied.{replied_behind}
@@ -58,7 +58,6 @@ use Rattle.vm_state.proofs.Referred.{referred_put}
 use Rattle.vm_state.proofs.Told.{knows_made, waits_known}
 use Rattle.vm_state.proofs.Waited.{waits_kept}
 use Rattle.vm_state.specs.Filling.{FitsCopy, IsAlone, IsCopied, IsFreeFor, IsSlow, filled_row}
-use Rattle.vm_state.specs.Places.{known_local}
 use Rattle.vm_state.specs.References.{is_live_in}
 use Rattle.vm_supply.specs.declared.woken.Woken.TheVariants as woken
 use Rattle.vm_waits.specs.declared.waiting.On.TheVariants as on
@@ -175,7 +174,8 @@ may_begin header h task address bytes to past k ids before s is_declared order =
       allowed = p.allowed;
       declared = declared;
       copied =
-          copied_range header k.maps task.0 address bytes p.entry m.core.spaces.tasks.sized (page_positive size m.core.setting.ranged.size) order p.found declared own.0 whole p.ends;
+          copied_range header k.maps task.0 address bytes p.entry m.core.spaces.tasks.sized (page_positive size m.core.setting.ranged.size) order p.found
+          declared own.0 whole p.ends;
       even = grind (arith, nat_tests);
       whole = whole;
       some = some_pages pages size bytes whole some_bytes;
@@ -349,7 +349,8 @@ module _ (header : Header) (h : ℕ) (outside : Outside) (task : TaskId) (addres
   regions_now =
       let mid : ChainTable = record k.chains { regions = (region, new_region target pages) ∷ k.chains.regions } in
       let put = put_first region (new_region target pages) k.chains in
-      let few : next_object header past + marks_of header front < most_objects = let room = may.marks in let number = rests.matches.core.objects.regions.object in let
+      let few : next_object header past + marks_of header front < most_objects = let room = may.marks in let number = rests.matches.core.objects.regions.object
+      in let
       marks = regions_front.marks in omega (arith, room, number, marks) in
       let there = regions_made header front region target (new_region target pages) (new_object pages) pages k.chains mid k.memory.objects k2.memory.objects ids
       (next_region header past) (next_object header past) (marks_of header front)
@@ -418,7 +419,8 @@ module _ (header : Header) (h : ℕ) (outside : Outside) (task : TaskId) (addres
               }
         ];
         files =
-            λ r file some. use_other r (λ same. no_file header n least (subst (λ (z : ℕ). is_file header z ≡ true) (sym same) file)) ∙ m.core.spaces.uses.files r file some;
+            λ r file some. use_other r (λ same. no_file header n least (subst (λ (z : ℕ). is_file header z ≡ true) (sym same) file))
+            ∙ m.core.spaces.uses.files r file some;
         among = m.core.spaces.uses.among;
         apart = λ t r away why. holds_still t r away ∙ m.core.spaces.uses.apart t r away (either r why);
       }
@@ -589,13 +591,16 @@ module _ (header : Header) (h : ℕ) (outside : Outside) (task : TaskId) (addres
                 (kinds_put header ids.next_object (new_object pages) k.memory.objects k2.memory.objects k.chains made.object_row made.marks
                 (kind_new header ids.next_object (new_object pages) pages temporary.object refl) m.core.objects.kinds);
             files = λ o file.
-                ap (is_on h) (home_made o region target pages front (λ same. no_file header n least (subst (λ (z : ℕ). is_file header z ≡ true) (sym same) file)))
+                ap (is_on h) (home_made o region target pages front (λ same. no_file header n least
+                (subst (λ (z : ℕ). is_file header z ≡ true) (sym same) file)))
                 ∙ files_temporary header h ids.next_object (Some (new_object pages)) k.memory.objects k2.memory.objects (λ z. home_of z past) temporary.object
                 made.object_row m.core.objects.files o file;
             sizes = sizes_made header front (named header) region target pages (new_object pages) k.memory.objects k2.memory.objects made.object_row may.short
                 refl m.core.objects.sizes;
           };
-          controls = controls_made k.memory.objects k2.memory.objects (λ o. last_control h o past) (λ o. live_control h o past) (λ o. is_ready h o past) ids.next_object
+          controls =
+              controls_made k.memory.objects k2.memory.objects (λ o. last_control h o past) (λ o. live_control h o past) (λ o. is_ready h o past)
+              ids.next_object
               pages m.core.controls unknown made.object_row
               (λ o is. objects_stay o h (its ∷ begun ∷ []) past is) object_now;
           pages = pages_known_so made.marks m.core.pages;
@@ -651,7 +656,8 @@ module _ (header : Header) (h : ℕ) (outside : Outside) (task : TaskId) (addres
   head_now : head header past (command.Copy task address bytes task to) ≡ Some (begun ∷ its ∷ [])
   head_now =
       let test : nat_lt may.row.region.0 (named header) ≡ true = let less = may.declared in grind (arith, nat_tests) in
-      let there : entry_at address (entries_of header.size task.0 past) ≡ Some may.row = ap (entry_at address) (rows_here rests.matches.core.spaces.tasks may.lives)
+      let there : entry_at address (entries_of header.size task.0 past) ≡ Some may.row = ap (entry_at address)
+      (rows_here rests.matches.core.spaces.tasks may.lives)
       ∙ may.found in
       ap (copy_head (named header) header.size (next_region header past) (next_object header past) task address bytes task to) there
       ∙ (ap (λ b. Some (if b then begun ∷ event.RegionMade (record { 0 = next_region header past }) (record { 0 = next_object header past }) pages ∷ [] else
@@ -790,7 +796,8 @@ copy_target_own {header = header} {h = h} {task = task} {address = address} {byt
     let all : length k.declared.items ≡ named header = ap length s.rests.matches.core.setting.objects in
     let test : nat_lt p.entry.region.0 (named header) ≡ true = let below : p.entry.region.0 < named header = omega (arith, low, all) in grind
     (arith, nat_tests) in
-    let there : entry_at address (entries_of header.size task.0 past) ≡ Some p.entry = ap (entry_at address) (rows_here s.rests.matches.core.spaces.tasks p.lives)
+    let there : entry_at address (entries_of header.size task.0 past) ≡ Some p.entry = ap (entry_at address)
+    (rows_here s.rests.matches.core.spaces.tasks p.lives)
     ∙ p.found in
     let own = (to_itself header past task address bytes target to p.entry s.accepted there test).1 in
     let same : target.0 ≡ task.0 = grind (arith, nat_tests) in

@@ -341,7 +341,8 @@ use_ended header h k ids past w address pages target next c rows2 put maps2 chan
     let e = ends_of header h k ids past w address pages target next c in
     uses_entered header k.maps maps2 (λ r. in_use header h r past) (tasks past) (λ u r. holds header.size u r (copy_ending w.task row ++ past))
     (next_region header past) t row (lives_on h t past)
-    (λ r temporary apart. still r (λ same. apart (sym same)) (m.core.spaces.uses.used r temporary)) (λ r file apart some. m.core.spaces.uses.files r file some) (λ paged. e.used)
+    (λ r temporary apart. still r (λ same. apart (sym same)) (m.core.spaces.uses.used r temporary)) (λ r file apart some. m.core.spaces.uses.files r file some)
+    (λ paged. e.used)
     m.core.spaces.uses.among changes e.lives (lives_below header.size t k.maps k.chains [] m.core.spaces.entries e.lives) e.here
     (λ u r none why. holds_rows header.size t u r k.maps (rows_in t k.maps) (entered row (entries_of header.size u past)) (event.CopyEnded w.task ∷ past)
     e.lives none ∙ (holds_waits header.size t u r k.maps (rows_in t k.maps) past None e.lives none ∙ m.core.spaces.uses.apart u r none why))
@@ -399,7 +400,9 @@ matches_ended header h outside doing k ids past w address pages target next c la
         objects = record {
           regions = regions_recounted k.chains k2.chains k.memory.objects ids _ _ _ _ _ recount m.core.objects.regions;
           kinds = kinds_recounted header _ k.memory.objects k.chains k2.chains (recounts_put r 1 k.chains k2.chains counts) m.core.objects.kinds;
-          files = files_entered header h w.task row k.memory.objects (first ∷ past) (λ file. m.core.spaces.homes.0 r (filled_row target pages) (file_paged header r file)
+          files =
+              files_entered header h w.task row k.memory.objects (first ∷ past) (λ file. m.core.spaces.homes.0 r (filled_row target pages)
+              (file_paged header r file)
               c.slow.region) m.core.objects.files;
           sizes = m.core.objects.sizes;
         };
@@ -525,7 +528,13 @@ can_end_copy header h k ids past w address pages target next waits2 c =
     record {
       lives = lives_some (entries_in t k.maps) (rows_in t k.maps) lives;
       free = rw (range, free, fits) refl;
-      pages = omega (arith, count, few_pages k.maps.size pages (subst IsPageSize (sym c.matches.core.spaces.tasks.sized) c.matches.core.setting.ranged.size) (omega (arith, end)));
+      pages =
+          omega (
+            arith,
+            count,
+            few_pages k.maps.size pages (subst IsPageSize (sym c.matches.core.spaces.tasks.sized) c.matches.core.setting.ranged.size)
+                (omega (arith, end)),
+          );
       region = ap is_some c.slow.region;
     } in
     subst (λ (z : Want). CanEndWant t z w.destination (record k { waits = waits2 })) (sym c.what)

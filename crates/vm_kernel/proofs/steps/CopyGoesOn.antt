@@ -4,16 +4,15 @@ use Rattle.vm_kernel.proofs.Common.{AllReferred, ChainTable, Command, Event, Fra
 use Rattle.vm_kernel.proofs.Common.{IsSizedWant, List, Local, Mapped, Matches, None, ObjectId, On, Option, Outside, PageKey, PageRow, Parts, PutsRow, Raises}
 use Rattle.vm_kernel.proofs.Common.{Reason, Region, RegionRow, ResidentTable, Some, Suffice, Target, TaskId, WaitTable, Waiting, Want, Works, [], absent_at}
 use Rattle.vm_kernel.proofs.Common.{access_in, address_in, ap, arith, begun_at, clean_row, copies_to, copy_target, entries_of, entry, entry_at, eqb_tells}
-use Rattle.vm_kernel.proofs.Common.{false, fills_in, frames_held, frames_wired, host_of, inl, inr, local, local_of_row, named, need_in, next_page, page_at}
-use Rattle.vm_kernel.proofs.Common.{page_in, page_on, place_of, puts_cases, refl, region_at, region_of, returns_out, reverse, row_at, row_cases, rows_in}
-use Rattle.vm_kernel.proofs.Common.{shadow_at, slice_get, some_is, subst, suc, sym, true, unlocked, waiting, waiting_in, zero, ℕ, ◌*◌, ◌+◌, ◌<◌, ◌==◌, ◌∙◌, ◌∷◌}
+use Rattle.vm_kernel.proofs.Common.{false, fills_in, host_of, inl, inr, local, local_of_row, named, need_in, next_page, page_at}
+use Rattle.vm_kernel.proofs.Common.{page_in, page_on, place_of, puts_cases, refl, region_at, region_of, row_at, row_cases, rows_in}
+use Rattle.vm_kernel.proofs.Common.{shadow_at, some_is, subst, suc, sym, true, unlocked, waiting, waiting_in, zero, ℕ, ◌*◌, ◌+◌, ◌<◌, ◌==◌, ◌∙◌, ◌∷◌}
 use Rattle.vm_kernel.proofs.Common.{◌≡◌, ◌≤◌, ◌⊎◌, if◌then◌else◌}
 use Rattle.vm_base.specs.declared.entry.Entry.{Entry}
 use Rattle.vm_base.specs.declared.ids.Access.TheVariants as need
 use Rattle.vm_fault.specs.Faults.{CopiesPage, KeepsPlan, References, copied_key}
 use Rattle.vm_fault.specs.Walks.{Finds, WalksTo, keeps_out}
 use Rattle.vm_kernel.proofs.memory.ComesForAccess.{asks_none_now, page_referred, page_waits}
-use Rattle.vm_kernel.proofs.memory.PartsStillFit.{fits_changed}
 use Rattle.vm_kernel.proofs.steps.AccessCauses.{read_at}
 use Rattle.vm_kernel.proofs.steps.EventsGrow.{Follows, suffices}
 use Rattle.vm_kernel.proofs.memory.WhatIsKnown.{known_on}
@@ -21,7 +20,7 @@ use Rattle.vm_kernel.proofs.steps.WhereAccessLeads.{Leads, declared_bottom, lead
 use Rattle.vm_kernel.proofs.abroad.OwnEvents.{own_lives}
 use Rattle.vm_kernel.proofs.steps.RowsInOrder.{PutsInOrder}
 use Rattle.vm_kernel.proofs.abroad.OwnHost.{lives_here, own_host}
-use Rattle.vm_kernel.proofs.memory.PagesShown.{bytes_now, frames_changed, itself, laundry_changed, pages_moved, shown_as, shown_here}
+use Rattle.vm_kernel.proofs.memory.PagesShown.{bytes_now, itself, pages_moved, shown_as, shown_here}
 use Rattle.vm_kernel.proofs.controls.LockReplied.{replied_behind}
 use Rattle.vm_kernel.proofs.memory.WalksShown.{page_left, shown_at}
 use Rattle.vm_legal.specs.Accesses.{HasPageLeft}
@@ -169,7 +168,8 @@ page_made header h past k ids w address pages target next key row frame memory w
     let fills_it : fills_in to (entry k.waits.rows w.task.0) ≡ true = ap (fills_in to) is ∙ (ap (is_destination to) slow.goes ∙ itself to) in
     record {
       matches =
-          matches_copied header h k ids past w.task key target next row frame memory m (lives_here m.core.spaces.tasks (works.waits.allowed w.task.0 w is).lives) found here
+          matches_copied header h k ids past w.task key target next row frame memory m
+          (lives_here m.core.spaces.tasks (works.waits.allowed w.task.0 w is).lives) found here
           c plan;
       regions = works.used.regions;
       is = is;
@@ -203,7 +203,8 @@ page_made header h past k ids w address pages target next key row frame memory w
       waits =
           page_waits top frame _ _ _ _ _ k memory (is_woken woken.Nobody) (λ u. waiting u past) c plan (none_unawaited None refl)
           (here_unawaited _ _ refl refl refl)
-          (waits_filled header h k ids past w.task key top (λ t wanted place. place_unfilled header.size t wanted top k.maps k.chains [] m.core.spaces.entries place to
+          (waits_filled header h k ids past w.task key top (λ t wanted place. place_unfilled header.size t wanted top k.maps k.chains [] m.core.spaces.entries
+          place to
           target pages slow.region slow.alone refl) works.waits);
       order = works.order;
     }
@@ -222,7 +223,8 @@ copying_touched header h past k ids w address pages target next frame memory tou
     with_queues =
         record {
           matches =
-              matches_with memory.queues k.memory.buffers k.waits (λ t r. refl) (fit_touched k.memory memory.queues m.core.fits.parts touched.keeps touched.frames)
+              matches_with memory.queues k.memory.buffers k.waits (λ t r. refl) (fit_touched k.memory memory.queues m.core.fits.parts touched.keeps
+              touched.frames)
               refl m;
           regions = copying.regions;
           is = copying.is;

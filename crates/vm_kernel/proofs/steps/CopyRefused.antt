@@ -44,7 +44,8 @@ full_same : (header : Header) (h : ℕ) (k : Parts) (ids : Ids) (past : List Eve
 full_same header h k ids past r rests there =
     let m = rests.matches in
     let row = region_row k.chains r there in
-    let mark : (region_of header r past).mark ≡ is_marked k.chains r = ap (λ z. z.mark) (m.core.objects.regions.rows r row.0 row.1) ∙ sym (marked_is k r row.0 row.1) in
+    let mark : (region_of header r past).mark ≡ is_marked k.chains r = ap (λ z. z.mark) (m.core.objects.regions.rows r row.0 row.1)
+    ∙ sym (marked_is k r row.0 row.1) in
     is_full_copy header r past (nat_lt r (length k.declared.items)) (is_marked k.chains r) (ap (nat_lt r) (sym (declared_are rests))) mark
     ∙ (ap (λ (z : ℕ). nat_le most_regions z || nat_lt most_objects (next_object header past + marked_regions header
     past + (if nat_lt r (length k.declared.items) || is_marked k.chains r then 1 else 2))) (sym m.core.objects.regions.region)
@@ -60,7 +61,8 @@ wild_is header h k ids past r rests there declared =
     let m = rests.matches in
     let row = region_row k.chains r there in
     let whole = whole_row m.core.objects.regions m.core.spaces.homes.1 r row.0 declared row.1 in
-    let known = row_of (object_at k.memory.objects r) (subst (λ (z : ℕ). IsSome (object_at k.memory.objects z)) whole.top (m.core.objects.regions.tops r row.0 row.1)) in
+    let known = row_of (object_at k.memory.objects r) (subst (λ (z : ℕ). IsSome (object_at k.memory.objects z)) whole.top
+    (m.core.objects.regions.tops r row.0 row.1)) in
     ap is_wild_row known.1 ∙ ap is_wild_kind ((m.core.objects.kinds.kinds r known.0 known.1).declared declared).kind
 
 uncopied_same : (header : Header) (h : ℕ) (k : Parts) (ids : Ids) (past : List Event) (own : Bool) (row : Entry) → Rests header h k ids past
@@ -99,7 +101,8 @@ some_waits size (Some w) = refl
 pub waits_are : (header : Header) (h : ℕ) (k : Parts) (ids : Ids) (past : List Event) (task : ℕ) → Rests header h k ids past → lives_on h task past ≡ true
     → is_some (waiting task past) ≡ is_some (entry k.waits.rows task)
 waits_are header h k ids past task rests acts =
-    ap (λ z. is_some z) (rests.waits.is task (ap (λ z. is_some z) (lives_in task rests.matches.core.spaces.tasks acts))) ∙ some_waits k.maps.size (entry k.waits.rows task)
+    ap (λ z. is_some z) (rests.waits.is task (ap (λ z. is_some z) (lives_in task rests.matches.core.spaces.tasks acts)))
+    ∙ some_waits k.maps.size (entry k.waits.rows task)
 
 pub copy_refused : (header : Header) (h : ℕ) (k : Parts) (ids : Ids) (past : List Event) (elsewhere : Bool) (task : TaskId) (address bytes : ℕ)
     (target : TaskId) (to : ℕ) → Rests header h k ids past → lives_on h task.0 past ≡ true → lives_on h target.0 past ≡ true

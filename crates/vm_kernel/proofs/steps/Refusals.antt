@@ -42,7 +42,8 @@ for_here header h k ids past (command.Map task address bytes object offset) rest
 for_here header h k ids past (command.Deallocate task address bytes) rests acts both range = has_entries task.0 rests.matches.core.spaces.tasks acts
 for_here header h k ids past (command.Protect task address bytes prot) rests acts both range = has_entries task.0 rests.matches.core.spaces.tasks acts
 for_here header h k ids past (command.Inherit task address bytes inherit) rests acts both range = has_entries task.0 rests.matches.core.spaces.tasks acts
-for_here header h k ids past (command.Load task address size) rests acts both range = (has_entries task.0 rests.matches.core.spaces.tasks acts, some_size size range.size)
+for_here header h k ids past (command.Load task address size) rests acts both range =
+    (has_entries task.0 rests.matches.core.spaces.tasks acts, some_size size range.size)
 for_here header h k ids past (command.Store task address size value) rests acts both range =
     (has_entries task.0 rests.matches.core.spaces.tasks acts, some_size size range.0.size)
 for_here header h k ids past (command.Copy task address bytes target to) rests acts both range =
@@ -176,9 +177,11 @@ refusal_is header h k ids past elsewhere (command.Allocate task address bytes) r
 refusal_is header h k ids past elsewhere (command.Map task address bytes object offset) rests acts both built unnamed away =
     map_refused header h k ids past elsewhere task address bytes object offset rests acts away
 refusal_is header h k ids past elsewhere (command.Deallocate task address bytes) rests acts both built unnamed away =
-    acting_is header h k ids past task.0 _ _ rests acts (rw (entries_same task.0 rests.matches.core.spaces.tasks acts, rests.matches.core.spaces.tasks.sized) refl)
+    acting_is header h k ids past task.0 _ _ rests acts (rw (entries_same task.0 rests.matches.core.spaces.tasks acts, rests.matches.core.spaces.tasks.sized)
+    refl)
 refusal_is header h k ids past elsewhere (command.Protect task address bytes prot) rests acts both built unnamed away =
-    acting_is header h k ids past task.0 _ _ rests acts (rw (entries_same task.0 rests.matches.core.spaces.tasks acts, rests.matches.core.spaces.tasks.sized) refl)
+    acting_is header h k ids past task.0 _ _ rests acts (rw (entries_same task.0 rests.matches.core.spaces.tasks acts, rests.matches.core.spaces.tasks.sized)
+    refl)
 refusal_is header h k ids past elsewhere (command.Inherit task address bytes inherit) rests acts both built unnamed away =
     inherit_code header h k ids past elsewhere task address bytes inherit rests acts
 refusal_is header h k ids past elsewhere (command.Load task address size) rests acts both built unnamed away =

@@ -44,7 +44,8 @@ declared_bottom {header = header} {k = k} {past = past} r row m declared found =
     record {
       bottom = by (shadow_at k.chains row.top.0) refl;
       told =
-          λ known there without. let temporary = untold_temporary header k.memory.objects row.top.0 known (refers_region m.core.objects.regions r row found) there
+          λ known there without. let temporary =
+          untold_temporary header k.memory.objects row.top.0 known (refers_region m.core.objects.regions r row found) there
           (m.core.objects.kinds.kinds row.top.0 known there) without in
           absurd (omega (arith, temporary, low));
       present = λ p. m.core.objects.kinds.present row.top.0 p low;
@@ -59,7 +60,8 @@ declared_bottom {header = header} {k = k} {past = past} r row m declared found =
     by : (x : Option ShadowRow) → shadow_at k.chains row.top.0 ≡ x → x ≡ None
     by None is = refl
     by (Some under) is =
-        let bad : false ≡ true = sym (m.core.spaces.homes.1.bare row.top.0 low) ∙ ap (λ (z : Backing). z.backed) (m.core.objects.regions.shadows row.top.0 under is) in
+        let bad : false ≡ true = sym (m.core.spaces.homes.1.bare row.top.0 low)
+        ∙ ap (λ (z : Backing). z.backed) (m.core.objects.regions.shadows row.top.0 under is) in
         absurd (cc)
 
 -- the page of an entry lies in its region
@@ -165,7 +167,8 @@ leads_of header h k ids past who task w top m waits copies is at =
     let r = at.entry.region.0 in
     let address = address_in k.maps.size w.want in
     let s = shown_at m in
-    let sized : top ≡ top_place at.row (page_at header.size address at.entry) = at.is ∙ ap (λ z. top_place at.row (page_at z address at.entry)) m.core.spaces.tasks.sized in
+    let sized : top ≡ top_place at.row (page_at header.size address at.entry) = at.is
+    ∙ ap (λ z. top_place at.row (page_at z address at.entry)) m.core.spaces.tasks.sized in
     record {
       lives = lives_here m.core.spaces.tasks (waits.allowed task w is).lives;
       agrees = copies_next copies task w is;

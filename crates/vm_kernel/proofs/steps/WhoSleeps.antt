@@ -68,7 +68,8 @@ meets_place {header = header} {h = h} {k = k} {past = past} {task = task} {what 
     found : entry_at (address_in size what) (rows_in task k.maps) ≡ Some waits.at.entry
     found =
         ap (entry_at (address_in size what)) (sym (m.core.spaces.tasks.rows task here))
-        ∙ (ap (λ z. entry_at z (entries_of header.size task past)) (sym (want_address size header.size (next_page task past) to what m.core.spaces.tasks.sized agrees))
+        ∙ (ap (λ z. entry_at z (entries_of header.size task past)) (sym (want_address size header.size (next_page task past) to what m.core.spaces.tasks.sized
+        agrees))
         ∙ waits.at.found)
 
     its : IsTop (region_of header place.at.entry.region.0 past) (page_at size (address_in size what) place.at.entry) place.top.object.0 place.top.page.0
