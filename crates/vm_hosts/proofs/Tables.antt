@@ -70,5 +70,9 @@ found header hosts past h k all known read =
     let within : h < length hosts.kernels = omega (arith, count, known) in
     let at : slice_get hosts.kernels h ≡ Some k = slice_get_read hosts.kernels (length hosts.kernels) h k refl within read in
     let rests = all.rests h k at in
-    record { at = at; within = within; rests = subst (λ (z : ℕ). Rests header z k hosts.ids past) (sym rests.matches.core.setting.numbered) rests;
-        number = rests.matches.core.setting.numbered }
+    record {
+      at = at;
+      within = within;
+      rests = subst (λ (z : ℕ). Rests header z k hosts.ids past) (sym rests.matches.core.setting.numbered) rests;
+      number = rests.matches.core.setting.numbered;
+    }
