@@ -45,7 +45,7 @@ same_one header outside h e past sound knows abroad = record {
 
 pub same_none : (header : Header) (h : ℕ) (past : List Event) → SameFacts header h past past
 same_none header h past = record {
-  pages = record { local = λ place. refl; live = λ o. refl; last = λ o. refl; ready = λ o. refl; held = refl; wired = refl; out = refl };
+  pages = record { local = λ place. refl; live = λ o. refl; last = λ o. refl; ready = λ o. refl; cached = λ o. refl; held = refl; wired = refl; out = refl };
   lives = λ task. refl;
   task = λ task own. record { host = refl; entries = refl; waiting = refl; next = refl; begun = refl; target = refl };
   made = record { made = []; is = refl };
@@ -64,6 +64,7 @@ more_pages header h old mid new one two = record {
   live = λ o. two.live o ∙ one.live o;
   last = λ o. two.last o ∙ one.last o;
   ready = λ o. two.ready o ∙ one.ready o;
+  cached = λ o. two.cached o ∙ one.cached o;
   held = two.held ∙ one.held;
   wired = two.wired ∙ one.wired;
   out = two.out ∙ one.out;

@@ -30,7 +30,8 @@ use Rattle.vm_model.specs.Tasks.{entries_of, host_of}
 use Rattle.vm_base.specs.declared.ids.PageNo.{PageNo}
 use Rattle.vm_legal.specs.Pagers.{Known, known_below}
 use Rattle.vm_model.specs.declared.message.Message.TheVariants as message
-use Rattle.vm_legal.specs.Follows.{Follows, FollowsSoFar, IsConsequence, IsGroup, IsRun, clean_head, map_head, opening, copy_head, fork_head, head, inherits}
+use Rattle.vm_legal.specs.Follows.{Follows, FollowsSoFar, IsConsequence, IsGroup, IsRun, cache_head, clean_head, map_head, opening, copy_head, fork_head, head}
+use Rattle.vm_legal.specs.Follows.{inherits}
 use Rattle.vm_legal.specs.Follows.{inherits_all, next_behind, say_head, take_head}
 use Rattle.vm_legal.specs.Frames.{frames_wired}
 use Rattle.vm_legal.specs.Homes.{EntersNext, enters, is_open, starts_copy}
@@ -167,6 +168,12 @@ cleaned object page count flush (Some known) first past is was =
     plain (event.Sent (Down (record { 0 = known.host }) object known.control) (message.Lock page count 2 flush 8 true) ∷ []) first past ((λ r h. refl), tt) is
     was
 
+cached : (object : ObjectId) (cache : Bool) (x : Option Known) (first past : List Event) → Some (cache_head object cache x) ≡ Some first → Paired past
+    → Paired (reverse first ++ past)
+cached object cache None first past is was = plain [] first past tt is was
+cached object cache (Some known) first past is was =
+    plain (event.Sent (Down (record { 0 = known.host }) object known.control) (message.Attributes cache 0 true) ∷ []) first past ((λ r h. refl), tt) is was
+
 made_and_entered : (made entered : Event) (first past : List Event) → Some (made ∷ entered ∷ []) ≡ Some first → MakesNone entered
     → ((region : ℕ) → is_open region (made ∷ past) ≡ true → enters region entered ≡ true)
     → Paired past → Paired (reverse first ++ past)
@@ -215,6 +222,8 @@ head_paired header before past (command.Map task address bytes object offset) fi
     mapped header task address bytes object offset before (host_of task.0 before) first past is was
 head_paired header before past (command.Clean object page count flush) first is was =
     cleaned object page count flush (known_below (length header.frames.items) object.0 before) first past is was
+head_paired header before past (command.Cache object cache) first is was =
+    cached object cache (known_below (length header.frames.items) object.0 before) first past is was
 
 -- a head and what follows from it
 run_paired : (header : Header) (before past : List Event) (doing : Command) (first more : List Event) → head header before doing ≡ Some first

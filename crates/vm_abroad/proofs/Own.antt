@@ -13,9 +13,10 @@ use Rattle.vm_model.specs.Controls.{control_after, is_control, last_control, liv
 use Rattle.vm_model.specs.Local.{Local, Place, effect, local, local_after}
 use Rattle.vm_model.specs.Regions.{backing_of, object_pages}
 use Rattle.vm_legal.specs.Accesses.{is_ready}
+use Rattle.vm_legal.specs.Cached.{is_cached}
 use Rattle.vm_legal.specs.Frames.{change, frames_after, frames_held, frames_wired, returns_out, sent_up_change, taken_down_change, taken_up_change}
 use Rattle.vm_legal.specs.Homes.{gives_frame, is_home}
-use Rattle.vm_abroad.specs.Own.{own_change, own_effect, own_last, own_live, own_out, own_ready, own_wired}
+use Rattle.vm_abroad.specs.Own.{own_cached, own_change, own_effect, own_last, own_live, own_out, own_ready, own_wired}
 
 both_left : (a b : Bool) → (a && b) ≡ true → a ≡ true
 both_left true b is = refl
@@ -95,6 +96,29 @@ ready_own header h (event.Sent (Down at object control) m) past is o = refl
 ready_own header h (event.Taken (Up at object) m) past is o = refl
 ready_own header h (event.Taken (Down at object control) m) past is o = ready_taken h o at object control m past is
 ready_own header h other past is o = refl
+
+cached_sent : (h o : ℕ) (at : HostId) (object : ObjectId) (m : Message) (past : List Event) → (at.0 == h) ≡ true
+    → is_cached h o (event.Sent (Up at object) m ∷ past)
+    ≡ own_cached o (live_control h o past) (is_ready h o past) (event.Sent (Up at object) m) (is_cached h o past)
+cached_sent h o at object (message.Init control size) past is = rw is refl
+cached_sent h o at object (message.Create control size) past is = rw is refl
+cached_sent h o at object (message.Terminate control) past is = rw is refl
+cached_sent h o at object other past is = refl
+
+cached_taken : (h o : ℕ) (at : HostId) (object : ObjectId) (control : ℕ) (m : Message) (past : List Event) → (at.0 == h) ≡ true
+    → is_cached h o (event.Taken (Down at object control) m ∷ past)
+    ≡ own_cached o (live_control h o past) (is_ready h o past) (event.Taken (Down at object control) m) (is_cached h o past)
+cached_taken h o at object control (message.Ready cache strategy) past is = rw is refl
+cached_taken h o at object control (message.Attributes cache strategy reply) past is = rw is refl
+cached_taken h o at object control other past is = refl
+
+pub cached_own : (header : Header) (h : ℕ) (e : Event) (past : List Event) → is_home header h e past ≡ true → (o : ℕ)
+    → is_cached h o (e ∷ past) ≡ own_cached o (live_control h o past) (is_ready h o past) e (is_cached h o past)
+cached_own header h (event.Sent (Up at object) m) past is o = cached_sent h o at object m past is
+cached_own header h (event.Sent (Down at object control) m) past is o = refl
+cached_own header h (event.Taken (Up at object) m) past is o = refl
+cached_own header h (event.Taken (Down at object control) m) past is o = cached_taken h o at object control m past is
+cached_own header h other past is o = refl
 
 -- frames
 

@@ -11,6 +11,7 @@ use Rattle.vm_model.specs.declared.script.Header.{Header}
 use Rattle.vm_model.specs.Controls.{control_after, is_control, last_control, live_after, live_control}
 use Rattle.vm_model.specs.Local.{Elsewhere, Local, Place, effect, local, local_after}
 use Rattle.vm_legal.specs.Accesses.{is_ready}
+use Rattle.vm_legal.specs.Cached.{is_cached}
 use Rattle.vm_legal.specs.Frames.{Keeps, change, frames_after, frames_held, frames_wired, returns_out, sent_up_change, taken_down_change, taken_up_change}
 use Rattle.vm_legal.specs.Homes.{gives_frame, is_home}
 use Rattle.vm_abroad.specs.Same.{SamePages}
@@ -82,6 +83,27 @@ ready_abroad header h (event.Taken (Up at object) m) past is o = refl
 ready_abroad header h (event.Taken (Down at object control) m) past is o = ready_taken h o at object control m past is
 ready_abroad header h other past is o = refl
 
+cached_sent : (h o : ℕ) (at : HostId) (object : ObjectId) (m : Message) (past : List Event) → (at.0 == h) ≡ false
+    → is_cached h o (event.Sent (Up at object) m ∷ past) ≡ is_cached h o past
+cached_sent h o at object (message.Init control size) past is = rw is refl
+cached_sent h o at object (message.Create control size) past is = rw is refl
+cached_sent h o at object (message.Terminate control) past is = rw is refl
+cached_sent h o at object other past is = refl
+
+cached_taken : (h o : ℕ) (at : HostId) (object : ObjectId) (control : ℕ) (m : Message) (past : List Event) → (at.0 == h) ≡ false
+    → is_cached h o (event.Taken (Down at object control) m ∷ past) ≡ is_cached h o past
+cached_taken h o at object control (message.Ready cache strategy) past is = rw is refl
+cached_taken h o at object control (message.Attributes cache strategy reply) past is = rw is refl
+cached_taken h o at object control other past is = refl
+
+pub cached_abroad : (header : Header) (h : ℕ) (e : Event) (past : List Event) → is_home header h e past ≡ false → (o : ℕ)
+    → is_cached h o (e ∷ past) ≡ is_cached h o past
+cached_abroad header h (event.Sent (Up at object) m) past is o = cached_sent h o at object m past is
+cached_abroad header h (event.Sent (Down at object control) m) past is o = refl
+cached_abroad header h (event.Taken (Up at object) m) past is o = refl
+cached_abroad header h (event.Taken (Down at object control) m) past is o = cached_taken h o at object control m past is
+cached_abroad header h other past is o = refl
+
 -- frames
 
 change_sent : (b : Bool) (m : Message) → b ≡ false → sent_up_change b m ≡ Keeps
@@ -142,6 +164,7 @@ pages_abroad header h e past is = record {
   live = live_abroad header h e past is;
   last = last_abroad header h e past is;
   ready = ready_abroad header h e past is;
+  cached = cached_abroad header h e past is;
   held = held_abroad header h e past is;
   wired = wired_abroad header h e past is;
   out = out_abroad header h e past is;

@@ -260,7 +260,10 @@ module _ (header : Header) (h : ℕ) (old new : List Event) (sound : Sound heade
   -- what is left of declared ones
 
   unheld_was : (object : ℕ) → IsUnheld header h object new → IsUnheld header h object old
-  unheld_was object none task lives = sym (ap (has_entry object) (same.task task lives).entries) ∙ none task (same.lives task ∙ lives)
+  unheld_was object none = record {
+    unmapped = λ task lives. sym (ap (has_entry object) (same.task task lives).entries) ∙ none.unmapped task (same.lives task ∙ lives);
+    uncached = sym (same.pages.cached object) ∙ none.uncached;
+  }
 
   pub swept_now : ((r : ℕ) → is_open r old ≡ false) → IsSwept header h old → IsSwept header h new
   swept_now shut is = record {

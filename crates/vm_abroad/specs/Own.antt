@@ -41,7 +41,7 @@ own_change links lengths here asked (event.Merged upper lower) =
     GivesSome (pages_gone here upper.0 lower.0 (links upper.0).shift (lengths upper.0) (lengths lower.0))
 own_change links lengths here asked other = Keeps
 
--- to the live control of an object, the last one, and whether that is ready
+-- to the live control of an object, the last one, whether that is ready, and whether the object stays when its last entry goes
 abbrev pub own_live : ℕ → Event → Option ℕ → Option ℕ
 own_live o (event.Sent (Up host object) (message.Init control size)) live = if object.0 == o then Some control else live
 own_live o (event.Sent (Up host object) (message.Create control size)) live = if object.0 == o then Some control else live
@@ -58,6 +58,16 @@ own_ready o live (event.Sent (Up host object) (message.Init control size)) was =
 own_ready o live (event.Sent (Up host object) (message.Create control size)) was = if object.0 == o then false else was
 own_ready o live (event.Taken (Down host object control) (message.Ready cache strategy)) was = if object.0 == o && is_control control live then true else was
 own_ready o live other was = was
+
+abbrev pub own_cached : ℕ → Option ℕ → Bool → Event → Bool → Bool
+own_cached o live ready (event.Sent (Up host object) (message.Init control size)) was = if object.0 == o then false else was
+own_cached o live ready (event.Sent (Up host object) (message.Create control size)) was = if object.0 == o then false else was
+own_cached o live ready (event.Sent (Up host object) (message.Terminate control)) was = if object.0 == o then false else was
+own_cached o live ready (event.Taken (Down host object control) (message.Ready cache strategy)) was =
+    if object.0 == o && (is_control control live && not ready) then cache else was
+own_cached o live ready (event.Taken (Down host object control) (message.Attributes cache strategy reply)) was =
+    if object.0 == o && is_control control live then cache else was
+own_cached o live ready other was = was
 
 -- to the frames that are wired, and the returns that are out
 abbrev pub own_wired : Event → ℕ → ℕ

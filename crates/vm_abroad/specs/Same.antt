@@ -9,6 +9,7 @@ use Rattle.vm_model.specs.Regions.{backing_of, next_object, next_region, object_
 use Rattle.vm_model.specs.Tasks.{entries_of, host_of}
 use Rattle.vm_model.specs.Waiting.{copy_target, next_page, waiting}
 use Rattle.vm_legal.specs.Accesses.{begun_at, is_ready}
+use Rattle.vm_legal.specs.Cached.{is_cached}
 use Rattle.vm_legal.specs.Frames.{frames_held, frames_wired, returns_out}
 use Rattle.vm_legal.specs.Homes.{is_used}
 use Rattle.vm_legal.specs.Living.{lives_on, tasks}
@@ -29,6 +30,7 @@ pub record SamePages (header : Header) (h : ℕ) (old new : List Event) : Type 0
   pub live : (o : ℕ) → live_control h o new ≡ live_control h o old
   pub last : (o : ℕ) → last_control h o new ≡ last_control h o old
   pub ready : (o : ℕ) → is_ready h o new ≡ is_ready h o old
+  pub cached : (o : ℕ) → is_cached h o new ≡ is_cached h o old
   pub held : frames_held header h new ≡ frames_held header h old
   pub wired : frames_wired h new ≡ frames_wired h old
   pub out : returns_out h new ≡ returns_out h old

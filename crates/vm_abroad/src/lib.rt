@@ -14,6 +14,7 @@ ghost use Rattle.vm_model.specs.Local.{Place, local, local_after};
 ghost use Rattle.vm_model.specs.Moments.{EachEvent};
 ghost use Rattle.vm_model.specs.Regions.{backing_of, object_pages};
 ghost use Rattle.vm_legal.specs.Accesses.{is_ready};
+ghost use Rattle.vm_legal.specs.Cached.{is_cached};
 ghost use Rattle.vm_legal.specs.Follows.{FollowsSoFar};
 ghost use Rattle.vm_legal.specs.Frames.{frames_after, frames_held, frames_wired, returns_out};
 ghost use Rattle.vm_legal.specs.Homes.{EntersNext, IsOnlyOfHost, is_home};
@@ -23,7 +24,7 @@ ghost use Rattle.vm_legal.specs.Outside.{Outside};
 ghost use Rattle.vm_legal.specs.Prompt.{EachLeads, HostIsFull, NoneInVain};
 ghost use Rattle.vm_legal.specs.Swept.{IsSwept};
 ghost use Rattle.vm_legal.specs.Stretches.{EachIn};
-ghost use Rattle.vm_abroad.specs.Own.{own_change, own_effect, own_last, own_live, own_out, own_ready, own_wired};
+ghost use Rattle.vm_abroad.specs.Own.{own_cached, own_change, own_effect, own_last, own_live, own_out, own_ready, own_wired};
 ghost use Rattle.vm_abroad.specs.Run as run;
 ghost use Rattle.vm_abroad.specs.Same.{SameFacts, SameForHost};
 ghost use Rattle.vm_abroad.specs.Sound.{IsAbroad, Knows, Sound};
@@ -65,6 +66,8 @@ pub fn own_events_move_their_host()
         → last_control h o (e ∷ past) ≡ own_last o e (last_control h o past) }
     ensures ready { (header : Header) (h : ℕ) (e : Event) (past : List Event) → is_home header h e past ≡ true → (o : ℕ)
         → is_ready h o (e ∷ past) ≡ own_ready o (live_control h o past) e (is_ready h o past) }
+    ensures cached { (header : Header) (h : ℕ) (e : Event) (past : List Event) → is_home header h e past ≡ true → (o : ℕ)
+        → is_cached h o (e ∷ past) ≡ own_cached o (live_control h o past) (is_ready h o past) e (is_cached h o past) }
     ensures held { (header : Header) (h : ℕ) (e : Event) (past : List Event) → is_home header h e past ≡ true
         → frames_held header h (e ∷ past) ≡ frames_after (own_change (λ o. backing_of header o past) (λ o. object_pages header o past)
         (λ o page. (local header h (record { object = o; page = page }) past).here) (λ o control page. is_control control (live_control h o past) &&

@@ -108,7 +108,15 @@ pub record MakesShadow (region : RegionId) (row : RegionRow) (old new : FaultSta
   pub next : object.0 ≡ old.ids.next_object
   pub chains : ShadowsRegion region.0 object row old.chains new.chains
   pub fewer : new.chains.marked + 1 ≡ old.chains.marked
-  pub objects : PutsObject object.0 (Some (record { kind = Temp; pages = row.pages; state = state.Without; control = 0; live = false; references = 1 }))
+  pub objects : PutsObject object.0 (Some (record {
+    kind = Temp;
+    pages = row.pages;
+    state = state.Without;
+    control = 0;
+    live = false;
+    cache = false;
+    references = 1;
+  }))
       old.parts.objects new.parts.objects
   pub marks : SameMarks old.parts.objects new.parts.objects
   pub parts : new.parts ≡ record old.parts { objects = new.parts.objects }

@@ -107,6 +107,8 @@ sent_up header host o p at object (message.Unlock control page access) past c wa
     stays_two header.size (at.0 == host && object.0 == o) (page.0 == p) Unlocks (page_on header host o p past) (live_control host o past) was was
 sent_up header host o p at object (message.Completed control page count) past c was =
     stays_if header.size (at.0 == host && object.0 == o) Elsewhere (page_on header host o p past) (live_control host o past) (λ is. was) was
+sent_up header host o p at object (message.Changed control cache strategy) past c was =
+    stays_if header.size (at.0 == host && object.0 == o) Elsewhere (page_on header host o p past) (live_control host o past) (λ is. was) was
 sent_up header host o p at object m past c was = absurd c.1
 
 -- zeros come where the pager has no such page, and then the control lives

@@ -1,5 +1,5 @@
 -- In a step that took a message no task loses an entry; so whoever lives there lives on.
-use Rattle.std.proofs.Common.{ℕ, ◌≡◌, ◌<◌, ◌+◌, ◌-◌, ◌/◌, ◌⊎◌, inl, inr, List, [], ◌∷◌, ◌++◌, reverse, length, Bool, true, false, Option, Some, None}
+use Rattle.std.proofs.Common.{ℕ, ◌≡◌, ◌<◌, ◌≤◌, ◌+◌, ◌-◌, ◌/◌, ◌⊎◌, inl, inr, List, [], ◌∷◌, ◌++◌, reverse, length, Bool, true, false, Option, Some, None}
 use Rattle.std.proofs.Common.{MatchOption, refl, sym, ap, subst, ◌∙◌, arith, append_assoc, if◌then◌else◌}
 use mathlib.Core.List.{reverse_aux}
 use Rattle.std.proofs.lemmas.Bool.Decides.{nat_tests}
@@ -32,11 +32,12 @@ use Rattle.vm_model.specs.Server.{first as oldest}
 use Rattle.vm_model.specs.Tasks.{entries_of, has_entry, host_of}
 use Rattle.vm_legal.proofs.Inside.{taken_more}
 use Rattle.vm_legal.proofs.Stretched.{inner_both}
-use Rattle.vm_legal.specs.Follows.{Follows, FollowsAnyCut, IsBegun, IsConsequence, IsGroup, IsRun, clean_head, copy_head, fork_head, head, inherits}
+use Rattle.vm_legal.specs.Cached.{is_cached}
+use Rattle.vm_legal.specs.Follows.{Follows, FollowsAnyCut, IsBegun, IsConsequence, IsGroup, IsRun, cache_head, clean_head, copy_head, fork_head, head, inherits}
 use Rattle.vm_legal.specs.Follows.{inherits_all, map_head, next_behind, opening, say_head, take_head}
 use Rattle.vm_legal.specs.Frames.{frames_wired}
 use Rattle.vm_legal.specs.Licences.{AllLicensed, HasCause}
-use Rattle.vm_legal.specs.Swept.{IsUnheld}
+use Rattle.vm_legal.specs.Swept.{IsUnheld, IsUnmapped}
 use Rattle.vm_legal.specs.Outside.{Outside}
 use Rattle.vm_legal.specs.Pagers.{Known, known_below}
 use Rattle.vm_legal.specs.Prompt.{Prompt}
@@ -155,6 +156,11 @@ cleaned object page count flush None first is = plain [] first tt is
 cleaned object page count flush (Some known) first is =
     plain (event.Sent (Down (record { 0 = known.host }) object known.control) (message.Lock page count 2 flush 8 true) ∷ []) first (tt, tt) is
 
+cached : (object : ObjectId) (cache : Bool) (x : Option Known) (first : List Event) → Some (cache_head object cache x) ≡ Some first → IsHead first
+cached object cache None first is = plain [] first tt is
+cached object cache (Some known) first is =
+    plain (event.Sent (Down (record { 0 = known.host }) object known.control) (message.Attributes cache 0 true) ∷ []) first (tt, tt) is
+
 is_head : (header : Header) (before : List Event) (doing : Command) (first : List Event) → head header before doing ≡ Some first → IsHead first
 is_head header before (command.Allocate task address bytes) first is =
     plain
@@ -185,6 +191,7 @@ is_head header before (command.Map task address bytes object offset) first is =
     mapped header task address bytes object offset before (host_of task.0 before) first is
 is_head header before (command.Clean object page count flush) first is =
     cleaned object page count flush (known_below (length header.frames.items) object.0 before) first is
+is_head header before (command.Cache object cache) first is = cached object cache (known_below (length header.frames.items) object.0 before) first is
 
 behind_line : (first : List Event) (line : ℕ) (past : List Event) → IsHead first → EachEvent TakingKeeps past
     → EachEvent TakingKeeps (reverse first ++ event.Line line ∷ past)
@@ -272,22 +279,22 @@ fewer : (b : Bool) (region : ℕ) (row : Entry) (rows : List Entry) → has_entr
 fewer true region row rows none = without region row rows none
 fewer false region row rows none = none
 
--- what nothing holds now was held by nothing when the step began
-unheld_then : (header : Header) (host region : ℕ) (letter : Letter) (past : List Event) → EachEvent TakingKeeps past → taken_letter past ≡ Some letter
-    → IsUnheld header host region past → IsUnheld header host region (before_step past)
-unheld_then header host region letter [] keeps is unheld = not_taken letter is
-unheld_then header host region letter (event.Line line ∷ past) keeps is unheld = not_taken letter is
-unheld_then header host region letter (event.Taken channel m ∷ past) keeps is unheld = unheld
-unheld_then header host region letter (event.TaskMade task at ∷ past) keeps is unheld = absurd (keeps.0 letter is)
-unheld_then header host region letter (event.TaskEnded task ∷ past) keeps is unheld = absurd (keeps.0 letter is)
-unheld_then header host region letter (event.Entered task address bytes on offset prot inherit ∷ past) keeps is unheld =
-    unheld_then header host region letter past keeps.1 is (λ owner lives.
+-- what no entry leads to now had none when the step began
+unmapped_then : (header : Header) (host region : ℕ) (letter : Letter) (past : List Event) → EachEvent TakingKeeps past → taken_letter past ≡ Some letter
+    → IsUnmapped header host region past → IsUnmapped header host region (before_step past)
+unmapped_then header host region letter [] keeps is unmapped = not_taken letter is
+unmapped_then header host region letter (event.Line line ∷ past) keeps is unmapped = not_taken letter is
+unmapped_then header host region letter (event.Taken channel m ∷ past) keeps is unmapped = unmapped
+unmapped_then header host region letter (event.TaskMade task at ∷ past) keeps is unmapped = absurd (keeps.0 letter is)
+unmapped_then header host region letter (event.TaskEnded task ∷ past) keeps is unmapped = absurd (keeps.0 letter is)
+unmapped_then header host region letter (event.Entered task address bytes on offset prot inherit ∷ past) keeps is unmapped =
+    unmapped_then header host region letter past keeps.1 is (λ owner lives.
     fewer (task.0 == owner) region (record { address = address; bytes = bytes; region = on; offset = offset; prot = prot; inherit = inherit })
-    (entries_of header.size owner past) (unheld owner lives))
-unheld_then header host region letter (event.Removed task address bytes ∷ past) keeps is unheld = absurd (keeps.0 letter is)
-unheld_then header host region letter (event.Protected task address bytes prot ∷ past) keeps is unheld = absurd (keeps.0 letter is)
-unheld_then header host region letter (event.Inherited task address bytes inherit ∷ past) keeps is unheld = absurd (keeps.0 letter is)
-unheld_then header host region letter (e ∷ past) keeps is unheld = unheld_then header host region letter past keeps.1 is unheld
+    (entries_of header.size owner past) (unmapped owner lives))
+unmapped_then header host region letter (event.Removed task address bytes ∷ past) keeps is unmapped = absurd (keeps.0 letter is)
+unmapped_then header host region letter (event.Protected task address bytes prot ∷ past) keeps is unmapped = absurd (keeps.0 letter is)
+unmapped_then header host region letter (event.Inherited task address bytes inherit ∷ past) keeps is unmapped = absurd (keeps.0 letter is)
+unmapped_then header host region letter (e ∷ past) keeps is unmapped = unmapped_then header host region letter past keeps.1 is unmapped
 
 prompt_then : (header : Header) (letter : Letter) (past : List Event) → BeforeSteps (Prompt header) past → taken_letter past ≡ Some letter
     → Prompt header (before_step past)
@@ -326,50 +333,85 @@ absence header host o p (e ∷ past) is = let was = absence header host o p past
 none_some : (x : Option ℕ) → x ≡ None → is_some x ≡ true → ⊥
 none_some x none some = let bad : false ≡ true = sym (ap is_some none) ∙ some in cc
 
+-- a control lives in such a step, and its object stays, or doesn't, as when the step began
+record Kept (host o : ℕ) (past : List Event) : Type 0 where
+  lives : is_some (live_control host o past) ≡ true
+  cached : is_cached host o past ≡ is_cached host o (before_step past)
+
+-- that word itself changes no control's attributes
+taken_kept : (header : Header) (host o p : ℕ) (channel : Channel) (m : Message) (past : List Event)
+    → absence_taken header (event.Taken channel m ∷ past) ≡ Some (absent host o p) → is_cached host o (event.Taken channel m ∷ past) ≡ is_cached host o past
+taken_kept header host o p (Up at object) m past is = not_absent _ is
+taken_kept header host o p (Down at object control) (message.Unavailable page) past is = refl
+taken_kept header host o p (Down at object control) other past is = not_absent _ is
+
 -- no declared object's control ends in such a step
 ends_never : {A : Type 0} (header : Header) (host o p : ℕ) (past : List Event) → EachEvent TakingKeeps past → BeforeSteps (Prompt header) past
     → host < length header.frames.items → o < named header → absence_taken header past ≡ Some (absent host o p)
-    → IsUnheld header host o past → A
-ends_never header host o p past keeps prompt inside below is unheld =
+    → Kept host o past → IsUnheld header host o past → A
+ends_never header host o p past keeps prompt inside below is kept unheld =
     let was : Absence host o past = absence header host o p past is in
     absurd
     (none_some (live_control host o (before_step past)) ((prompt_then header was.letter past prompt was.taken host inside).swept.declared_controls o below
-    (unheld_then header host o was.letter past keeps was.taken unheld)) was.lived)
+    (record {
+      unmapped = unmapped_then header host o was.letter past keeps was.taken unheld.unmapped;
+      uncached = sym kept.cached ∙ unheld.uncached;
+    })) was.lived)
 
-begun_lives : (b : Bool) (control : ℕ) (live : Option ℕ) → is_some live ≡ true → is_some (if b then Some control else live) ≡ true
-begun_lives true control live is = refl
-begun_lives false control live is = is
+moved : (P : ℕ → ℕ → Type 0) (a b h o : ℕ) → (a == h && b == o) ≡ true → P a b → P h o
+moved P a b h o same there =
+    let host_is : a ≡ h = grind (arith, nat_tests) in
+    let object_is : b ≡ o = grind (arith, nat_tests) in subst (λ (k : ℕ). P k o) host_is (subst (λ (k : ℕ). P a k) object_is there)
 
-ended_lives : (b : Bool) (control : ℕ) (live : Option ℕ) → (b ≡ true → ⊥) → is_some live ≡ true
-    → is_some (if b then without_control control live else live) ≡ true
-ended_lives true control live never is = absurd (never refl)
-ended_lives false control live never is = is
+elsewhere : {A : Type 0} (b : Bool) (x y : A) → (b ≡ true → ⊥) → (if b then x else y) ≡ y
+elsewhere true x y never = absurd (never refl)
+elsewhere false x y never = refl
+
+-- what begins or ends the control of another object, or on another host, keeps this one
+kept_apart : (b cached was : Bool) (live next : Option ℕ) → (b ≡ true → ⊥) → is_some live ≡ true → cached ≡ was
+    → (is_some (if b then next else live) ≡ true) × ((if b then false else cached) ≡ was)
+kept_apart b cached was live next never some same = (ap is_some (elsewhere b next live never) ∙ some, elsewhere b false cached never ∙ same)
+
+kept_then : (header : Header) (outside : Outside) (host o p : ℕ) (past : List Event) → EachEvent (HasCause header outside) past
+    → EachEvent TakingKeeps past → BeforeSteps (Prompt header) past → host < length header.frames.items → o < named header
+    → absence_taken header past ≡ Some (absent host o p) → Kept host o past
+kept_then header outside host o p [] caused keeps prompt inside below is = not_absent _ is
+kept_then header outside host o p (event.Line line ∷ past) caused keeps prompt inside below is = not_absent _ is
+kept_then header outside host o p (event.Taken channel m ∷ past) caused keeps prompt inside below is =
+    record { lives = (absence header host o p (event.Taken channel m ∷ past) is).lived; cached = taken_kept header host o p channel m past is }
+kept_then header outside host o p (event.Sent (Up at object) (message.Init control size) ∷ past) caused keeps prompt inside below is =
+    let was = kept_then header outside host o p past caused.1 keeps.1 prompt inside below is in
+    let apart = kept_apart (at.0 == host && object.0 == o) (is_cached host o past) (is_cached host o (before_step past)) (live_control host o past)
+    (Some control)
+    (λ same. by_cause header outside (event.Sent (Up at object) (message.Init control size)) past caused.0 (λ doing c.
+    none_some (live_control host o past) (moved (λ h k. live_control h k past ≡ None) at.0 object.0 host o same c.none) was.lives))
+    was.lives was.cached in
+    record { lives = apart.0; cached = apart.1 }
+kept_then header outside host o p (event.Sent (Up at object) (message.Create control size) ∷ past) caused keeps prompt inside below is =
+    let was = kept_then header outside host o p past caused.1 keeps.1 prompt inside below is in
+    let apart = kept_apart (at.0 == host && object.0 == o) (is_cached host o past) (is_cached host o (before_step past)) (live_control host o past)
+    (Some control)
+    (λ same. by_cause header outside (event.Sent (Up at object) (message.Create control size)) past caused.0 (λ doing c.
+    let temporary : named header ≤ o = moved (λ h k. named header ≤ k) at.0 object.0 host o same c.temporary in absurd (omega (arith, temporary, below))))
+    was.lives was.cached in
+    record { lives = apart.0; cached = apart.1 }
+kept_then header outside host o p (event.Sent (Up at object) (message.Terminate control) ∷ past) caused keeps prompt inside below is =
+    let was = kept_then header outside host o p past caused.1 keeps.1 prompt inside below is in
+    let apart = kept_apart (at.0 == host && object.0 == o) (is_cached host o past) (is_cached host o (before_step past)) (live_control host o past)
+    (without_control control (live_control host o past))
+    (λ same. by_cause header outside (event.Sent (Up at object) (message.Terminate control)) past caused.0 (λ doing c.
+    ends_never header host o p past keeps.1 prompt inside below is was
+    (moved (λ h k. k < named header → IsUnheld header h k past) at.0 object.0 host o same c.unheld below)))
+    was.lives was.cached in
+    record { lives = apart.0; cached = apart.1 }
+kept_then header outside host o p (event.Sent (Up at object) m ∷ past) caused keeps prompt inside below is =
+    let was = kept_then header outside host o p past caused.1 keeps.1 prompt inside below is in record { lives = was.lives; cached = was.cached }
+kept_then header outside host o p (e ∷ past) caused keeps prompt inside below is =
+    let was = kept_then header outside host o p past caused.1 keeps.1 prompt inside below is in record { lives = was.lives; cached = was.cached }
 
 -- the control lives on, to the end of the step
 pub lives_on_then : (header : Header) (outside : Outside) (host o p : ℕ) (past : List Event) → EachEvent (HasCause header outside) past
     → EachEvent TakingKeeps past → BeforeSteps (Prompt header) past → host < length header.frames.items → o < named header
     → absence_taken header past ≡ Some (absent host o p) → is_some (live_control host o past) ≡ true
-lives_on_then header outside host o p [] caused keeps prompt inside below is = not_absent _ is
-lives_on_then header outside host o p (event.Line line ∷ past) caused keeps prompt inside below is = not_absent _ is
-lives_on_then header outside host o p (event.Taken channel m ∷ past) caused keeps prompt inside below is =
-    (absence header host o p (event.Taken channel m ∷ past) is).lived
-lives_on_then header outside host o p (event.Sent (Up at object) (message.Init control size) ∷ past) caused keeps prompt inside below is =
-    begun_lives (at.0 == host && object.0 == o) control (live_control host o past)
-    (lives_on_then header outside host o p past caused.1 keeps.1 prompt inside below is)
-lives_on_then header outside host o p (event.Sent (Up at object) (message.Create control size) ∷ past) caused keeps prompt inside below is =
-    begun_lives (at.0 == host && object.0 == o) control (live_control host o past)
-    (lives_on_then header outside host o p past caused.1 keeps.1 prompt inside below is)
-lives_on_then header outside host o p (event.Sent (Up at object) (message.Terminate control) ∷ past) caused keeps prompt inside below is =
-    ended_lives (at.0 == host && object.0 == o) control (live_control host o past)
-    (λ same.
-    let at_is : at.0 ≡ host = grind (arith, nat_tests) in
-    let object_is : object.0 ≡ o = grind (arith, nat_tests) in
-    by_cause header outside (event.Sent (Up at object) (message.Terminate control)) past caused.0 (λ doing c.
-    ends_never header host o p past keeps.1 prompt inside below is
-    (subst (λ (h : ℕ). IsUnheld header h o past) at_is (subst (λ (k : ℕ). IsUnheld header at.0 k past) object_is
-    (c.unheld (subst (λ (k : ℕ). k < named header) (sym object_is) below))))))
-    (lives_on_then header outside host o p past caused.1 keeps.1 prompt inside below is)
-lives_on_then header outside host o p (event.Sent (Up at object) m ∷ past) caused keeps prompt inside below is =
-    lives_on_then header outside host o p past caused.1 keeps.1 prompt inside below is
-lives_on_then header outside host o p (e ∷ past) caused keeps prompt inside below is =
-    lives_on_then header outside host o p past caused.1 keeps.1 prompt inside below is
+lives_on_then header outside host o p past caused keeps prompt inside below is =
+    (kept_then header outside host o p past caused keeps prompt inside below is).lives

@@ -111,6 +111,7 @@ has_head header past (command.Copy task address bytes target to) accepted =
     copied header (next_region header past) (next_object header past) task address bytes target to past (entry_at address (entries_of header.size task.0 past))
     (copy_passed header past task address bytes target to accepted).found
 has_head header past (command.Clean object page count flush) accepted = refl
+has_head header past (command.Cache object cache) accepted = refl
 
 -- an accepted copy of a declared object's region is to the task itself, and the object isn't wild
 

@@ -1,10 +1,11 @@
--- A step that took no message down took no lock_request.
+-- A step that took no message down took no lock_request, and no change_attributes.
 use Rattle.std.proofs.Common.{◌≡◌, Bool, true, false, List, [], ◌∷◌, Option, Some, None, refl, ap, sym, ◌∙◌}
 use Rattle.vm_model.specs.declared.event.Event.{Event}
 use Rattle.vm_model.specs.declared.event.Event.TheVariants as event
 use Rattle.vm_model.specs.declared.message.Channel.{Channel}
 use Rattle.vm_model.specs.declared.message.Channel.TheVariants.{Up, Down}
 use Rattle.vm_model.specs.declared.message.Message.{Message}
+use Rattle.vm_legal.specs.Cached.{Attributes, attributes_taken}
 use Rattle.vm_legal.specs.Licences.{LockRequest, lock_taken}
 use Rattle.vm_legal.specs.Steps.{Letter, taken_letter}
 
@@ -30,6 +31,22 @@ no_lock (e ∷ past) up = no_lock past up
 pub none_locked : (past : List Event) → taken_letter past ≡ None → lock_taken past ≡ None
 none_locked past none = no_lock past (ap came_down none)
 
+unchanging : (at : Channel) (m : Message) (past : List Event) → is_down at ≡ false → attributes_taken (event.Taken at m ∷ past) ≡ None
+unchanging (Up host object) m past up = refl
+unchanging (Down host object control) m past up = absurd (let bad : true ≡ false = up in cc)
+
+pub no_attributes : (past : List Event) → came_down (taken_letter past) ≡ false → attributes_taken past ≡ None
+no_attributes [] up = refl
+no_attributes (event.Line line ∷ past) up = refl
+no_attributes (event.Taken channel m ∷ past) up = unchanging channel m past up
+no_attributes (e ∷ past) up = no_attributes past up
+
+pub none_changed : (past : List Event) → taken_letter past ≡ None → attributes_taken past ≡ None
+none_changed past none = no_attributes past (ap came_down none)
+
 -- so it owes nothing of one
+pub no_change : {R : Type 0} (request : Attributes) (past : List Event) → attributes_taken past ≡ None → attributes_taken past ≡ Some request → R
+no_change request past none is = let bad : ◌≡◌ {A = Option Attributes} None (Some request) = sym none ∙ is in absurd (cc)
+
 pub no_request : {R : Type 0} (request : LockRequest) (past : List Event) → lock_taken past ≡ None → lock_taken past ≡ Some request → R
 no_request request past none is = let bad : ◌≡◌ {A = Option LockRequest} None (Some request) = sym none ∙ is in absurd (cc)

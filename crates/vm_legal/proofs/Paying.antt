@@ -4,12 +4,13 @@ use Rattle.vm_legal.proofs.Inside.{absence_more, before_more, error_more, since_
 use Rattle.vm_model.specs.declared.event.Event.{Event}
 use Rattle.vm_model.specs.declared.event.Event.TheVariants as event
 use Rattle.vm_model.specs.declared.script.Header.{Header}
+use Rattle.vm_legal.specs.Cached.{attributes_taken}
 use Rattle.vm_legal.specs.Debts.{IsPaid, HasLocked}
 use Rattle.vm_legal.specs.Frames.{frames_free}
 use Rattle.vm_legal.specs.InTurn.{EndsAll, EndsWaiters, WaitsAt}
 use Rattle.vm_legal.specs.Licences.{LockRequest, gives_back, lock_taken, owed, zeroes}
 use Rattle.vm_legal.specs.Pagers.{LacksSlot}
-use Rattle.vm_legal.specs.Steps.{answers, completes, drops_page, fails_access, fails_task, lacks_slot, readies, returns_page}
+use Rattle.vm_legal.specs.Steps.{answers, changes, completes, drops_page, fails_access, fails_task, lacks_slot, readies, returns_page}
 use Rattle.vm_legal.specs.Walks.{page_on}
 use Rattle.vm_legal.specs.Stretches.{AllInner, IsInner}
 
@@ -25,6 +26,15 @@ waiters_more header host object page events past inner was = λ task stops frees
 pub ends_more : (header : Header) (events past : List Event) → AllInner events → EndsAll header past → EndsAll header (events ++ past)
 ends_more header events past inner ends host object page is =
     waiters_more header host object page events past inner (ends host object page (sym (error_more header events past inner) ∙ is))
+
+attributes_inner : (e : Event) (past : List Event) → IsInner e → attributes_taken (e ∷ past) ≡ attributes_taken past
+attributes_inner (event.Line line) past inner = absurd inner
+attributes_inner (event.Taken channel m) past inner = absurd inner
+attributes_inner other past inner = refl
+
+pub attributes_more : (events past : List Event) → AllInner events → attributes_taken (events ++ past) ≡ attributes_taken past
+attributes_more [] past inner = refl
+attributes_more (e ∷ events) past inner = attributes_inner e (events ++ past) inner.0 ∙ attributes_more events past inner.1
 
 lock_inner : (e : Event) (past : List Event) → IsInner e → lock_taken (e ∷ past) ≡ lock_taken past
 lock_inner (event.Line line) past inner = absurd inner
@@ -74,6 +84,8 @@ paid_more header events past inner paid none =
           λ host object page declared is. since_more (zeroes object page) events past inner
           (paid.absence host object page declared (sym (absence_more header events past inner) ∙ is));
       lock = λ request is. locked_more header request events past inner (paid.lock request (sym (lock_more events past inner) ∙ is));
+      change = λ request is wanted.
+          since_more (changes request.host request.object) events past inner (paid.change request (sym (attributes_more events past inner) ∙ is) wanted);
       slot = λ host object control page dirty keep bytes temporary is lacks.
           since_more (lacks_slot object page) events past inner
           (paid.slot host object control page dirty keep bytes temporary (sym same ∙ is)

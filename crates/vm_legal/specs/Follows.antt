@@ -104,6 +104,11 @@ clean_head object page count flush None = []
 clean_head object page count flush (Some known) =
     event.Sent (Down (record { 0 = known.host }) object known.control) (message.Lock page count 2 flush 8 true) ∷ []
 
+-- a file's pager says whether the file stays, where it knows a control
+abbrev pub cache_head : ObjectId → Bool → Option Known → List Event
+cache_head object cache None = []
+cache_head object cache (Some known) = event.Sent (Down (record { 0 = known.host }) object known.control) (message.Attributes cache 0 true) ∷ []
+
 -- the head of a command's group behind its line, in the order of writing; a command without one is never run
 abbrev pub head : Header → List Event → Command → Option (List Event)
 head header past (command.Task task host) = Some (event.TaskMade task host ∷ [])
@@ -131,6 +136,7 @@ head header past (command.Copy task address bytes target to) =
     copy_head (named header) header.size (next_region header past) (next_object header past) task address bytes target to
     (entry_at address (entries_of header.size task.0 past))
 head header past (command.Clean object page count flush) = Some (clean_head object page count flush (known_below (length header.frames.items) object.0 past))
+head header past (command.Cache object cache) = Some (cache_head object cache (known_below (length header.frames.items) object.0 past))
 
 -- what the events of heads, and lines, are about, and what follows from them
 abbrev pub MayFollow : About → Type 0
@@ -200,6 +206,7 @@ IsDone header (command.Inherit task address bytes inherit) group past = Unit {0}
 IsDone header (command.Copy task address bytes target to) group past = Unit {0}
 IsDone header (command.Take channel) group past = Unit {0}
 IsDone header (command.Clean object page count flush) group past = Unit {0}
+IsDone header (command.Cache object cache) group past = Unit {0}
 IsDone header (command.Wire host count) group past = Unit {0}
 IsDone header (command.Unwire host count) group past = Unit {0}
 IsDone header (command.FailFiles count) group past = Unit {0}

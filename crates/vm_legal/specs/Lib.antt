@@ -1,5 +1,6 @@
 pub mod Accesses
 pub mod Bytes
+pub mod Cached
 pub mod Debts
 pub mod Flat
 pub mod Follows

@@ -31,6 +31,7 @@ use Rattle.vm_model.specs.Tasks.{host_of}
 use Rattle.vm_model.specs.Words.{Supplying, Locking, in_range}
 use Rattle.vm_model.specs.Waiting.{Access, Loading, Storing, Copying, Target, waiting, next_page, copy_target, is_store}
 use Rattle.vm_legal.specs.Accesses.{At, Waits, Comes, HasPlace, is_ready, names, page_of}
+use Rattle.vm_legal.specs.Cached.{Changes}
 use Rattle.vm_legal.specs.Living.{tasks}
 use Rattle.vm_legal.specs.Merges.{Merges}
 use Rattle.vm_legal.specs.Outside.{Outside, is_file, is_said, is_wild, kind_of, start_page, zeros}
@@ -322,6 +323,7 @@ MaySendUp header why host object (message.Return control page dirty keep bytes) 
 MaySendUp header why host object (message.Unlock control page access) past = Unlocks header host control object page.0 access past
 MaySendUp header why host object (message.Completed control page count) past = Completes header host control object page.0 count past
 MaySendUp header why host object (message.Terminate control) past = Ends header host control object past
+MaySendUp header why host object (message.Changed control cache strategy) past = Changes host control object cache strategy past
 MaySendUp header why host object other past = ⊥
 
 -- the step took a request for the page from this control, and it is not answered yet
@@ -359,6 +361,11 @@ abbrev pub IsClean : Command → ℕ → ℕ → ℕ → Bool → Type 0
 IsClean (command.Clean file from number flushes) object page count flush = (file.0 ≡ object) × (from.0 ≡ page) × (number ≡ count) × (flushes ≡ flush)
 IsClean other object page count flush = ⊥
 
+-- the command says whether the file stays
+abbrev pub IsCache : Command → ℕ → Bool → Type 0
+IsCache (command.Cache file flag) object cache = (file.0 ≡ object) × (flag ≡ cache)
+IsCache other object cache = ⊥
+
 -- what the pager of a temporary object or a file sends down
 abbrev pub MaySendDown : Header → Outside → Command → ℕ → ℕ → ℕ → Message → List Event → Type 0
 MaySendDown header outside why host object control (message.Supply page lock precious bytes) past =
@@ -377,6 +384,10 @@ MaySendDown header outside why host object control (message.Ready cache strategy
 MaySendDown header outside why host object control (message.Lock page count returns flush lock reply) past =
     (is_file header object ≡ true) × (returns ≡ 2) × (lock ≡ 8) × (reply ≡ true)
     × (known_control host object past ≡ Some control) × IsClean why object page.0 count flush × (just_begun past ≡ true)
+-- the pager of a file says whether the file stays, to the control that it knows
+MaySendDown header outside why host object control (message.Attributes cache strategy reply) past =
+    (is_file header object ≡ true) × (strategy ≡ 0) × (reply ≡ true)
+    × (known_control host object past ≡ Some control) × IsCache why object cache × (just_begun past ≡ true)
 MaySendDown header outside why host object control other past = ⊥
 
 -- what the server of shared memory sends down: what its directory of the page allows, and one ready for an init

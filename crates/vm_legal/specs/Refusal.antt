@@ -157,6 +157,7 @@ refusal header past (command.Copy task address bytes target to) =
     (copy_refusal header address bytes target.0 to past (entry_at address (entries_of header.size task.0 past)))))
 refusal header past (command.Clean object page count flush) =
     code_where (not (is_file header object.0) || (count == 0 || nat_lt (declared_pages header object.0) (page.0 + count))) InvalidArgument None
+refusal header past (command.Cache object cache) = code_where (not (is_file header object.0)) InvalidArgument None
 refusal header past (command.Say host object m) =
     code_where (is_none (live_control host.0 object.0 past)) NoSuchName (code_where (not (is_wild header object.0)) InvalidArgument None)
 refusal header past (command.Settle count) = None

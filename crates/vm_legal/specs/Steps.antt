@@ -65,6 +65,15 @@ abbrev pub completes : ℕ → ℕ → Event → Bool
 completes h o (event.Sent (Up host object) m) = host.0 == h && (object.0 == o && is_completion m)
 completes h o other = false
 
+abbrev pub is_change : Message → Bool
+is_change (message.Changed control cache strategy) = true
+is_change other = false
+
+-- the event says that the host has changed the attributes of the object
+abbrev pub changes : ℕ → ℕ → Event → Bool
+changes h o (event.Sent (Up host object) m) = host.0 == h && (object.0 == o && is_change m)
+changes h o other = false
+
 abbrev pub is_return : ℕ → Message → Bool
 is_return p (message.Return control page dirty keep bytes) = page.0 == p
 is_return p other = false

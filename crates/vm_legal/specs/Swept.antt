@@ -5,6 +5,7 @@ use Rattle.vm_model.specs.declared.script.Header.{Header}
 use Rattle.vm_model.specs.Controls.{live_control}
 use Rattle.vm_model.specs.Named.{named}
 use Rattle.vm_model.specs.Tasks.{entries_of, has_entry}
+use Rattle.vm_legal.specs.Cached.{is_cached}
 use Rattle.vm_legal.specs.Living.{lives_on}
 use Rattle.vm_legal.specs.Walks.{Reach, page_on}
 
@@ -12,9 +13,10 @@ use Rattle.vm_legal.specs.Walks.{Reach, page_on}
 abbrev pub IsUnmapped : Header → ℕ → ℕ → List Event → Type 0
 IsUnmapped header host region past = (task : ℕ) → lives_on host task past ≡ true → has_entry region (entries_of header.size task past) ≡ false
 
--- nothing holds a declared object on the host
-abbrev pub IsUnheld : Header → ℕ → ℕ → List Event → Type 0
-IsUnheld header host object past = IsUnmapped header host object past
+-- nothing holds a declared object on the host: no entry does, and no pager that lets it stay
+pub record IsUnheld (header : Header) (host object : ℕ) (past : List Event) : Type 0 where
+  pub unmapped : IsUnmapped header host object past
+  pub uncached : is_cached host object past ≡ false
 
 -- no temporary object to which no region leads has a page or a live control left on the host, and no declared one that nothing holds there
 pub record IsSwept (header : Header) (host : ℕ) (past : List Event) : Type 0 where

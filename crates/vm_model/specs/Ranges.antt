@@ -56,6 +56,7 @@ IsSaid size (messages.Unavailable page) = page.0 ≤ last_page
 IsSaid size (messages.Error page reason) = (page.0 ≤ last_page) × (reason < 2 ^ 32)
 IsSaid size (messages.Lock page count returns flush lock reply) =
     (page.0 ≤ last_page) × (count ≤ most_pages) × (returns ≤ 2) × ((lock ≤ 3) ⊎ (lock ≡ 8))
+IsSaid size (messages.Attributes cache strategy reply) = strategy ≤ 3
 IsSaid size message = ⊥
 
 -- a command, where so many hosts and objects are declared and a page has so many bytes
@@ -79,6 +80,7 @@ IsCommand hosts objects size (commands.Settle count) = count ≤ most_takings
 IsCommand hosts objects size (commands.Pageout host count) = IsHost hosts host × (count ≤ most_frames)
 IsCommand hosts objects size (commands.Clean object page count flush) =
     IsDeclared objects object × (page.0 ≤ most_pages) × (count ≤ most_pages)
+IsCommand hosts objects size (commands.Cache object cache) = IsDeclared objects object
 IsCommand hosts objects size (commands.Wire host count) = IsHost hosts host × (count ≤ most_frames)
 IsCommand hosts objects size (commands.Unwire host count) = IsHost hosts host × (count ≤ most_frames)
 IsCommand hosts objects size (commands.FailFiles count) = IsBetween 1 most_calls count

@@ -95,6 +95,11 @@ pub enum Command {
         count: u32,
         flush: bool,
     },
+    /// The file pager says whether the file stays in memory when its last entry on a host goes.
+    Cache {
+        object: ObjectId,
+        cache: bool,
+    },
     /// Wires free frames.
     Wire {
         host: HostId,

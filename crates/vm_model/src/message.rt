@@ -88,7 +88,7 @@ pub enum Message {
         lock: u32,
         reply: bool,
     },
-    /// memory_object_change_attributes, to the kernel. Nothing makes one yet.
+    /// memory_object_change_attributes, to the kernel; `reply` asks for change_completed.
     Attributes {
         cache: bool,
         strategy: u32,
@@ -98,7 +98,7 @@ pub enum Message {
     Destroy {
         reason: u32,
     },
-    /// memory_object_change_completed, to the pager. Nothing makes one yet.
+    /// memory_object_change_completed, to the pager, of what a change of attributes said.
     Changed {
         control: u32,
         cache: bool,

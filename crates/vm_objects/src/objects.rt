@@ -88,6 +88,7 @@ impl Objects {
           state = state.Without;
           control = 0;
           live = false;
+          cache = false;
           references = 0;
         }) self.old self.new) }
         ensures present { (p : ℕ) → absent_at self.new id.0 p ≡ false }
@@ -104,6 +105,7 @@ impl Objects {
             state: PagerState::Without,
             control: 0,
             live: false,
+            cache: false,
             references: 0,
         };
         self.rows.insert(id, row)?;
@@ -195,6 +197,18 @@ impl Objects {
         let row = self.rows.get_mut(&id).unwrap();
         row.live = false;
         row.state = PagerState::Without;
+    }
+
+    /// Whether an object stays when its last entry goes, from now on.
+    pub fn set_cache(&mut self, id: ObjectId, cache: bool)
+        requires { IsSome (object_at self.old id.0) }
+        ensures object { IfSome (object_at self.old id.0) (λ row. PutsObject id.0
+            (Some (record row { cache = cache })) self.old self.new) }
+        ensures marks { SameMarks self.old self.new }
+        ensures rooms { SameRooms self.old self.new }
+    {
+        let row = self.rows.get_mut(&id).unwrap();
+        row.cache = cache;
     }
 
     /// The pager is known not to have a page from now on.

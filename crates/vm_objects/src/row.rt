@@ -28,6 +28,9 @@ pub struct ObjectRow {
     pub control: u32,
     /// Whether the latest control is still in use.
     pub live: bool,
+    /// Whether the object stays when its last entry goes, as the live control's pager said by
+    /// `memory_object_ready` or `memory_object_change_attributes`.
+    pub cache: bool,
     /// How many entries and other holders refer to the object.
     pub references: u32,
 }

@@ -144,6 +144,9 @@ up_asks header host at object (message.Unlock control page access) past c all o 
 up_asks header host at object (message.Completed control page count) past c all o p ours = λ is.
     asking_sent host o p at object (message.Completed control page count) past refl
     (all o p ours (sym (asked_if header.size (at.0 == host && object.0 == o) Elsewhere (page_on header host o p past) refl) ∙ is))
+up_asks header host at object (message.Changed control cache strategy) past c all o p ours = λ is.
+    asking_sent host o p at object (message.Changed control cache strategy) past refl
+    (all o p ours (sym (asked_if header.size (at.0 == host && object.0 == o) Elsewhere (page_on header host o p past) refl) ∙ is))
 up_asks header host at object m past c all o p ours = absurd c.1
 
 answer_cause : (header : Header) (outside : Outside) (doing : Command) (h o k p : ℕ) (m : Message) (past : List Event)

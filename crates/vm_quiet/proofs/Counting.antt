@@ -17,8 +17,7 @@ use Rattle.vm_model.specs.Channels.{queue}
 use Rattle.vm_model.specs.Controls.{is_control, last_control, live_control}
 use Rattle.vm_model.specs.Homes.{object_home}
 use Rattle.vm_model.specs.Local.{LocalEffect, Local, Place, Zeroes, Raises, Stores, Drops, Moves, Returns, Asks, Unlocks, TakesPage, TakesNothing, TakesError}
-use Rattle.vm_model.specs.Local.{TakesLock}
-use Rattle.vm_model.specs.Local.{Begins, Ends, Elsewhere, is_on, local, local_after, merge_effect}
+use Rattle.vm_model.specs.Local.{TakesLock, Begins, Ends, Elsewhere, is_on, local, local_after, merge_effect}
 use Rattle.vm_model.specs.Moments.{EachEvent}
 use Rattle.vm_model.specs.Regions.{backing_of, object_pages}
 use Rattle.vm_model.specs.Server.{first}
@@ -208,6 +207,10 @@ count_up header host at object (message.Unlock control page access) past base c 
     refl refl count
 count_up header host at object (message.Completed control page number) past base c count =
     sent_same header host at object (message.Completed control page number) past
+    (λ o p. kept_if header.size (at.0 == host && object.0 == o) Elsewhere (page_on header host o p past) (λ is. refl))
+    refl refl count
+count_up header host at object (message.Changed control cache strategy) past base c count =
+    sent_same header host at object (message.Changed control cache strategy) past
     (λ o p. kept_if header.size (at.0 == host && object.0 == o) Elsewhere (page_on header host o p past) (λ is. refl))
     refl refl count
 count_up header host at object m past base c count = absurd c.1

@@ -15,7 +15,7 @@ use Rattle.vm_legal.specs.Steps.{absence_taken, error_taken, taken_letter}
 use Rattle.vm_legal.specs.Undelivered.{undelivered}
 use Rattle.vm_quiet.specs.Full.{header, history, outside, region}
 use Rattle.vm_quiet.specs.Places.{AllPaged}
-use Rattle.vm_legal.proofs.Locks.{no_request, none_locked}
+use Rattle.vm_legal.proofs.Locks.{no_change, no_request, none_changed, none_locked}
 use Rattle.vm_quiet.proofs.Letters.{never}
 
 pub full_paged : AllPaged header
@@ -33,6 +33,7 @@ idle past made took failed lacked =
       error = λ h o p is. absurd (cc);
       absence = λ h o p ours is. absurd (cc);
       lock = λ request is. no_request request past (none_locked past took) is;
+      change = λ request is wanted. no_change request past (none_changed past took) is;
       slot = λ h o k p dirty keep bytes ours is lacks. absurd (cc);
     }
 

@@ -16,8 +16,7 @@ use Rattle.vm_model.specs.declared.script.Header.{Header}
 use Rattle.vm_model.specs.Controls.{is_control, without_control, last_control, live_control}
 use Rattle.vm_model.specs.Homes.{object_home}
 use Rattle.vm_model.specs.Local.{LocalEffect, Local, Place, Zeroes, Raises, Stores, Drops, Moves, Returns, Asks, Unlocks, TakesPage, TakesNothing, TakesError}
-use Rattle.vm_model.specs.Local.{TakesLock}
-use Rattle.vm_model.specs.Local.{Begins, Ends, Elsewhere, effect, is_on, local, local_after, merge_effect}
+use Rattle.vm_model.specs.Local.{TakesLock, Begins, Ends, Elsewhere, effect, is_on, local, local_after, merge_effect}
 use Rattle.vm_model.specs.Moments.{EachEvent}
 use Rattle.vm_model.specs.Named.{named}
 use Rattle.vm_model.specs.Regions.{Region, backing_of, copied, made, next_region, object_pages, region_of, shadowed, unmarked}
@@ -256,6 +255,8 @@ up_allowed header host at object (message.Unlock control page access) past o p c
     allowed_two (at.0 == host && object.0 == o) (page.0 == p) Unlocks (page_on header host o p past) (live_control host o past) (live_control host o past)
     (λ s t. λ is. is) (λ is. is)
 up_allowed header host at object (message.Completed control page count) past o p c =
+    elsewhere_allowed (at.0 == host && object.0 == o) (page_on header host o p past) (live_control host o past)
+up_allowed header host at object (message.Changed control cache strategy) past o p c =
     elsewhere_allowed (at.0 == host && object.0 == o) (page_on header host o p past) (live_control host o past)
 up_allowed header host at object m past o p c = absurd c.1
 

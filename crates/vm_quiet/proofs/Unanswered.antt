@@ -15,6 +15,7 @@ use Rattle.vm_model.specs.Moments.{BeforeSteps, EachEvent}
 use Rattle.vm_model.specs.Tasks.{host_of}
 use Rattle.vm_model.specs.Waiting.{Access, Loading, waiting}
 use Rattle.vm_legal.specs.Accesses.{Waits}
+use Rattle.vm_legal.specs.Cached.{attributes_taken}
 use Rattle.vm_legal.specs.Debts.{IsPaid}
 use Rattle.vm_legal.specs.Licences.{HasCause, is_paged, lock_taken, owed}
 use Rattle.vm_legal.specs.Outside.{NoneIsTemporary, is_shared, is_wild, kind_of}
@@ -22,7 +23,7 @@ use Rattle.vm_legal.specs.Prompt.{AnAnswer, AReady, EachLeads, NoneInVain, Promp
 use Rattle.vm_legal.specs.Swept.{IsSwept, IsUnheld}
 use Rattle.vm_legal.specs.Steps.{Letter, absence_taken, error_taken, taken_letter}
 use Rattle.vm_legal.specs.Undelivered.{undelivered}
-use Rattle.vm_legal.proofs.Locks.{no_request}
+use Rattle.vm_legal.proofs.Locks.{no_change, no_request}
 use Rattle.vm_legal.proofs.Unshared.{NoneIsShared, none_shared}
 use Rattle.vm_quiet.specs.Quiet.{SharedAreAnswered}
 use Rattle.vm_quiet.specs.Unanswered.{both, header, history, object, outside, region}
@@ -49,8 +50,8 @@ letter_object None = 0
 letter_object (Some letter) = channel_object letter.channel
 
 paid : (past : List Event) → owed past ≡ None → letter_object (taken_letter past) ≡ 0 → error_taken header past ≡ None
-    → absence_taken header past ≡ None → lock_taken past ≡ None → IsPaid header past
-paid past made took failed lacked locked =
+    → absence_taken header past ≡ None → lock_taken past ≡ None → attributes_taken past ≡ None → IsPaid header past
+paid past made took failed lacked locked unchanged =
     record {
       none_owed = made;
       init = λ h o k size tame is. never (sym tame ∙ sym (ap (is_wild header) (sym took ∙ ap letter_object is)));
@@ -59,30 +60,34 @@ paid past made took failed lacked locked =
       error = λ h o p is. absurd (cc);
       absence = λ h o p ours is. absurd (cc);
       lock = λ request is. no_request request past locked is;
+      change = λ request is wanted. no_change request past unchanged is;
       slot = λ h o k p dirty keep bytes later is lacks. (let first : 0 ≡ o = sym took ∙ ap letter_object is in absurd (omega (arith, first, later)));
     }
 
 pub wild_paid : IsPaid header history
-wild_paid = paid history refl refl refl refl refl
+wild_paid = paid history refl refl refl refl refl refl
 
 pub wild_steps : BeforeSteps (IsPaid header) history
 wild_steps = (
-  paid _ refl refl refl refl refl,
+  paid _ refl refl refl refl refl refl,
   (
-    paid _ refl refl refl refl refl,
+    paid _ refl refl refl refl refl refl,
     (
-      paid _ refl refl refl refl refl,
+      paid _ refl refl refl refl refl refl,
       (
-        paid _ refl refl refl refl refl,
+        paid _ refl refl refl refl refl refl,
         (
-          paid _ refl refl refl refl refl,
+          paid _ refl refl refl refl refl refl,
           (
-            paid _ refl refl refl refl refl,
+            paid _ refl refl refl refl refl refl,
             (
-              paid _ refl refl refl refl refl,
+              paid _ refl refl refl refl refl refl,
               (
-                paid _ refl refl refl refl refl,
-                (paid _ refl refl refl refl refl, (paid _ refl refl refl refl refl, (paid _ refl refl refl refl refl, (paid _ refl refl refl refl refl, tt)))),
+                paid _ refl refl refl refl refl refl,
+                (
+                  paid _ refl refl refl refl refl refl,
+                  (paid _ refl refl refl refl refl refl, (paid _ refl refl refl refl refl refl, (paid _ refl refl refl refl refl refl, tt))),
+                ),
               ),
             ),
           ),
@@ -312,16 +317,16 @@ swept_0 : IsSwept header 0 history
 swept_0 = record {
   pages = λ o p later unreached. rw (other o later) refl;
   controls = λ o later unreached. rw (other o later) refl;
-  declared_pages = λ o p below unheld. absurd (held 0 (λ none. never (sym (none 0 refl))) o below unheld);
-  declared_controls = λ o below unheld. absurd (held 0 (λ none. never (sym (none 0 refl))) o below unheld);
+  declared_pages = λ o p below unheld. absurd (held 0 (λ none. never (sym (none.unmapped 0 refl))) o below unheld);
+  declared_controls = λ o below unheld. absurd (held 0 (λ none. never (sym (none.unmapped 0 refl))) o below unheld);
 }
 
 swept_1 : IsSwept header 1 history
 swept_1 = record {
   pages = λ o p later unreached. rw (other o later) refl;
   controls = λ o later unreached. rw (other o later) refl;
-  declared_pages = λ o p below unheld. absurd (held 1 (λ none. never (sym (none 1 refl))) o below unheld);
-  declared_controls = λ o below unheld. absurd (held 1 (λ none. never (sym (none 1 refl))) o below unheld);
+  declared_pages = λ o p below unheld. absurd (held 1 (λ none. never (sym (none.unmapped 1 refl))) o below unheld);
+  declared_controls = λ o below unheld. absurd (held 1 (λ none. never (sym (none.unmapped 1 refl))) o below unheld);
 }
 
 pub wild_prompt : Prompt header history

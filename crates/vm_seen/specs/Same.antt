@@ -123,6 +123,7 @@ abbrev pub is_of_messages : Command → Bool
 is_of_messages (command.Take channel) = true
 is_of_messages (command.Settle count) = true
 is_of_messages (command.Clean object page count flush) = true
+is_of_messages (command.Cache object cache) = true
 is_of_messages (command.Say host object message) = true
 is_of_messages other = false
 

@@ -25,6 +25,7 @@ fn same_command(a: &Command, b: &Command) -> bool
         Command::Take { .. } => same_message_command(a, b),
         Command::Settle { .. } => same_message_command(a, b),
         Command::Clean { .. } => same_message_command(a, b),
+        Command::Cache { .. } => same_message_command(a, b),
         Command::Say { .. } => same_message_command(a, b),
         Command::Pageout { .. } => same_frame_command(a, b),
         Command::Wire { .. } => same_frame_command(a, b),
@@ -150,6 +151,8 @@ fn same_message_command(a: &Command, b: &Command) -> bool
         } => {
             matches!(b, Command::Clean { object: o, page: p, count: n, flush: f } if object == o && page == p && count == n && flush == f)
         }
+        Command::Cache { object, cache } =>
+            matches!(b, Command::Cache { object: o, cache: c } if object == o && cache == c),
         Command::Say {
             host,
             object,

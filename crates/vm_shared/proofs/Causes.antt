@@ -236,6 +236,7 @@ up_sent header outside doing h o p (message.Completed control page count) past c
     word_row header h o p control (in_range p page.0 count) (Doing control count) past
     (λ is. completes_sent header outside h o p control page.0 count past caused shared c is)
 up_sent header outside doing h o p (message.Terminate control) past caused shared c = ends_sent header outside h o p control past caused shared c
+up_sent header outside doing h o p (message.Changed control cache strategy) past caused shared c = tt
 up_sent header outside doing h o p m past caused shared c = absurd c
 
 -- what the server sends

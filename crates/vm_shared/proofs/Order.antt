@@ -144,6 +144,7 @@ pager_small header outside why host object control (message.Error page reason) p
 pager_small header outside why host object control (message.Ready cache strategy) past n c =
     elim c.3 [ inl is ↦ n.taken host object _ is.0 | inr is ↦ n.taken host object _ is.0 ]
 pager_small header outside why host object control (message.Lock page count returns flush lock reply) past n c = n.known host object control c.4
+pager_small header outside why host object control (message.Attributes cache strategy reply) past n c = n.known host object control c.3
 pager_small header outside why host object control m past n c = absurd c
 
 server_small : (header : Header) (outside : Outside) (host object control : ℕ) (m : Message) (past : List Event) → EachEvent (HasCause header outside) past
@@ -179,6 +180,7 @@ opens_first header why host object (message.Return control page dirty keep bytes
 opens_first header why host object (message.Unlock control page access) past c = tt
 opens_first header why host object (message.Completed control page count) past c = tt
 opens_first header why host object (message.Terminate control) past c = tt
+opens_first header why host object (message.Changed control cache strategy) past c = tt
 opens_first header why host object m past c = absurd c
 
 down_first : (header : Header) (outside : Outside) (e : Event) (past : List Event) → EachEvent (HasCause header outside) past → HasCause header outside e past

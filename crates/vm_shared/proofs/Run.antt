@@ -487,10 +487,16 @@ lives_one t false true is lives = never lives
 lives_one t false false is lives = never lives
 
 unheld : IsUnheld header 1 0 past_39
-unheld t lives = subst (λ u. has_entry 0 (entries_of 16 u past_39) ≡ false) (lives_one t (1 == t) (0 == t) refl lives) refl
+unheld = record {
+  unmapped = λ t lives. subst (λ u. has_entry 0 (entries_of 16 u past_39) ≡ false) (lives_one t (1 == t) (0 == t) refl lives) refl;
+  uncached = refl;
+}
 
 unheld_then : IsUnheld header 1 0 past_40
-unheld_then t lives = subst (λ u. has_entry 0 (entries_of 16 u past_40) ≡ false) (lives_one t (1 == t) (0 == t) refl lives) refl
+unheld_then = record {
+  unmapped = λ t lives. subst (λ u. has_entry 0 (entries_of 16 u past_40) ≡ false) (lives_one t (1 == t) (0 == t) refl lives) refl;
+  uncached = refl;
+}
 
 other_page : (p : ℕ) → (0 == suc p) ≡ false
 other_page p = grind (arith, nat_tests)

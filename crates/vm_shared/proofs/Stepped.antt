@@ -489,6 +489,8 @@ sent header why host object (message.Unlock control page access) past h o p s sh
     sent_plain header host object past h o p control _ s (word_if (page.0 == p) (Unlocking access) OtherUp tt tt) was
 sent header why host object (message.Return control page dirty keep bytes) past h o p s shared c up was =
     sent_plain header host object past h o p control _ s (word_if (page.0 == p) (Returning dirty keep bytes) OtherUp tt tt) was
+sent header why host object (message.Changed control cache strategy) past h o p s shared c up was =
+    sent_plain header host object past h o p 0 OtherUp s tt was
 sent header why host object m past h o p s shared c up was = absurd c
 
 -- what a step took was for a control that began

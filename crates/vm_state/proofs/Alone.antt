@@ -13,7 +13,7 @@ use Rattle.vm_shadow.specs.Chains.{ChainTable, IsOnlyTop, region_at, shadow_at}
 use Rattle.vm_shadow.specs.declared.ids.Ids.{Ids}
 use Rattle.vm_shadow.specs.declared.region_row.RegionRow.{RegionRow}
 use Rattle.vm_shadow.specs.declared.shadow_row.ShadowRow.{ShadowRow}
-use Rattle.vm_state.proofs.Declared.{shadow_temporary, whole_row}
+use Rattle.vm_state.proofs.Declared.{shadow_temporary, uncached_temporary, whole_row}
 use Rattle.vm_state.proofs.Reaching.{temporary_down, temporary_up}
 use Rattle.vm_state.proofs.Referring.{top_not_counted}
 use Rattle.vm_state.specs.Stands.{HasKinds, HasRegions}
@@ -57,7 +57,7 @@ pub top_shared : {header : Header} {chains : ChainTable} {objects : ObjectTable}
     → named header ≤ region → region_at chains region ≡ Some row → has_one (object_at objects row.top.0) ≡ false
     → IsSoleTop (named header) used region_from backing_from region row.top.0 → ⊥
 top_shared {header = header} has kinds homes shadows used all region row temporary found shared sole =
-    top_not_counted has region row found shared record {
+    top_not_counted has region row found (λ known is. uncached_temporary kinds row.top.0 known (kinds.tops region row temporary found) is) shared record {
       tops = λ r other is top. elim (kind_cases header r) [
         | inl declared ↦
             let own = (whole_row has homes r other declared is).top in
@@ -67,6 +67,6 @@ top_shared {header = header} has kinds homes shadows used all region row tempora
       ];
       bare = λ s shadow is under.
           let link = has.shadows s shadow is in
-          sole.bare s (temporary_up has homes shadows used all s (shadow_temporary has homes s shadow is) (shadows s shadow is))
+          sole.bare s (temporary_up has kinds homes shadows used all s (shadow_temporary has homes s shadow is) (shadows s shadow is))
           (ap (λ (z : Backing). z.backed) link) (ap (λ (z : Backing). z.under) link ∙ under);
     }

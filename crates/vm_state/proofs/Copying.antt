@@ -146,7 +146,7 @@ regions_copied header past copy source offset pages row known cs cs2 os os2 ids 
     more : (x : ℕ) → references_to cs2 (rm + 1) om x ≡ references_to cs rm om x + one (row.top.0 == x)
     more x = references_copied cs cs2 rm om source.0 offset pages row there (subst (λ (z : ℕ). CopiesRegion source.0 z offset pages row cs cs2) next copies) x
 
-    its : known.references + 1 ≡ references_to cs2 (rm + 1) om row.top.0
+    its : known.references + 1 ≡ references_to cs2 (rm + 1) om row.top.0 + one known.cache
     its = let count = has.counts row.top.0 known found in let now = more row.top.0 in let own = one_own row.top.0 in omega (arith, count, now, own)
 
     others : (x : ℕ) → (row.top.0 ≡ x → ⊥) → references_to cs2 (rm + 1) om x ≡ references_to cs rm om x

@@ -10,7 +10,7 @@ use Rattle.vm_model.specs.declared.script.Header.{Header}
 use Rattle.vm_model.specs.Named.{declared_pages, named}
 use Rattle.vm_model.specs.Regions.{Backing, Region}
 use Rattle.vm_model.specs.Waiting.{Target}
-use Rattle.vm_objects.specs.Objects.{ObjectTable, PutsAbsent, PutsObject, SameMarks, SameObjects, absent_at}
+use Rattle.vm_objects.specs.Objects.{ObjectTable, PutsAbsent, PutsObject, SameMarks, SameObjects, absent_at, object_at}
 use Rattle.vm_objects.specs.declared.row.ObjectRow.{ObjectRow}
 use Rattle.vm_objects.specs.declared.row.PagerState.TheVariants.{Without}
 use Rattle.vm_parts.proofs.Rows.{one_case, some_is}
@@ -122,8 +122,8 @@ kinds_shadowed header r object row os cs cs2 over there temporary new has =
             | inl this ↦ subst (λ (z : RegionRow). named header ≤ z.top.0) (some_is _ region (sym this.1 ∙ found)) new
             | inr other ↦ has.tops q region least (sym other.1 ∙ found)
           ];
-      unders =
-          λ o shadow found. elim (one_case object.0 o (Some (record { under = row.top; shift = row.shift })) (shadow_at cs o) (shadow_at cs2 o) (over.under o)) [
+      unders = λ o shadow found.
+          elim (one_case object.0 o (Some (record { under = row.top; shift = row.shift })) (shadow_at cs o) (shadow_at cs2 o) (over.under o)) [
             | inl this ↦ subst (λ (z : ShadowRow). named header ≤ z.under.0) (some_is _ shadow (sym this.1 ∙ found)) (has.tops r row temporary there)
             | inr other ↦ has.unders o shadow (sym other.1 ∙ found)
           ];
@@ -135,17 +135,17 @@ pub kind_referred : (header : Header) (o : ℕ) (known : ObjectRow) (n : ℕ) �
 kind_referred header o known n some is =
     record {
       lives = is.lives;
-      temporary = λ least. let its = is.temporary least in record { kind = its.kind; number = λ more. its.number some };
+      temporary = λ least. let its = is.temporary least in record { kind = its.kind; uncached = its.uncached; number = λ more. its.number some };
       declared = λ less. let its = is.declared less in record { kind = its.kind; pages = its.pages; told = λ more. its.told some; number = its.number };
     }
 
 -- a new object of temporary memory
 pub kind_new : (header : Header) (o : ℕ) (row : ObjectRow) (pages : ℕ) → named header ≤ o
-    → row ≡ record { kind = Temp; pages = pages; state = Without; control = 0; live = false; references = 1 } → IsOfKind header o row
+    → row ≡ record { kind = Temp; pages = pages; state = Without; control = 0; live = false; cache = false; references = 1 } → IsOfKind header o row
 kind_new header o row pages least is =
     subst (IsOfKind header o) (sym is) (record {
       lives = refl;
-      temporary = λ more. record { kind = refl; number = λ some. refl };
+      temporary = λ more. record { kind = refl; uncached = refl; number = λ some. refl };
       declared = λ less. absurd (omega (arith, less, least));
     })
 
@@ -188,17 +188,28 @@ marked_temporary {header = header} has homes r row found mark = elim (kind_cases
   | inr temporary ↦ temporary
 ]
 
--- a shadow is a temporary object
+-- a temporary object never stays without a reference
+pub uncached_temporary : {header : Header} {chains : ChainTable} {objects : ObjectTable} → HasKinds header objects chains → (o : ℕ) (known : ObjectRow)
+    → named header ≤ o → object_at objects o ≡ Some known → known.cache ≡ false
+uncached_temporary kinds o known least found = ((kinds.kinds o known found).temporary least).uncached
+
+-- a shadow is a temporary object, where nothing that is declared stands on anything
+pub shadow_undeclared : (header : Header) {chains : ChainTable} {objects : ObjectTable} {ids : Ids} {region_from : ℕ → Region}
+    {backing_from : ℕ → Backing} {regions_made objects_made marked : ℕ}
+    → HasRegions chains objects ids region_from backing_from regions_made objects_made marked
+    → ((o : ℕ) → o < named header → (backing_from o).backed ≡ false) → (o : ℕ) (row : ShadowRow) → shadow_at chains o ≡ Some row → named header ≤ o
+shadow_undeclared header has bare o row found = elim (kind_cases header o) [
+  | inl declared ↦ absurd (let bad : true ≡ false = sym (ap (λ (z : Backing). z.backed) (has.shadows o row found)) ∙ bare o declared in cc)
+  | inr temporary ↦ temporary
+]
+
 pub shadow_temporary : {header : Header} {chains : ChainTable} {objects : ObjectTable} {ids : Ids} {region_from : ℕ → Region}
     {backing_from : ℕ → Backing} {n m : ℕ} {home_from made_for : ℕ → Option ℕ} {used_at : ℕ → ℕ → Bool} {target_from : ℕ → Option Target}
     {regions_made objects_made marked : ℕ}
     → HasRegions chains objects ids region_from backing_from regions_made objects_made marked
     → AreHomes header n m home_from made_for used_at region_from backing_from target_from
     → (o : ℕ) (row : ShadowRow) → shadow_at chains o ≡ Some row → named header ≤ o
-shadow_temporary {header = header} has homes o row found = elim (kind_cases header o) [
-  | inl declared ↦ absurd (let bad : true ≡ false = sym (ap (λ (z : Backing). z.backed) (has.shadows o row found)) ∙ homes.bare o declared in cc)
-  | inr temporary ↦ temporary
-]
+shadow_temporary {header = header} has homes o row found = shadow_undeclared header has homes.bare o row found
 
 -- a region over a declared object is that object's own
 pub over_declared : {header : Header} {chains : ChainTable} {objects : ObjectTable} {ids : Ids} {region_from : ℕ → Region}

@@ -88,7 +88,7 @@ regions_gone r left row known cs cs2 os os2 ids region_from backing_from rm om m
     fewer : (x : ℕ) → references_to cs2 rm om x + one (row.top.0 == x) ≡ references_to cs rm om x
     fewer x = references_gone cs cs2 rm om r row there (below_all (region_at cs) rm r row has.unmade there) put x
 
-    its : left ≡ references_to cs2 rm om row.top.0
+    its : left ≡ references_to cs2 rm om row.top.0 + one known.cache
     its = let before = has.counts row.top.0 known found in let now = fewer row.top.0 in let own = one_own row.top.0 in omega (arith, before, now, own, less)
 
     others : (x : ℕ) → (row.top.0 ≡ x → ⊥) → references_to cs2 rm om x ≡ references_to cs rm om x
@@ -156,7 +156,7 @@ regions_dropped o left row known0 known cs cs2 os os2 ids region_from backing_fr
     fewer : (x : ℕ) → references_to cs2 rm om x + one (row.under.0 == x) ≡ references_to cs rm om x
     fewer x = references_dropped cs cs2 rm om o row there (below_all (object_at os) om o known0 has.unknown own) drop x
 
-    its : left ≡ references_to cs2 rm om row.under.0
+    its : left ≡ references_to cs2 rm om row.under.0 + one known.cache
     its =
         let before = has.counts row.under.0 known found in let now = fewer row.under.0 in let mine = one_own row.under.0 in omega
         (arith, before, now, mine, less)

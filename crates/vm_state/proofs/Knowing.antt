@@ -5,6 +5,7 @@ use Rattle.vm_fault.specs.Walks.{ChainsFit}
 use Rattle.vm_objects.specs.Objects.{ObjectTable, PutsObject, object_at}
 use Rattle.vm_objects.specs.declared.row.ObjectRow.{ObjectRow}
 use Rattle.vm_parts.proofs.Rows.{if_true, one_case, some_is}
+use Rattle.vm_parts.specs.Changes.{one}
 use Rattle.vm_parts.specs.Fits.{object_pages}
 use Rattle.vm_shadow.specs.Chains.{ChainTable}
 use Rattle.vm_terminate.specs.Finishes.{IsReferred}
@@ -72,13 +73,15 @@ referred_still o new os os2 put x more is = elim (known_cases o new os os2 put x
 ]
 
 -- all count their references still
-pub counts_still : (o : ℕ) (new : ObjectRow) (os os2 : ObjectTable) (before after : ℕ → ℕ) → PutsObject o (Some new) os os2 → new.references ≡ after o
+pub counts_still : (o : ℕ) (new : ObjectRow) (os os2 : ObjectTable) (before after : ℕ → ℕ) → PutsObject o (Some new) os os2
+    → new.references ≡ after o + one new.cache
     → ((x : ℕ) → (o ≡ x → ⊥) → after x ≡ before x)
-    → ((x : ℕ) (known : ObjectRow) → object_at os x ≡ Some known → known.references ≡ before x) → (x : ℕ) (known : ObjectRow) → object_at os2 x ≡ Some known
-    → known.references ≡ after x
+    → ((x : ℕ) (known : ObjectRow) → object_at os x ≡ Some known → known.references ≡ before x + one known.cache) → (x : ℕ) (known : ObjectRow)
+    → object_at os2 x ≡ Some known → known.references ≡ after x + one known.cache
 counts_still o new os os2 before after put its same all x known found = elim (known_cases o new os os2 put x) [
-  | inl this ↦ sym (ap (λ z. z.references) (some_is new known (sym this.1 ∙ found))) ∙ (its ∙ ap after this.0)
-  | inr other ↦ all x known (sym other.1 ∙ found) ∙ sym (same x other.0)
+  | inl this ↦ subst (λ (z : ObjectRow). z.references ≡ after x + one z.cache) (some_is new known (sym this.1 ∙ found))
+      (its ∙ ap (λ z. after z + one new.cache) this.0)
+  | inr other ↦ all x known (sym other.1 ∙ found) ∙ sym (ap (λ z. z + one known.cache) (same x other.0))
 ]
 
 -- what stands on objects fits as many pages

@@ -8,6 +8,7 @@ pub mod Counting
 pub mod Declared
 pub mod Files
 pub mod Filling
+pub mod Flagging
 pub mod FramesMerged
 pub mod Fresh
 pub mod Going

@@ -31,7 +31,7 @@ pub regions_made : (header : Header) (past : List Event) (r : RegionId) (o : Obj
     (os os2 : ObjectTable) (ids : Ids) (rm om marked : ℕ)
     → r.0 ≡ rm → o.0 ≡ om → om + marked < most_objects → (backing_of header om past).backed ≡ false
     → row ≡ record { top = o; shift = 0; pages = pages; marked = false; entries = 1 }
-    → known ≡ record { kind = Temp; pages = pages; state = Without; control = 0; live = false; references = 1 }
+    → known ≡ record { kind = Temp; pages = pages; state = Without; control = 0; live = false; cache = false; references = 1 }
     → PutsRegion r.0 (Some row) cs cs2 → PutsObject o.0 (Some known) os os2
     → HasRegions cs os ids (λ q. region_of header q past) (λ q. backing_of header q past) rm om marked
     → HasRegions cs2 os2 (record ids { next_region = ids.next_region + 1; next_object = ids.next_object + 1 })
@@ -114,13 +114,14 @@ regions_made header past r o row known pages cs cs2 os os2 ids rm om marked next
     top_is : row.top.0 ≡ o.0
     top_is = ap (λ z. z.top.0) is_row
 
-    its_own : known.references ≡ references_to cs2 (rm + 1) (om + 1) o.0
+    its_own : known.references ≡ references_to cs2 (rm + 1) (om + 1) o.0 + one known.cache
     its_own =
         let now = more o.0 in
         let was = unreferenced cs os ids _ _ rm om marked o.0 has none in
         let own : one (row.top.0 == o.0) ≡ 1 = ap (λ z. one (z == o.0)) top_is ∙ one_own o.0 in
         let count : known.references ≡ 1 = ap (λ z. z.references) is_known in
-        omega (arith, now, was, own, count)
+        let none_more : one known.cache ≡ 0 = ap (λ z. one z.cache) is_known in
+        omega (arith, now, was, own, count, none_more)
 
     others : (x : ℕ) → (o.0 ≡ x → ⊥) → references_to cs2 (rm + 1) (om + 1) x ≡ references_to cs rm om x
     others x apart = let now = more x in let no : one (row.top.0 == x) ≡ 0 = ap (λ z. one (z == x)) top_is ∙ one_other o.0 x apart in omega (arith, now, no)

@@ -1,6 +1,5 @@
 -- How the regions and objects of a host go on, where an object is merged into the shadow over it that is its one reference.
-use Rattle.std.proofs.Common.{◌≡◌, ◌∙◌, ℕ, ◌+◌, ◌<◌, ◌≤◌, ◌==◌, Bool, true, false, List, ◌∷◌, Option, Some, None, ap, arith, refl, sym, subst, inl}
-use Rattle.std.proofs.Common.{inr}
+use Rattle.std.proofs.Common.{◌≡◌, ◌∙◌, ℕ, ◌+◌, ◌<◌, ◌≤◌, ◌==◌, Bool, true, false, List, ◌∷◌, Option, Some, None, ap, arith, refl, sym, subst, inl, inr}
 use Rattle.std.proofs.lemmas.Bool.Decides.{eqb_tells}
 use Rattle.std.specs.Prelude.{◌-◌, ◌^◌, if◌then◌else◌, is_some}
 use Rattle.vm_base.specs.declared.ids.ObjectId.{ObjectId}
@@ -283,7 +282,7 @@ regions_merged header past upper lower cs cs2 os os2 ids rm om marked merges has
         (small_shadow has upper.0 merges.can.link merges.can.over)
         (below_all (object_at os) om lower.0 merges.can.lower_row has.unknown merges.can.lower_known) x
 
-    its : 0 ≡ references_to cs2 rm om lower.0
+    its : 0 ≡ references_to cs2 rm om lower.0 + one merges.can.lower_row.cache
     its =
         let before = has.counts lower.0 merges.can.lower_row merges.can.lower_known in
         let now = fewer lower.0 in

@@ -19,7 +19,7 @@ use Rattle.vm_shadow.specs.Chains.{ChainTable, region_at, shadow_at}
 use Rattle.vm_shadow.specs.declared.ids.Ids.{Ids}
 use Rattle.vm_shadow.specs.declared.region_row.RegionRow.{RegionRow}
 use Rattle.vm_shadow.specs.declared.shadow_row.ShadowRow.{ShadowRow}
-use Rattle.vm_state.proofs.Declared.{shadow_temporary, whole_row}
+use Rattle.vm_state.proofs.Declared.{shadow_temporary, uncached_temporary, whole_row}
 use Rattle.vm_state.proofs.Fresh.{other_test}
 use Rattle.vm_state.proofs.Passing.{same_of}
 use Rattle.vm_state.proofs.Reaching.{temporary_down, temporary_up}
@@ -96,7 +96,7 @@ module _ {header : Header} {h : ℕ} {chains : ChainTable} {objects : ObjectTabl
       record {
         temporary = subst (λ (z : ℕ). named header ≤ z) can.under (knows.kinds.unders upper can.link can.over);
         reached =
-            temporary_up knows.regions knows.homes knows.shadows (λ r. in_use header h r past) knows.all upper
+            temporary_up knows.regions knows.kinds knows.homes knows.shadows (λ r. in_use header h r past) knows.all upper
             (shadow_temporary knows.regions knows.homes upper can.link can.over)
             (knows.shadows upper can.link can.over);
         backed = ap (λ (z : Backing). z.backed) link;
@@ -133,7 +133,7 @@ module _ {header : Header} {h : ℕ} {chains : ChainTable} {objects : ObjectTabl
       by (Some row) found same =
           let e : row.under.0 ≡ lower = same_of row.under.0 lower same in
           let link = knows.regions.shadows s row found in
-          pair.sole s (temporary_up knows.regions knows.homes knows.shadows (λ r. in_use header h r past) knows.all s
+          pair.sole s (temporary_up knows.regions knows.kinds knows.homes knows.shadows (λ r. in_use header h r past) knows.all s
           (shadow_temporary knows.regions knows.homes s row found)
           (knows.shadows s row found)) (ap (λ (z : Backing). z.backed) link) (ap (λ (z : Backing). z.under) link ∙ e)
 
@@ -155,6 +155,7 @@ module _ {header : Header} {h : ℕ} {chains : ChainTable} {objects : ObjectTabl
       let count = knows.regions.counts lower below.row below.known in
       let most = few upper lower pair in
       let some = below.some in
+      let none_more : one below.row.cache ≡ 0 = ap one (uncached_temporary knows.kinds lower below.row pair.temporary below.known) in
       record {
         link = row.0;
         over = row.1;
@@ -163,7 +164,7 @@ module _ {header : Header} {h : ℕ} {chains : ChainTable} {objects : ObjectTabl
         upper_known = above.known;
         lower_row = below.row;
         lower_known = below.known;
-        sole = omega (arith, count, most, some);
+        sole = omega (arith, count, most, some, none_more);
         upper_never = sym (ap last_in above.known) ∙ (sym (knows.last upper) ∙ pair.upper_never);
         lower_never = sym (ap last_in below.known) ∙ (sym (knows.last lower) ∙ pair.lower_never);
       }

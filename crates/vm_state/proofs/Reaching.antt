@@ -1,6 +1,5 @@
 -- The objects to which something refers are those in the chains of regions.
-use Rattle.std.proofs.Common.{◌≡◌, ◌≤◌, ◌<◌, ◌||◌, ℕ, zero, suc, ◌+◌, Bool, true, false, Option, Some, None, length, ap, refl, sym, ◌∙◌, subst, arith}
-use Rattle.std.proofs.Common.{inl, inr}
+use Rattle.std.proofs.Common.{◌≡◌, ◌≤◌, ◌<◌, ◌||◌, ℕ, zero, suc, ◌+◌, Bool, true, false, Option, Some, None, length, ap, refl, sym, ◌∙◌, subst, arith, inl, inr}
 use Rattle.std.proofs.lemmas.Bool.Decides.{nat_tests}
 use Rattle.std.specs.Prelude.{nat_lt}
 use Rattle.vm_abroad.proofs.Regions.{kind_cases}
@@ -17,8 +16,9 @@ use Rattle.vm_shadow.specs.declared.ids.Ids.{Ids}
 use Rattle.vm_shadow.specs.declared.region_row.RegionRow.{RegionRow}
 use Rattle.vm_shadow.specs.declared.shadow_row.ShadowRow.{ShadowRow}
 use Rattle.vm_terminate.specs.Finishes.{IsReferred}
-use Rattle.vm_state.specs.Stands.{HasRegions}
-use Rattle.vm_state.proofs.Referring.{OfRegion, OfShadow, referrer_of, refers_region, refers_shadow}
+use Rattle.vm_state.proofs.Declared.{shadow_undeclared, uncached_temporary}
+use Rattle.vm_state.specs.Stands.{HasKinds, HasRegions}
+use Rattle.vm_state.proofs.Referring.{OfRegion, OfShadow, Referrer, referrer_of, refers_region, refers_shadow}
 
 -- one further down at the end of a chain
 pub below_more : (backings : ℕ → Backing) (n o u v : ℕ) → Below backings n o u → (backings u).backed ≡ true → (backings u).under ≡ v
@@ -27,12 +27,21 @@ below_more backings zero o u v is backed under =
     (subst (λ (k : ℕ). (backings k).backed ≡ true) (sym is) backed, ap (λ (k : ℕ). (backings k).under) is ∙ under)
 below_more backings (suc n) o u v is backed under = (is.0, below_more backings n (backings o).under u v is.1 backed under)
 
-up : {chains : ChainTable} {objects : ObjectTable} {ids : Ids} {region_from : ℕ → Region} {backing_from : ℕ → Backing} {regions_made objects_made marked : ℕ}
-    → HasRegions chains objects ids region_from backing_from regions_made objects_made marked → IsRanked chains
+-- what refers to a temporary object: it doesn't stay without
+referrer : {header : Header} {chains : ChainTable} {objects : ObjectTable} {ids : Ids} {region_from : ℕ → Region} {backing_from : ℕ → Backing}
+    {regions_made objects_made marked : ℕ}
+    → HasRegions chains objects ids region_from backing_from regions_made objects_made marked → HasKinds header objects chains
+    → (o : ℕ) → named header ≤ o → IsReferred objects o → Referrer chains o
+referrer has kinds o least referred = referrer_of has o referred (uncached_temporary kinds o referred.row least referred.known)
+
+up : {header : Header} {chains : ChainTable} {objects : ObjectTable} {ids : Ids} {region_from : ℕ → Region} {backing_from : ℕ → Backing}
+    {regions_made objects_made marked : ℕ}
+    → HasRegions chains objects ids region_from backing_from regions_made objects_made marked → HasKinds header objects chains
+    → ((o : ℕ) → o < named header → (backing_from o).backed ≡ false) → IsRanked chains
     → ((s : ℕ) (row : ShadowRow) → shadow_at chains s ≡ Some row → IsReferred objects s) → (used : ℕ → Bool)
     → ((r : ℕ) (row : RegionRow) → region_at chains r ≡ Some row → used r ≡ true)
-    → (more o : ℕ) → length chains.shadows ≤ height chains o + more → IsReferred objects o → Reaches used region_from backing_from o
-up {chains = chains} has ranked shadows used all zero o enough referred = elim (referrer_of has o referred) [
+    → (more o : ℕ) → length chains.shadows ≤ height chains o + more → named header ≤ o → IsReferred objects o → Reaches used region_from backing_from o
+up {chains = chains} has kinds bare ranked shadows used all zero o enough least referred = elim (referrer has kinds o least referred) [
   | OfRegion r row found top ↦ (r, 0, all r row found, ap (λ (z : Region). z.top) (has.rows r row found) ∙ top)
   | OfShadow s row found under ↦
       let falls = height_falls chains ranked s row found in
@@ -40,28 +49,33 @@ up {chains = chains} has ranked shadows used all zero o enough referred = elim (
       let here = ap (height chains) under in
       absurd (omega (arith, falls, most, here, enough))
 ]
-up {chains = chains} {backing_from = backing_from} has ranked shadows used all (suc more) o enough referred = elim (referrer_of has o referred) [
-  | OfRegion r row found top ↦ (r, 0, all r row found, ap (λ (z : Region). z.top) (has.rows r row found) ∙ top)
-  | OfShadow s row found under ↦
-      let falls = height_falls chains ranked s row found in
-      let here = ap (height chains) under in
-      let above = up has ranked shadows used all more s (omega (arith, falls, here, enough)) (shadows s row found) in
-      let link = has.shadows s row found in (
-        above.0,
-        suc above.1,
-        above.2,
-        below_more backing_from above.1 _ s o above.3 (ap (λ (z : Backing). z.backed) link)
-            (ap (λ (z : Backing). z.under) link ∙ under),
-      )
-]
+up {header = header} {chains = chains} {backing_from = backing_from} has kinds bare ranked shadows used all (suc more) o enough least referred =
+    elim (referrer has kinds o least referred) [
+      | OfRegion r row found top ↦ (r, 0, all r row found, ap (λ (z : Region). z.top) (has.rows r row found) ∙ top)
+      | OfShadow s row found under ↦
+          let falls = height_falls chains ranked s row found in
+          let here = ap (height chains) under in
+          let above = up has kinds bare ranked shadows used all more s (omega (arith, falls, here, enough)) (shadow_undeclared header has bare s row found)
+          (shadows s row found) in
+          let link = has.shadows s row found in (
+            above.0,
+            suc above.1,
+            above.2,
+            below_more backing_from above.1 _ s o above.3 (ap (λ (z : Backing). z.backed) link)
+                (ap (λ (z : Backing). z.under) link ∙ under),
+          )
+    ]
 
--- what is referred to is in the chain of a region, where each shadow is referred to
-pub reach_up : {chains : ChainTable} {objects : ObjectTable} {ids : Ids} {region_from : ℕ → Region} {backing_from : ℕ → Backing}
-    {regions_made objects_made marked : ℕ} → HasRegions chains objects ids region_from backing_from regions_made objects_made marked → IsRanked chains
+-- a temporary object that is referred to is in the chain of a region, where each shadow is referred to, and nothing that is declared stands on anything
+pub reach_up : {header : Header} {chains : ChainTable} {objects : ObjectTable} {ids : Ids} {region_from : ℕ → Region} {backing_from : ℕ → Backing}
+    {regions_made objects_made marked : ℕ}
+    → HasRegions chains objects ids region_from backing_from regions_made objects_made marked → HasKinds header objects chains
+    → ((o : ℕ) → o < named header → (backing_from o).backed ≡ false) → IsRanked chains
     → ((s : ℕ) (row : ShadowRow) → shadow_at chains s ≡ Some row → IsReferred objects s) → (used : ℕ → Bool)
     → ((r : ℕ) (row : RegionRow) → region_at chains r ≡ Some row → used r ≡ true)
-    → (o : ℕ) → IsReferred objects o → Reaches used region_from backing_from o
-reach_up {chains = chains} has ranked shadows used all o referred = up has ranked shadows used all (length chains.shadows) o (omega arith) referred
+    → (o : ℕ) → named header ≤ o → IsReferred objects o → Reaches used region_from backing_from o
+reach_up {chains = chains} has kinds bare ranked shadows used all o least referred =
+    up has kinds bare ranked shadows used all (length chains.shadows) o (omega arith) least referred
 
 -- a chain from an object to which something refers leads to such objects only
 pub chain_referred : {chains : ChainTable} {objects : ObjectTable} {ids : Ids} {region_from : ℕ → Region} {backing_from : ℕ → Backing}
@@ -105,12 +119,12 @@ chain_declared {backing_from = backing_from} homes r steps u declared below =
 -- a temporary object that is referred to is in the chain of a temporary region
 pub temporary_up : {header : Header} {chains : ChainTable} {objects : ObjectTable} {ids : Ids} {region_from : ℕ → Region} {backing_from : ℕ → Backing}
     {n m : ℕ} {home_from made_for : ℕ → Option ℕ} {used_at : ℕ → ℕ → Bool} {target_from : ℕ → Option Target} {regions_made objects_made marked : ℕ}
-    → HasRegions chains objects ids region_from backing_from regions_made objects_made marked
+    → HasRegions chains objects ids region_from backing_from regions_made objects_made marked → HasKinds header objects chains
     → AreHomes header n m home_from made_for used_at region_from backing_from target_from
     → ((s : ℕ) (row : ShadowRow) → shadow_at chains s ≡ Some row → IsReferred objects s) → (used : ℕ → Bool)
     → ((r : ℕ) (row : RegionRow) → named header ≤ r → region_at chains r ≡ Some row → used r ≡ true) → (o : ℕ) → named header ≤ o → IsReferred objects o
     → Reaches used region_from backing_from o
-temporary_up {header = header} {chains = chains} {region_from = region_from} {backing_from = backing_from} has homes shadows used all o least referred =
+temporary_up {header = header} {chains = chains} {region_from = region_from} {backing_from = backing_from} has kinds homes shadows used all o least referred =
     elim (kind_cases header reach.0) [
       | inl declared ↦ let same = chain_declared homes reach.0 reach.1 o declared reach.3 in absurd (omega (arith, same, declared, least))
       | inr temporary ↦ (
@@ -136,7 +150,7 @@ temporary_up {header = header} {chains = chains} {region_from = region_from} {ba
     ]
 
     reach : Reaches used_too region_from backing_from o
-    reach = reach_up has has.ranked shadows used_too each o referred
+    reach = reach_up has kinds homes.bare has.ranked shadows used_too each o least referred
 
 -- and what is temporary and in the chain of a region in use is referred to
 pub temporary_down : {header : Header} {chains : ChainTable} {objects : ObjectTable} {ids : Ids} {region_from : ℕ → Region} {backing_from : ℕ → Backing}

@@ -127,15 +127,16 @@ refers_shadow {objects = objects} has s row found =
     let some = some_backing has s row row.under.0 found refl in
     record { row = known.0; known = known.1; some = omega (arith, count, some) }
 
--- a region over the object, or a shadow over it
+-- a region over the object, or a shadow over it: such is what refers to an object that doesn't stay without
 pub data Referrer (chains : ChainTable) (o : ℕ) : Type 0 where
   OfRegion : (r : ℕ) (row : RegionRow) → region_at chains r ≡ Some row → row.top.0 ≡ o → Referrer chains o
   OfShadow : (s : ℕ) (row : ShadowRow) → shadow_at chains s ≡ Some row → row.under.0 ≡ o → Referrer chains o
 
 pub referrer_of : {chains : ChainTable} {objects : ObjectTable} {ids : Ids} {region_from : ℕ → Region} {backing_from : ℕ → Backing}
     {regions_made objects_made marked : ℕ} → HasRegions chains objects ids region_from backing_from regions_made objects_made marked → (o : ℕ)
-    → IsReferred objects o → Referrer chains o
-referrer_of {chains = chains} {regions_made = regions_made} {objects_made = objects_made} has o referred = by (nat_lt 0 (tally overs regions_made)) refl
+    → (referred : IsReferred objects o) → referred.row.cache ≡ false → Referrer chains o
+referrer_of {chains = chains} {regions_made = regions_made} {objects_made = objects_made} has o referred uncached =
+    by (nat_lt 0 (tally overs regions_made)) refl
   where
     overs : ℕ → Bool
     overs r = is_over o (region_at chains r)
@@ -152,9 +153,20 @@ referrer_of {chains = chains} {regions_made = regions_made} {objects_made = obje
         let count = has.counts o referred.row referred.known in
         let some = referred.some in
         let none : tally overs regions_made ≡ 0 = grind (arith, nat_tests) in
-        let found = tally_found backs objects_made (omega (arith, count, some, none)) in
+        let none_more : one referred.row.cache ≡ 0 = ap one uncached in
+        let found = tally_found backs objects_made (omega (arith, count, some, none, none_more)) in
         let row = backing_found o (shadow_at chains found.0) found.2 in
         OfShadow found.0 row.0 row.1 row.2
+
+-- an object without a reference doesn't stay
+pub uncached_unreferred : {chains : ChainTable} {objects : ObjectTable} {ids : Ids} {region_from : ℕ → Region} {backing_from : ℕ → Backing}
+    {regions_made objects_made marked : ℕ} → HasRegions chains objects ids region_from backing_from regions_made objects_made marked
+    → (o : ℕ) (known : ObjectRow) → object_at objects o ≡ Some known → known.references ≡ 0 → known.cache ≡ false
+uncached_unreferred has o known found none = by known.cache (let count = has.counts o known found in omega (arith, count, none))
+  where
+    by : (b : Bool) → one b ≡ 0 → b ≡ false
+    by false is = refl
+    by true is = let bad : 1 ≡ 0 = is in absurd (omega (arith, bad))
 
 -- no region is over an object to which nothing refers, and no shadow
 pub unreferred_region : {chains : ChainTable} {objects : ObjectTable} {ids : Ids} {region_from : ℕ → Region} {backing_from : ℕ → Backing}
@@ -219,17 +231,19 @@ only_top {chains = chains} {regions_made = regions_made} has r row known found i
       bare = λ s shadow found2 under. sole_region has row.top.0 known is single s shadow found2 under r row found refl;
     }
 
--- and the object of a region that is the one reference has one
+-- and the object of a region that is the one reference has one, where it doesn't stay without
 pub only_one : {chains : ChainTable} {objects : ObjectTable} {ids : Ids} {region_from : ℕ → Region} {backing_from : ℕ → Backing}
     {regions_made objects_made marked : ℕ} → HasRegions chains objects ids region_from backing_from regions_made objects_made marked → (r : ℕ) (row : RegionRow)
-    (known : ObjectRow) → region_at chains r ≡ Some row → object_at objects row.top.0 ≡ Some known → IsOnlyTop r row.top.0 chains → known.references ≡ 1
-only_one {chains = chains} {regions_made = regions_made} {objects_made = objects_made} has r row known found is only =
+    (known : ObjectRow) → region_at chains r ≡ Some row → object_at objects row.top.0 ≡ Some known → known.cache ≡ false → IsOnlyTop r row.top.0 chains
+    → known.references ≡ 1
+only_one {chains = chains} {regions_made = regions_made} {objects_made = objects_made} has r row known found is uncached only =
     let count = has.counts row.top.0 known is in
     let tops = tally_put (λ q. false) overs regions_made r (small_region has r row found) (λ q apart. other_region q apart (overs q) refl) in
     let none = tally_none (λ q. false) regions_made (λ q less. refl) in
     let own : one (overs r) ≡ 1 = ap one (over_is row.top.0 (region_at chains r) row found refl) in
     let unders = tally_none backs objects_made (λ s less. no_shadow s (backs s) refl) in
-    omega (arith, count, tops, none, own, unders)
+    let none_more : one known.cache ≡ 0 = ap one uncached in
+    omega (arith, count, tops, none, own, unders, none_more)
   where
     overs : ℕ → Bool
     overs q = is_over row.top.0 (region_at chains q)
@@ -257,13 +271,14 @@ top_counted {chains = chains} {objects = objects} has r row found single =
     one_of : (known : ObjectRow) → (known.references == 1) ≡ true → known.references ≡ 1
     one_of known is = grind (arith, nat_tests)
 
--- a region whose top has another reference is not the one
+-- a region whose top has another reference, and doesn't stay without, is not the one
 pub top_not_counted : {chains : ChainTable} {objects : ObjectTable} {ids : Ids} {region_from : ℕ → Region} {backing_from : ℕ → Backing}
     {regions_made objects_made marked : ℕ} → HasRegions chains objects ids region_from backing_from regions_made objects_made marked → (r : ℕ) (row : RegionRow)
-    → region_at chains r ≡ Some row → has_one (object_at objects row.top.0) ≡ false → IsOnlyTop r row.top.0 chains → ⊥
-top_not_counted {chains = chains} {objects = objects} has r row found shared only =
+    → region_at chains r ≡ Some row → ((known : ObjectRow) → object_at objects row.top.0 ≡ Some known → known.cache ≡ false)
+    → has_one (object_at objects row.top.0) ≡ false → IsOnlyTop r row.top.0 chains → ⊥
+top_not_counted {chains = chains} {objects = objects} has r row found uncached shared only =
     let known = row_of (object_at objects row.top.0) (has.tops r row found) in
-    two_of known.0 (sym (ap has_one known.1) ∙ shared) (only_one has r row known.0 found known.1 only)
+    two_of known.0 (sym (ap has_one known.1) ∙ shared) (only_one has r row known.0 found known.1 (uncached known.0 known.1) only)
   where
     two_of : (known : ObjectRow) → (known.references == 1) ≡ false → known.references ≡ 1 → ⊥
     two_of known is single = grind (arith, nat_tests)

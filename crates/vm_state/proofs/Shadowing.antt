@@ -31,7 +31,7 @@ use Rattle.vm_state.specs.Stands.{HasRegions}
 pub regions_shadowed : (header : Header) (past : List Event) (region : RegionId) (object : ObjectId) (row : RegionRow) (new : ObjectRow) (cs cs2 : ChainTable)
     (os os2 : ObjectTable) (ids ids2 : Ids) (rm om marked marked2 : ℕ)
     → ShadowsRegion region.0 object row cs cs2 → region_at cs region.0 ≡ Some row → object.0 ≡ om
-    → new ≡ record { kind = Temp; pages = row.pages; state = Without; control = 0; live = false; references = 1 }
+    → new ≡ record { kind = Temp; pages = row.pages; state = Without; control = 0; live = false; cache = false; references = 1 }
     → PutsObject object.0 (Some new) os os2 → ChainsFit cs2 os2
     → ids2.next_region ≡ ids.next_region → ids2.next_object ≡ ids.next_object + 1 → ids2.marks ≡ marked2 → om + 1 + marked2 ≤ most_objects
     → HasRegions cs os ids (λ q. region_of header q past) (λ q. backing_of header q past) rm om marked
@@ -128,13 +128,14 @@ regions_shadowed header past region object row new cs cs2 os os2 ids ids2 rm om 
     more : (x : ℕ) → references_to cs2 rm (om + 1) x ≡ references_to cs rm om x + one (om == x)
     more x = references_shadowed cs cs2 rm om region.0 object row there below next shadowing x
 
-    its_own : new.references ≡ references_to cs2 rm (om + 1) object.0
+    its_own : new.references ≡ references_to cs2 rm (om + 1) object.0 + one new.cache
     its_own =
         let now = more object.0 in
         let was = unreferenced cs os ids _ _ rm om marked object.0 has none in
         let own : one (om == object.0) ≡ 1 = ap (λ z. one (z == object.0)) (sym next) ∙ one_own object.0 in
         let count : new.references ≡ 1 = ap (λ z. z.references) is_new in
-        omega (arith, now, was, own, count)
+        let none_more : one new.cache ≡ 0 = ap (λ z. one z.cache) is_new in
+        omega (arith, now, was, own, count, none_more)
 
     others : (x : ℕ) → (object.0 ≡ x → ⊥) → references_to cs2 rm (om + 1) x ≡ references_to cs rm om x
     others x apart = let now = more x in let no : one (om == x) ≡ 0 = ap (λ z. one (z == x)) (sym next) ∙ one_other object.0 x apart in omega (arith, now, no)

@@ -1,5 +1,5 @@
 -- How the regions and objects of a host go on, where a region loses its mark, and is as it was else.
-use Rattle.std.proofs.Common.{◌≡◌, ℕ, ◌≤◌, ◌==◌, Bool, Option, false, true, refl, ap, sym, ◌∙◌, arith, Some, None, List, ◌∷◌, inl, inr}
+use Rattle.std.proofs.Common.{◌≡◌, ℕ, ◌+◌, ◌≤◌, ◌==◌, Bool, Option, false, true, refl, ap, sym, ◌∙◌, arith, Some, None, List, ◌∷◌, inl, inr}
 use Rattle.std.specs.Prelude.{◌⊎◌, is_some}
 use Rattle.vm_base.specs.declared.ids.PageKey.{PageKey}
 use Rattle.vm_base.specs.declared.ids.RegionId.{RegionId}
@@ -12,6 +12,7 @@ use Rattle.vm_model.specs.declared.event.Event.TheVariants as event
 use Rattle.vm_model.specs.declared.script.Header.{Header}
 use Rattle.vm_objects.specs.Objects.{ObjectTable, object_at}
 use Rattle.vm_parts.proofs.Rows.{one_case, some_is}
+use Rattle.vm_parts.specs.Changes.{one}
 use Rattle.vm_resident.specs.Resident.{ResidentTable}
 use Rattle.vm_shadow.proofs.Ranks.{ranked_same}
 use Rattle.vm_shadow.specs.Chains.{ChainTable, PutsRegion, region_at, shadow_at}
@@ -68,7 +69,9 @@ regions_unmarked header past region row cs cs2 os ids ids2 rm om marked marked2 
       unders = λ q shadow is. has.unders q shadow (sym (same q) ∙ is);
       ranked = ranked_same cs cs2 same has.ranked;
       fits = fits;
-      counts = λ o known is. has.counts o known is ∙ sym (references_same cs cs2 rm om o (over o) (λ q. ap (is_backing o) (same q)));
+      counts =
+          λ o known is. has.counts o known is
+          ∙ sym (ap (λ z. z + one known.cache) (references_same cs cs2 rm om o (over o) (λ q. ap (is_backing o) (same q))));
     }
   where
     cases : (q : ℕ) → ((region.0 ≡ q) × (region_at cs2 q ≡ Some (record row { marked = false }))) ⊎ ((region.0 ≡ q → ⊥) × (region_at cs2 q ≡ region_at cs q))

@@ -25,6 +25,11 @@ abbrev pub live_in : Option ObjectRow → Option ℕ
 live_in None = None
 live_in (Some row) = if row.live then Some row.control else None
 
+-- an object that is known stays when its last entry goes
+abbrev pub cached_in : Option ObjectRow → Bool
+cached_in None = false
+cached_in (Some row) = row.cache
+
 abbrev pub ready_in : Option ObjectRow → Bool
 ready_in None = false
 ready_in (Some row) = is_ready_state row.state

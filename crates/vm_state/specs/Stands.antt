@@ -31,7 +31,8 @@ use Rattle.vm_shadow.specs.declared.shadow_row.ShadowRow.{ShadowRow}
 use Rattle.vm_terminate.specs.Finishes.{IsReferred}
 use Rattle.vm_state.specs.Counts.{all_tasks, count_by, count_on}
 use Rattle.vm_state.specs.Filling.{IsUsed}
-use Rattle.vm_state.specs.Pagers.{has_pager, last_in, live_in, ready_in}
+use Rattle.vm_parts.specs.Changes.{one}
+use Rattle.vm_state.specs.Pagers.{cached_in, has_pager, last_in, live_in, ready_in}
 use Rattle.vm_state.specs.Places.{has_region, local_of_row, region_pages}
 use Rattle.vm_state.specs.References.{references_to}
 use Rattle.vm_waits.specs.declared.waiting.Waiting.{Waiting}
@@ -42,9 +43,10 @@ pub record HasTasks (h size : ℕ) (maps : Mapped) (host_at : ℕ → Option ℕ
   pub hosts : (task : ℕ) → is_on h (host_at task) ≡ is_some (entries_in task maps)
   pub rows : (task : ℕ) → is_some (entries_in task maps) ≡ true → rows_at task ≡ rows_in task maps
 
--- an object of temporary memory; its first control is made when it first gets a pager
+-- an object of temporary memory, which never stays without a reference; its first control is made when it first gets a pager
 pub record IsTemporary (known : ObjectRow) : Type 0 where
   pub kind : known.kind ≡ Temp
+  pub uncached : known.cache ≡ false
   pub number : 0 < known.references → known.control ≡ (if has_pager known.state then 1 else 0)
 
 -- a declared object, as it was declared; it had a control, and while something refers to it, its pager knows it
@@ -76,7 +78,8 @@ abbrev pub AreShared : ℕ → Mapped → Type 0
 AreShared declared maps = (task : ℕ) → AllRows (IsShared declared) (rows_in task maps)
 
 -- The regions, the objects and what stands under them, and the next numbers. What a region or a shadow is over is known, and each chain ends. Of an object to
--- which something refers and that is no shadow the history says so too. An object has as many references as regions and shadows are over it.
+-- which something refers and that is no shadow the history says so too. An object has as many references as regions and shadows are over it, and one more
+-- where it stays without.
 pub record HasRegions (chains : ChainTable) (objects : ObjectTable) (ids : Ids) (region_from : ℕ → Region) (backing_from : ℕ → Backing)
     (regions_made objects_made marked : ℕ) : Type 0 where
   pub region : ids.next_region ≡ regions_made
@@ -93,7 +96,8 @@ pub record HasRegions (chains : ChainTable) (objects : ObjectTable) (ids : Ids) 
   pub unders : (o : ℕ) (row : ShadowRow) → shadow_at chains o ≡ Some row → IsSome (object_at objects o) × IsSome (object_at objects row.under.0)
   pub ranked : IsRanked chains
   pub fits : ChainsFit chains objects
-  pub counts : (o : ℕ) (known : ObjectRow) → object_at objects o ≡ Some known → known.references ≡ references_to chains regions_made objects_made o
+  pub counts : (o : ℕ) (known : ObjectRow) → object_at objects o ≡ Some known
+      → known.references ≡ references_to chains regions_made objects_made o + one known.cache
 
 -- the regions of a host, but for those that several hosts may share, are those of its tasks
 abbrev pub HasHomes : Header → ℕ → ChainTable → (ℕ → Option ℕ) → Type 0
@@ -154,6 +158,10 @@ pub record HasControls (declared h : ℕ) (objects : ObjectTable) (last_at : ℕ
   pub numbers : HasNumbers objects
   pub ended : (o : ℕ) (row : ObjectRow) → object_at objects o ≡ Some row → row.live ≡ true → row.state ≢ Without
   pub home : (o : ℕ) (row : ObjectRow) → declared ≤ o → object_at objects o ≡ Some row → home_at o ≡ Some h
+
+-- a declared object stays when its last entry goes where its control's pager said so
+abbrev pub HasFlags : ℕ → ObjectTable → (ℕ → Bool) → Type 0
+HasFlags declared objects cached_at = (o : ℕ) → o < declared → cached_at o ≡ cached_in (object_at objects o)
 
 -- a frame that a return holds is claimed, and is no page's
 pub record IsWashed (frames : FrameTable) (resident : ResidentTable) (f : FrameNo) : Type 0 where

@@ -60,5 +60,5 @@ act_at kind.SupplyReadLocked state = if_asked act.PutLocked state
 act_at kind.Unavailable state = if_asked act.NoteAbsent state
 act_at kind.Error state = if_asked act.Fail state
 act_at kind.LockRequest state = lock_act_at state
-act_at kind.ChangeAttributes state = act.Discard
-act_at kind.Destroy state = act.Discard
+act_at kind.ChangeAttributes state = if_live act.SetAttributes state
+act_at kind.Destroy state = if_live act.EndObject state

@@ -21,6 +21,10 @@ pub enum Act {
     Nothing,
     /// The page is given back, removed or locked as the message asks.
     LockPage,
+    /// The object's attributes are those of the message from now on.
+    SetAttributes,
+    /// The object ends on the host.
+    EndObject,
 }
 
 /// A kind of message from a pager, a row of the table. The messages are those of "Mach 3 Kernel
@@ -117,7 +121,7 @@ macro_rules! row {
     };
 }
 
-/// The shipped table. Nothing is made yet of a message that changes attributes or destroys an object.
+/// The shipped table.
 ///
 /// An answer of a page counts only where the page is asked, in this profile: what no request is out for
 /// is discarded.
@@ -132,8 +136,17 @@ pub const MESSAGE_ROWS: MessageTable<9, 6> = MessageTable {
         row!(Discard, Discard, NoteAbsent, Discard, Discard, Discard),
         row!(Discard, Discard, Fail, Discard, Discard, Discard),
         row!(Discard, Nothing, Nothing, LockPage, LockPage, LockPage),
-        row!(Discard, Discard, Discard, Discard, Discard, Discard),
-        row!(Discard, Discard, Discard, Discard, Discard, Discard),
+        row!(
+            Discard,
+            SetAttributes,
+            SetAttributes,
+            SetAttributes,
+            SetAttributes,
+            SetAttributes
+        ),
+        row!(
+            Discard, EndObject, EndObject, EndObject, EndObject, EndObject
+        ),
     ],
 };
 

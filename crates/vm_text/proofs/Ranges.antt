@@ -208,6 +208,11 @@ lock_kept heading host name line = any (Words.six_words line) andthen λ w _. re
     upto 4096 w.1 andthen λ count two. upto 2 w.2 andthen λ returns three. any (Words.flag_of w.3) andthen λ flush _. locked w.4 andthen λ lock four.
     any (Words.flag_of w.5) andthen λ reply _. read (is.0, is.1, (one, two, three, four))
 
+attributes_kept : (heading : Heading) (host name : List ℕ) (line : List (List ℕ)) → Reads (InReach heading) (Forms.attributes_said heading host name line)
+attributes_kept heading host name line =
+    any (Words.three_words line) andthen λ w _. received heading host name andthen λ to is. any (Words.flag_of w.0) andthen λ cache _.
+    upto 3 w.1 andthen λ strategy one. any (Words.flag_of w.2) andthen λ reply _. read (is.0, is.1, one)
+
 message_kept : (heading : Heading) (word : MessageWord) (host name : List ℕ) (line : List (List ℕ))
     → Reads (InReach heading) (message_form heading word host name line)
 message_kept heading sends.Ready host name line = ready_kept heading host name line
@@ -215,6 +220,7 @@ message_kept heading sends.Supply host name line = supply_kept heading host name
 message_kept heading sends.Unavailable host name line = unavailable_kept heading host name line
 message_kept heading sends.Error host name line = error_kept heading host name line
 message_kept heading sends.Lock host name line = lock_kept heading host name line
+message_kept heading sends.Attributes host name line = attributes_kept heading host name line
 
 say_kept : (heading : Heading) (line : List (List ℕ)) → Reads (InReach heading) (Forms.say_line heading line)
 say_kept heading [] = stopped
@@ -262,6 +268,8 @@ command_kept heading says.Settle line = any (Words.one_word line) andthen λ w _
 command_kept heading says.Pageout line = counted heading line andthen λ of one. read one
 command_kept heading says.Clean line = any (Words.four_words line) andthen λ w _. named heading w.0 andthen λ object one. paged 4096 w.1 andthen λ page two.
     upto 4096 w.2 andthen λ count three. any (Words.flag_of w.3) andthen λ flush _. read (one, two, three)
+command_kept heading says.Cache line =
+    any (Words.two_words line) andthen λ w _. named heading w.0 andthen λ object one. any (Words.flag_of w.1) andthen λ cache _. read one
 command_kept heading says.Wire line = counted heading line andthen λ of one. read one
 command_kept heading says.Unwire line = counted heading line andthen λ of one. read one
 command_kept heading says.Fail line = fail_kept heading line

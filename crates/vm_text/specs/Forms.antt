@@ -231,7 +231,7 @@ header_form heading heads.Wild line = object_line kinds.Wild heading line
 abbrev pub rarer_words : List (List ℕ × CommandWord)
 rarer_words =
     (codes "task", says.Task) ∷ (codes "map", says.Map) ∷ (codes "inherit", says.Inherit) ∷ (codes "copy", says.Copy) ∷ (codes "clean", says.Clean)
-    ∷ (codes "wire", says.Wire) ∷ (codes "unwire", says.Unwire) ∷ (codes "fail", says.Fail) ∷ (codes "say", says.Say) ∷ []
+    ∷ (codes "cache", says.Cache) ∷ (codes "wire", says.Wire) ∷ (codes "unwire", says.Unwire) ∷ (codes "fail", says.Fail) ∷ (codes "say", says.Say) ∷ []
 
 -- those that most lines begin with come first
 abbrev pub command_words : List (List ℕ × CommandWord)
@@ -362,6 +362,13 @@ clean_line heading line = do
   flush ← flag_of w.3
   Ok (commands.Clean object page count flush)
 
+abbrev pub cache_line : Heading → List (List ℕ) → Result Command ScriptFault
+cache_line heading line = do
+  w ← two_words line
+  object ← object_of heading w.0
+  cache ← flag_of w.1
+  Ok (commands.Cache object cache)
+
 -- `files` or `paging`
 abbrev pub is_files : List ℕ → Result Bool ScriptFault
 is_files word =
@@ -380,7 +387,7 @@ fail_line line = do
 abbrev pub message_words : List (List ℕ × MessageWord)
 message_words =
     (codes "ready", sends.Ready) ∷ (codes "supply", sends.Supply) ∷ (codes "unavailable", sends.Unavailable)
-    ∷ (codes "error", sends.Error) ∷ (codes "lock", sends.Lock) ∷ []
+    ∷ (codes "error", sends.Error) ∷ (codes "lock", sends.Lock) ∷ (codes "attributes", sends.Attributes) ∷ []
 
 -- the host and the object that a message goes to
 abbrev pub receiver_of : Heading → List ℕ → List ℕ → Result (HostId × ObjectId) ScriptFault
@@ -434,6 +441,15 @@ lock_said heading host name line = do
   reply ← flag_of w.5
   Ok (commands.Say to.0 to.1 (messages.Lock page count returns flush lock reply))
 
+abbrev pub attributes_said : Heading → List ℕ → List ℕ → List (List ℕ) → Result Command ScriptFault
+attributes_said heading host name line = do
+  w ← three_words line
+  to ← receiver_of heading host name
+  cache ← flag_of w.0
+  strategy ← number_between 0 3 w.1
+  reply ← flag_of w.2
+  Ok (commands.Say to.0 to.1 (messages.Attributes cache strategy reply))
+
 -- where the message's word is unknown, the fields in front of it are read first
 abbrev pub nothing_said : Heading → List ℕ → List ℕ → Result Command ScriptFault
 nothing_said heading host name = receiver_of heading host name >>= λ to. Err UnknownWord
@@ -444,6 +460,7 @@ message_form heading sends.Supply host name line = supply_said heading host name
 message_form heading sends.Unavailable host name line = unavailable_said heading host name line
 message_form heading sends.Error host name line = error_said heading host name line
 message_form heading sends.Lock host name line = lock_said heading host name line
+message_form heading sends.Attributes host name line = attributes_said heading host name line
 
 abbrev pub say_line : Heading → List (List ℕ) → Result Command ScriptFault
 say_line heading (host ∷ name ∷ word ∷ line) = elim (word_in message_words word) [
@@ -468,6 +485,7 @@ command_form heading says.Take line = take_line heading line
 command_form heading says.Settle line = settle_line line
 command_form heading says.Pageout line = pageout_line heading line
 command_form heading says.Clean line = clean_line heading line
+command_form heading says.Cache line = cache_line heading line
 command_form heading says.Wire line = wire_line heading line
 command_form heading says.Unwire line = unwire_line heading line
 command_form heading says.Fail line = fail_line line

@@ -2,7 +2,7 @@
 ghost use Rattle.std.specs.Prelude.{◌≡◌};
 ghost use Rattle.vm_text.specs.Forms.{task_line, fork_line, exit_line, allocate_line, map_line, deallocate_line, protect_line, inherit_line, load_line};
 ghost use Rattle.vm_text.specs.Forms.{store_line, copy_line, take_line, settle_line, host_count, pageout_line, clean_line, wire_line, unwire_line, is_files};
-ghost use Rattle.vm_text.specs.Forms.{fail_line, command_form};
+ghost use Rattle.vm_text.specs.Forms.{cache_line, fail_line, command_form};
 ghost use Rattle.vm_text.specs.Stops.{Gives};
 ghost use Rattle.vm_text.specs.Words.{words_of};
 
@@ -225,6 +225,15 @@ fn clean_line(heading: &Heading, line: &[u8]) -> Result<Command, ScriptFault>
     })
 }
 
+fn cache_line(heading: &Heading, line: &[u8]) -> Result<Command, ScriptFault>
+    ensures { result ≡ cache_line heading.now (words_of line.now) }
+{
+    let (object, cache) = two_words(line)?;
+    let object = heading.object_of(object)?;
+    let cache = flag_of(cache)?;
+    Ok(Command::Cache { object, cache })
+}
+
 // Whether the backing is that of the files.
 fn is_files(word: &[u8]) -> Result<bool, ScriptFault>
     ensures { result ≡ is_files word.now }
@@ -276,6 +285,7 @@ pub fn command_form(
         CommandWord::Settle => settle_line(line)?,
         CommandWord::Pageout => pageout_line(heading, line)?,
         CommandWord::Clean => clean_line(heading, line)?,
+        CommandWord::Cache => cache_line(heading, line)?,
         CommandWord::Wire => wire_line(heading, line)?,
         CommandWord::Unwire => unwire_line(heading, line)?,
         CommandWord::Fail => fail_line(line)?,

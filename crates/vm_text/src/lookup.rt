@@ -24,6 +24,9 @@ pub fn message_word(word: &[u8]) -> Option<MessageWord>
     if word == b"lock".as_slice() {
         return Some(MessageWord::Lock);
     }
+    if word == b"attributes".as_slice() {
+        return Some(MessageWord::Attributes);
+    }
     None
 }
 
@@ -109,6 +112,9 @@ fn rarer_word(word: &[u8]) -> Option<CommandWord>
     }
     if word == b"clean".as_slice() {
         return Some(CommandWord::Clean);
+    }
+    if word == b"cache".as_slice() {
+        return Some(CommandWord::Cache);
     }
     if word == b"wire".as_slice() {
         return Some(CommandWord::Wire);

@@ -30,6 +30,7 @@ pub enum CommandWord {
     Settle,
     Pageout,
     Clean,
+    Cache,
     Wire,
     Unwire,
     Fail,
@@ -44,4 +45,5 @@ pub enum MessageWord {
     Unavailable,
     Error,
     Lock,
+    Attributes,
 }

@@ -1,6 +1,7 @@
 // The message that a line says.
 ghost use Rattle.std.specs.Prelude.{◌≡◌};
-ghost use Rattle.vm_text.specs.Forms.{receiver_of, ready_said, supply_said, unavailable_said, error_said, lock_said, nothing_said, message_form, say_line};
+ghost use Rattle.vm_text.specs.Forms.{receiver_of, ready_said, supply_said, unavailable_said, error_said, lock_said, attributes_said, nothing_said};
+ghost use Rattle.vm_text.specs.Forms.{message_form, say_line};
 ghost use Rattle.vm_text.specs.Stops.{Gives};
 ghost use Rattle.vm_text.specs.Words.{words_of};
 
@@ -11,7 +12,7 @@ use crate::lookup::message_word;
 use crate::meaning::MessageWord;
 use crate::numbers::{count_in, flag_of, number_below};
 use crate::terms::{lock_of, page_number};
-use crate::words::{four_words, one_word, six_words, two_words, word_at};
+use crate::words::{four_words, one_word, six_words, three_words, two_words, word_at};
 use std::alloc::Global;
 use vm_base::limits::MOST_PAGES;
 use vm_base::{HostId, ObjectId};
@@ -153,6 +154,31 @@ fn lock_said(
     })
 }
 
+fn attributes_said(
+    heading: &Heading,
+    host: &[u8],
+    name: &[u8],
+    line: &[u8],
+) -> Result<Command, ScriptFault>
+    ensures { result ≡ attributes_said heading.now host.now name.now (words_of line.now) }
+{
+    let (cache, strategy, reply) = three_words(line)?;
+    let (host, object) = receiver_of(heading, host, name)?;
+    let cache = flag_of(cache)?;
+    let strategy = count_in(strategy, 0, 3)?;
+    let reply = flag_of(reply)?;
+    let message = Message::Attributes {
+        cache,
+        strategy,
+        reply,
+    };
+    Ok(Command::Say {
+        host,
+        object,
+        message,
+    })
+}
+
 fn nothing_said(heading: &Heading, host: &[u8], name: &[u8]) -> Result<Command, ScriptFault>
     ensures { result ≡ nothing_said heading.now host.now name.now }
 {
@@ -176,6 +202,7 @@ fn message_form(
         MessageWord::Unavailable => Ok(unavailable_said(heading, host, name, line)?),
         MessageWord::Error => Ok(error_said(heading, host, name, line)?),
         MessageWord::Lock => Ok(lock_said(heading, host, name, line)?),
+        MessageWord::Attributes => Ok(attributes_said(heading, host, name, line)?),
     }
 }
 

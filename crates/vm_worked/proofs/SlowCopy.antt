@@ -29,15 +29,14 @@ use Rattle.vm_legal.specs.Prompt.{AllServed, AnAnswer, Prompt, PromptAt, WaitsFo
 use Rattle.vm_legal.specs.Swept.{IsSwept, IsUnheld}
 use Rattle.vm_legal.specs.Steps.{Letter, answers, error_taken, readies, since}
 use Rattle.vm_legal.specs.Walks.{Reach, page_on}
-use Rattle.vm_legal.proofs.Locks.{no_request}
+use Rattle.vm_legal.proofs.Locks.{no_change, no_request}
 use Rattle.vm_legal.proofs.Unshared.{NoneIsShared, none_shared}
 use Rattle.vm_quiet.proofs.Letters.{never}
 use Rattle.vm_quiet.specs.Unended.{copied, down, file, filled, host, mapped, page, task, up, zero_page}
 use Rattle.vm_quiet.specs.Unended as unended
 use Rattle.vm_worked.specs.Worked.{both, commands, header, history, outside}
 use Rattle.vm_worked.proofs.Steps.{awake_bare, awake_idle, bare_thin, clash, each_step, ends_nobody, nobody, number_is, one_host, one_writer, owes_nothing}
-use Rattle.vm_worked.proofs.Steps.{recalls}
-use Rattle.vm_worked.proofs.Steps.{neither, not_shared, one_suffices, served, suffice}
+use Rattle.vm_worked.proofs.Steps.{recalls, neither, not_shared, one_suffices, served, suffice}
 
 -- the moments at which a step has ended
 
@@ -115,25 +114,25 @@ held past holds pages controls =
     of_file o below unheld = let first : o ≡ 0 = omega (arith, below) in subst (λ (k : ℕ). IsUnheld header 0 k past) first unheld
 
 nothing_opened : IsSwept header 0 opened
-nothing_opened = held opened (λ unheld. clash (unheld 0 refl)) (λ o p other unreached. rw other refl) (λ o other. rw other refl)
+nothing_opened = held opened (λ unheld. clash (unheld.unmapped 0 refl)) (λ o p other unreached. rw other refl) (λ o other. rw other refl)
 
 nothing_settles : IsSwept header 0 settles
-nothing_settles = held settles (λ unheld. clash (unheld 0 refl)) (λ o p other unreached. rw other refl) (λ o other. rw other refl)
+nothing_settles = held settles (λ unheld. clash (unheld.unmapped 0 refl)) (λ o p other unreached. rw other refl) (λ o other. rw other refl)
 
 nothing_readied : IsSwept header 0 readied
-nothing_readied = held readied (λ unheld. clash (unheld 0 refl)) (λ o p other unreached. rw other refl) (λ o other. rw other refl)
+nothing_readied = held readied (λ unheld. clash (unheld.unmapped 0 refl)) (λ o p other unreached. rw other refl) (λ o other. rw other refl)
 
 nothing_settled : IsSwept header 0 settled
-nothing_settled = held settled (λ unheld. clash (unheld 0 refl)) (λ o p other unreached. rw other refl) (λ o other. rw other refl)
+nothing_settled = held settled (λ unheld. clash (unheld.unmapped 0 refl)) (λ o p other unreached. rw other refl) (λ o other. rw other refl)
 
 nothing_asked : IsSwept header 0 asked
-nothing_asked = held asked (λ unheld. clash (unheld 0 refl)) (λ o p other unreached. rw other refl) (λ o other. rw other refl)
+nothing_asked = held asked (λ unheld. clash (unheld.unmapped 0 refl)) (λ o p other unreached. rw other refl) (λ o other. rw other refl)
 
 nothing_settles_again : IsSwept header 0 settles_again
-nothing_settles_again = held settles_again (λ unheld. clash (unheld 0 refl)) (λ o p other unreached. rw other refl) (λ o other. rw other refl)
+nothing_settles_again = held settles_again (λ unheld. clash (unheld.unmapped 0 refl)) (λ o p other unreached. rw other refl) (λ o other. rw other refl)
 
 nothing_supplied : IsSwept header 0 supplied
-nothing_supplied = held supplied (λ unheld. clash (unheld 0 refl)) (λ o p other unreached. rw other refl) (λ o other. rw other refl)
+nothing_supplied = held supplied (λ unheld. clash (unheld.unmapped 0 refl)) (λ o p other unreached. rw other refl) (λ o other. rw other refl)
 
 -- of other objects than the file and that of the filled region nothing is here
 elsewhere : (o p : ℕ) → (0 == o) ≡ false → (1 == o) ≡ false → (page_on header 0 o p unended.history).here ≡ false
@@ -150,7 +149,7 @@ elsewhere o p other also =
 
 -- the copied page is here, and the region that was filled leads to it
 nothing_left : IsSwept header 0 history
-nothing_left = held history (λ unheld. clash (unheld 0 refl)) pages (λ o other. rw other refl)
+nothing_left = held history (λ unheld. clash (unheld.unmapped 0 refl)) pages (λ o other. rw other refl)
   where
     pages : (o p : ℕ) → (0 == o) ≡ false → (Reach header 0 o history → ⊥) → (page_on header 0 o p history).here ≡ false
     pages o p other unreached = by (1 == o) refl
@@ -311,6 +310,7 @@ paid_readied =
       error = λ h o p is. absurd (cc);
       absence = λ h o p ours is. absurd (cc);
       lock = λ request is. no_request request readied refl is;
+      change = λ request is wanted. no_change request readied refl is;
       slot = λ h o k p dirty keep bytes ours is lacks. no_return k p dirty keep bytes (ap message_in is);
     }
   where
@@ -336,6 +336,7 @@ paid_supplied =
       error = λ h o p is. absurd (cc);
       absence = λ h o p ours is. absurd (cc);
       lock = λ request is. no_request request supplied refl is;
+      change = λ request is wanted. no_change request supplied refl is;
       slot = λ h o k p dirty keep bytes ours is lacks. no_return k p dirty keep bytes (ap message_in is);
     }
   where
@@ -352,18 +353,18 @@ all_paid : BeforeSteps (IsPaid header) history
 all_paid = (
   paid_supplied,
   (
-    owes_nothing header settles_again refl refl refl refl refl,
+    owes_nothing header settles_again refl refl refl refl refl refl,
     (
-      owes_nothing header asked refl refl refl refl refl,
+      owes_nothing header asked refl refl refl refl refl refl,
       (
-        owes_nothing header settled refl refl refl refl refl,
+        owes_nothing header settled refl refl refl refl refl refl,
         (
           paid_readied,
           (
-            owes_nothing header settles refl refl refl refl refl,
+            owes_nothing header settles refl refl refl refl refl refl,
             (
-              owes_nothing header opened refl refl refl refl refl,
-              (owes_nothing header made refl refl refl refl refl, (owes_nothing header [] refl refl refl refl refl, tt)),
+              owes_nothing header opened refl refl refl refl refl refl,
+              (owes_nothing header made refl refl refl refl refl refl, (owes_nothing header [] refl refl refl refl refl refl, tt)),
             ),
           ),
         ),
@@ -373,7 +374,7 @@ all_paid = (
 )
 
 paid_now : IsPaid header history
-paid_now = owes_nothing header history refl refl refl refl refl
+paid_now = owes_nothing header history refl refl refl refl refl refl
 
 abbrev map_group : List Event
 map_group = event.Sent up (message.Init 1 16) ∷ event.Entered task 0 16 mapped 0 both Share ∷ []

@@ -11,6 +11,7 @@ use Rattle.vm_model.specs.Moments.{BeforeSteps, EachMoment}
 use Rattle.vm_model.specs.Waiting.{Access, waiting}
 use Rattle.vm_model.specs.Regions.{backing_of}
 use Rattle.vm_legal.specs.Merges.{IsThin}
+use Rattle.vm_legal.specs.Cached.{attributes_taken}
 use Rattle.vm_legal.specs.Debts.{IsPaid}
 use Rattle.vm_legal.specs.Frames.{FramesSuffice, frames_used}
 use Rattle.vm_legal.specs.InTurn.{AllRecalled, EndsAll, NoneSleeps}
@@ -21,7 +22,7 @@ use Rattle.vm_legal.specs.Prompt.{AllServed, Prompt, PromptAt}
 use Rattle.vm_legal.specs.Swept.{IsSwept}
 use Rattle.vm_legal.specs.Steps.{Letter, absence_taken, error_taken, taken_letter}
 use Rattle.vm_legal.specs.Walks.{page_on}
-use Rattle.vm_legal.proofs.Locks.{no_request}
+use Rattle.vm_legal.proofs.Locks.{no_change, no_request}
 use Rattle.vm_legal.proofs.Unshared.{NoneIsShared}
 use Rattle.vm_quiet.proofs.Letters.{never}
 
@@ -97,11 +98,11 @@ came_up (Some letter) = up letter.channel
     up (Up host object) = true
     up (Down host object control) = false
 
--- a step owes nothing that took nothing of a host, nor an error, nor the word that there is no page, nor a lock_request
+-- a step owes nothing that took nothing of a host, nor an error, nor the word that there is no page, nor a lock_request, nor a change of attributes
 pub owes_nothing : (header : Header) (past : List Event) → owed past ≡ None → came_up (taken_letter past) ≡ false → error_taken header past ≡ None
     → absence_taken header past ≡ None
-    → lock_taken past ≡ None → IsPaid header past
-owes_nothing header past made down failed lacked unlocked =
+    → lock_taken past ≡ None → attributes_taken past ≡ None → IsPaid header past
+owes_nothing header past made down failed lacked unlocked unchanged =
     record {
       none_owed = made;
       init = λ h o k size ours is. never (sym down ∙ ap came_up is);
@@ -110,6 +111,7 @@ owes_nothing header past made down failed lacked unlocked =
       error = λ h o p is. absurd (cc);
       absence = λ h o p ours is. absurd (cc);
       lock = λ request is. no_request request past unlocked is;
+      change = λ request is wanted. no_change request past unchanged is;
       slot = λ h o k p dirty keep bytes ours is lacks. never (sym down ∙ ap came_up is);
     }
 

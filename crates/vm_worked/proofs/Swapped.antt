@@ -194,18 +194,18 @@ prompt_now = nobody header refl history (λ t. idle_ended (0 == t)) nothing_left
 
 all_paid : BeforeSteps (IsPaid header) history
 all_paid = (
-  owes_nothing header loaded_both refl refl refl refl refl,
+  owes_nothing header loaded_both refl refl refl refl refl refl,
   (
-    owes_nothing header loaded refl refl refl refl refl,
+    owes_nothing header loaded refl refl refl refl refl refl,
     (
-      owes_nothing header allocated refl refl refl refl refl,
-      (owes_nothing header made refl refl refl refl refl, (owes_nothing header [] refl refl refl refl refl, tt)),
+      owes_nothing header allocated refl refl refl refl refl refl,
+      (owes_nothing header made refl refl refl refl refl refl, (owes_nothing header [] refl refl refl refl refl refl, tt)),
     ),
   ),
 )
 
 paid_now : IsPaid header history
-paid_now = owes_nothing header history refl refl refl refl refl
+paid_now = owes_nothing header history refl refl refl refl refl refl
 
 -- each command has its group
 

@@ -17,7 +17,7 @@ returns-clause-ok c =
     let object = c.in_ok-object.object in
     let over = c.in_ok-object.ensures in
     let made = c.in_ok-make.ensures in
-    let first : ObjectRow = record { kind = Temp; pages = row.pages; state = state.Without; control = 0; live = false; references = 0 } in
+    let first : ObjectRow = record { kind = Temp; pages = row.pages; state = state.Without; control = 0; live = false; cache = false; references = 0 } in
     let its : ObjectRow = record first { references = 1 } in
     let there = if_true object.0 (Some first) _ _ (made.ok.at object.0) in
     let referred = MatchOption-at_some _ (λ r. PutsObject object.0 (Some (record r { references = r.references + 1 })) c.make.new.self c.refer.new.self) first

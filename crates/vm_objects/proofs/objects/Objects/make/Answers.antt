@@ -10,7 +10,7 @@ use Rattle.vm_objects.proofs.objects.Objects.make.Goals.{In_ok-insert}
 use Rattle.vm_objects.proofs.objects.Objects.make.Goals as goal
 
 abbrev first : In_ok-insert → ObjectRow
-first c = record { kind = c.args.kind; pages = c.args.pages; state = state.Without; control = 0; live = false; references = 0 }
+first c = record { kind = c.args.kind; pages = c.args.pages; state = state.Without; control = 0; live = false; cache = false; references = 0 }
 
 is_made : (c : In_ok-insert) (rows marks rows2 marks2 : ℕ)
     → Changed c.insert.new.self.entries c.self.inside.absent.keys (spare c.self.inside.absent) c.self.inside.promised c.args.id.0 (first c)
