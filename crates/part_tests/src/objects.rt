@@ -6,7 +6,7 @@ use crate::shows::shows;
 use crate::told::{FILE, with_file};
 use std::test::Fail;
 use vm_base::{FrameNo, PageKey, PageNo};
-use vm_objects::{Holder, PagerState};
+use vm_objects::{Holder, Objects, PagerState};
 
 const LAST: PageKey = PageKey {
     object: FILE,
@@ -35,6 +35,21 @@ fn controlled(rt: HostRuntime) -> Result<(), Fail> {
     );
     objects.end_control(FILE);
     shows(&rt, objects.begin_control(FILE) == 2);
+    Ok(())
+}
+
+fn stays(objects: &Objects) -> bool {
+    objects.find(FILE).is_some_and(|row| row.cache)
+}
+
+#[test]
+fn kept(rt: HostRuntime) -> Result<(), Fail> {
+    let mut objects = with_file(rt.alloc())?;
+    shows(&rt, !stays(&objects));
+    objects.set_cache(FILE, true);
+    shows(&rt, stays(&objects));
+    objects.set_cache(FILE, false);
+    shows(&rt, !stays(&objects));
     Ok(())
 }
 

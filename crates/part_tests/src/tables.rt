@@ -52,6 +52,18 @@ fn acted(rt: HostRuntime) {
         &rt,
         message_act(MessageKind::Ready, PageState::Dead) == Act::Discard,
     );
+    shows(
+        &rt,
+        message_act(MessageKind::ChangeAttributes, PageState::Dead) == Act::Discard,
+    );
+    shows(
+        &rt,
+        message_act(MessageKind::ChangeAttributes, PageState::Absent) == Act::SetAttributes,
+    );
+    shows(
+        &rt,
+        message_act(MessageKind::Destroy, PageState::Unlocked) == Act::EndObject,
+    );
     let table = MessageTable::new([[Act::Fail, Act::Nothing]]);
     shows(&rt, table.act(0, 1) == Act::Nothing);
 }

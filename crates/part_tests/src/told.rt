@@ -16,6 +16,7 @@ pub fn with_file(alloc: Global) -> Result<Objects, NoMemory>
       state = PagerState.Without;
       control = 0;
       live = false;
+      cache = false;
       references = 0;
     }) }
     ensures room { IfOk result (λ objects. 0 < objects.marks) }
@@ -34,6 +35,7 @@ pub fn with_told_file(alloc: Global) -> Result<Objects, NoMemory>
       state = PagerState.Sent;
       control = 1;
       live = true;
+      cache = false;
       references = 0;
     }) }
 {

@@ -17,15 +17,16 @@ use Rattle.vm_model.specs.declared.script.Header.{Header}
 use Rattle.vm_legal.proofs.Answering.{itself, own_test}
 use Rattle.vm_legal.proofs.PagerAnswers.{create_answered, init_answered, lost_answered}
 use Rattle.vm_legal.proofs.Served.{paged_sends}
-use Rattle.vm_legal.specs.Licences.{IsBehind, IsClean, MaySendDown, PagerSends, pager_has, tells}
+use Rattle.vm_legal.specs.Licences.{IsBehind, IsCache, IsClean, MaySendDown, PagerSends, pager_has, tells}
 use Rattle.vm_legal.specs.InTurn.{AllInTurn}
 use Rattle.vm_legal.specs.Outside.{Outside, FilesAtStart, is_file, kind_of, start_in, start_page}
-use Rattle.vm_legal.specs.Pagers.{is_lost, last_return, newer}
+use Rattle.vm_legal.specs.Pagers.{is_lost, known_control, last_return, newer}
 use Rattle.vm_legal.specs.Steps.{just_begun}
 use Rattle.vm_legal.proofs.Files.{file_paged}
 use Rattle.vm_outside.specs.Areas.{read_at}
 use Rattle.pg_file.specs.declared.pager.KnownControl.{KnownControl}
-use Rattle.pg_file.specs.Answers.{CleanEvents, FileAnswer, RequestAnswer, clean_request, device_failed, is_stored, sent_to, told_of}
+use Rattle.pg_file.specs.Answers.{CacheEvents, CleanEvents, FileAnswer, RequestAnswer, TellsKnown, cache_request, clean_request, device_failed, is_stored}
+use Rattle.pg_file.specs.Answers.{sent_to, told_of}
 use Rattle.pg_file.specs.Files.{FileTable, LacksPage, has_lost}
 use Rattle.pg_file.specs.Stands.{AnswersKept, IsKnownAs, PagerServes, PagerStands, taking}
 use Rattle.pg_file.proofs.Facts.{holds_taken, sent_about}
@@ -199,21 +200,35 @@ behind_line e [] begun = absurd (false≢true begun)
 behind_line e (event.Line line ∷ past) begun = tt
 behind_line e (other ∷ past) begun = absurd (false≢true begun)
 
+-- what is said to the control that the pager knows, where a command lets it be said
+tells_known : (header : Header) (outside : Outside) (doing : Command) (past : List Event) (object : ℕ) (table : FileTable) (m : Message) (events : List Event)
+    → PagerStands header object table past → just_begun past ≡ true
+    → ((host control : ℕ) → known_control host object past ≡ Some control → MaySendDown header outside doing host object control m past)
+    → TellsKnown table.known table.object m events → AllInTurn header outside doing events past
+tells_known header outside doing past object table m events s begun may a =
+    by table.known s.known_is (subst (λ (o : ℕ). TellsKnown table.known o m events) s.object_is a)
+  where
+    by : (known : Option KnownControl) → IsKnownAs object known past → TellsKnown known object m events → AllInTurn header outside doing events past
+    by None is none = subst (λ (es : List Event). AllInTurn header outside doing es past) (sym none) tt
+    by (Some known) is said = subst (λ (es : List Event). AllInTurn header outside doing es past) (sym said) (
+      (
+        sends header outside doing known.host.0 object known.control m past s.file (may known.host.0 known.control is),
+        behind_line (sent_to known.host.0 object known.control m) past begun,
+      ),
+      tt,
+    )
+
 pub cleans : (header : Header) (outside : Outside) (doing : Command) (past : List Event) (object : ℕ) (table : FileTable) (page : PageNo) (count : ℕ)
     (flush : Bool) (events : List Event)
     → PagerStands header object table past → just_begun past ≡ true → IsClean doing object page.0 count flush
     → CleanEvents table.known table.object page count flush events → AllInTurn header outside doing events past
-cleans header outside doing past object table page count flush events s begun doing_is a =
-    by table.known s.known_is (subst (λ (o : ℕ). CleanEvents table.known o page count flush events) s.object_is a)
-  where
-    by : (known : Option KnownControl) → IsKnownAs object known past → CleanEvents known object page count flush events
-        → AllInTurn header outside doing events past
-    by None is none = subst (λ (es : List Event). AllInTurn header outside doing es past) (sym none) tt
-    by (Some known) is asks = subst (λ (es : List Event). AllInTurn header outside doing es past) (sym asks) (
-      (
-        sends header outside doing known.host.0 object known.control (clean_request page count flush) past s.file
-            (s.file, refl, refl, refl, is, doing_is, begun),
-        behind_line (sent_to known.host.0 object known.control (clean_request page count flush)) past begun,
-      ),
-      tt,
-    )
+cleans header outside doing past object table page count flush events s begun doing_is =
+    tells_known header outside doing past object table (clean_request page count flush) events s begun
+    (λ host control is. (s.file, refl, refl, refl, is, doing_is, begun))
+
+pub caches : (header : Header) (outside : Outside) (doing : Command) (past : List Event) (object : ℕ) (table : FileTable) (cache : Bool) (events : List Event)
+    → PagerStands header object table past → just_begun past ≡ true → IsCache doing object cache → CacheEvents table.known table.object cache events
+    → AllInTurn header outside doing events past
+caches header outside doing past object table cache events s begun doing_is =
+    tells_known header outside doing past object table (cache_request cache) events s begun
+    (λ host control is. (s.file, refl, refl, is, doing_is, begun))

@@ -11,7 +11,7 @@ use Rattle.vm_model.specs.declared.script.Header.{Header}
 use Rattle.vm_legal.specs.Outside.{is_file}
 use Rattle.vm_legal.specs.Pagers.{known_after, known_control}
 use Rattle.pg_file.specs.declared.pager.KnownControl.{KnownControl}
-use Rattle.pg_file.specs.Answers.{CleanEvents, FileAnswer, Greets, clean_request, is_stored, sent_to, told_of}
+use Rattle.pg_file.specs.Answers.{CacheEvents, CleanEvents, FileAnswer, Greets, TellsKnown, cache_request, clean_request, is_stored, sent_to, told_of}
 use Rattle.pg_file.specs.Files.{FileTable, MarksPage, has_lost, without_known}
 use Rattle.pg_file.specs.Stands.{IsKnownAs, IsOther, PagerServes, PagerStands, new_table, taking}
 use Rattle.pg_file.proofs.Facts.{Holds, Leaves, Returned, holds_taken, known_elsewhere, known_taken, known_there, leaves_all, nothing_new, on_sent}
@@ -188,13 +188,22 @@ pub others : (header : Header) (object : ℕ) (table : FileTable) (e : Event) (p
     → PagerStands header object table (e ∷ past)
 others header object table e past apart s = stays header object table past (e ∷ past) (others_leave object e past apart) s
 
+-- what it says to the control that it knows leaves it as it was
+stands_telling : (header : Header) (past : List Event) (object : ℕ) (table : FileTable) (m : Message) (events : List Event)
+    → PagerStands header object table past → TellsKnown table.known table.object m events → PagerStands header object table (events ++ past)
+stands_telling header past object table m events s a = stays header object table past _ (told table.known a) s
+  where
+    told : (known : Option KnownControl) → TellsKnown known table.object m events → Leaves object past (events ++ past)
+    told None is = leaves_all object events [] past is (nothing_new object past)
+    told (Some known) is =
+        leaves_all object events (sent_to known.host.0 table.object known.control m ∷ []) past is
+        (on_sent object known.host.0 table.object known.control m past)
+
 pub clean_stands : (header : Header) (past : List Event) (object : ℕ) (table : FileTable) (page : PageNo) (count : ℕ) (flush : Bool) (events : List Event)
     → PagerStands header object table past → CleanEvents table.known table.object page count flush events
     → PagerStands header object table (events ++ past)
-clean_stands header past object table page count flush events s a = stays header object table past _ (asked table.known a) s
-  where
-    asked : (known : Option KnownControl) → CleanEvents known table.object page count flush events → Leaves object past (events ++ past)
-    asked None is = leaves_all object events [] past is (nothing_new object past)
-    asked (Some known) is =
-        leaves_all object events (sent_to known.host.0 table.object known.control (clean_request page count flush) ∷ []) past is
-        (on_sent object known.host.0 table.object known.control _ past)
+clean_stands header past object table page count flush events = stands_telling header past object table (clean_request page count flush) events
+
+pub cache_stands : (header : Header) (past : List Event) (object : ℕ) (table : FileTable) (cache : Bool) (events : List Event)
+    → PagerStands header object table past → CacheEvents table.known table.object cache events → PagerStands header object table (events ++ past)
+cache_stands header past object table cache events = stands_telling header past object table (cache_request cache) events

@@ -30,6 +30,10 @@ device_failed way object page = event.DeviceFailed Files way (record { 0 = objec
 abbrev pub clean_request : PageNo → ℕ → Bool → Message
 clean_request page count flush = message.Lock page count 2 flush 8 true
 
+-- whether the file stays when its last entry goes, with the strategy none; the kernel says when it has heard it
+abbrev pub cache_request : Bool → Message
+cache_request cache = message.Attributes cache 0 true
+
 -- the bytes of a page are supplied
 abbrev pub Supplied : ℕ → ℕ → ℕ → ℕ → PageNo → List Event → Type 0
 Supplied size host object control page events =
@@ -111,8 +115,15 @@ LeavesBacking (message.Request control page access) table before after (Ok event
 LeavesBacking (message.Return control page dirty keep bytes) table before after result = Unit {0}
 LeavesBacking m table before after result = after ≡ before
 
--- a clean asks the control that the pager knows, and nobody where it knows none
+-- a message goes to the control that the pager knows, and to nobody where it knows none
+abbrev pub TellsKnown : Option KnownControl → ℕ → Message → List Event → Type 0
+TellsKnown None object m events = events ≡ []
+TellsKnown (Some known) object m events = events ≡ sent_to known.host.0 object known.control m ∷ []
+
+-- a clean asks that control
 abbrev pub CleanEvents : Option KnownControl → ℕ → PageNo → ℕ → Bool → List Event → Type 0
-CleanEvents None object page count flush events = events ≡ []
-CleanEvents (Some known) object page count flush events =
-    events ≡ sent_to known.host.0 object known.control (clean_request page count flush) ∷ []
+CleanEvents known object page count flush events = TellsKnown known object (clean_request page count flush) events
+
+-- whether the file stays is said to that control
+abbrev pub CacheEvents : Option KnownControl → ℕ → Bool → List Event → Type 0
+CacheEvents known object cache events = TellsKnown known object (cache_request cache) events

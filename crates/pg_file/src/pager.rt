@@ -2,7 +2,8 @@
 ghost use Rattle.std.specs.Prelude.{ℕ, ◌≡◌, ◌≤◌, ◌*◌, [], List, None, Some, IfOk, OnErr, length, not};
 ghost use Rattle.std.specs.declared.option.Option.{Option};
 ghost use Rattle.pg_answers.specs.Answers.{AnswerHasCause, EndsInReply, IsToPager, ReturnsWhole};
-ghost use Rattle.pg_file.specs.Answers.{CleanEvents, FileAnswer, LeavesBacking, LeavesFile, TellsPage, write_answer};
+ghost use Rattle.pg_file.specs.Answers.{CacheEvents, CleanEvents, FileAnswer, LeavesBacking, LeavesFile, TellsKnown, TellsPage};
+ghost use Rattle.pg_file.specs.Answers.{write_answer};
 ghost use Rattle.pg_file.specs.Calls.{FileMakes, FindMakes, StoreMakes};
 ghost use Rattle.pg_file.specs.Files.{KeepsShape, MarksPage, has_lost, without_known};
 ghost use Rattle.pg_file.specs.Finding.{FindHasCause, IsFoundAs, IsFoundIn, IsWholePage, StoreHasCause};
@@ -144,9 +145,29 @@ impl FilePager {
     pub fn clean(&self, page: PageNo, count: u32, flush: bool) -> Result<Events, NoMemory>
         ensures { IfOk result (λ events. CleanEvents self.now.known self.now.object page count flush events.items) }
     {
+        self.tell_known(clean_request(page, count, flush))
+    }
+
+    /// Says to the control that the pager knows whether the file stays in memory when its last entry
+    /// goes: memory_object_change_attributes of the Mach 3 kernel interfaces, with the strategy none
+    /// and a reply.
+    pub fn cache(&self, cache: bool) -> Result<Events, NoMemory>
+        ensures { IfOk result (λ events. CacheEvents self.now.known self.now.object cache events.items) }
+    {
+        let request = Message::Attributes {
+            cache,
+            strategy: 0,
+            reply: true,
+        };
+        self.tell_known(request)
+    }
+
+    // Sends a request to the control that the pager knows, and to nobody where it knows none.
+    fn tell_known(&self, request: Message) -> Result<Events, NoMemory>
+        ensures { IfOk result (λ events. TellsKnown self.now.known self.now.object request events.items) }
+    {
         let mut events = Listing::new(self.alloc);
         if let Some(known) = self.known {
-            let request = clean_request(page, count, flush);
             events.push(sent(known.host, self.object, known.control, request))?;
         }
         Ok(events)

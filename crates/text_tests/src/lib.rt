@@ -7,4 +7,6 @@ mod scripts;
 #[cfg(test)]
 mod shows;
 #[cfg(test)]
+mod staying;
+#[cfg(test)]
 mod texts;

@@ -1,7 +1,7 @@
 use Rattle.pg_file.proofs.Carrying.{carries, empty, others_carry}
-use Rattle.pg_file.proofs.Causes.{causes, cleans}
+use Rattle.pg_file.proofs.Causes.{caches, causes, cleans}
 use Rattle.pg_file.proofs.Debts.{paid}
-use Rattle.pg_file.proofs.Standing.{clean_stands, others, stands, start}
+use Rattle.pg_file.proofs.Standing.{cache_stands, clean_stands, others, stands, start}
 use Rattle.pg_file.proofs.law.answers_are_legal.Goals as goal
 
 pub returns-clause-start : goal.returns-clause-start
@@ -16,6 +16,9 @@ returns-clause-others c = others
 pub returns-clause-clean_stands : goal.returns-clause-clean_stands
 returns-clause-clean_stands c = clean_stands
 
+pub returns-clause-cache_stands : goal.returns-clause-cache_stands
+returns-clause-cache_stands c = cache_stands
+
 pub returns-clause-causes : goal.returns-clause-causes
 returns-clause-causes c = causes
 
@@ -24,6 +27,9 @@ returns-clause-paid c = paid
 
 pub returns-clause-cleans : goal.returns-clause-cleans
 returns-clause-cleans c = cleans
+
+pub returns-clause-caches : goal.returns-clause-caches
+returns-clause-caches c = caches
 
 pub returns-clause-carries : goal.returns-clause-carries
 returns-clause-carries c = carries
