@@ -4,6 +4,9 @@ pub mod AnswerEffects
 pub mod DeclaredKinds
 pub mod DeclaredMapped
 pub mod DeclaredRegion
+pub mod FlagSet
+pub mod FlagsKept
+pub mod StaySaid
 pub mod LiveControls
 pub mod LockHeeded
 pub mod LockPending

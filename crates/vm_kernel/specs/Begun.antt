@@ -11,10 +11,9 @@ use Rattle.vm_model.specs.Homes.{home_of, object_home}
 use Rattle.vm_model.specs.Ranges.{InRange}
 use Rattle.vm_legal.specs.Bytes.{OwnBytes}
 use Rattle.vm_legal.specs.Follows.{IsConsequence, head}
-use Rattle.vm_legal.specs.InTurn.{IsDoneInTurn}
+use Rattle.vm_legal.specs.InTurn.{IsDoneInTurn, AllInTurn}
 use Rattle.vm_legal.specs.Frames.{Suffice}
 use Rattle.vm_legal.specs.Homes.{EntersNext, IsOnlyOfHost}
-use Rattle.vm_legal.specs.InTurn.{AllInTurn}
 use Rattle.vm_legal.specs.Living.{lives_on}
 use Rattle.vm_legal.specs.Outside.{Outside, is_file}
 use Rattle.vm_legal.specs.Prompt.{PromptAt}
@@ -64,6 +63,7 @@ KernelSays h size (event.Sent (Up host object) (message.Request control page acc
 KernelSays h size (event.Sent (Up host object) (message.Unlock control page access)) = host.0 ≡ h
 KernelSays h size (event.Sent (Up host object) (message.Completed control page count)) = host.0 ≡ h
 KernelSays h size (event.Sent (Up host object) (message.Terminate control)) = host.0 ≡ h
+KernelSays h size (event.Sent (Up host object) (message.Changed control cache strategy)) = host.0 ≡ h
 KernelSays h size (event.Sent (Up host object) other) = ⊥
 KernelSays h size (event.Sent (Down host object control) m) = ⊥
 KernelSays h size (event.TaskMade task host) = host.0 ≡ h

@@ -26,7 +26,7 @@ pub record MadeRange (region : RegionId) (object : ObjectId) (pages entries : �
   pub laundry : new.laundry ≡ old.laundry
   pub waits : new.waits ≡ old.waits
   pub region_row : PutsRegion region.0 (Some (record { top = object; shift = 0; pages = pages; marked = false; entries = entries })) old.chains new.chains
-  pub object_row : PutsObject object.0 (Some (record { kind = Temp; pages = pages; state = Without; control = 0; live = false; references = 1 }))
+  pub object_row : PutsObject object.0 (Some (record { kind = Temp; pages = pages; state = Without; control = 0; live = false; cache = false; references = 1 }))
       old.memory.objects new.memory.objects
   pub marks : SameMarks old.memory.objects new.memory.objects
 

@@ -1,6 +1,7 @@
 pub mod Abroad
 pub mod Begun
 pub mod Built
+pub mod Caching
 pub mod Changes
 pub mod Endings
 pub mod Fits

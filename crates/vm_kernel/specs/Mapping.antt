@@ -26,7 +26,7 @@ declared_region object declared = record { top = object; shift = 0; pages = decl
 
 -- what the host knows of a declared object that it had known so, with one reference more
 abbrev pub referred : Declared → Option ObjectRow → ObjectRow
-referred declared None = record { kind = declared.kind; pages = declared.pages; state = Without; control = 0; live = false; references = 1 }
+referred declared None = record { kind = declared.kind; pages = declared.pages; state = Without; control = 0; live = false; cache = false; references = 1 }
 referred declared (Some row) = record row { references = row.references + 1 }
 
 -- one entry more leads to the region of a declared object, which is made where it isn't there

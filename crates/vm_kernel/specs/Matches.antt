@@ -12,6 +12,7 @@ use Rattle.vm_frames.specs.Frames.{FrameTable}
 use Rattle.vm_kernel.specs.Fits.{PartsFit}
 use Rattle.vm_kernel.specs.declared.parts.Parts.{Parts}
 use Rattle.vm_legal.specs.Accesses.{begun_at, is_ready}
+use Rattle.vm_legal.specs.Cached.{is_cached}
 use Rattle.vm_legal.specs.Frames.{frames_held, frames_wired, returns_out}
 use Rattle.vm_legal.specs.Licences.{LockRequest, lock_taken, owed}
 use Rattle.vm_legal.specs.Living.{tasks as made_tasks}
@@ -40,7 +41,8 @@ use Rattle.vm_state.specs.Filling.{AllUsed, HasCopies}
 use Rattle.vm_state.specs.Passed.{IsUnmet, StaysAway}
 use Rattle.vm_state.specs.Places.{known_local, place_of}
 use Rattle.vm_state.specs.References.{AllReferred}
-use Rattle.vm_state.specs.Stands.{AreShared, HasControls, HasEntries, HasFrames, HasHomes, HasKinds, HasLaundry, HasPages, HasRegions, HasTasks, HasUse}
+use Rattle.vm_state.specs.Stands.{AreShared, HasControls, HasEntries, HasFlags, HasFrames, HasHomes, HasKinds, HasLaundry, HasPages, HasRegions, HasTasks}
+use Rattle.vm_state.specs.Stands.{HasUse}
 use Rattle.vm_state.specs.Stands.{KnowsFiles, KnowsPages}
 use Rattle.vm_state.specs.Waiters.{BeganInOrder, HasWaiters, is_woken}
 use Rattle.vm_supply.specs.declared.woken.Woken.{Woken}
@@ -137,9 +139,16 @@ pub record ControlFacts : Type 0 where
   pub last : ℕ → ℕ
   pub live : ℕ → Option ℕ
   pub ready : ℕ → Bool
+  pub cached : ℕ → Bool
 
 abbrev pub control_facts : ℕ → List Event → ControlFacts
-control_facts h past = record { last = λ o. last_control h o past; live = λ o. live_control h o past; ready = λ o. is_ready h o past }
+control_facts h past =
+    record {
+      last = λ o. last_control h o past;
+      live = λ o. live_control h o past;
+      ready = λ o. is_ready h o past;
+      cached = λ o. is_cached h o past;
+    }
 
 -- its pages and frames
 pub record MemoryFacts : Type 0 where
@@ -197,6 +206,7 @@ pub record Core (header : Header) (h : ℕ) (k : Parts) (ids : Ids) (gone : List
   pub spaces : Spaces header h k.maps k.chains k.waits.rows gone s
   pub objects : Objects header h k.chains k.memory.objects ids s.objects
   pub controls : HasControls (named header) h k.memory.objects c.last c.live c.ready (λ o. home_in s.objects.home (s.objects.made_for o))
+  pub flags : HasFlags (named header) k.memory.objects c.cached
   pub pages : Pages header h k.memory.frames k.memory.resident k.memory.objects k.laundry m
 
 -- the kernel of a host after a history, also inside a step; the counts of entries include some that have just gone
@@ -233,6 +243,17 @@ pub record Amidst (header : Header) (h : ℕ) (k : Parts) (ids : Ids) (gone : Li
 -- the kernel inside a step, with accesses that are to be run again, and whom an answer has woken
 pub record Works (header : Header) (h : ℕ) (k : Parts) (ids : Ids) (who : Woken) (past : List Event) : Type 0 where
   pub matches : Matches header h k ids [] past
+  pub used : UsesAll header k past
+  pub referred : AllReferred k.chains k.memory.objects k.memory.resident
+  pub thin : IsThin k.chains k.memory.objects
+  pub waits : HasWaits header h k who past
+  pub order : HasOrder k past
+
+-- the same, but for the flags by which declared objects stay without an entry: these are still others
+pub record WorksBut (header : Header) (h : ℕ) (k : Parts) (ids : Ids) (who : Woken) (flags : ℕ → Bool) (past : List Event) : Type 0 where
+  pub core : Core header h k ids [] (space_facts header past) (record (control_facts h past) { cached = flags }) (memory_facts header h past)
+  pub settled : IsSettled past
+  pub replied : IsReplied past
   pub used : UsesAll header k past
   pub referred : AllReferred k.chains k.memory.objects k.memory.resident
   pub thin : IsThin k.chains k.memory.objects

@@ -120,6 +120,8 @@ breadth_of other = breadth.Few
 abbrev pub word_breadth : Message → Breadth
 word_breadth (message.Lock page count returns flush lock reply) = breadth.Pages
 word_breadth (message.Error page reason) = breadth.Pages
+word_breadth (message.Ready cache strategy) = breadth.Pages
+word_breadth (message.Attributes cache strategy reply) = breadth.Pages
 word_breadth other = breadth.Few
 
 -- what a fork of a task tells and makes at most: it makes a task, and copies each entry
@@ -128,7 +130,7 @@ of_entries task k = 1 + 4 * length (rows_in task k.maps)
 
 -- What is told at most in front of the accesses that are run: some events; a fork makes a task and copies entries; a copy may wait for its pages, and then each
 -- frame counts twice; an end takes each page and each control, and then one object may be merged for each entry of the task; a pageout reclaims each page, of
--- which a new pager may be told, a lock request may have each page given back, and an error may end slow copies.
+-- which a new pager may be told, a lock request may have each page given back, an error may end slow copies, and a flag that goes may end an object.
 abbrev pub front : Breadth → Parts → ℕ
 front breadth.Few k = 5
 front (breadth.Entries task) k = of_entries task.0 k
@@ -136,10 +138,18 @@ front breadth.Frames k = 2 * frame_count k.memory.frames + 5
 front breadth.Pages k = 2 * frame_count k.memory.frames + length k.memory.objects.entries + 1
 front (breadth.Ends task) k = 2 * frame_count k.memory.frames + length k.memory.objects.entries + 1 + length (rows_in task.0 k.maps)
 
--- what the word itself tells at most: a lock request has each page given back, and has its reply
-abbrev pub heeding : Message → Parts → ℕ
-heeding (message.Lock page count returns flush lock reply) k = listed_pages k.memory.queues + 1
-heeding other k = 1
+-- what the word itself tells at most: a lock request has each page given back, and has its reply; a flag that goes may end an object
+abbrev pub heeding : Message → Parts → Ids → ℕ
+heeding (message.Lock page count returns flush lock reply) k ids = listed_pages k.memory.queues + 1
+heeding (message.Ready cache strategy) k ids = 1 + leaving k ids
+heeding (message.Attributes cache strategy reply) k ids = 1 + leaving k ids
+heeding other k ids = 1
+
+-- the word may end an object
+abbrev pub may_end : Message → Bool
+may_end (message.Ready cache strategy) = true
+may_end (message.Attributes cache strategy reply) = true
+may_end other = false
 
 -- and what the end of those tells whom it fails
 abbrev pub waking : Woken → Parts → Ids → ℕ
@@ -149,6 +159,7 @@ waking other k ids = 0
 -- a word that fails accesses may tell of pages, and leaves these and the objects
 pub record Dies (m : Message) (old new : Parts) : Type 0 where
   pub breadth : word_breadth m ≡ breadth.Pages
+  pub stays : may_end m ≡ false
   pub queues : new.memory.queues ≡ old.memory.queues
   pub objects : new.memory.objects ≡ old.memory.objects
 

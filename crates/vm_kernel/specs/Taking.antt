@@ -10,7 +10,8 @@ use Rattle.vm_model.specs.Named.{named}
 use Rattle.vm_legal.specs.Debts.{HasLocked}
 use Rattle.vm_legal.specs.Outside.{Outside}
 use Rattle.vm_legal.specs.Licences.{LockRequest, lock_taken, zeroes}
-use Rattle.vm_legal.specs.Steps.{absence_taken, error_taken, fails_access, fails_task, since}
+use Rattle.vm_legal.specs.Cached.{Attributes, attributes_taken}
+use Rattle.vm_legal.specs.Steps.{absence_taken, changes, error_taken, fails_access, fails_task, since}
 use Rattle.vm_legal.specs.Stretches.{EachOf}
 use Rattle.vm_legal.specs.Reclaims.{IsReclaim}
 use Rattle.vm_resident.specs.Resident.{ResidentTable, page_key, row_at}
@@ -26,19 +27,25 @@ use Rattle.vm_waits.specs.declared.waiting.On.TheVariants as on
 use Rattle.vm_waits.specs.declared.waiting.Waiting.{Waiting}
 use Rattle.vm_state.specs.Waiters.{Asker, is_awaited, is_woken}
 
--- what a pager may say, where a page has so many bytes: it answers, or asks for locks
+-- what a pager may say, where a page has so many bytes: it answers, asks for locks, or says whether its object stays without an entry
 abbrev pub IsWord : ℕ → Message → Type 0
 IsWord size (message.Lock page count returns flush lock reply) = IsLockRequest (message.Lock page count returns flush lock reply)
 IsWord size (message.Ready cache strategy) = IsAnswer size (message.Ready cache strategy)
 IsWord size (message.Supply page lock precious bytes) = IsAnswer size (message.Supply page lock precious bytes)
 IsWord size (message.Unavailable page) = IsAnswer size (message.Unavailable page)
 IsWord size (message.Error page reason) = IsAnswer size (message.Error page reason)
+IsWord size (message.Attributes cache strategy reply) = Unit {0}
 IsWord size other = ⊥
 
 -- the message is a lock request
 abbrev pub is_lock_request : Message → Bool
 is_lock_request (message.Lock page count returns flush lock reply) = true
 is_lock_request other = false
+
+-- the message changes attributes
+abbrev pub is_attributes : Message → Bool
+is_attributes (message.Attributes cache strategy reply) = true
+is_attributes other = false
 
 -- the page is asked: it has a row, and isn't here
 abbrev pub is_away : Option PageRow → Bool
@@ -121,6 +128,11 @@ IsAbsencePaid header past =
 -- a lock request that the step took is obeyed
 abbrev pub IsLockPaid : Header → List Event → Type 0
 IsLockPaid header past = (request : LockRequest) → lock_taken past ≡ Some request → HasLocked header request past
+
+-- a change of attributes that the step took is told, where its pager wants that
+abbrev pub IsChangePaid : List Event → Type 0
+IsChangePaid past =
+    (request : Attributes) → attributes_taken past ≡ Some request → request.reply ≡ true → since (changes request.host request.object) past ≡ true
 
 -- the access waits for a page of the range that isn't asked, so for its unlock
 abbrev pub is_unlocked : ResidentTable → ℕ → ℕ → ℕ → On → Bool

@@ -19,7 +19,7 @@ ghost use Rattle.vm_kernel.specs.Matches.{IsRanged, Rests, first_ids, host_id};
 ghost use Rattle.vm_kernel.specs.Refusing.{maps_elsewhere, takes_name};
 ghost use Rattle.vm_kernel.specs.Rooms.{IsReady, MayServe, ServeRoom, breadth_of, dues, front, full_dues, has_queue, most, own_dues};
 ghost use Rattle.vm_kernel.specs.Rooms.{with_rooms_of, word_breadth};
-ghost use Rattle.vm_kernel.specs.Taking.{IsAbsencePaid, IsErrorPaid, IsLockPaid, IsWord};
+ghost use Rattle.vm_kernel.specs.Taking.{IsAbsencePaid, IsChangePaid, IsErrorPaid, IsLockPaid, IsWord};
 ghost use Rattle.vm_legal.specs.InTurn.{EndsAll, NoneSleepsOn};
 ghost use Rattle.vm_legal.specs.Returned.{OnlyReturned};
 ghost use Rattle.vm_model.specs.Named.{named};
@@ -142,8 +142,10 @@ impl Kernel {
     /// discarded (this profile).
     ///
     /// The messages are memory_object_ready, memory_object_data_supply, memory_object_data_unavailable,
-    /// memory_object_data_error, and memory_object_lock_request. Whoever waited for the unlock of a page
-    /// that a lock request is over is run again behind memory_object_lock_completed.
+    /// memory_object_data_error, memory_object_lock_request and memory_object_change_attributes. Whoever
+    /// waited for the unlock of a page that a lock request is over is run again behind
+    /// memory_object_lock_completed. Where a declared object that has no entry here is to stay no more, by a
+    /// change of attributes or a first ready, it ends, behind memory_object_change_completed.
     ///
     /// It fails for want of memory alone. Behind `reserve`, and with room for as many events in the log, it
     /// does only for a lock request of an object that isn't declared, and then all but room is as it was.
@@ -164,6 +166,7 @@ impl Kernel {
         ensures failed { OnOk result (IsErrorPaid given.header (log.new.items ++ (given.front ++ given.past))) }
         ensures zeroed { OnOk result (IsAbsencePaid given.header (log.new.items ++ (given.front ++ given.past))) }
         ensures locked { OnOk result (IsLockPaid given.header (log.new.items ++ (given.front ++ given.past))) }
+        ensures changed { OnOk result (IsChangePaid (log.new.items ++ (given.front ++ given.past))) }
         ensures plays { OnOk result (PlaysAnswer given.header (given.front ++ given.past) object
             (outcome_of (object_at self.old.memory.objects object.0) control (row_at self.old.memory.resident object.0) message.now) (paging self.old)
             log.new.items (paging self.new)) }

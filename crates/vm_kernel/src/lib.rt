@@ -5,6 +5,7 @@ mod access;
 mod attempt;
 mod breadth;
 mod building;
+mod caching;
 mod changes;
 mod copying;
 mod counting;

@@ -6,10 +6,11 @@ ghost use Rattle.vm_model.specs.declared.message.Channel.TheVariants.{Down};
 ghost use Rattle.vm_kernel.specs.Begun.{LegalEvents, Passing};
 ghost use Rattle.vm_kernel.specs.Matches.{Rests, Works, host_id};
 ghost use Rattle.vm_kernel.specs.Plays.{Plays, PlaysAnswer, paging};
-ghost use Rattle.vm_kernel.specs.Rooms.{Dies, HasBuffers, IsRoomy, KeepsSkip, Spends, heeding};
+ghost use Rattle.vm_kernel.specs.Rooms.{Dies, HasBuffers, IsRoomy, KeepsSkip, Spends, heeding, may_end};
 ghost use Rattle.vm_parts.specs.Listed.{listed_pages};
-ghost use Rattle.vm_kernel.specs.Taking.{EndsNobody, FailsNow, HasAsker, IsAbsencePaid, IsAnswered, IsLockPaid, IsWord, KeepsAskers, PageWaitedFor, is_away};
-ghost use Rattle.vm_kernel.specs.Taking.{is_lock_request, is_unlocked, page_waited};
+ghost use Rattle.vm_kernel.specs.Taking.{EndsNobody, FailsNow, HasAsker, IsAbsencePaid, IsAnswered, IsChangePaid, IsLockPaid, IsWord, KeepsAskers};
+ghost use Rattle.vm_kernel.specs.Taking.{PageWaitedFor};
+ghost use Rattle.vm_kernel.specs.Taking.{is_away, is_lock_request, is_unlocked, page_waited};
 ghost use Rattle.vm_waits.specs.Waits.{oldest_row, woken};
 ghost use Rattle.vm_kernel.specs.Turns.{RunsNoneYet};
 ghost use Rattle.vm_objects.specs.Objects.{object_at};
@@ -29,7 +30,8 @@ use vm_supply::Woken;
 use vm_waits::{On, Waits};
 
 impl Parts {
-    /// Does what a pager says: its answer is heard, or its lock request is obeyed.
+    /// Does what a pager says: its answer is heard, its lock request is obeyed, or its object stays without
+    /// an entry from now on, or no more.
     pub fn heed(
         &mut self,
         ids: &Ids,
@@ -54,13 +56,14 @@ impl Parts {
         ensures early { OnOk result (RunsNoneYet log.new.items) }
         ensures zeroed { OnOk result (IsAbsencePaid given.header (log.new.items ++ (given.front ++ given.past))) }
         ensures locked { OnOk result (IsLockPaid given.header (log.new.items ++ (given.front ++ given.past))) }
+        ensures changed { OnOk result (IsChangePaid (log.new.items ++ (given.front ++ given.past))) }
         ensures plays { OnOk result (PlaysAnswer given.header (given.front ++ given.past) object
             (outcome_of (object_at self.old.memory.objects object.0) control (row_at self.old.memory.resident object.0) message.now) (paging self.old)
             log.new.items (paging self.new)) }
-        ensures spends { OnOk result (Spends (heeding message.now self.old) 0 0 self.old log.old self.new log.new) }
-        ensures succeeds { IsRoomy (heeding message.now self.old) 0 self.old log.old.room
-            → (is_lock_request message.now ≡ true → listed_pages self.old.memory.queues + 1 ≤ self.old.memory.buffers.count) → 0 < self.old.memory.objects.marks
-            → IsOk result }
+        ensures spends { OnOk result (Spends (heeding message.now self.old ids.now) 0 0 self.old log.old self.new log.new) }
+        ensures succeeds { IsRoomy (heeding message.now self.old ids.now) 0 self.old log.old.room
+            → (is_lock_request message.now ≡ true → listed_pages self.old.memory.queues + 1 ≤ self.old.memory.buffers.count)
+            → (may_end message.now ≡ true → HasBuffers self.old) → 0 < self.old.memory.objects.marks → IsOk result }
         ensures buffers { OnOk result ((is_lock_request message.now ≡ true → listed_pages self.old.memory.queues + 1 ≤ self.old.memory.buffers.count)
             → HasBuffers self.old → 0 < self.new.memory.buffers.count) }
         ensures failing { IfOk result (λ woken. (key : PageKey) → woken ≡ who.Fails key → HasBuffers self.old → HasBuffers self.new) }
@@ -72,6 +75,11 @@ impl Parts {
                 self.obey(ids, object, control, message, log)?;
                 Ok(Woken::Nobody)
             }
+            Message::Attributes { .. } => {
+                self.change(ids, object, control, message, log)?;
+                Ok(Woken::Nobody)
+            }
+            Message::Ready { .. } => self.ready(ids, object, control, message, log),
             _ => self.hear(ids, object, control, message, log),
         }
     }
@@ -131,7 +139,7 @@ impl Parts {
     }
 
     // Whether the control of an object lives.
-    fn is_live(&self, object: ObjectId, control: u32) -> bool
+    pub fn is_live(&self, object: ObjectId, control: u32) -> bool
         ensures { result ≡ is_control control (live_in (object_at self.now.memory.objects object.0)) }
     {
         match self.memory.objects.find(object) {

@@ -170,7 +170,7 @@ impl Parts {
 
     // Ends an object to which nothing refers any more, and gives the one that lost a reference by
     // that and has some left.
-    fn end_object(
+    pub fn end_object(
         &mut self,
         ids: &Ids,
         object: ObjectId,

@@ -1,5 +1,5 @@
 // What a host does with messages of its pager, and with returns that its pager took.
-ghost use Rattle.std.specs.Prelude.{ℕ, ◌≡◌, ◌+◌, ◌<◌, ◌≤◌, ◌≢◌, ◌++◌, ◌∷◌, [], true, length, IfOk, IsOk, OnOk};
+ghost use Rattle.std.specs.Prelude.{ℕ, ◌≡◌, ◌+◌, ◌<◌, ◌≤◌, ◌≢◌, ◌++◌, ◌∷◌, [], false, true, length, IfOk, IsOk, OnOk};
 ghost use Rattle.vm_model.specs.declared.event.Event.TheVariants as event;
 ghost use Rattle.vm_model.specs.declared.message.Channel.TheVariants.{Down};
 ghost use Rattle.vm_supply.specs.declared.woken.Woken.TheVariants as who;
@@ -7,7 +7,8 @@ ghost use Rattle.vm_kernel.specs.Begun.{Doing, IsLaundered, LegalEvents, Passing
 ghost use Rattle.vm_kernel.specs.Matches.{Rests, Works, host_id};
 ghost use Rattle.vm_frames.specs.Frames.{frame_count};
 ghost use Rattle.vm_kernel.specs.Taking.{EndsEach, EndsNobody, Erring, FailsNow, HasAsker, HasEnded, HasFailed, IsAbsencePaid, IsAnswered, IsErrorPaid};
-ghost use Rattle.vm_kernel.specs.Taking.{IsLockPaid, IsWord, is_lock_request};
+ghost use Rattle.vm_kernel.specs.Taking.{IsChangePaid, IsLockPaid, IsWord, is_lock_request};
+ghost use Rattle.vm_legal.specs.Steps.{is_ready_message};
 ghost use Rattle.vm_base.specs.declared.ids.PageKey.{PageKey};
 ghost use Rattle.vm_objects.specs.Objects.{object_at};
 ghost use Rattle.vm_parts.specs.Listed.{listed_pages};
@@ -25,8 +26,8 @@ use vm_shadow::Ids;
 use vm_supply::{Woken, answer};
 
 impl Parts {
-    /// Does to the pages and objects what an answer says. The event of a page of zeros may come with
-    /// it.
+    /// Does to the pages and objects what an answer says, but that a pager is ready. The event of a page
+    /// of zeros may come with it.
     pub fn hear(
         &mut self,
         ids: &Ids,
@@ -39,6 +40,7 @@ impl Parts {
         requires rests { Rests given.header given.host self.old ids.now given.past }
         requires front { given.front ≡ event.Taken (Down (host_id given.host) object control) message.now ∷ [] }
         requires answer { IsAnswer self.old.size message.now }
+        requires other { is_ready_message message.now ≡ false }
         requires nothing { log.old.items ≡ [] }
         ensures works { IfOk result (λ woken. Works given.header given.host self.new ids.now woken (log.new.items ++ (given.front ++ given.past))) }
         ensures fails { IfOk result (λ woken. FailsNow given.header given.host woken (log.new.items ++ (given.front ++ given.past))) }
@@ -154,6 +156,7 @@ impl Parts {
         ensures failed { OnOk result (IsErrorPaid given.header (log.new.items ++ (given.front ++ given.past))) }
         ensures zeroed { OnOk result (IsAbsencePaid given.header (log.new.items ++ (given.front ++ given.past))) }
         ensures locked { OnOk result (IsLockPaid given.header (log.new.items ++ (given.front ++ given.past))) }
+        ensures changed { OnOk result (IsChangePaid (log.new.items ++ (given.front ++ given.past))) }
         ensures plays { OnOk result (PlaysAnswer given.header (given.front ++ given.past) object
             (outcome_of (object_at self.old.memory.objects object.0) control (row_at self.old.memory.resident object.0) message.now) (paging self.old)
             log.new.items (paging self.new)) }

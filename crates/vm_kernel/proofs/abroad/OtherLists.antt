@@ -16,6 +16,7 @@ matches_with {k = k} queues buffers waits same fit size m =
         spaces = spaces_refilled same m.core.spaces;
         objects = m.core.objects;
         controls = m.core.controls;
+        flags = m.core.flags;
         pages = m.core.pages;
       };
       settled = m.settled;

@@ -16,7 +16,7 @@ use Rattle.vm_state.proofs.Filling.{used_told}
 use Rattle.vm_model.specs.declared.event.Event.TheVariants as event
 use Rattle.std.specs.Prelude.{◌&&◌, ◌+◌, ◌==◌, ◌||◌}
 use Rattle.vm_model.specs.Homes.{object_home}
-use Rattle.vm_model.specs.Local.{is_on}
+use Rattle.vm_model.specs.Local.{is_on, Local, is_known_absent}
 use Rattle.vm_model.specs.Waiting.{waiting}
 use Rattle.vm_state.specs.Places.{known_local}
 use Rattle.vm_state.specs.Waiters.{waiting_in}
@@ -46,7 +46,6 @@ use Rattle.vm_legal.proofs.Turns.{cause_of}
 use Rattle.vm_base.specs.declared.ids.PageKey.{PageKey}
 use Rattle.vm_legal.specs.Returned.{OnlyReturned, was_returned}
 use Rattle.vm_legal.specs.Walks.{page_on}
-use Rattle.vm_model.specs.Local.{Local, is_known_absent}
 use Rattle.vm_model.specs.declared.message.Message.TheVariants as message
 use Rattle.vm_state.proofs.Bypassing.{waits_beyond}
 use Rattle.vm_state.proofs.Passing.{only_before}
@@ -239,8 +238,9 @@ module _ (header : Header) (h : ℕ) (k : Parts) (ids next : Ids) (past new : Li
         fits = has.fits;
         counts = λ o known found.
             has.counts o known found ∙
-            sym (references_more k.chains (next_region header past) (next_object header past) (next_region header new) (next_object header new) o same.regions
-            same.objects has.unmade (λ s high. none_from s high (shadow_at k.chains s) refl));
+            ap (λ n. n + one known.cache) (sym (references_more k.chains (next_region header past) (next_object header past) (next_region header new)
+            (next_object header new) o same.regions
+            same.objects has.unmade (λ s high. none_from s high (shadow_at k.chains s) refl)));
       }
     where
       none_from : (s : ℕ) → next_object header past ≤ s → (x : Option ShadowRow) → shadow_at k.chains s ≡ x → x ≡ None
@@ -369,6 +369,7 @@ module _ (header : Header) (h : ℕ) (k : Parts) (ids next : Ids) (past new : Li
               };
             };
             controls = controls_same objects;
+            flags = λ o less. same.pages.cached o ∙ rests.matches.core.flags o less;
             pages = record {
               shown = pages_same;
               washed = laundry_same;

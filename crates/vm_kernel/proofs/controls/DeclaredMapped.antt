@@ -1,93 +1,64 @@
--- A declared object is mapped: a task gets an entry on its region, which counts one more or is made, and then the object's pager is told of it.
-use Rattle.vm_kernel.proofs.controls.DeclaredKinds.{declared_few}
-use Rattle.vm_model.specs.Regions.{object_pages}
-use Rattle.vm_state.proofs.KnownPages.{sizes_new}
-use Rattle.vm_kernel.specs.Changes.{CanEnter}
-use Rattle.vm_kernel.proofs.Common.{Begins, Bool, ChainTable, ChangesOnly, Command, EachOf, Elsewhere, Enters, Entry, Event, HasControls, HasPages, Header, Ids}
-use Rattle.vm_kernel.proofs.Common.{IfSome, IsInside, IsReferred, IsSome, List, MapChange, Mapped, Matches, None, ObjectId, ObjectRow, ObjectTable, Option}
-use Rattle.vm_kernel.proofs.Common.{Outside, Parts, Plays, PutsObject, PutsRegion, QueueIsStill, Ran, RegionRow, Rests, RunsNone, SameMarks, Shares, Some}
-use Rattle.vm_kernel.proofs.Common.{Starts, TaskId, Temp, Up, [], all_tasks, ap, arith, code_where, entered, entering, entries_in, entries_in_row, entries_of}
-use Rattle.vm_kernel.proofs.Common.{entry, entry_at, eqb_tells, false, get_or, got, has_pager, head, holds, home_of, host_id, host_of}
-use Rattle.vm_kernel.proofs.Common.{if◌then◌else◌, in_use, inl, inr, is_none, is_on, is_range, is_ready, is_some, is_woken, last_control, length, live_control}
-use Rattle.vm_kernel.proofs.Common.{live_in, lives_on, local, marks_of, meets_range, most_entries, named, nat_tests, next_object, next_region, object_at}
-use Rattle.vm_kernel.proofs.Common.{object_home, page_below, pages_in, paging, place_of, refl, region_at, region_entries, region_of, region_pages, reverse}
-use Rattle.vm_kernel.proofs.Common.{rows_in, slice_get, some_is, subst, sym, tasks, true, waiting, with_entries, ℕ, ◌%◌, ◌&&◌, ◌+◌, ◌-◌, ◌/◌, ◌<◌, ◌==◌, ◌^◌}
-use Rattle.vm_kernel.proofs.Common.{◌||◌, ◌∙◌, ◌∷◌, ◌≡◌, ◌≤◌, ◌⊎◌}
-use Rattle.vm_kernel.proofs.space.RegionsFilled.{declared_unfilled, filled_temporary, put_filled, same_waiting}
+-- A declared object is mapped: a task gets an entry on its region, which counts one more or is made, and where no control of the object lives one begins.
+use Rattle.vm_kernel.proofs.Common.{Begins, Bool, ChainTable, ChangesOnly, Command, EachOf, Elsewhere, Entry, Event, HasControls, HasPages, Header, Ids, IfSome}
+use Rattle.vm_kernel.proofs.Common.{IsInside, IsReferred, IsSome, List, MapChange, Mapped, Matches, None, ObjectId, ObjectRow, ObjectTable, Option, Outside}
+use Rattle.vm_kernel.proofs.Common.{Parts, Plays, PutsObject, PutsRegion, QueueIsStill, Ran, RegionRow, Rests, RunsNone, SameMarks, Shares, Some, Starts}
+use Rattle.vm_kernel.proofs.Common.{TaskId, Temp, Up, [], ap, arith, code_where, entered, entering, entries_in, entries_in_row, entries_of, entry_at}
+use Rattle.vm_kernel.proofs.Common.{eqb_tells, false, get_or, got, has_pager, head, holds, host_id, host_of, if◌then◌else◌, in_use, inl, inr, is_none, is_range}
+use Rattle.vm_kernel.proofs.Common.{is_ready, is_some, last_control, length, live_control, live_in, local, marks_of, meets_range, most_entries, named}
+use Rattle.vm_kernel.proofs.Common.{nat_tests, next_object, next_region, object_at, object_home, page_below, pages_in, paging, place_of, refl, region_at}
+use Rattle.vm_kernel.proofs.Common.{region_entries, region_pages, reverse, rows_in, slice_get, some_is, subst, sym, true, waiting, with_entries, ℕ, ◌&&◌}
+use Rattle.vm_kernel.proofs.Common.{◌+◌, ◌-◌, ◌/◌, ◌<◌, ◌==◌, ◌^◌, ◌||◌, ◌∙◌, ◌∷◌, ◌≡◌, ◌≤◌, ◌⊎◌}
+use Rattle.vm_kernel.proofs.space.RegionsFilled.{filled_temporary}
 use Rattle.vm_kernel.proofs.space.RegionRows.{region_row}
-use Rattle.vm_state.proofs.Filling.{copies_kept, rows_unmade}
-use Rattle.std.proofs.Common.{nat_le, nat_lt, not}
+use Rattle.std.proofs.Common.{nat_le, nat_lt, not, suc, zero}
 use Rattle.std.proofs.lemmas.Bool.{not-false, or_parts}
 use Rattle.std.proofs.lemmas.List.{length-reverse}
 use Rattle.std.proofs.lemmas.Option.{slice_get_cases}
-use Rattle.vm_abroad.proofs.Home.{home_used, named_objects, named_regions, object_stays}
-use Rattle.vm_base.specs.declared.code.Code.TheVariants as code
-use Rattle.vm_base.specs.declared.ids.Inherit.TheVariants as inherit
+use Rattle.vm_abroad.proofs.Home.{named_regions}
 use Rattle.vm_base.specs.Limits.{most_pages}
 use Rattle.vm_base.specs.Pages.{IsPageSize}
 use Rattle.vm_legal.specs.Follows.{map_head, opening}
-use Rattle.vm_legal.specs.Licences.{Opens as MayOpen, is_paged}
-use Rattle.vm_legal.specs.Outside.{is_file, kind_in, kind_of}
+use Rattle.vm_legal.specs.Licences.{Opens as MayOpen}
+use Rattle.vm_legal.specs.Outside.{is_file, kind_in}
 use Rattle.vm_legal.specs.Refusal.{is_elsewhere}
 use Rattle.vm_maps.specs.Judge.{judged}
-use Rattle.vm_model.specs.Homes.{first_of}
 use Rattle.vm_model.specs.Named.{declared, declared_pages, pages_kept}
-use Rattle.vm_model.specs.declared.command.Command.TheVariants as command
-use Rattle.vm_model.specs.declared.event.Event.TheVariants as event
-use Rattle.vm_model.specs.declared.message.Message.TheVariants as message
 use Rattle.vm_model.specs.declared.script.Declared.{Declared}
 use Rattle.vm_objects.specs.declared.row.PagerState.{PagerState}
-use Rattle.vm_objects.specs.declared.row.PagerState.TheVariants as state
 use Rattle.vm_parts.specs.Changes.{one}
 use Rattle.vm_state.proofs.Declared.{IsWhole, whole_row}
-use Rattle.vm_state.proofs.Fresh.{other_test}
-use Rattle.vm_state.proofs.Knowing.{known_cases, known_put}
-use Rattle.vm_state.proofs.Places.{keeps_made}
-use Rattle.vm_state.proofs.Referred.{referred_put}
-use Rattle.vm_kernel.proofs.space.StillThin.{keeps_same, thin_paged}
-use Rattle.vm_state.proofs.Referring.{refers_region}
-use Rattle.vm_state.proofs.Waited.{told_changed, waits_changed}
+use Rattle.vm_state.proofs.Knowing.{known_put}
+use Rattle.vm_state.proofs.Referring.{refers_region, uncached_unreferred}
 use Rattle.vm_state.specs.Places.{known_local}
 use Rattle.vm_state.specs.References.{is_over}
-use Rattle.vm_supply.specs.declared.woken.Woken.TheVariants as woken
 use Rattle.vm_kernel.specs.Mapping.{Again, Begins as BeginsControl, First, Holds, IsOpen, Opens, declared_region, referred, shared_entry}
-use Rattle.vm_kernel.proofs.space.RegionCopied.{file_of, no_row}
-use Rattle.vm_kernel.proofs.space.EntriesCounted.{most_is}
-use Rattle.vm_kernel.proofs.controls.DeclaredRegion.{BecomesKnown, controls_opened, declared_references, entries_declared, fit_declared, kinds_declared}
-use Rattle.vm_kernel.proofs.controls.DeclaredRegion.{own_region, regions_declared, used_declared, waits_declared}
+use Rattle.vm_kernel.proofs.controls.DeclaredRegion.{BecomesKnown, BeginsAnew, LivesStill, MayMap, OpensDeclared, controls_opened, core_declared}
+use Rattle.vm_kernel.proofs.controls.DeclaredRegion.{declared_references, map_enters, map_home, rests_declared, used_mapped, waits_mapped, with_declared}
 use Rattle.vm_kernel.proofs.steps.EventsGrow.{licensed, suffices}
 use Rattle.vm_kernel.proofs.steps.HeadAlone.{heads_one, ran_head}
 use Rattle.vm_legal.proofs.Heads.{passed}
 use Rattle.vm_kernel.proofs.memory.WhatIsKnown.{other_if, pages_known}
 use Rattle.vm_kernel.proofs.abroad.OwnEvents.{mine_of, own_named, own_task}
 use Rattle.vm_kernel.proofs.abroad.OwnHost.{lives_here, lives_in, named_host, own_host, rows_here}
-use Rattle.vm_kernel.proofs.memory.PagesShown.{itself, pages_marked}
+use Rattle.vm_kernel.proofs.memory.PagesShown.{itself}
 use Rattle.vm_kernel.proofs.lists.ListsAsTold.{lists_same, plays_both, plays_told}
-use Rattle.vm_kernel.proofs.memory.PageReturned.{controls_stay, pages_created, unasked}
-use Rattle.vm_kernel.proofs.space.ForkShares.{MayShare, few_entries, rests_shared, unfilled_declared}
-use Rattle.vm_kernel.proofs.space.SharedEntries.{shared_entered}
-use Rattle.vm_kernel.proofs.space.TaskTables.{tasks_entered}
-use Rattle.vm_kernel.proofs.space.RegionsInUse.{holds_rows, uses_entered}
+use Rattle.vm_kernel.proofs.memory.PageReturned.{pages_created, unasked}
+use Rattle.vm_kernel.proofs.space.ForkShares.{MayShare, few_entries, rests_shared}
 use Rattle.vm_kernel.proofs.controls.LockReplied.{replied_behind}
 use Rattle.vm_state.proofs.Bypassing.{waits_quiet}
 use Rattle.vm_state.proofs.Passing.{quiet_if}
-use Rattle.vm_kernel.proofs.space.RegionHomes.{homes_caused, homes_put}
-
--- what a mapping that isn't refused has
-pub record MayMap (header : Header) (h : ℕ) (k : Parts) (task address bytes : ℕ) (object : ObjectId) (offset : ℕ) (past : List Event) : Type 0 where
-  pub lives : entries_in task k.maps ≡ Some (rows_in task k.maps)
-  pub idle : waiting task past ≡ None
-  pub declared : object.0 < named header
-  pub below : task < 1024
-  pub whole : bytes % header.size ≡ 0
-  pub some : 0 < bytes
-  pub end : address + bytes ≤ 2 ^ 32
-  pub inside : offset + bytes / header.size ≤ declared_pages header object.0
-  pub used : is_file header object.0 ≡ true → in_use header h object.0 past ≡ true
-  pub free : meets_range address bytes (rows_in task k.maps) ≡ false
-  pub room : length (rows_in task k.maps) < most_entries
-  pub judged : CanEnter task (shared_entry address bytes object offset) k
-  pub pages : offset + bytes / k.maps.size < 2 ^ 32
+use Rattle.vm_kernel.proofs.controls.FlagsKept.{flags_put, flags_set}
+use Rattle.vm_kernel.proofs.space.RegionEnds.{controls_put}
+use Rattle.vm_legal.specs.Cached.{is_cached}
+use Rattle.vm_state.specs.Pagers.{cached_in}
+use Rattle.vm_state.specs.Stands.{HasFlags}
+use Rattle.vm_kernel.specs.Matches.{control_facts}
+use Rattle.vm_base.specs.declared.code.Code.TheVariants as code
+use Rattle.vm_base.specs.declared.ids.Inherit.TheVariants as inherit
+use Rattle.vm_model.specs.declared.command.Command.TheVariants as command
+use Rattle.vm_model.specs.declared.event.Event.TheVariants as event
+use Rattle.vm_model.specs.declared.message.Message.TheVariants as message
+use Rattle.vm_objects.specs.declared.row.PagerState.TheVariants as state
 
 -- what isn't elsewhere is here
 here_of : (a b : Bool) → (a && not b) ≡ false → a ≡ true → b ≡ true
@@ -173,84 +144,30 @@ found_entered new (row ∷ rows) some free =
     by true later = own new (row ∷ rows) some
     by false later = rw apart later
 
--- The entry has its cause, and so has what the pager is told.
-
-pub map_enters : (header : Header) (h : ℕ) (task : TaskId) (address bytes : ℕ) (object : ObjectId) (offset : ℕ) (past : List Event) (k : Parts) (ids : Ids)
-    → Rests header h k ids past → MayMap header h k task.0 address bytes object offset past
-    → Enters header task.0 bytes object.0 offset past
-map_enters header h task address bytes object offset past k ids rests may =
-    let m = rests.matches in
-    let pages : (region_of header object.0 past).pages ≡ declared_pages header object.0 = ap (λ z. z.pages)
-    (m.core.spaces.homes.1.whole object.0 may.declared) in
-    let inside = may.inside in
-    let less = may.declared in
-    let more = named_regions header past in
-    record {
-      idle = may.idle;
-      host = h;
-      lives = lives_here m.core.spaces.tasks may.lives;
-      whole = may.whole;
-      inside = omega (arith, inside, pages);
-      made = omega (arith, less, more);
-      used = λ temporary. absurd (omega (arith, temporary, less));
-      file = may.used;
-      unfilled = unfilled_declared header object.0 (tasks past) past may.declared m.core.spaces.homes.1;
-    }
-
--- what a kernel has whose task has the first entry on the region of a declared object
-pub record OpensDeclared (header : Header) (task : TaskId) (row : Entry) (object : ObjectId) (pages : ℕ) (new : ObjectRow) (k : Parts) (objects : ObjectTable)
-    (chains : ChainTable) (maps : Mapped) : Type 0 where
-  pub free : region_at k.chains object.0 ≡ None
-  pub sized : pages ≡ declared_pages header object.0
-  pub known : BecomesKnown header object.0 (object_at k.memory.objects object.0) new
-  pub region : PutsRegion object.0 (Some (own_region object pages)) k.chains chains
-  pub put : PutsObject object.0 (Some new) k.memory.objects objects
-  pub marks : SameMarks k.memory.objects objects
-  pub changes : ChangesOnly k.maps maps task.0 (Some (entered row (rows_in task.0 k.maps)))
-
--- the kernel with the entry, the region and the object
-abbrev pub with_declared : Parts → ObjectTable → ChainTable → Mapped → Parts
-with_declared k objects chains maps =
-    record {
-      alloc = k.alloc;
-      host = k.host;
-      size = k.size;
-      declared = k.declared;
-      memory = record k.memory { objects = objects };
-      maps = maps;
-      chains = chains;
-      laundry = k.laundry;
-      waits = k.waits;
-      skip = k.skip;
-    }
-
 -- that a pager is told of an object
 abbrev pub beginning : ℕ → ObjectId → ℕ → ℕ → Event
 beginning h object control size = event.Sent (Up (host_id h) object) (message.Init control size)
 
 -- no control of the object lived
 pub was_dead : (header : Header) (h : ℕ) (past : List Event) (k : Parts) (ids : Ids) (object : ℕ) (new : ObjectRow) → Rests header h k ids past
-    → BecomesKnown header object (object_at k.memory.objects object) new → live_control h object past ≡ None
-was_dead header h past k ids object new rests known = rests.matches.core.controls.live object ∙ by (object_at k.memory.objects object) refl
-  where
-    by : (was : Option ObjectRow) → object_at k.memory.objects object ≡ was → live_in was ≡ None
-    by None is = refl
-    by (Some row) is = ap (λ b. if b then Some row.control else None) (known.quiet row is)
+    → BeginsAnew (object_at k.memory.objects object) new → live_control h object past ≡ None
+was_dead header h past k ids object new rests anew = rests.matches.core.controls.live object ∙ anew.dead
 
+-- what the pager is told has its cause
 map_opens : (header : Header) (h : ℕ) (task : TaskId) (address bytes : ℕ) (object : ObjectId) (offset : ℕ) (new : ObjectRow) (past : List Event) (k : Parts)
     (ids : Ids) → Rests header h k ids past → MayMap header h k task.0 address bytes object offset past
-    → BecomesKnown header object.0 (object_at k.memory.objects object.0) new
+    → BeginsAnew (object_at k.memory.objects object.0) new
     → MayOpen header h new.control object.0 header.size (got task (shared_entry address bytes object offset) ∷ past)
-map_opens header h task address bytes object offset new past k ids rests may known =
+map_opens header h task address bytes object offset new past k ids rests may anew =
     let m = rests.matches in
     let row = shared_entry address bytes object offset in
     let last = m.core.controls.last object.0 in
-    let next = known.control in
+    let next = anew.control in
     record {
       number = omega (arith, last, next);
       sized = refl;
       declared = may.declared;
-      none = was_dead header h past k ids object.0 new rests known;
+      none = was_dead header h past k ids object.0 new rests anew;
       task = task.0;
       address = address;
       at =
@@ -266,21 +183,6 @@ map_opens header h task address bytes object offset new past k ids rests may kno
       on_host = refl;
       region = refl;
     }
-
--- a file's region is on the host behind its entry
-
-map_home : (header : Header) (h : ℕ) (task : TaskId) (address bytes : ℕ) (object : ObjectId) (offset : ℕ) (past : List Event) (k : Parts) (ids : Ids)
-    → Rests header h k ids past → MayMap header h k task.0 address bytes object offset past
-    → is_file header object.0 ≡ true → home_of object.0 (got task (shared_entry address bytes object offset) ∷ past) ≡ Some h
-map_home header h task address bytes object offset past k ids rests may file =
-    let row = shared_entry address bytes object offset in
-    home_used header h task row.address row.bytes row.region row.offset row.prot row.inherit past rests.matches.core.spaces.homes.1 (may.used file)
-    (lives_here rests.matches.core.spaces.tasks may.lives)
-
-other_home : (task : TaskId) (address bytes : ℕ) (object : ObjectId) (offset : ℕ) (past : List Event) (r : ℕ) → (object.0 ≡ r → ⊥)
-    → home_of r (got task (shared_entry address bytes object offset) ∷ past) ≡ home_of r past
-other_home task address bytes object offset past r apart =
-    ap (λ b. if b then first_of (home_of r past) (host_of task.0 past) else home_of r past) (other_test object.0 r apart)
 
 -- the pages show what they did, where a control begins of an object without one
 pages_opened : (header : Header) (h : ℕ) (task : TaskId) (row : Entry) (object : ObjectId) (control : ℕ) (past : List Event) (k : Parts) (ids : Ids)
@@ -300,120 +202,55 @@ pub rests_opened : (header : Header) (h : ℕ) (outside : Outside) (doing : Comm
     (new : ObjectRow) (past : List Event) (k : Parts) (ids : Ids) (objects : ObjectTable) (chains : ChainTable) (maps : Mapped)
     → Rests header h k ids past → MayMap header h k task.0 address bytes object offset past
     → OpensDeclared header task (shared_entry address bytes object offset) object pages new k objects chains maps
+    → BeginsAnew (object_at k.memory.objects object.0) new
     → Rests header h (with_declared k objects chains maps) ids (beginning h object new.control header.size ∷ got task (shared_entry address bytes object offset)
     ∷ past)
-rests_opened header h outside doing task address bytes object offset pages new past k ids objects chains maps rests may o =
+rests_opened header h outside doing task address bytes object offset pages new past k ids objects chains maps rests may o anew =
     let m = rests.matches in
-    let size = header.size in
-    let row = shared_entry address bytes object offset in
-    let enters = got task row in
-    let begins = beginning h object new.control size in
+    let enters = got task (shared_entry address bytes object offset) in
+    let begins = beginning h object new.control header.size in
     let now = begins ∷ enters ∷ past in
-    let lives = may.lives in
-    let below : task.0 < all_tasks = rw most_is may.below in
-    let declared_less = may.declared in
-    let regions = named_regions header past in
-    let known_objects = named_objects header past in
-    let waits_at = λ (t : ℕ). waiting t past in
-    let none = no_row k.maps.size (entry k.waits.rows task.0) (waiting task.0 past) (rests.waits.is task.0 (ap is_some lives)) may.idle in
-    let used = λ (paged : is_paged header object.0 ≡ true). may.used (file_of header object.0 may.declared paged) in
     let controls : HasControls (named header) h objects (λ x. last_control h x now) (λ x. live_control h x now) (λ x. is_ready h x now)
     (λ x. object_home x past) =
     rw (own_host h) (controls_opened header k.memory.objects objects (λ x. last_control h x past) (λ x. live_control h x past) (λ x. is_ready h x past) object.0
-    new m.core.controls may.declared o.known o.put) in
-    record {
-      matches =
-          record {
-            core = record {
-              setting = m.core.setting;
-              fits = record {
-                parts = fit_declared header k.memory objects k.chains object.0 new m.core.fits.parts rests.referred o.known o.put;
-                plain = m.core.fits.plain;
-                buffers = m.core.fits.buffers;
-              };
-              spaces = record {
-                tasks = tasks_entered h size k.maps maps past task row m.core.spaces.tasks o.changes lives;
-                entries =
-                    entries_declared size k.maps maps k.chains chains task.0 object pages row m.core.spaces.entries o.free o.region o.changes refl below
-                    may.whole may.some
-                    may.end (let inside = may.inside in let all = o.sized in omega (arith, inside, all)) may.room;
-                shared =
-                    shared_entered (named header) task.0 k.maps maps row o.changes (λ less same. let bad : inherit.Share ≡ inherit.Copy = same in cc)
-                    m.core.spaces.shared;
-                uses =
-                    uses_entered header k.maps maps (λ r. in_use header h r past) (tasks past) (λ t r. holds size t r now) (next_region header past) task.0 row
-                    (lives_on h task.0 past) (λ r temporary apart. m.core.spaces.uses.used r temporary)
-                    (λ r file apart some. m.core.spaces.uses.files r file some) used m.core.spaces.uses.among
-                    o.changes lives below
-                    (m.core.spaces.tasks.hosts task.0 ∙ ap is_some lives)
-                    (λ t r away why. holds_rows size task.0 t r k.maps (rows_in task.0 k.maps) (entered row (entries_of size t past)) past lives away
-                    ∙ m.core.spaces.uses.apart t r away why);
-                homes = homes_put header h k.chains chains object.0 (own_region object pages) now o.region.at
-                    (λ paged. map_home header h task address bytes object offset past k ids rests may (file_of header object.0 may.declared paged))
-                    (homes_caused header outside h k.chains begins (enters ∷ past)
-                    (doing, map_opens header h task address bytes object offset new past k ids rests may o.known)
-                    (homes_caused header outside h k.chains enters past (doing, map_enters header h task address bytes object offset past k ids rests may)
-                    m.core.spaces.homes));
-              };
-              objects = record {
-                regions =
-                    regions_declared header past object new pages k.chains chains k.memory.objects objects ids (next_region header past)
-                    (next_object header past)
-                    (marks_of header past) m.core.objects.regions m.core.objects.kinds m.core.spaces.homes.1 may.declared regions known_objects o.free o.sized
-                    o.known o.region o.put;
-                kinds =
-                    kinds_declared header object new pages k.chains chains k.memory.objects objects may.declared o.known o.region o.put o.marks
-                    m.core.objects.kinds;
-                files = λ x file. elim (known_cases object.0 new k.memory.objects objects o.put x) [
-                  | inl this ↦
-                      ap (is_on h) (subst (λ (z : ℕ). home_of z now ≡ Some h) this.0 (map_home header h task address bytes object offset past k ids rests may
-                      (ap (is_file header) this.0 ∙ file)))
-                      ∙ (own_host h ∙ sym (ap is_some this.1))
-                  | inr other ↦ ap (is_on h) (other_home task address bytes object offset past x other.0)
-                      ∙ (m.core.objects.files x file ∙ sym (ap is_some other.1))
-                ];
-                sizes = sizes_new (named header) object.0 new k.memory.objects objects (λ x. object_pages header x past) (λ x. object_pages header x past) o.put
-                    (let pages = o.known.pages in let most = declared_few header object.0 m.core.setting.ranged may.declared in omega (arith, pages, most))
-                    (λ least. let declared = may.declared in absurd (omega (arith, least, declared))) (λ x apart. refl) m.core.objects.sizes;
-              };
-              controls = controls_stay (λ x at_home. object_stays x h enters past at_home) controls;
-              pages = record {
-                shown =
-                    pages_marked k.memory.frames k.memory.resident k.memory.objects objects (λ x p. known_local header x p (local header h (place_of x p) now))
-                    (pages_opened header h task row object new.control past k ids rests (was_dead header h past k ids object.0 new rests o.known)) o.marks;
-                washed = m.core.pages.washed;
-                counted = m.core.pages.counted;
-              };
-            };
-            settled = record { none_owed = refl; shut = λ region. refl };
-            replied = replied_behind tt (replied_behind tt m.replied);
-          };
-      used = record {
-        regions = used_declared object pages k.chains chains k.waits.rows o.region rests.used.regions;
-        copies =
-            copies_kept k.maps maps k.chains chains k.memory.resident k.memory.resident rests.used.copies
-            (same_waiting k.maps maps task.0 (Some (entered row (rows_in task.0 k.maps))) k.waits.rows o.changes none)
-            (put_filled object.0 (own_region object pages) k.chains chains o.free o.region
-            (declared_unfilled object.0 rests.used m.core.spaces.homes.1 m.core.objects.kinds may.declared)) (rows_unmade k.chains k.memory.resident);
-      };
-      referred =
-          referred_put object.0 new object.0 (Some (own_region object pages)) k.chains chains k.memory.objects objects k.memory.resident o.region o.put
-          (let single = o.known.references in omega (arith, single)) (λ is. o.known.live) rests.referred;
-      thin =
-          thin_paged object.0 new k.chains chains k.memory.objects objects (keeps_same k.chains chains (λ x. ap (λ f. f x) o.region.shadows))
-          (λ never. let number = o.known.control in omega (arith, number, never)) o.put rests.thin;
-      waits =
-          waits_quiet header h begins (enters ∷ past) (λ place. quiet_if (h == h && object.0 == place.object.0) Begins Elsewhere tt tt)
-          (waits_declared header maps chains k.memory.resident k.memory.objects objects k.waits.rows (is_woken woken.Nobody) waits_at object.0 new
-          (waits_changed k.maps maps k.chains chains k.memory.resident k.memory.objects k.waits.rows (is_woken woken.Nobody) waits_at task.0
-          (Some (entered row (rows_in task.0 k.maps))) rests.waits o.changes none
-          (keeps_made k.chains chains object.0 (own_region object pages) o.free o.region)
-          (told_changed k.maps maps k.waits.rows waits_at task.0 (rows_in task.0 k.maps) (Some (entered row (rows_in task.0 k.maps))) rests.waits.is o.changes
-          lives))
-          o.known o.put);
-      order = rests.order;
-      idle = rests.idle;
-    }
+    new m.core.controls may.declared o.known.live anew o.put) in
+    let flags : HasFlags (named header) objects (λ x. is_cached h x now) = rw (own_host h) (flags_set object.0 new false o.put anew.uncached m.core.flags) in
+    rests_declared now rests o
+    (record {
+      core = core_declared header h outside doing task address bytes object offset pages new past k ids objects chains maps (control_facts h now)
+          (λ x p. known_local header x p (local header h (place_of x p) now)) rests may o controls flags
+          (pages_opened header h task (shared_entry address bytes object offset) object new.control past k ids rests
+          (was_dead header h past k ids object.0 new rests anew));
+      settled = record { none_owed = refl; shut = λ region. refl };
+      replied = replied_behind tt (replied_behind tt m.replied);
+    })
+    (used_mapped header h task address bytes object offset pages new past k ids objects chains maps rests may o)
+    (waits_quiet header h begins (enters ∷ past) (λ place. quiet_if (h == h && object.0 == place.object.0) Begins Elsewhere tt tt)
+    (waits_mapped header h task address bytes object offset pages new past k ids objects chains maps rests may o))
+    rests.order
+
+-- and behind the entry alone, where the object was known and its control lives
+pub rests_kept : (header : Header) (h : ℕ) (outside : Outside) (doing : Command) (task : TaskId) (address bytes : ℕ) (object : ObjectId) (offset pages : ℕ)
+    (new : ObjectRow) (past : List Event) (k : Parts) (ids : Ids) (objects : ObjectTable) (chains : ChainTable) (maps : Mapped)
+    → Rests header h k ids past → MayMap header h k task.0 address bytes object offset past
+    → OpensDeclared header task (shared_entry address bytes object offset) object pages new k objects chains maps
+    → LivesStill (object_at k.memory.objects object.0) new
+    → Rests header h (with_declared k objects chains maps) ids (got task (shared_entry address bytes object offset) ∷ past)
+rests_kept header h outside doing task address bytes object offset pages new past k ids objects chains maps rests may o still =
+    let m = rests.matches in
+    let now = got task (shared_entry address bytes object offset) ∷ past in
+    rests_declared now rests o
+    (record {
+      core = core_declared header h outside doing task address bytes object offset pages new past k ids objects chains maps (control_facts h now)
+          (λ x p. known_local header x p (local header h (place_of x p) now)) rests may o
+          (controls_put object.0 still.row new k.memory.objects objects (λ x. last_control h x past) (λ x. live_control h x past) (λ x. is_ready h x past)
+          still.found o.put (ap (λ z. z.control) still.same) (ap (λ z. z.live) still.same) (ap (λ z. z.state) still.same) m.core.controls)
+          (flags_put object.0 new o.put (ap cached_in still.found ∙ sym (ap (λ z. z.cache) still.same)) m.core.flags) m.core.pages.shown;
+      settled = record { none_owed = refl; shut = λ region. refl };
+      replied = replied_behind tt m.replied;
+    })
+    (used_mapped header h task address bytes object offset pages new past k ids objects chains maps rests may o)
+    (waits_mapped header h task address bytes object offset pages new past k ids objects chains maps rests may o) rests.order
 
 -- What a mapping does.
 
@@ -427,96 +264,133 @@ declared_there header o less = by (slice_get_cases (reverse header.objects.items
     by (inl found) = (found.0, found.2)
     by (inr past) = absurd (let count = length-reverse header.objects.items in let high = past.0 in omega (arith, count, high, less))
 
--- nothing refers to a declared object without a region, and its pager isn't told of it
-
-unreferred_row : (header : Header) (h : ℕ) (past : List Event) (k : Parts) (ids : Ids) (o : ℕ) (row : ObjectRow) → Rests header h k ids past → o < named header
-    → region_at k.chains o ≡ None → object_at k.memory.objects o ≡ Some row → row.references ≡ 0
-unreferred_row header h past k ids o row rests less free found =
+-- nothing refers to a declared object without a region, but that it stays
+referred_row : (header : Header) (h : ℕ) (past : List Event) (k : Parts) (ids : Ids) (o : ℕ) (row : ObjectRow) → Rests header h k ids past → o < named header
+    → region_at k.chains o ≡ None → object_at k.memory.objects o ≡ Some row → row.references ≡ one row.cache
+referred_row header h past k ids o row rests less free found =
     let m = rests.matches in
     let more = named_regions header past in
-    m.core.objects.regions.counts o row found
-    ∙ (declared_references header past k.chains k.memory.objects ids (next_region header past) (next_object header past) (marks_of header past) o
-    m.core.objects.regions m.core.objects.kinds m.core.spaces.homes.1 less (omega (arith, less, more))
-    ∙ ap (λ z. one (is_over o z)) free)
+    let count = m.core.objects.regions.counts o row found in
+    let all = declared_references header past k.chains k.memory.objects ids (next_region header past) (next_object header past) (marks_of header past) o
+    m.core.objects.regions m.core.objects.kinds m.core.spaces.homes.1 less (omega (arith, less, more)) in
+    let none : one (is_over o (region_at k.chains o)) ≡ 0 = ap (λ z. one (is_over o z)) free in
+    omega (arith, count, all, none)
 
-quiet_row : (header : Header) (h : ℕ) (past : List Event) (k : Parts) (ids : Ids) (o : ℕ) (row : ObjectRow) → Rests header h k ids past → o < named header
-    → region_at k.chains o ≡ None → object_at k.memory.objects o ≡ Some row → row.live ≡ false
-quiet_row header h past k ids o row rests less free found = by row.live refl
+-- and where no control of it lives it doesn't stay
+uncached_row : (header : Header) (h : ℕ) (past : List Event) (k : Parts) (ids : Ids) (o : ℕ) (row : ObjectRow) → Rests header h k ids past → o < named header
+    → object_at k.memory.objects o ≡ Some row → row.live ≡ false → row.cache ≡ false
+uncached_row header h past k ids o row rests less found dead =
+    uncached_unreferred rests.matches.core.objects.regions o row found (by row.references refl)
   where
-    by : (b : Bool) → row.live ≡ b → row.live ≡ false
-    by true lives =
-        let some = rests.referred.live o row found lives in
-        let none = unreferred_row header h past k ids o row rests less free found in
-        absurd (omega (arith, some, none))
-    by false dead = dead
+    by : (n : ℕ) → row.references ≡ n → row.references ≡ 0
+    by zero is = is
+    by (suc n) is =
+        let lives = ((rests.matches.core.objects.kinds.kinds o row found).declared less).told (omega (arith, is)) in
+        absurd (let bad : true ≡ false = sym lives ∙ dead in cc)
 
-without_pager : (s : PagerState) → has_pager s ≡ false → s ≡ state.Without
-without_pager state.Without none = refl
-without_pager state.Sent none = absurd (let bad : true ≡ false = none in cc)
-without_pager state.Ready none = absurd (let bad : true ≡ false = none in cc)
+-- the object, with its region, and with a control of that number that lives
+abbrev controlled : ℕ → PagerState → ObjectRow → ObjectRow
+controlled control pager row = record row { control = control; live = true; state = pager }
 
--- the object, with its region and its next control
-abbrev opened_row : Declared → Option ObjectRow → ObjectRow
-opened_row d was = record (referred d was) { control = (referred d was).control + 1; live = true; state = state.Sent }
-
-becomes_known : (header : Header) (h : ℕ) (past : List Event) (k : Parts) (ids : Ids) (o : ℕ) (d : Declared) → Rests header h k ids past → o < named header
-    → declared header o ≡ Some d → region_at k.chains o ≡ None
-    → (referred d (object_at k.memory.objects o)).control + 1 < 2 ^ 32 - 1
-    → BecomesKnown header o (object_at k.memory.objects o) (opened_row d (object_at k.memory.objects o))
-becomes_known header h past k ids o d rests less is free few = by (object_at k.memory.objects o) refl few
+becomes_known : (header : Header) (h : ℕ) (past : List Event) (k : Parts) (ids : Ids) (o : ℕ) (d : Declared) (control : ℕ) (pager : PagerState)
+    → Rests header h k ids past → o < named header → declared header o ≡ Some d → region_at k.chains o ≡ None → has_pager pager ≡ true → 0 < control
+    → ((row : ObjectRow) → object_at k.memory.objects o ≡ Some row → has_pager row.state ≡ true → pager ≡ row.state)
+    → BecomesKnown header o (object_at k.memory.objects o) (controlled control pager (referred d (object_at k.memory.objects o)))
+becomes_known header h past k ids o d control pager rests less is free paged number told = by (object_at k.memory.objects o) refl told
   where
     test : nat_lt o (named header) ≡ true
     test = grind (arith, nat_tests)
 
-    kind_is : d.kind ≡ kind_of header o
-    kind_is = sym (ap (λ b. if b then kind_in (declared header o) else Temp) test ∙ ap kind_in is)
-
-    pages_are : d.pages ≡ declared_pages header o
-    pages_are = sym (ap pages_kept is)
-
-    by : (was : Option ObjectRow) → object_at k.memory.objects o ≡ was → (referred d was).control + 1 < 2 ^ 32 - 1
-        → BecomesKnown header o was (opened_row d was)
-    by None found small =
+    by : (was : Option ObjectRow) → object_at k.memory.objects o ≡ was
+        → ((row : ObjectRow) → was ≡ Some row → has_pager row.state ≡ true → pager ≡ row.state)
+        → BecomesKnown header o was (controlled control pager (referred d was))
+    by None found told =
         record {
-          quiet = λ row is. absurd (let bad : None ≡ Some row = is in cc);
-          without = λ row is. absurd (let bad : None ≡ Some row = is in cc);
-          unreferred = λ row is. absurd (let bad : None ≡ Some row = is in cc);
           sized = λ row is. absurd (let bad : None ≡ Some row = is in cc);
-          kind = kind_is;
-          pages = pages_are;
-          state = refl;
+          told = told;
+          kind = sym (ap (λ b. if b then kind_in (declared header o) else Temp) test ∙ ap kind_in is);
+          pages = sym (ap pages_kept is);
+          pager = paged;
           live = refl;
           references = refl;
-          control = refl;
-          number = small;
+          number = number;
         }
-    by (Some row) found small =
-        let its = rests.matches.core.objects.kinds.kinds o row found in
-        let kept = its.declared less in
-        let none = unreferred_row header h past k ids o row rests less free found in
-        let dead = quiet_row header h past k ids o row rests less free found in
+    by (Some row) found told =
+        let kept = (rests.matches.core.objects.kinds.kinds o row found).declared less in
+        let count = referred_row header h past k ids o row rests less free found in
         record {
-          quiet = λ other is. subst (λ (z : ObjectRow). z.live ≡ false) (some_is row other is) dead;
-          without = λ other is. subst (λ (z : ObjectRow). z.state ≡ state.Without) (some_is row other is) (without_pager row.state (sym its.lives ∙ dead));
-          unreferred = λ other is. subst (λ (z : ObjectRow). z.references ≡ 0) (some_is row other is) none;
           sized = λ other is. subst (λ (z : ObjectRow). z.pages ≡ declared_pages header o) (some_is row other is) kept.pages;
+          told = told;
           kind = kept.kind;
           pages = kept.pages;
-          state = refl;
+          pager = paged;
           live = refl;
-          references = omega (arith, none);
-          control = refl;
-          number = small;
+          references = omega (arith, count);
+          number = number;
         }
 
--- its region was there, and a control of the object lives; or both begin
+-- a control lived
+was_live : (header : Header) (h : ℕ) (past : List Event) (k : Parts) (ids : Ids) (o : ℕ) (d : Declared) → Rests header h k ids past → o < named header
+    → declared header o ≡ Some d → region_at k.chains o ≡ None → (referred d (object_at k.memory.objects o)).live ≡ true
+    → BecomesKnown header o (object_at k.memory.objects o) (referred d (object_at k.memory.objects o))
+    × LivesStill (object_at k.memory.objects o) (referred d (object_at k.memory.objects o))
+was_live header h past k ids o d rests less is free lives = by (object_at k.memory.objects o) refl lives
+  where
+    by : (was : Option ObjectRow) → object_at k.memory.objects o ≡ was → (referred d was).live ≡ true
+        → BecomesKnown header o was (referred d was) × LivesStill was (referred d was)
+    by None found live = absurd (let bad : false ≡ true = live in cc)
+    by (Some row) found live =
+        let its = rests.matches.core.objects.kinds.kinds o row found in
+        let there = subst (λ (z : Option ObjectRow). BecomesKnown header o z (controlled row.control row.state (referred d z))) found
+        (becomes_known header h past k ids o d row.control row.state rests less is free (sym its.lives ∙ live) (its.declared less).number
+        (λ other at paged. ap (λ z. z.state) (some_is row other (sym found ∙ at)))) in
+        let same : controlled row.control row.state (referred d (Some row)) ≡ referred d (Some row) =
+        λ i. record row { references = row.references + 1; live = sym live i } in (
+          subst (λ (z : ObjectRow). BecomesKnown header o (Some row) z) same there,
+          record { row = row; found = refl; lives = live; same = refl },
+        )
+
+-- or none did
+was_quiet : (header : Header) (h : ℕ) (past : List Event) (k : Parts) (ids : Ids) (o : ℕ) (d : Declared) (control : ℕ) → Rests header h k ids past
+    → o < named header → declared header o ≡ Some d → region_at k.chains o ≡ None → (referred d (object_at k.memory.objects o)).live ≡ false
+    → control ≡ (referred d (object_at k.memory.objects o)).control + 1 → control < 2 ^ 32 - 1
+    → BecomesKnown header o (object_at k.memory.objects o) (controlled control state.Sent (referred d (object_at k.memory.objects o)))
+    × BeginsAnew (object_at k.memory.objects o) (controlled control state.Sent (referred d (object_at k.memory.objects o)))
+was_quiet header h past k ids o d control rests less is free dead next few = (
+  becomes_known header h past k ids o d control state.Sent rests less is free refl (omega (arith, next)) unpaged,
+  by (object_at k.memory.objects o) refl dead next,
+)
+  where
+    unpaged : (row : ObjectRow) → object_at k.memory.objects o ≡ Some row → has_pager row.state ≡ true → state.Sent ≡ row.state
+    unpaged row found paged =
+        let lives = (rests.matches.core.objects.kinds.kinds o row found).lives in
+        let quiet : row.live ≡ false = subst (λ (z : Option ObjectRow). (referred d z).live ≡ false) found dead in
+        absurd (let bad : false ≡ true = sym quiet ∙ (lives ∙ paged) in cc)
+
+    by : (was : Option ObjectRow) → object_at k.memory.objects o ≡ was → (referred d was).live ≡ false → control ≡ (referred d was).control + 1
+        → BeginsAnew was (controlled control state.Sent (referred d was))
+    by None found quiet is_next = record { dead = refl; state = refl; control = is_next; number = few; uncached = refl }
+    by (Some row) found quiet is_next =
+        record {
+          dead = ap (λ b. if b then Some row.control else None) quiet;
+          state = refl;
+          control = is_next;
+          number = few;
+          uncached = uncached_row header h past k ids o row rests less found quiet;
+        }
+
+-- its region was there, and a control of the object lives; or the region begins, and a control lives already or begins too
 pub data MapsTo (header : Header) (h : ℕ) (task : TaskId) (row : Entry) (object : ObjectId) (past : List Event) (k k2 : Parts) (before after : List Event) :
     Type 0 where
   WasThere : (control : ℕ) → live_control h object.0 past ≡ Some control → IsInside header.size k.chains row → Shares task row k k2 before after
       → MapsTo header h task row object past k k2 before after
+  WasKept : (objects : ObjectTable) (chains : ChainTable) (maps : Mapped) (pages : ℕ) (new : ObjectRow)
+      → OpensDeclared header task row object pages new k objects chains maps → LivesStill (object_at k.memory.objects object.0) new
+      → k2 ≡ with_declared k objects chains maps → after ≡ got task row ∷ before → MapsTo header h task row object past k k2 before after
   IsMade : (objects : ObjectTable) (chains : ChainTable) (maps : Mapped) (pages : ℕ) (new : ObjectRow)
-      → OpensDeclared header task row object pages new k objects chains maps → k2 ≡ with_declared k objects chains maps
-      → after ≡ beginning h object new.control header.size ∷ got task row ∷ before → MapsTo header h task row object past k k2 before after
+      → OpensDeclared header task row object pages new k objects chains maps → BeginsAnew (object_at k.memory.objects object.0) new
+      → k2 ≡ with_declared k objects chains maps → after ≡ beginning h object new.control header.size ∷ got task row ∷ before
+      → MapsTo header h task row object past k k2 before after
 
 -- an object is known otherwise, and then otherwise again
 puts_twice : (o : ℕ) (x y : Option ObjectRow) (old mid new : ObjectTable) → PutsObject o x old mid → PutsObject o y mid new → PutsObject o y old new
@@ -626,30 +500,35 @@ map_first header h task address bytes object offset d past k k2 k3 ids before mi
     now : ObjectRow
     now = referred d (object_at k.memory.objects object.0)
 
-    dead : now.live ≡ false
-    dead = go (object_at k.memory.objects object.0) refl
-      where
-        go : (was : Option ObjectRow) → object_at k.memory.objects object.0 ≡ was → (referred d was).live ≡ false
-        go None is = refl
-        go (Some was) is = quiet_row header h past k ids object.0 was rests may.declared free is
+    -- the region, with the object known so
+    made : (new : ObjectRow) (objects : ObjectTable) → BecomesKnown header object.0 (object_at k.memory.objects object.0) new
+        → PutsObject object.0 (Some new) k.memory.objects objects → SameMarks k.memory.objects objects
+        → OpensDeclared header task row object d.pages new k objects k2.chains maps
+    made new objects becomes put_new marked =
+        record {
+          free = free;
+          sized = sym (ap pages_kept is_declared);
+          known = becomes;
+          region = put;
+          put = put_new;
+          marks = marked;
+          changes = subst (λ (z : Mapped). ChangesOnly z maps task.0 (Some (entered row (rows_in task.0 z)))) (ap (λ (z : Parts). z.maps) same) changes;
+        }
 
     by : Opens object now (record k2 { maps = maps }) k3 mid after → MapsTo header h task row object past k k3 before after
-    by (IsOpen live is still) = absurd (let bad : false ≡ true = sym dead ∙ live in cc)
+    by (IsOpen lives is still) =
+        let was = was_live header h past k ids object.0 d rests may.declared is_declared free lives in
+        WasKept k2.memory.objects k2.chains maps d.pages now (made now k2.memory.objects was.0 known marks) was.1
+        (is ∙ ap (λ (z : Parts). record z { maps = maps }) same) (still ∙ told)
     by (BeginsControl quiet second marks2 few is says) =
         let host : k2.host ≡ host_id h = ap (λ (z : Parts). z.host) same ∙ named_host k.host h rests.matches.core.setting.numbered in
         let size : k2.size ≡ header.size = ap (λ (z : Parts). z.size) same ∙ rests.matches.core.setting.sized in
-        IsMade k3.memory.objects k2.chains maps d.pages (opened_row d (object_at k.memory.objects object.0))
-        (record {
-          free = free;
-          sized = sym (ap pages_kept is_declared);
-          known = becomes_known header h past k ids object.0 d rests may.declared is_declared free few;
-          region = put;
-          put =
-              puts_twice object.0 (Some now) (Some (opened_row d (object_at k.memory.objects object.0))) k.memory.objects k2.memory.objects k3.memory.objects
-              known second;
-          marks = record { at = λ o p. marks2.at o p ∙ marks.at o p };
-          changes = subst (λ (z : Mapped). ChangesOnly z maps task.0 (Some (entered row (rows_in task.0 z)))) (ap (λ (z : Parts). z.maps) same) changes;
-        })
+        let new = controlled (now.control + 1) state.Sent now in
+        let was = was_quiet header h past k ids object.0 d (now.control + 1) rests may.declared is_declared free quiet refl few in
+        IsMade k3.memory.objects k2.chains maps d.pages new
+        (made new k3.memory.objects was.0
+        (puts_twice object.0 (Some now) (Some new) k.memory.objects k2.memory.objects k3.memory.objects known second)
+        (record { at = λ o p. marks2.at o p ∙ marks.at o p })) was.1
         (is ∙ ap (λ (z : Parts). record z { maps = maps; memory = record (z.memory) { objects = k3.memory.objects }; chains = k2.chains }) same)
         (says
         ∙ (ap (λ z. event.Sent (Up z object) (message.Init (now.control + 1) k2.size) ∷ mid) host
@@ -692,15 +571,41 @@ maps_to header h task address bytes object offset past k k2 k3 ids before mid af
 
 -- the kernel behind a mapping, and its events
 
+-- the entry alone is told where a control of the object lives
+ran_entered : (header : Header) (h : ℕ) (outside : Outside) (task : TaskId) (address bytes : ℕ) (object : ObjectId) (offset : ℕ) (past : List Event)
+    (k k2 : Parts) (ids : Ids) (before after : List Event) (control : ℕ) → Starts header h (command.Map task address bytes object offset) past k ids before
+    → live_control h object.0 past ≡ Some control → after ≡ got task (shared_entry address bytes object offset) ∷ before
+    → Rests header h k2 ids (got task (shared_entry address bytes object offset) ∷ past)
+    → Ran header h outside (command.Map task address bytes object offset) past k2 ids after
+ran_entered header h outside task address bytes object offset past k k2 ids before after control s alive told rests =
+    let m = s.rests.matches in
+    let doing = command.Map task address bytes object offset in
+    let e = got task (shared_entry address bytes object offset) in
+    let may = may_map header h task address bytes object offset past k ids before s in
+    let log : after ≡ e ∷ [] = told ∙ ap (λ z. e ∷ z) s.nothing in
+    let is : head header past doing ≡ Some (e ∷ []) = rw (lives_here m.core.spaces.tasks may.lives, alive) refl in
+    subst (λ (z : List Event). Ran header h outside doing past k2 ids z) (sym log)
+    (ran_head header h outside doing past k2 ids (e ∷ []) (e ∷ []) is refl
+    (heads_one header h outside doing past e
+    (record {
+      settled = m.settled;
+      cause = map_enters header h task address bytes object offset past k ids s.rests may;
+      own_bytes = tt;
+      frames = suffices header h k.memory.frames past m.core.pages.counted;
+      inner = tt;
+      said = tt;
+      own = own_task h task.0 past s.acts;
+      creates = tt;
+    }))
+    tt rests)
+
 pub ran_map : (header : Header) (h : ℕ) (outside : Outside) (task : TaskId) (address bytes : ℕ) (object : ObjectId) (offset : ℕ) (past : List Event)
     (k k2 : Parts) (ids : Ids) (before after : List Event) → Starts header h (command.Map task address bytes object offset) past k ids before
     → MapsTo header h task (shared_entry address bytes object offset) object past k k2 before after
     → Ran header h outside (command.Map task address bytes object offset) past k2 ids after
 ran_map header h outside task address bytes object offset past k k2 ids before after s (WasThere control alive inside shares) =
     let m = s.rests.matches in
-    let doing = command.Map task address bytes object offset in
     let row = shared_entry address bytes object offset in
-    let e = got task row in
     let may = may_map header h task address bytes object offset past k ids before s in
     let there = region_row k.chains object.0 inside.region in
     let counted : 0 < region_entries k.chains object.0 = elim (s.rests.used.regions object.0 there.0 there.1) [
@@ -717,23 +622,18 @@ ran_map header h outside task address bytes object offset past k k2 ids before a
       inside = inside;
       shared = λ less same. let bad : inherit.Share ≡ inherit.Copy = same in cc;
     } in
-    let log : after ≡ e ∷ [] = shares.told ∙ ap (λ z. e ∷ z) s.nothing in
-    let is : head header past doing ≡ Some (e ∷ []) = rw (lives_here m.core.spaces.tasks may.lives, alive) refl in
-    subst (λ (z : List Event). Ran header h outside doing past k2 ids z) (sym log)
-    (ran_head header h outside doing past k2 ids (e ∷ []) (e ∷ []) is refl
-    (heads_one header h outside doing past e
-    (record {
-      settled = m.settled;
-      cause = map_enters header h task address bytes object offset past k ids s.rests may;
-      own_bytes = tt;
-      frames = suffices header h k.memory.frames past m.core.pages.counted;
-      inner = tt;
-      said = tt;
-      own = own_task h task.0 past s.acts;
-      creates = tt;
-    }))
-    tt (rests_shared header h outside doing task row past k k2 ids before after s.rests share shares))
-ran_map header h outside task address bytes object offset past k k2 ids before after s (IsMade objects chains maps pages new o same told) =
+    ran_entered header h outside task address bytes object offset past k k2 ids before after control s alive shares.told
+    (rests_shared header h outside (command.Map task address bytes object offset) task row past k k2 ids before after s.rests share shares)
+ran_map header h outside task address bytes object offset past k k2 ids before after s (WasKept objects chains maps pages new o still same told) =
+    let doing = command.Map task address bytes object offset in
+    let row = shared_entry address bytes object offset in
+    let may = may_map header h task address bytes object offset past k ids before s in
+    let alive : live_control h object.0 past ≡ Some still.row.control = s.rests.matches.core.controls.live object.0
+    ∙ (ap live_in still.found ∙ ap (λ b. if b then Some still.row.control else None) still.lives) in
+    ran_entered header h outside task address bytes object offset past k k2 ids before after still.row.control s alive told
+    (subst (λ (z : Parts). Rests header h z ids (got task row ∷ past)) (sym same)
+    (rests_kept header h outside doing task address bytes object offset pages new past k ids objects chains maps s.rests may o still))
+ran_map header h outside task address bytes object offset past k k2 ids before after s (IsMade objects chains maps pages new o anew same told) =
     let m = s.rests.matches in
     let doing = command.Map task address bytes object offset in
     let row = shared_entry address bytes object offset in
@@ -741,17 +641,17 @@ ran_map header h outside task address bytes object offset past k k2 ids before a
     let begins = beginning h object new.control header.size in
     let may = may_map header h task address bytes object offset past k ids before s in
     let log : after ≡ begins ∷ enters ∷ [] = told ∙ ap (λ z. begins ∷ enters ∷ z) s.nothing in
-    let number : last_control h object.0 past + 1 ≡ new.control = ap (λ z. z + 1) (m.core.controls.last object.0) ∙ sym o.known.control in
+    let number : last_control h object.0 past + 1 ≡ new.control = ap (λ z. z + 1) (m.core.controls.last object.0) ∙ sym anew.control in
     let is : head header past doing ≡ Some (enters ∷ begins ∷ []) =
     ap (map_head header task address bytes object offset past) (lives_here m.core.spaces.tasks may.lives)
-    ∙ (ap (λ z. Some (enters ∷ opening h object (last_control h object.0 past + 1) header.size z)) (was_dead header h past k ids object.0 new s.rests o.known)
+    ∙ (ap (λ z. Some (enters ∷ opening h object (last_control h object.0 past + 1) header.size z)) (was_dead header h past k ids object.0 new s.rests anew)
     ∙ ap (λ z. Some (enters ∷ beginning h object z header.size ∷ [])) number) in
     let fine = suffices header h k.memory.frames past m.core.pages.counted in
     let ran : Ran header h outside doing past (with_declared k objects chains maps) ids (begins ∷ enters ∷ []) =
     ran_head header h outside doing past (with_declared k objects chains maps) ids (begins ∷ enters ∷ []) (enters ∷ begins ∷ []) is refl
     (record {
       licensed = (
-        licensed header outside doing begins (enters ∷ past) refl (map_opens header h task address bytes object offset new past k ids s.rests may o.known),
+        licensed header outside doing begins (enters ∷ past) refl (map_opens header h task address bytes object offset new past k ids s.rests may anew),
         (licensed header outside doing enters past m.settled.none_owed (map_enters header h task address bytes object offset past k ids s.rests may), tt),
       );
       own_bytes = (tt, (tt, tt));
@@ -763,7 +663,7 @@ ran_map header h outside task address bytes object offset past k k2 ids before a
         (mine_of header h enters past m.settled.shut (own_task h task.0 past s.acts) tt, tt),
       );
     })
-    tt (rests_opened header h outside doing task address bytes object offset pages new past k ids objects chains maps s.rests may o) in
+    tt (rests_opened header h outside doing task address bytes object offset pages new past k ids objects chains maps s.rests may o anew) in
     subst (λ (z : List Event). Ran header h outside doing past k2 ids z) (sym log)
     (subst (λ (z : Parts). Ran header h outside doing past z ids (begins ∷ enters ∷ [])) (sym same) ran)
 
@@ -772,7 +672,9 @@ pub plays_map : {header : Header} {h : ℕ} {task : TaskId} {row : Entry} {objec
     → MapsTo header h task row object past k k2 before after → Plays header past before (paging k) after (paging k2)
 plays_map {k = k} {k2 = k2} (WasThere control alive inside shares) =
     plays_told shares.told (lists_same k k2 (ap (λ z. z.resident) shares.memory) (ap (λ z. z.queues) shares.memory))
-plays_map {k = k} {k2 = k2} (IsMade objects chains maps pages new o same told) =
+plays_map {k = k} {k2 = k2} (WasKept objects chains maps pages new o still same told) =
+    plays_told told (lists_same k k2 (ap (λ (z : Parts). z.memory.resident) same) (ap (λ (z : Parts). z.memory.queues) same))
+plays_map {k = k} {k2 = k2} (IsMade objects chains maps pages new o anew same told) =
     plays_both (plays_told refl refl) (plays_told told (lists_same k k2 (ap (λ (z : Parts). z.memory.resident) same)
     (ap (λ (z : Parts). z.memory.queues) same)))
 
@@ -781,7 +683,9 @@ pub quiet_map : {header : Header} {h : ℕ} {task : TaskId} {row : Entry} {objec
     → MapsTo header h task row object past k k2 before after → QueueIsStill k.waits.queue k2.waits.queue before after
 quiet_map (WasThere control alive inside shares) =
     record { queue = ap (λ z. z.queue) shares.waits; none = λ none. subst (EachOf RunsNone) (sym shares.told) (tt, none) }
-quiet_map (IsMade objects chains maps pages new o same told) =
+quiet_map (WasKept objects chains maps pages new o still same told) =
+    record { queue = ap (λ (z : Parts). z.waits.queue) same; none = λ none. subst (EachOf RunsNone) (sym told) (tt, none) }
+quiet_map (IsMade objects chains maps pages new o anew same told) =
     record { queue = ap (λ (z : Parts). z.waits.queue) same; none = λ none. subst (EachOf RunsNone) (sym told) (tt, (tt, none)) }
 
 -- What is asked of the calls.
@@ -814,7 +718,8 @@ few_refer header h past k ids o rests less = by (object_at k.memory.objects o) r
         let all = declared_references header past k.chains k.memory.objects ids (next_region header past) (next_object header past) (marks_of header past)
         o m.core.objects.regions m.core.objects.kinds m.core.spaces.homes.1 less (omega (arith, less, more)) in
         let single = most (is_over o (region_at k.chains o)) in
-        omega (arith, count, all, single)
+        let stays = most row.cache in
+        omega (arith, count, all, single, stays)
 
 -- the maps are as they were
 pub maps_held : {object : ObjectId} {d : Declared} {k k2 : Parts} → Holds object d k k2 → k2.maps ≡ k.maps

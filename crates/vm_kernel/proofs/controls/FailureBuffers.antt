@@ -5,7 +5,7 @@ use Rattle.vm_base.specs.declared.ids.ObjectKind.{ObjectKind}
 use Rattle.vm_base.specs.declared.ids.ObjectKind.TheVariants as kinds
 use Rattle.vm_base.specs.declared.ids.PageNo.{PageNo}
 use Rattle.vm_kernel.specs.declared.breadth.Breadth.TheVariants as wide
-use Rattle.vm_kernel.specs.Rooms.{Dies, HasBuffers, returning, word_breadth}
+use Rattle.vm_kernel.specs.Rooms.{Dies, HasBuffers, returning, word_breadth, may_end}
 use Rattle.vm_model.specs.declared.message.Message.{Message}
 use Rattle.vm_model.specs.declared.message.Message.TheVariants as message
 use Rattle.vm_objects.specs.declared.row.ObjectRow.{ObjectRow}
@@ -73,16 +73,16 @@ not_absent kinds.Shared page fails = fails
 not_absent kinds.Wild page fails = fails
 
 error_fails : (size : ℕ) (known : ObjectRow) (rows : ℕ → Option PageRow) (m : Message) → IsAnswer size m → Fails (live_outcome known rows m)
-    → word_breadth m ≡ wide.Pages
+    → (word_breadth m ≡ wide.Pages) × (may_end m ≡ false)
 error_fails size known rows (message.Ready cache strategy) answer fails = absurd (not_ready known.state fails)
 error_fails size known rows (message.Supply page lock precious bytes) answer fails = absurd (asked_fails _ (Supplied page lock precious bytes) fails)
 error_fails size known rows (message.Unavailable page) answer fails =
     absurd (not_absent known.kind page (asked_fails _ (unavailable_outcome known.kind page) fails))
-error_fails size known rows (message.Error page reason) answer fails = refl
+error_fails size known rows (message.Error page reason) answer fails = (refl, refl)
 error_fails size known rows m answer fails = absurd answer
 
 word_fails : (size : ℕ) (known : Option ObjectRow) (control : ℕ) (rows : ℕ → Option PageRow) (m : Message) → IsAnswer size m
-    → Fails (outcome_of known control rows m) → word_breadth m ≡ wide.Pages
+    → Fails (outcome_of known control rows m) → (word_breadth m ≡ wide.Pages) × (may_end m ≡ false)
 word_fails size None control rows m answer fails = absurd fails
 word_fails size (Some known) control rows m answer fails =
     error_fails size known rows m answer (asked_fails (known.live && known.control == control) (live_outcome known rows m) fails)
@@ -94,7 +94,8 @@ pub failing_dies : (size : ℕ) (host : HostId) (object : ObjectId) (known : Opt
 failing_dies size host object known control rows m woken key k memory before after answer does is =
     let fails = fails_page host object (outcome_of known control rows m) woken key k.memory memory before after does is in
     record {
-      breadth = word_fails size known control rows m answer fails;
+      breadth = (word_fails size known control rows m answer fails).0;
+      stays = (word_fails size known control rows m answer fails).1;
       queues = failing_lists host object (outcome_of known control rows m) woken key k.memory memory before after does is;
       objects = failing_objects host object (outcome_of known control rows m) woken k.memory memory before after does fails;
     }

@@ -10,7 +10,7 @@ use Rattle.vm_kernel.proofs.steps.EventsGrow.{goes_none}
 use Rattle.vm_kernel.proofs.controls.WordHeard.{no_absence}
 use Rattle.vm_kernel.proofs.memory.FramesHeld.{room_once}
 use Rattle.vm_kernel.proofs.controls.RangeLocked.{Done, IsTaken, Request, done, inner_of, request_at, wanted_at}
-use Rattle.vm_kernel.proofs.controls.WordTaken.{changed_none, stays_heard, works_of as heard_works}
+use Rattle.vm_kernel.proofs.controls.WordTaken.{changed_none, stays_heard, works_flagged, works_of as heard_works}
 use Rattle.vm_kernel.proofs.controls.PageLocked.{asks}
 use Rattle.vm_kernel.proofs.controls.LockRequested.{mid_taken}
 use Rattle.vm_kernel.proofs.abroad.OtherLists.{matches_with}
@@ -117,9 +117,10 @@ heeds_dead header h outside doing k ids past object control page count returns f
     }) else None) dead_now in
     record {
       works =
-          heard_works header h k ids woken.Nobody k.memory past now rests (stays_heard header h k ids past object control m rests none)
+          works_flagged
+          (heard_works header h k ids woken.Nobody k.memory past now rests (stays_heard header h k ids past object control m rests none)
           rests.matches.core.fits.parts
-          refl (changed_none header h k ids past object control m rests (nothing_dead header h object control m past dead_now));
+          refl (changed_none header h k ids past object control m rests (nothing_dead header h object control m past dead_now))) (λ o less. refl);
       fails = refl;
       goes = goes_none header h outside doing now [];
       early = unrun [] tt;

@@ -346,6 +346,7 @@ mid_taken header h k ids past object control page count returns lock flush reply
           spaces = spaces_refilled (fills_waked waker k.waits.rows waits2.rows waked_rows) core.spaces;
           objects = core.objects;
           controls = core.controls;
+          flags = core.flags;
           pages = record {
             shown = pages_taken header h k object control page count returns lock flush reply past core.pages.shown lives few;
             washed = washed_still core.pages.washed (λ f none. owner_repaged (pended a) k.memory.resident f (pended_frame a) ∙ none);

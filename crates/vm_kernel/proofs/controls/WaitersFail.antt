@@ -9,7 +9,7 @@ use Rattle.vm_kernel.proofs.Common.{holds, if◌then◌else◌, in_use, inl, inr
 use Rattle.vm_kernel.proofs.Common.{rows_in, since, since_more, some_is, subst, sym, true, waiting, waiting_in, woken_page, ℕ, ◌++◌, ◌<◌, ◌==◌, ◌||◌, ◌∙◌, ◌∷◌}
 use Rattle.vm_kernel.proofs.Common.{◌≡◌, ◌≢◌, ◌⊎◌}
 use Rattle.vm_kernel.proofs.space.RegionsInUse.{FillsHere, fills_here, holds_waits, uses_none}
-use Rattle.vm_state.proofs.Filling.{Filled, filled_there, used_over}
+use Rattle.vm_state.proofs.Filling.{Filled, filled_there, used_over, copies_next}
 use Rattle.vm_legal.specs.Licences.{zeroes}
 use Rattle.std.proofs.Common.{is_some}
 use Rattle.vm_model.specs.Waiting.{Target}
@@ -28,7 +28,6 @@ use Rattle.vm_kernel.proofs.abroad.OwnHost.{lives_here, rows_here}
 use Rattle.vm_state.proofs.Waited.{AreTold}
 use Rattle.vm_kernel.proofs.abroad.OwnEvents.{own_lives}
 use Rattle.vm_kernel.proofs.controls.LockReplied.{replied_behind}
-use Rattle.vm_state.proofs.Filling.{copies_next}
 use Rattle.vm_base.specs.Pages.{page_positive}
 use Rattle.vm_legal.specs.InTurn.{FailsInTurn}
 use Rattle.vm_kernel.proofs.space.RegionHomes.{homes_caused}
@@ -39,6 +38,8 @@ use Rattle.vm_objects.specs.declared.row.ObjectRow.{ObjectRow}
 use Rattle.vm_shadow.specs.declared.region_row.RegionRow.{RegionRow}
 use Rattle.vm_state.proofs.Referring.{only_one, row_of}
 use Rattle.vm_state.proofs.Targets.{target_unshadowed}
+use Rattle.vm_kernel.proofs.space.RegionsFilled.{filled_temporary}
+use Rattle.vm_state.proofs.Declared.{uncached_temporary}
 
 -- who waits for the page
 pub waits_for : (key : PageKey) (reason : On) → woken_page key reason ≡ true → reason ≡ on.Page key
@@ -248,6 +249,7 @@ failed_one header h outside doing past old events key k ids w waits f found pass
             };
             objects = was.core.objects;
             controls = was.core.controls;
+            flags = was.core.flags;
             pages = was.core.pages;
           };
           settled = record { none_owed = refl; shut = λ region. refl };
@@ -368,7 +370,8 @@ bare_filled header h outside doing past old events key k ids w to waits f found 
       found = there.region;
       known = known.0;
       top = known.1;
-      one = only_one m.core.objects.regions to.region.0 row known.0 there.region known.1 (record { tops = there.alone.tops; bare = there.alone.unders });
+      one =
+          only_one m.core.objects.regions to.region.0 row known.0 there.region known.1 uncached (record { tops = there.alone.tops; bare = there.alone.unders });
       bare =
           target_unshadowed (events ++ past) m.core.objects.regions m.core.spaces.homes.1 w.task.0 (record { region = to.region.0; object = there.object.0 })
           there.made;
@@ -389,6 +392,12 @@ bare_filled header h outside doing past old events key k ids w to waits f found 
 
     known : (known : ObjectRow) × (object_at k.memory.objects there.object.0 ≡ Some known)
     known = row_of (object_at k.memory.objects there.object.0) (m.core.objects.regions.tops to.region.0 row there.region)
+
+    uncached : known.0.cache ≡ false
+    uncached = uncached_temporary m.core.objects.kinds there.object.0 known.0
+        (m.core.objects.kinds.tops to.region.0 row (filled_temporary to.region.0 f.works.used.copies m.core.spaces.homes.1
+        (record { task = w.task.0; fills = mine }))
+        there.region) known.1
 
 -- what ends pages and controls ends no access
 

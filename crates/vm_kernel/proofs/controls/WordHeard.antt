@@ -2,7 +2,7 @@
 use Rattle.vm_kernel.proofs.Common.{AnswerEffects, AnswerOutcome, Asked, Bool, Command, Discarded, EndsNobody, Event, Failed, FailsNow, Fit, FrameTable}
 use Rattle.vm_kernel.proofs.Common.{HasAsker, Header, HostParts, Ids, IsAbsencePaid, IsAnswer, IsAnswered, IsBrought, Lacked, LegalEvents, List, Message, None}
 use Rattle.vm_kernel.proofs.Common.{ObjectId, ObjectKind, ObjectRow, ObjectTable, Option, Outside, PageNo, PageRow, PagerState, Parts, Readied, Rests, Some}
-use Rattle.vm_kernel.proofs.Common.{Supplied, Temp, Woken, Works, Zeroed, [], absence_taken, absent_at, ap, arith, asked_row, false, if◌then◌else◌, inl, inr}
+use Rattle.vm_kernel.proofs.Common.{Supplied, Temp, Woken, Zeroed, [], absence_taken, absent_at, ap, arith, asked_row, false, if◌then◌else◌, inl, inr}
 use Rattle.vm_kernel.proofs.Common.{is_control, is_ready_state, is_some, key_of, live_control, live_in, live_outcome, local, local_of_row, named, not}
 use Rattle.vm_kernel.proofs.Common.{object_at, outcome_of, place_of, ready_in, ready_outcome, refl, row_at, some_is, subst, sym, true, unavailable_outcome, ℕ}
 use Rattle.vm_kernel.proofs.Common.{◌&&◌, ◌++◌, ◌<◌, ◌==◌, ◌||◌, ◌∙◌, ◌∷◌, ◌≡◌, ◌≢◌, ◌≤◌}
@@ -19,14 +19,17 @@ use Rattle.vm_abroad.proofs.Regions.{kind_cases}
 use Rattle.vm_supply.specs.Answers as supply
 use Rattle.vm_kernel.proofs.controls.WordTaken.{Changed, changed_failed, changed_lacked, changed_none, changed_ready, changed_supplied, changed_zeroed, heard}
 use Rattle.vm_kernel.proofs.controls.WordTaken.{lacking, filled_follows, stays_heard, stays_zeroed, works_of, zeros}
+use Rattle.vm_kernel.specs.Matches.{WorksBut}
+use Rattle.vm_legal.specs.Cached.{is_cached}
 use Rattle.vm_legal.specs.Licences.{lock_taken}
+use Rattle.vm_legal.specs.Steps.{is_ready_message}
 
 -- it is not for the live control
-dead_none : (os : ObjectTable) (o control : ℕ) (live_at : Option ℕ) → live_at ≡ live_in (object_at os o) → object_at os o ≡ None
+pub dead_none : (os : ObjectTable) (o control : ℕ) (live_at : Option ℕ) → live_at ≡ live_in (object_at os o) → object_at os o ≡ None
     → is_control control live_at ≡ false
 dead_none os o control live_at is none = ap (is_control control) (is ∙ ap live_in none)
 
-live_test : (control : ℕ) (known : ObjectRow) → is_control control (live_in (Some known)) ≡ (known.live && known.control == control)
+pub live_test : (control : ℕ) (known : ObjectRow) → is_control control (live_in (Some known)) ≡ (known.live && known.control == control)
 live_test control known = by_live known.live
   where
     by_live : (b : Bool) → is_control control (if b then Some known.control else None) ≡ (b && known.control == control)
@@ -74,10 +77,10 @@ zeroed_absence header h object control page past = λ host o p declared is.
     subst (λ (z : Asked). ((object.0 == z.object && page.0 == z.page) || false) ≡ true) (absence_is h header object control page past host o p is)
     (rw (own_host object.0, own_host page.0) refl)
 
--- the message has been heard, and what it brought followed
+-- the message has been heard, and what it brought followed; flags are as they were
 pub record Heard (header : Header) (h : ℕ) (outside : Outside) (doing : Command) (k : Parts) (ids : Ids) (who : Woken) (new : HostParts)
-    (after past : List Event) : Type 0 where
-  pub works : Works header h (heard k new) ids who (after ++ past)
+    (flags : ℕ → Bool) (after past : List Event) : Type 0 where
+  pub works : WorksBut header h (heard k new) ids who flags (after ++ past)
   pub fails : FailsNow header h who (after ++ past)
   pub fresh : EndsNobody who (after ++ past)
   pub asker : HasAsker who k.waits.rows
@@ -95,9 +98,9 @@ record Hearing (header : Header) (h : ℕ) (k : Parts) (ids : Ids) (new : HostPa
 heard_still : (header : Header) (h : ℕ) (outside : Outside) (doing : Command) (k : Parts) (ids : Ids) (who : Woken) (new : HostParts) (after past : List Event)
     (object : ObjectId) (control : ℕ) (m : Message) → Hearing header h k ids new past → lock_taken (hears h object control m ∷ past) ≡ None → after ≡ []
     → Changed header h k ids who new past (hears h object control m ∷ past) → IsAbsencePaid header (hears h object control m ∷ past)
-    → Heard header h outside doing k ids who new after (hears h object control m ∷ past)
+    → Heard header h outside doing k ids who new (λ o. is_cached h o past) after (hears h object control m ∷ past)
 heard_still header h outside doing k ids who new after past object control m was unlocked none c paid =
-    subst (λ (z : List Event). Heard header h outside doing k ids who new z (hears h object control m ∷ past)) (sym none)
+    subst (λ (z : List Event). Heard header h outside doing k ids who new (λ o. is_cached h o past) z (hears h object control m ∷ past)) (sym none)
     (record {
       works =
           works_of header h k ids who new past (hears h object control m ∷ past) was.rests (stays_heard header h k ids past object control m was.rests unlocked)
@@ -114,13 +117,14 @@ heard_still header h outside doing k ids who new after past object control m was
 heard_zeros : (header : Header) (h : ℕ) (outside : Outside) (doing : Command) (k : Parts) (ids : Ids) (after past : List Event) (object : ObjectId)
     (control : ℕ) (page : PageNo) (who : Woken) (new : HostParts) → Hearing header h k ids new past
     → supply.Zeroes k.host (key_of object page) who k.memory new [] after → lives h object control past ≡ true → object.0 < named header
-    → Heard header h outside doing k ids who new after (hears h object control (message.Unavailable page) ∷ past)
+    → Heard header h outside doing k ids who new (λ o. is_cached h o past) after (hears h object control (message.Unavailable page) ∷ past)
 heard_zeros header h outside doing k ids after past object control page who new was zeroes lives_now declared =
     let told : after ≡ zeros h object page ∷ [] = zeroes.events
     ∙ ap (λ z. event.Zeroed z object page ∷ []) (named_host k.host h was.rests.matches.core.setting.numbered) in
     let c = changed_zeroed header h k ids k.host after past object control page who new was.rests zeroes lives_now declared in
     let lacks = lacking header h k past object control page zeroes.was was.rests.matches.core.pages.shown zeroes.asked lives_now in
-    subst (λ (z : List Event). Heard header h outside doing k ids who new z (hears h object control (message.Unavailable page) ∷ past)) (sym told)
+    subst (λ (z : List Event). Heard header h outside doing k ids who new (λ o. is_cached h o past) z
+    (hears h object control (message.Unavailable page) ∷ past)) (sym told)
     (record {
       works =
           works_of header h k ids who new past (zeros h object page ∷ hears h object control (message.Unavailable page) ∷ past) was.rests
@@ -151,7 +155,7 @@ hears_it : (header : Header) (h : ℕ) (outside : Outside) (doing : Command) (k 
     (m : Message) (who : Woken) (new : HostParts)
     → Hearing header h k ids new past → IsAnswer k.size m
     → AnswerEffects k.host object (outcome_of (object_at k.memory.objects object.0) control (row_at k.memory.resident object.0) m) who k.memory new [] after
-    → Heard header h outside doing k ids who new after (hears h object control m ∷ past)
+    → Heard header h outside doing k ids who new (λ o. is_cached h o past) after (hears h object control m ∷ past)
 hears_it header h outside doing k ids after past object control m who new was temp answered = by_known (object_at k.memory.objects object.0) refl answered
   where
     rests : Rests header h k ids past
@@ -162,7 +166,7 @@ hears_it header h outside doing k ids after past object control m who new was te
 
     -- what is heard of a message
     Hear : Message → Type 0
-    Hear said = Heard header h outside doing k ids who new after (hears h object control said ∷ past)
+    Hear said = Heard header h outside doing k ids who new (λ o. is_cached h o past) after (hears h object control said ∷ past)
 
     still : (said : Message) → lock_taken (hears h object control said ∷ past) ≡ None → after ≡ []
         → Changed header h k ids who new past (hears h object control said ∷ past) → IsAbsencePaid header (hears h object control said ∷ past) → Hear said
@@ -278,11 +282,27 @@ pub hears_done : (header : Header) (h : ℕ) (outside : Outside) (doing : Comman
     (object : ObjectId) (control : ℕ) (m : Message) (who : Woken) (new : HostParts)
     → Rests header h k ids past → front ≡ hears h object control m ∷ [] → IsAnswer k.size m → before ≡ [] → Fit new → new.buffers ≡ k.memory.buffers
     → AnswerEffects k.host object (outcome_of (object_at k.memory.objects object.0) control (row_at k.memory.resident object.0) m) who k.memory new before after
-    → Heard header h outside doing k ids who new after (front ++ past)
+    → Heard header h outside doing k ids who new (λ o. is_cached h o past) after (front ++ past)
 hears_done header h outside doing k ids before after past front object control m who new rests is temp none fit same answered =
-    subst (λ (z : List Event). Heard header h outside doing k ids who new after (z ++ past)) (sym is)
+    subst (λ (z : List Event). Heard header h outside doing k ids who new (λ o. is_cached h o past) after (z ++ past)) (sym is)
     (hears_it header h outside doing k ids after past object control m who new (record { rests = rests; fit = fit; buffers = same }) temp
     (subst (λ (z : List Event). AnswerEffects k.host object (outcome_of (object_at k.memory.objects object.0) control (row_at k.memory.resident object.0) m) who
     k.memory new z after) none answered))
+
+-- no flag changes by another answer than that the pager is ready
+pub flags_heard : (h o size : ℕ) (past front after : List Event) (object : ObjectId) (control : ℕ) (m : Message) → front ≡ hears h object control m ∷ []
+    → IsAnswer size m → is_ready_message m ≡ false → IsBrought after → is_cached h o (after ++ (front ++ past)) ≡ is_cached h o past
+flags_heard h o size past front [] object control m told answer other brought =
+    ap (λ z. is_cached h o (z ++ past)) told ∙ by m answer other
+  where
+    by : (x : Message) → IsAnswer size x → is_ready_message x ≡ false → is_cached h o (hears h object control x ∷ past) ≡ is_cached h o past
+    by (message.Ready cache strategy) is unready = absurd (let bad : true ≡ false = unready in cc)
+    by (message.Supply page lock precious bytes) is unready = refl
+    by (message.Unavailable page) is unready = refl
+    by (message.Error page reason) is unready = refl
+    by said is unready = absurd is
+flags_heard h o size past front (event.Zeroed host at page ∷ []) object control m told answer other brought =
+    flags_heard h o size past front [] object control m told answer other tt
+flags_heard h o size past front events object control m told answer other brought = absurd brought
 
 -- the message is one that the host can take, and its parts fit

@@ -9,10 +9,10 @@ use Rattle.vm_kernel.proofs.Common.{PageNo, PageRow, Parts, PutsObject, PutsRow,
 use Rattle.vm_kernel.proofs.Common.{Supplies, TakesError, TakesNothing, TakesPage, Waiting, Want, Woken, Works, Zeroes, [], absent_at, added, ap, arith}
 use Rattle.vm_kernel.proofs.Common.{asked_is, asked_row, away, backing_of, clean_row, count_released, entries_of, eqb_tells, false, frames_held, frames_wired}
 use Rattle.vm_kernel.proofs.Common.{holds, home_of, host_id, host_of, if◌then◌else◌, in_use, inl, inr, is_control, is_on, is_ready, is_some, is_woken, key_of}
-use Rattle.vm_kernel.proofs.Common.{last_control, last_in, live_control, live_in, local, local_after, local_of_row, lock_numbered, marks_of, named}
-use Rattle.vm_kernel.proofs.Common.{nat_lt, nat_tests, next_object, next_page, next_region, not, object_at, object_home, one_case, page_in, page_key, place_of}
+use Rattle.vm_kernel.proofs.Common.{last_control, last_in, live_control, live_in, local, local_after, local_of_row, lock_numbered, marks_of, named, nat_lt}
+use Rattle.vm_kernel.proofs.Common.{nat_tests, next_object, next_page, next_region, not, object_at, object_home, one_case, page_in, page_key, place_of}
 use Rattle.vm_kernel.proofs.Common.{ready_in, refl, region_of, replicate, returns_out, reverse, row_at, row_cases, slice_get, some_is, subst, sym, true}
-use Rattle.vm_kernel.proofs.Common.{unlocked, waiting, ℕ, ◌&&◌, ◌+◌, ◌-◌, ◌<◌, ◌==◌, ◌^◌, ◌∙◌, ◌∷◌, ◌≡◌, ◌≤◌, ◌⊎◌}
+use Rattle.vm_kernel.proofs.Common.{unlocked, waiting, ℕ, ◌&&◌, ◌+◌, ◌-◌, ◌<◌, ◌==◌, ◌^◌, ◌∙◌, ◌∷◌, ◌≡◌, ◌≤◌, ◌⊎◌, KnowsHomes}
 use Rattle.vm_model.specs.declared.message.Message.TheVariants as message
 use Rattle.vm_objects.specs.declared.row.PagerState.TheVariants as state
 use Rattle.vm_supply.specs.declared.woken.Woken.TheVariants as woken
@@ -32,7 +32,11 @@ use Rattle.vm_kernel.proofs.steps.EventsGrow.{Follows, suffices}
 use Rattle.vm_kernel.proofs.memory.WhatIsKnown.{known_at, known_on, nothing_known}
 use Rattle.vm_kernel.proofs.abroad.OwnEvents.{own_named}
 use Rattle.vm_kernel.proofs.controls.LockReplied.{replied_behind, replied_none}
-use Rattle.vm_kernel.specs.Matches.{IsReplied}
+use Rattle.vm_kernel.specs.Matches.{IsReplied, WorksBut}
+use Rattle.vm_kernel.proofs.controls.FlagsKept.{flags_put, flags_same}
+use Rattle.vm_legal.specs.Cached.{is_cached}
+use Rattle.vm_state.specs.Pagers.{cached_in, is_ready_state}
+use Rattle.vm_state.specs.Stands.{HasFlags, KnowsFiles, KnowsPages}
 use Rattle.vm_legal.specs.Licences.{Fills, lock_taken}
 use Rattle.vm_parts.specs.Locks.{lock_numbered, lock_of-prohibits}
 use Rattle.vm_state.proofs.Waiting.{IsAwaitedBy, IsUnawaited, awaited_apart, awaited_elsewhere, away_awaited, here_unawaited, none_unawaited}
@@ -41,7 +45,6 @@ use Rattle.vm_model.specs.declared.event.Event.TheVariants as event
 use Rattle.vm_state.proofs.Declared.{kinds_marked, kinds_put, kinds_same}
 use Rattle.vm_state.proofs.Files.{files_put, files_same}
 use Rattle.vm_state.specs.Places.{known_local}
-use Rattle.vm_state.specs.Stands.{KnowsFiles, KnowsPages}
 use Rattle.vm_supply.specs.Answers as supply
 use Rattle.vm_legal.specs.Living.{tasks as made_tasks}
 use Rattle.vm_state.proofs.Filling.{KeepsAway, away_put, used_away, used_told}
@@ -51,8 +54,6 @@ use Rattle.vm_base.specs.declared.ids.PageKey.{PageKey}
 use Rattle.vm_kernel.proofs.memory.PlacesPassed.{quiet_place, waits_come, waits_retold}
 use Rattle.vm_state.proofs.Bypassing.{waits_taken}
 use Rattle.vm_state.proofs.Passing.{same_of}
-use Rattle.vm_state.specs.Pagers.{is_ready_state}
-use Rattle.vm_kernel.proofs.Common.{KnowsHomes}
 
 -- who waits, where rows of pages and objects are others
 
@@ -116,6 +117,7 @@ pub record Changed (header : Header) (h : ℕ) (k : Parts) (ids : Ids) (who : Wo
   pub pages : HasPages new.frames new.resident new.objects (λ o p. known_local header o p (local header h (place_of o p) now))
   pub controls : HasControls (named header) h new.objects (λ o. last_control h o past) (λ o. live_control h o past) (λ o. is_ready h o now)
       (λ o. object_home o past)
+  pub flags : HasFlags (named header) new.objects (λ o. is_cached h o past)
   pub laundry : HasLaundry new.frames new.resident k.laundry (returns_out h past)
   pub frames : HasFrames (slice_get (reverse header.frames.items) h) new.frames (frames_held header h now) (frames_wired h past)
   pub referred : AllReferred k.chains new.objects new.resident
@@ -200,45 +202,67 @@ stays_zeroed header h k past now object page stays =
 
 pub works_of : (header : Header) (h : ℕ) (k : Parts) (ids : Ids) (who : Woken) (new : HostParts) (past now : List Event) → Rests header h k ids past
     → Stays header h k past now → Fit new → new.buffers ≡ k.memory.buffers → Changed header h k ids who new past now
-    → Works header h (heard k new) ids who now
+    → WorksBut header h (heard k new) ids who (λ o. is_cached h o past) now
 works_of header h k ids who new past now rests stays fit same c =
     let was = rests.matches in
     record {
-      matches =
-          record {
-            core = record {
-              setting = was.core.setting;
-              fits = record { parts = fit; plain = c.plain; buffers = ap (λ z. z.size) same ∙ was.core.fits.buffers };
-              spaces = record {
-                tasks = stays.tasks;
-                entries = was.core.spaces.entries;
-                shared = was.core.spaces.shared;
-                uses = stays.uses;
-                homes = stays.homes;
-              };
-              objects = record {
-                regions = stays.regions c.regions;
-                kinds = c.kinds;
-                files = λ o file. ap (is_on h) (stays.home o) ∙ c.files o file;
-                sizes = record { at = λ o known least is. c.sizes.at o known least is ∙ sym (stays.sizes o); few = c.sizes.few };
-              };
-              controls = stays.controls c.controls;
-              pages = record {
-                shown = c.pages;
-                washed = subst (λ (z : ℕ). HasLaundry new.frames new.resident k.laundry z) (sym stays.returned) c.laundry;
-                counted = subst (λ (z : ℕ). HasFrames (slice_get (reverse header.frames.items) h) new.frames (frames_held header h now) z) (sym stays.wired)
-                    c.frames;
-              };
-            };
-            settled = stays.settled;
-            replied = stays.replied;
-          };
+      core = record {
+        setting = was.core.setting;
+        fits = record { parts = fit; plain = c.plain; buffers = ap (λ z. z.size) same ∙ was.core.fits.buffers };
+        spaces = record {
+          tasks = stays.tasks;
+          entries = was.core.spaces.entries;
+          shared = was.core.spaces.shared;
+          uses = stays.uses;
+          homes = stays.homes;
+        };
+        objects = record {
+          regions = stays.regions c.regions;
+          kinds = c.kinds;
+          files = λ o file. ap (is_on h) (stays.home o) ∙ c.files o file;
+          sizes = record { at = λ o known least is. c.sizes.at o known least is ∙ sym (stays.sizes o); few = c.sizes.few };
+        };
+        controls = stays.controls c.controls;
+        flags = c.flags;
+        pages = record {
+          shown = c.pages;
+          washed = subst (λ (z : ℕ). HasLaundry new.frames new.resident k.laundry z) (sym stays.returned) c.laundry;
+          counted = subst (λ (z : ℕ). HasFrames (slice_get (reverse header.frames.items) h) new.frames (frames_held header h now) z) (sym stays.wired)
+              c.frames;
+        };
+      };
+      settled = stays.settled;
+      replied = stays.replied;
       used = used_away k.memory.resident new.resident (used_told rests.used (λ t w found. (stays.next t, stays.target t))) c.away;
       referred = c.referred;
       thin = c.thin;
       order = stays.order;
       waits = waits_retold stays.waits c.waits;
     }
+
+-- where the flags are those of the history nothing is left to do
+pub works_flagged : {header : Header} {h : ℕ} {k : Parts} {ids : Ids} {who : Woken} {flags : ℕ → Bool} {past : List Event}
+    → WorksBut header h k ids who flags past → ((o : ℕ) → o < named header → is_cached h o past ≡ flags o) → Works header h k ids who past
+works_flagged but same = record {
+  matches = record {
+    core = record {
+      setting = but.core.setting;
+      fits = but.core.fits;
+      spaces = but.core.spaces;
+      objects = but.core.objects;
+      controls = but.core.controls;
+      flags = λ o less. same o less ∙ but.core.flags o less;
+      pages = but.core.pages;
+    };
+    settled = but.settled;
+    replied = but.replied;
+  };
+  used = but.used;
+  referred = but.referred;
+  thin = but.thin;
+  waits = but.waits;
+  order = but.order;
+}
 
 -- the message changes nothing
 
@@ -342,6 +366,7 @@ changed_none header h k ids past object control m rests nothing =
       controls =
           controls_of k.memory.objects k.memory.objects (λ o. last_control h o past) (λ o. live_control h o past) (λ o. is_ready h o past)
           (λ o. is_ready h o (hears h object control m ∷ past)) was.core.controls (itself k.memory.objects) nothing.ready;
+      flags = was.core.flags;
       laundry = was.core.pages.washed;
       frames =
           subst (λ (z : ℕ). HasFrames (slice_get (reverse header.frames.items) h) k.memory.frames z (frames_wired h past)) (sym nothing.held)
@@ -365,6 +390,7 @@ kind_ready header o known was live =
       temporary =
           λ least. let its = was.temporary least in record {
             kind = its.kind;
+            uncached = its.uncached;
             number = λ some. its.number some
                 ∙ ap (λ b. if b then 1 else 0) (sym was.lives ∙ live);
           };
@@ -458,7 +484,7 @@ changed_ready header h k ids events after past object control cache strategy who
       regions =
           regions_controlled object.0 known (record known { state = state.Ready }) k.chains k.memory.objects new.objects ids (λ r. region_of header r past)
           (λ o. backing_of header o past) (next_region header past) (next_object header past) (marks_of header past)
-          readies.found readies.ready refl refl was.core.objects.regions;
+          readies.found readies.ready refl refl refl was.core.objects.regions;
       kinds =
           kinds_put header object.0 (record known { state = state.Ready }) k.memory.objects new.objects k.chains readies.ready readies.marks
           (kind_ready header object.0 known (was.core.objects.kinds.kinds object.0 known readies.found) live) was.core.objects.kinds;
@@ -479,6 +505,7 @@ changed_ready header h k ids events after past object control cache strategy who
       controls =
           rw (own_host h) (controls_ready k.memory.objects new.objects (λ o. last_control h o past) (λ o. live_control h o past) (λ o. is_ready h o past)
           object.0 control known was.core.controls readies.found live lives_now readies.ready);
+      flags = flags_put object.0 (record known { state = state.Ready }) readies.ready (ap cached_in readies.found) was.core.flags;
       laundry = was.core.pages.washed;
       frames = was.core.pages.counted;
       referred =
@@ -618,6 +645,7 @@ changed_supplied header h k ids events after past object control page lock preci
       controls =
           controls_of k.memory.objects new.objects (λ o. last_control h o past) (λ o. live_control h o past) (λ o. is_ready h o past) (λ o. is_ready h o past)
           was.core.controls same (λ o live is. refl);
+      flags = flags_same same was.core.flags;
       laundry = laundry_changed key row.frame _ _ _ _ _ k.memory new k.laundry (returns_out h past) was.core.pages.washed comes;
       frames =
           frames_changed (slice_get (reverse header.frames.items) h) key row.frame _ _ _ _ _ k.memory new (frames_held header h past)
@@ -691,6 +719,7 @@ changed_ended header h k ids past object control page m effect who row new rests
       controls =
           controls_of k.memory.objects new.objects (λ o. last_control h o past) (λ o. live_control h o past) (λ o. is_ready h o past)
           (λ o. is_ready h o (hears h object control m ∷ past)) was.core.controls same (λ o live number. is.ready o);
+      flags = flags_same same was.core.flags;
       laundry = laundry_changed key row.frame _ _ _ _ _ k.memory new k.laundry (returns_out h past) was.core.pages.washed ends;
       frames = subst (λ (z : ℕ). HasFrames (slice_get (reverse header.frames.items) h) new.frames z (frames_wired h past)) (sym is.held)
           (frames_changed (slice_get (reverse header.frames.items) h) key row.frame _ _ _ _ _ k.memory new (frames_held header h past)
@@ -850,6 +879,7 @@ changed_zeroed header h k ids host after past object control page who new rests 
       controls =
           controls_of k.memory.objects new.objects (λ o. last_control h o past) (λ o. live_control h o past) (λ o. is_ready h o past) (λ o. is_ready h o past)
           was.core.controls same (λ o live is. refl);
+      flags = flags_same same was.core.flags;
       laundry = laundry_changed key row.frame _ _ _ _ _ k.memory new k.laundry (returns_out h past) was.core.pages.washed comes;
       frames = rw (own_host h, lacks.counts)
           (frames_changed (slice_get (reverse header.frames.items) h) key row.frame _ _ _ _ _ k.memory new (frames_held header h past)

@@ -1,9 +1,8 @@
 -- What a kernel's core says once some of its tables have changed, whatever the reason, and the others not.
-use Rattle.vm_kernel.proofs.Common.{ChainTable, Mapped, Waiting}
+use Rattle.vm_kernel.proofs.Common.{ChainTable, Mapped, Waiting, Bool, Changes, Entry, Event, FrameNo, Rests, HasPages, HasUse, Header, IfSome, Ids, List}
+use Rattle.vm_kernel.proofs.Common.{Local, ObjectTable, Option, PageKey, PageRow, Parts, HostParts, Queues, SameMarks, WaitTable, claimed, reverse, slice_get}
+use Rattle.vm_kernel.proofs.Common.{ℕ, ◌≡◌}
 use Rattle.vm_state.proofs.Filling.{SameFills, uses_refilled}
-use Rattle.vm_kernel.proofs.Common.{Bool, Changes, Entry, Event, FrameNo, Rests, HasPages, HasUse, Header, IfSome, Ids, List, Local, ObjectTable, Option}
-use Rattle.vm_kernel.proofs.Common.{PageKey}
-use Rattle.vm_kernel.proofs.Common.{PageRow, Parts, HostParts, Queues, SameMarks, WaitTable, claimed, reverse, slice_get, ℕ, ◌≡◌}
 use Rattle.vm_fault.specs.Faults.{KeepsPlan}
 use Rattle.vm_frames.specs.Frames.{FrameTable}
 use Rattle.vm_kernel.proofs.memory.PagesShown.{frames_changed, laundry_changed, pages_marked}
@@ -36,6 +35,7 @@ core_within other core =
       spaces = core.spaces;
       objects = core.objects;
       controls = core.controls;
+      flags = core.flags;
       pages = core.pages;
     }
 
@@ -66,6 +66,7 @@ core_rerowed {header = header} {h = h} {k = k} {m = m} {held_now = held_now} {me
       spaces = core.spaces;
       objects = rw plan.objects core.objects;
       controls = rw plan.objects core.controls;
+      flags = rw plan.objects core.flags;
       pages = record {
         shown = rw plan.objects pages;
         washed = laundry_changed key frame _ _ _ _ _ k.memory memory k.laundry m.out core.pages.washed changes;
@@ -105,6 +106,7 @@ core_holds core uses =
       };
       objects = core.objects;
       controls = core.controls;
+      flags = core.flags;
       pages = core.pages;
     }
 

@@ -15,7 +15,6 @@ use Rattle.vm_legal.proofs.Heads.{passed}
 use Rattle.vm_kernel.proofs.abroad.OwnHost.{named_host, own_host}
 use Rattle.vm_kernel.proofs.abroad.OwnEvents.{own_named}
 use Rattle.vm_kernel.proofs.controls.LockReplied.{replied_behind}
-use Rattle.vm_state.specs.Places.{known_local}
 
 -- the frames, with another number wired
 abbrev pub with_wired : FrameTable → ℕ → FrameTable
@@ -85,6 +84,7 @@ ran_wired header h outside doing past k ids wired rests few first done =
               spaces = m.core.spaces;
               objects = m.core.objects;
               controls = m.core.controls;
+              flags = m.core.flags;
               pages = record {
                 shown =
                     pages_wired k.memory.frames k.memory.resident k.memory.objects (λ o p. known_local header o p (local header h (place_of o p) past)) wired

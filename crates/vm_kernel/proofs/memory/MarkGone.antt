@@ -1,13 +1,11 @@
 -- What is left of the kernel where a store's region loses its mark.
 use Rattle.vm_kernel.proofs.Common.{ChainTable, Event, Header, HostParts, Ids, List, Matches, ObjectTable, Parts, Region, RegionRow, Some, Works, ap, arith}
-use Rattle.vm_kernel.proofs.Common.{false}
-use Rattle.vm_kernel.proofs.Common.{inl, inr, is_woken, marks_of, next_object, next_region, refl, region_at}
-use Rattle.vm_kernel.proofs.Common.{subst, sym, true, waiting, ℕ, ◌+◌, ◌-◌, ◌<◌, ◌∙◌, ◌∷◌, ◌≡◌}
+use Rattle.vm_kernel.proofs.Common.{false, inl, inr, is_woken, marks_of, next_object, next_region, refl, region_at, subst, sym, true, waiting, ℕ, ◌+◌, ◌-◌, ◌<◌}
+use Rattle.vm_kernel.proofs.Common.{◌∙◌, ◌∷◌, ◌≡◌, Command, Outside, []}
 use Rattle.vm_kernel.proofs.controls.LockReplied.{replied_behind}
 use Rattle.vm_kernel.proofs.memory.ShadowMade.{KeepsRegions, entries_kept, keeps_put}
 use Rattle.vm_kernel.proofs.space.RegionsFilled.{unmarked_filled}
 use Rattle.vm_kernel.proofs.space.StillThin.{thin_chains}
-use Rattle.vm_kernel.proofs.Common.{Command, Outside, []}
 use Rattle.vm_kernel.proofs.space.RegionHomes.{homes_caused, homes_put}
 use Rattle.vm_legal.specs.Licences.{Unmarks}
 use Rattle.vm_base.specs.declared.ids.RegionId.{RegionId}
@@ -57,6 +55,7 @@ unmarked_with header h outside doing past k ids region row chains works there co
             sizes = m.core.objects.sizes;
           };
           controls = m.core.controls;
+          flags = m.core.flags;
           pages = m.core.pages;
         };
         settled = record { none_owed = refl; shut = λ r. refl };

@@ -1,7 +1,7 @@
 -- What a kernel stands for once one of its pages has changed, whatever the reason: a page goes, goes back to its pager, or stays with another row.
 use Rattle.vm_state.proofs.KnownPages.{sizes_put, sizes_same}
-use Rattle.vm_kernel.specs.Matches.{AccessFacts, Amidst, ControlFacts, Core, ObjectFacts, Objects, Pages, SpaceFacts, access_facts, control_facts}
-use Rattle.vm_kernel.specs.Matches.{memory_facts, space_facts}
+use Rattle.vm_kernel.specs.Matches.{AccessFacts, Amidst, ControlFacts, Core, ObjectFacts, Objects, Pages, SpaceFacts, access_facts, control_facts, memory_facts}
+use Rattle.vm_kernel.specs.Matches.{space_facts, IsReplied}
 use Rattle.vm_kernel.proofs.memory.CoreChanges.{core_within, with_tables}
 use Rattle.vm_state.proofs.Passing.{quiet_if}
 use Rattle.vm_kernel.proofs.Common.{AllUsed, BeganInOrder, Bool, ChainTable, Changes, Command, Discards, Drops, Elsewhere, Entry, Event, Fit, FrameNo}
@@ -27,7 +27,6 @@ use Rattle.vm_parts.proofs.Fitting.{fit_changed}
 use Rattle.vm_state.proofs.Declared.{kinds_marked, kinds_put}
 use Rattle.vm_state.proofs.Changing.{regions_controlled}
 use Rattle.vm_state.proofs.Waiting.{IsUnawaited, here_unawaited, none_unawaited, waiters_page}
-use Rattle.vm_kernel.specs.Matches.{IsReplied}
 use Rattle.vm_kernel.proofs.memory.PartsStillFit.{IsPlainAway, plain_changed}
 use Rattle.vm_state.proofs.Files.{files_put, files_same}
 use Rattle.vm_kernel.proofs.memory.PageReturned.{controls_same}
@@ -37,6 +36,7 @@ use Rattle.vm_kernel.proofs.controls.WordTaken.{regions_of}
 use Rattle.vm_model.specs.Named.{named}
 use Rattle.vm_model.specs.declared.event.Event.TheVariants as event
 use Rattle.vm_model.specs.declared.message.Message.TheVariants as message
+use Rattle.vm_kernel.proofs.controls.FlagsKept.{flags_same}
 
 -- the kernel inside a step
 
@@ -115,6 +115,7 @@ amidst_moved {header = header} {h = h} {k = k} {ids = ids} {gone = gone} {who = 
         sizes = sizes_same (named header) k.memory.objects memory.objects _ moved.objects a.core.objects.sizes;
       };
       controls = controls_same k.memory.objects memory.objects _ _ _ a.core.controls moved.objects.at;
+      flags = flags_same moved.objects a.core.flags;
       pages = moved.pages;
     }
 
@@ -232,12 +233,13 @@ pages_after {header = header} {h = h} {k = k} {key = key} {row = row} {memory = 
 
 -- an object is known otherwise, with the references and the pages that it had
 pub objects_known : {header : Header} {h o : ℕ} {row new : ObjectRow} {chains : ChainTable} {os os2 : ObjectTable} {ids : Ids} {s : ObjectFacts}
-    → object_at os o ≡ Some row → PutsObject o (Some new) os os2 → SameMarks os os2 → new.references ≡ row.references → new.pages ≡ row.pages
+    → object_at os o ≡ Some row → PutsObject o (Some new) os os2 → SameMarks os os2 → new.references ≡ row.references → new.cache ≡ row.cache
+    → new.pages ≡ row.pages
     → IsOfKind header o new → Objects header h chains os ids s → Objects header h chains os2 ids s
-objects_known {header = header} {h = h} {o = o} {row = row} {new = new} {chains = chains} {os = os} {os2 = os2} {ids = ids} found put marks references pages is
-    has =
+objects_known {header = header} {h = h} {o = o} {row = row} {new = new} {chains = chains} {os = os} {os2 = os2} {ids = ids} found put marks references
+    cache pages is has =
     record {
-      regions = regions_controlled o row new chains os os2 ids _ _ _ _ _ found put references pages has.regions;
+      regions = regions_controlled o row new chains os os2 ids _ _ _ _ _ found put references cache pages has.regions;
       kinds = kinds_put header o new os os2 chains put marks is has.kinds;
       files = files_put header h o row new os os2 _ found put has.files;
       sizes = sizes_put (named header) o row new os os2 _ found pages put has.sizes;

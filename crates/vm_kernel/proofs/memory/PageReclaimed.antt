@@ -1,14 +1,13 @@
 -- One page of a host is reclaimed, and a pageout does that over and over.
 use Rattle.vm_kernel.proofs.Common.{AllLive, AllReferred, AllSkipped, ArePlain, Begins, Bool, Command, Created, Creates, EachGone, Elsewhere, Event, Fit}
 use Rattle.vm_kernel.proofs.Common.{FrameNo, FrameTable, FreesOrReturns, HasControls, Header, HostId, HostIsFull, Ids, IfSome, IsExhausted, IsFreed, IsNothing}
-use Rattle.vm_kernel.proofs.Common.{IsReferred, IsReturned, IsSettled, KeepsPages, LaundryList, LegalEvents, List, Matches, None, ObjectRow}
-use Rattle.vm_kernel.proofs.Common.{ObjectTable, Option, Outside, PageKey, PageRow, PagerState, PagesOut, Parts, PutsObject, PutsRow, Queues, Reclaim}
-use Rattle.vm_kernel.proofs.Common.{ReclaimEffects, ResidentTable, Rests, ReturnCause, SameMarks, SameObjects, Some, Starves, Up, [], absent_at, ap}
-use Rattle.vm_kernel.proofs.Common.{arith, claimed, controlled, count_again, departures, false, fit_touched, free, has_pager, host_id, if◌then◌else◌}
-use Rattle.vm_kernel.proofs.Common.{inl, inr, is_claimed, is_queued, is_ready, is_skipped, is_woken, last_control, last_in, live_control, live_in, local}
-use Rattle.vm_kernel.proofs.Common.{local_of_row, looked, named, object_at, object_home, owner_of, page_in, page_key, place_of, queues_after_search, refl}
-use Rattle.vm_kernel.proofs.Common.{returns_out, row_at, row_cases, row_with_control, sends, some_is, subst, sym, told_from, true, ℕ, ◌&&◌, ◌++◌}
-use Rattle.vm_kernel.proofs.Common.{◌+◌, ◌<◌, ◌==◌, ◌∙◌, ◌∷◌, ◌≡◌, ◌⊎◌}
+use Rattle.vm_kernel.proofs.Common.{IsReferred, IsReturned, IsSettled, KeepsPages, LaundryList, LegalEvents, List, Matches, None, ObjectRow, ObjectTable}
+use Rattle.vm_kernel.proofs.Common.{Option, Outside, PageKey, PageRow, PagerState, PagesOut, Parts, PutsObject, PutsRow, Queues, Reclaim, ReclaimEffects}
+use Rattle.vm_kernel.proofs.Common.{ResidentTable, Rests, ReturnCause, SameMarks, SameObjects, Some, Starves, Up, [], absent_at, ap, arith, claimed, controlled}
+use Rattle.vm_kernel.proofs.Common.{count_again, departures, false, fit_touched, free, has_pager, host_id, if◌then◌else◌, inl, inr, is_claimed, is_queued}
+use Rattle.vm_kernel.proofs.Common.{is_ready, is_skipped, is_woken, last_control, last_in, live_control, live_in, local, local_of_row, looked, named, object_at}
+use Rattle.vm_kernel.proofs.Common.{object_home, owner_of, page_in, page_key, place_of, queues_after_search, refl, returns_out, row_at, row_cases}
+use Rattle.vm_kernel.proofs.Common.{row_with_control, sends, some_is, subst, sym, told_from, true, ℕ, ◌&&◌, ◌++◌, ◌+◌, ◌<◌, ◌==◌, ◌∙◌, ◌∷◌, ◌≡◌, ◌⊎◌}
 use Rattle.vm_legal.specs.Licences.{Reclaimed as ForFrames}
 use Rattle.vm_legal.specs.Reclaims.{Reclaims as May}
 use Rattle.vm_model.specs.Local.{Place}
@@ -16,8 +15,7 @@ use Rattle.vm_kernel.proofs.steps.EventsGrow.{Follows, free_is, goes_none, goes_
 use Rattle.vm_kernel.proofs.memory.WhatIsKnown.{other_if, pages_known}
 use Rattle.vm_legal.proofs.Owing.{behind_none}
 use Rattle.vm_kernel.proofs.memory.PageReturned.{controls_begun, controls_told, counts_controlled, first_of_object, kind_controlled, pages_created}
-use Rattle.vm_kernel.proofs.memory.PageReturned.{never_controlled, ready_controlled, told_controlled, unasked}
-use Rattle.vm_kernel.proofs.memory.PageReturned.{untold_temporary}
+use Rattle.vm_kernel.proofs.memory.PageReturned.{never_controlled, ready_controlled, told_controlled, unasked, untold_temporary}
 use Rattle.vm_legal.specs.Prompt.{IsSource}
 use Rattle.vm_kernel.proofs.space.StillThin.{references_put, thin_objects}
 use Rattle.vm_merge.specs.Merges.{IsThin}
@@ -30,14 +28,13 @@ use Rattle.vm_kernel.proofs.abroad.OwnHost.{named_host, own_host}
 use Rattle.vm_kernel.proofs.abroad.OwnEvents.{mine_of, own_named}
 use Rattle.vm_kernel.proofs.controls.LockReplied.{replied_behind}
 use Rattle.vm_kernel.proofs.lists.PagesSpared.{waits_unlocked}
-use Rattle.vm_kernel.specs.Matches.{IsReplied}
+use Rattle.vm_kernel.specs.Matches.{IsReplied, Amidst}
 use Rattle.vm_legal.specs.Accesses.{WaitsUnlocked}
 use Rattle.vm_state.proofs.Bypassing.{waits_quiet}
 use Rattle.vm_state.proofs.Passing.{quiet_if}
 use Rattle.vm_kernel.proofs.memory.PageChanges.{amidst_gone, amidst_moved, amidst_of, amidst_returned, changes_among, drop_follows, drops, fits_known, gives}
 use Rattle.vm_kernel.proofs.memory.PageChanges.{leaves_all, live_at, matches_of, objects_known, return_follows, same_objects, seen_of}
 use Rattle.vm_kernel.proofs.memory.CoreChanges.{with_tables}
-use Rattle.vm_kernel.specs.Matches.{Amidst}
 use Rattle.vm_state.proofs.Told.{told_all, waits_told}
 use Rattle.vm_state.proofs.Knowing.{known_put}
 use Rattle.vm_kernel.proofs.memory.PagesShown.{pages_marked}
@@ -46,6 +43,8 @@ use Rattle.vm_model.specs.declared.message.Message.TheVariants as message
 use Rattle.vm_objects.specs.declared.row.PagerState.TheVariants as state
 use Rattle.vm_pageout.specs.declared.answer.Reclaim.TheVariants as reclaim
 use Rattle.vm_supply.specs.declared.woken.Woken.TheVariants as woken
+use Rattle.vm_abroad.proofs.Regions.{kind_cases}
+use Rattle.vm_kernel.proofs.controls.FlagsKept.{flags_set}
 
 -- all but what a reclaim changes is as it was, and what it changes fits
 pub record Beside (k k2 : Parts) : Type 0 where
@@ -256,14 +255,21 @@ inside_created {header = header} {h = h} {k = k} {past = past} {row = row} key o
     let put = subst (λ (z : PagerState). PutsObject o (Some (row_with_control z row)) k.memory.objects os) without puts in
     let controls : HasControls (named header) h os (λ o2. last_control h o2 now) (λ o2. live_control h o2 now) (λ o2. is_ready h o2 now)
     (λ o2. object_home o2 past) = rw (own_host h) (controls_begun k.memory.objects os _ _ _ o row core.controls all_live found none put) in
+    let kind = core.objects.kinds.kinds o row found in
+    let uncached : row.cache ≡ false = elim (kind_cases header o) [
+      | inl declared ↦ let number = (kind.declared declared).number in absurd (omega (arith, number, none))
+      | inr temporary ↦ (kind.temporary temporary).uncached
+    ] in
     record {
       core = record {
         setting = core.setting;
         fits = fits_known found put refl core.fits;
         spaces = core.spaces;
         objects =
-            objects_known found put marks refl refl (kind_controlled header o state.Without row without (core.objects.kinds.kinds o row found)) core.objects;
+            objects_known found put marks refl refl refl (kind_controlled header o state.Without row without (core.objects.kinds.kinds o row found))
+            core.objects;
         controls = controls;
+        flags = rw (own_host h) (flags_set o (row_with_control state.Without row) false put uncached core.flags);
         pages = record {
           shown = pages_marked k.memory.frames k.memory.resident k.memory.objects os
               (λ o2 p2. known_local header o2 p2 (local header h (place_of o2 p2) now))

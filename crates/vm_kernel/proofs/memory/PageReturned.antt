@@ -151,6 +151,7 @@ kind_controlled header o state.Without row is has =
       temporary =
           λ least. let its = has.temporary least in record {
             kind = its.kind;
+            uncached = its.uncached;
             number = λ some. ap (λ z. z + 1) (its.number some ∙ ap (λ z. if has_pager z then 1 else 0) is);
           };
       declared = λ less. let its = has.declared less in record { kind = its.kind; pages = its.pages; told = λ some. refl; number = omega arith };

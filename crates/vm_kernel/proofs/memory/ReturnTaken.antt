@@ -9,7 +9,6 @@ use Rattle.vm_model.specs.declared.message.Message.TheVariants as message
 use Rattle.vm_state.specs.Places.{known_local}
 use Rattle.vm_kernel.proofs.abroad.OwnHost.{own_host}
 use Rattle.vm_kernel.proofs.controls.LockReplied.{replied_none}
-use Rattle.vm_state.specs.Places.{known_local}
 
 -- no frame of the list is this one
 list_apart : (list : List FrameNo) (f : ℕ) → is_skipped list f ≡ false → (i : ℕ) (d : FrameNo) → i < length list → (get_or list i d).0 ≡ f → ⊥
@@ -100,6 +99,7 @@ rests_taken header h k ids past object control page dirty bytes f fs laundry res
               spaces = was.core.spaces;
               objects = was.core.objects;
               controls = was.core.controls;
+              flags = was.core.flags;
               pages = record {
                 shown =
                     pages_same k.memory.frames fs k.memory.resident k.memory.objects (λ o p. known_local header o p (local header h (place_of o p) past)) f.0

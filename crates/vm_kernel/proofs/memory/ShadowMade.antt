@@ -2,11 +2,10 @@
 use Rattle.vm_kernel.proofs.memory.CoreChanges.{pages_known_so}
 use Rattle.vm_state.proofs.KnownPages.{object_few, sizes_shadowed}
 use Rattle.vm_kernel.proofs.Common.{ChainTable, Event, HasEntries, Header, HostParts, Ids, Inside, IsInside, List, Matches, None, ObjectId, ObjectTable, Parts}
-use Rattle.vm_kernel.proofs.Common.{PutsObject, Region, RegionRow, SameMarks, Some, Works, [], ap, arith, false, has_region, home_of, inl, inr}
-use Rattle.vm_kernel.proofs.Common.{is_some, is_woken, marks_of, next_object, next_region, object_at, one_case, pages_in, refl, region_at}
-use Rattle.vm_kernel.proofs.Common.{region_pages, rows_in, rows_map, some_is, subst, sym, true, waiting, ℕ, ◌+◌, ◌-◌, ◌<◌, ◌∙◌, ◌∷◌, ◌≡◌, ◌≤◌}
-use Rattle.vm_kernel.proofs.Common.{◌⊎◌}
-use Rattle.vm_kernel.proofs.Common.{if◌then◌else◌, ◌==◌}
+use Rattle.vm_kernel.proofs.Common.{PutsObject, Region, RegionRow, SameMarks, Some, Works, [], ap, arith, false, has_region, home_of, inl, inr, is_some}
+use Rattle.vm_kernel.proofs.Common.{is_woken, marks_of, next_object, next_region, object_at, one_case, pages_in, refl, region_at, region_pages, rows_in}
+use Rattle.vm_kernel.proofs.Common.{rows_map, some_is, subst, sym, true, waiting, ℕ, ◌+◌, ◌-◌, ◌<◌, ◌∙◌, ◌∷◌, ◌≡◌, ◌≤◌, ◌⊎◌, if◌then◌else◌, ◌==◌, Command}
+use Rattle.vm_kernel.proofs.Common.{Outside}
 use Rattle.vm_kernel.proofs.space.RegionsFilled.{shadowed_filled, unknown_unfilled}
 use Rattle.vm_kernel.proofs.space.StillThin.{thin_shadowed}
 use Rattle.vm_state.proofs.Filling.{copies_kept, rows_unmade}
@@ -35,7 +34,7 @@ use Rattle.vm_state.specs.References.{is_live_in}
 use Rattle.vm_kernel.proofs.memory.PlacesPassed.{fresh_away}
 use Rattle.vm_kernel.proofs.space.RegionHomes.{homes_caused, homes_put}
 use Rattle.vm_legal.specs.Licences.{Shadows}
-use Rattle.vm_kernel.proofs.Common.{Command, Outside}
+use Rattle.vm_kernel.proofs.controls.FlagsKept.{flags_temporary}
 
 -- each region is as it was, but for its top and its mark
 pub record KeepsRegions (old new : ChainTable) : Type 0 where
@@ -133,6 +132,7 @@ shadowed_with header h outside doing past k ids region object row chains objects
           controls = controls_made k.memory.objects objects _ _ _ object.0 row.pages m.core.controls unknown put (λ o home. object_stays o h e past home)
               (home_shadowed h region object row.top past (m.core.spaces.homes.1.objects object.0 at_least)
               (m.core.spaces.homes.0 region.0 row (paged_temporary header region.0 temporary) there));
+          flags = flags_temporary object.0 (Some (new_object row.pages)) new put m.core.flags;
           pages = pages_known_so same m.core.pages;
         };
         settled = record { none_owed = refl; shut = λ r. refl };

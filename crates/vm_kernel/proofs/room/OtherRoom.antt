@@ -1,8 +1,7 @@
 -- What a kernel stands for doesn't depend on how much room its tables have.
-use Rattle.vm_kernel.proofs.Common.{refl}
+use Rattle.vm_kernel.proofs.Common.{refl, All, Bool, Entry, Event, FrameTable, Header, List, Option, PageKey, Parts, [], inl, inr, rows_map, suc, zero, ℕ}
 use Rattle.vm_kernel.proofs.space.StillThin.{references_same, thin_kept}
 use Rattle.vm_merge.specs.Merges.{IsThin}
-use Rattle.vm_kernel.proofs.Common.{All, Bool, Entry, Event, FrameTable, Header, List, Option, PageKey, Parts, [], inl, inr, rows_map, suc, zero, ℕ}
 use Rattle.vm_base.specs.declared.ids.FrameNo.{FrameNo}
 use Rattle.vm_fault.specs.Walks.{ChainsFit, IsAt, IsUnder}
 use Rattle.vm_kernel.specs.Matches.{HasWaits, Matches, Rests, UsesAll}
@@ -251,6 +250,7 @@ matches_roomier header h rooms k ids gone past was = record {
       sizes = record { at = was.core.objects.sizes.at; few = was.core.objects.sizes.few };
     };
     controls = controls_roomier k.memory.objects rooms.objects rooms.marks _ h _ _ _ _ was.core.controls;
+    flags = was.core.flags;
     pages = record {
       shown = pages_roomier k.memory.objects rooms.objects rooms.marks k.memory.frames k.memory.resident rooms.rows _ was.core.pages.shown;
       washed = laundry_roomier k.memory.resident rooms.rows k.memory.frames k.laundry _ was.core.pages.washed;

@@ -1,9 +1,7 @@
 -- What the parts of a step spend in front of the accesses that are run, and what they leave for those.
 use Rattle.vm_kernel.proofs.Common.{Bool, Command, Err, Event, Header, Ids, List, Matches, ObjectTable, Ok, OnOk, On, PageKey, Parts, Result, TaskId, WaitTable}
 use Rattle.vm_kernel.proofs.Common.{Waiting, [], ap, arith, false, frame_count, length, length-append, one_again, one_frame, refl, returns_out, rows_in, subst}
-use Rattle.vm_kernel.proofs.Common.{sym}
-use Rattle.vm_kernel.proofs.Common.{true, ℕ, ◌++◌, ◌+◌}
-use Rattle.vm_kernel.proofs.Common.{◌*◌, ◌<◌, ◌∙◌, ◌∷◌, ◌≡◌, ◌≤◌}
+use Rattle.vm_kernel.proofs.Common.{sym, true, ℕ, ◌++◌, ◌+◌, ◌*◌, ◌<◌, ◌∙◌, ◌∷◌, ◌≡◌, ◌≤◌}
 use Rattle.std.specs.Prelude.{IsOk, OnErr, vec_capacity}
 use Rattle.vm_base.specs.Listing.{Listed}
 use Rattle.vm_kernel.proofs.room.EndsSpend.{roomy_fewer}
@@ -11,7 +9,7 @@ use Rattle.vm_kernel.proofs.memory.FramesHeld.{room_once}
 use Rattle.vm_kernel.proofs.controls.LiveControls.{live_known}
 use Rattle.vm_kernel.proofs.room.RunPays.{copies_more}
 use Rattle.vm_kernel.specs.Rooms.{Dies, HasBuffers, HasMore, HasRoom, IsSkipRoom, KeepsSkip, KeepsSpare, Spends, breadth_of, dues, front, full_dues, heeding}
-use Rattle.vm_kernel.specs.Rooms.{if_copies, leaving, loose_frames, making, one_if_full, to_run, waking, word_breadth}
+use Rattle.vm_kernel.specs.Rooms.{if_copies, leaving, loose_frames, making, one_if_full, to_run, waking, word_breadth, may_end}
 use Rattle.vm_kernel.specs.declared.breadth.Breadth.{Breadth}
 use Rattle.vm_kernel.specs.declared.breadth.Breadth.TheVariants as wide
 use Rattle.vm_model.specs.declared.message.Message.{Message}
@@ -88,15 +86,17 @@ listed_few {header} {h} {k} {ids} {past} m once =
     omega (arith, few, m.core.pages.washed.room)
 
 -- so an end takes less than there is in front
-pub leaving_few : {header : Header} {h : ℕ} {k : Parts} {ids : Ids} {past : List Event} → Matches header h k ids [] past
-    → EachOnce (k.memory.queues.inactive ++ k.memory.queues.active) → 1 + leaving k ids ≤ front wide.Pages k
-leaving_few {header} {h} {k} {ids} {past} m once =
-    let listed = listed_few m once in
-    let live = live_known k.memory.objects ids.next_object in
-    by (listed_pages k.memory.queues) (live_below k.memory.objects ids.next_object) (frame_count k.memory.frames) (length k.memory.objects.entries) listed live
+end_few : (k : Parts) (ids : Ids) → listed_pages k.memory.queues ≤ frame_count k.memory.frames → 1 + leaving k ids ≤ front wide.Pages k
+end_few k ids listed =
+    by (listed_pages k.memory.queues) (live_below k.memory.objects ids.next_object) (frame_count k.memory.frames) (length k.memory.objects.entries) listed
+    (live_known k.memory.objects ids.next_object)
   where
     by : (listed live frames known : ℕ) → listed ≤ frames → live ≤ known → 1 + (listed + live) ≤ 2 * frames + known + 1
     by listed live frames known few fewer = omega (arith, few, fewer)
+
+pub leaving_few : {header : Header} {h : ℕ} {k : Parts} {ids : Ids} {past : List Event} → Matches header h k ids [] past
+    → EachOnce (k.memory.queues.inactive ++ k.memory.queues.active) → 1 + leaving k ids ≤ front wide.Pages k
+leaving_few {k = k} {ids = ids} m once = end_few k ids (listed_few m once)
 
 -- and with an object for each entry of a task less than where these may be merged
 pub ending_few : {header : Header} {h : ℕ} {k : Parts} {ids : Ids} {past : List Event} (task : TaskId) → Matches header h k ids [] past
@@ -256,36 +256,43 @@ out_few k few = by (listed_pages k.memory.queues) (frame_count k.memory.frames) 
     by listed frames known few = omega (arith, few)
 
 -- what a word tells is below that in front
-pub word_few : (m : Message) (k : Parts) → listed_pages k.memory.queues ≤ frame_count k.memory.frames → heeding m k ≤ front (word_breadth m) k
-word_few (message.Lock page count returns flush lock reply) k few =
+pub word_few : (m : Message) (k : Parts) (ids : Ids) → listed_pages k.memory.queues ≤ frame_count k.memory.frames
+    → heeding m k ids ≤ front (word_breadth m) k
+word_few (message.Lock page count returns flush lock reply) k ids few =
     by (listed_pages k.memory.queues) (frame_count k.memory.frames) (length k.memory.objects.entries) few
   where
     by : (listed frames known : ℕ) → listed ≤ frames → listed + 1 ≤ 2 * frames + known + 1
     by listed frames known few = omega (arith, few)
-word_few (message.Error page reason) k few = omega arith
-word_few other k few = omega arith
+word_few (message.Ready cache strategy) k ids few = end_few k ids few
+word_few (message.Attributes cache strategy reply) k ids few = end_few k ids few
+word_few (message.Error page reason) k ids few = omega arith
+word_few other k ids few = omega arith
 
-pub heeds_one : (m : Message) (k : Parts) → 1 ≤ heeding m k
-heeds_one (message.Lock page count returns flush lock reply) k = omega arith
-heeds_one other k = omega arith
+pub heeds_one : (m : Message) (k : Parts) (ids : Ids) → 1 ≤ heeding m k ids
+heeds_one (message.Lock page count returns flush lock reply) k ids = omega arith
+heeds_one (message.Ready cache strategy) k ids = omega arith
+heeds_one (message.Attributes cache strategy reply) k ids = omega arith
+heeds_one other k ids = omega arith
 
-heeds_few : (m : Message) (k : Parts) → heeding m k ≤ listed_pages k.memory.queues + 1
-heeds_few (message.Lock page count returns flush lock reply) k = omega arith
-heeds_few other k = omega arith
+heeds_few : (m : Message) (k : Parts) (ids : Ids) → may_end m ≡ false → heeding m k ids ≤ listed_pages k.memory.queues + 1
+heeds_few (message.Lock page count returns flush lock reply) k ids stays = omega arith
+heeds_few (message.Ready cache strategy) k ids stays = absurd (let bad : true ≡ false = stays in cc)
+heeds_few (message.Attributes cache strategy reply) k ids stays = absurd (let bad : true ≡ false = stays in cc)
+heeds_few other k ids stays = omega arith
 
 -- and so is what it tells with the end of those whom it fails
 pub word_costs : (m : Message) (woken : Woken) (k mid : Parts) (ids : Ids) → listed_pages k.memory.queues ≤ frame_count k.memory.frames
-    → ((key : PageKey) → woken ≡ who.Fails key → Dies m k mid) → heeding m k + waking woken mid ids ≤ front (word_breadth m) k
+    → ((key : PageKey) → woken ≡ who.Fails key → Dies m k mid) → heeding m k ids + waking woken mid ids ≤ front (word_breadth m) k
 word_costs m (who.Fails key) k mid ids few dies =
     let is = dies key refl in
     let listed : listed_pages mid.memory.queues ≡ listed_pages k.memory.queues = ap listed_pages is.queues in
     let live : live_below mid.memory.objects ids.next_object ≤ length k.memory.objects.entries = subst
     (λ (z : ObjectTable). live_below mid.memory.objects ids.next_object ≤ length z.entries) is.objects (live_known mid.memory.objects ids.next_object) in
-    subst (λ (z : Breadth). heeding m k + leaving mid ids ≤ front z k) (sym is.breadth)
-    (by (heeding m k) (listed_pages k.memory.queues) (listed_pages mid.memory.queues) (live_below mid.memory.objects ids.next_object)
-    (frame_count k.memory.frames) (length k.memory.objects.entries) (heeds_few m k) listed live few)
+    subst (λ (z : Breadth). heeding m k ids + leaving mid ids ≤ front z k) (sym is.breadth)
+    (by (heeding m k ids) (listed_pages k.memory.queues) (listed_pages mid.memory.queues) (live_below mid.memory.objects ids.next_object)
+    (frame_count k.memory.frames) (length k.memory.objects.entries) (heeds_few m k ids is.stays) listed live few)
   where
     by : (told listed there live frames known : ℕ) → told ≤ listed + 1 → there ≡ listed → live ≤ known → listed ≤ frames
         → told + (there + live) ≤ 2 * frames + known + 1
     by told listed there live frames known first same fewer few = omega (arith, first, same, fewer, few)
-word_costs m other k mid ids few dies = let told = word_few m k few in omega (arith, told)
+word_costs m other k mid ids few dies = let told = word_few m k ids few in omega (arith, told)

@@ -1,13 +1,12 @@
 -- Commands that change a task's entries, from their beginning to their end.
-use Rattle.vm_kernel.proofs.Common.{Access, AllReferred, AllRows, AllUsed, ChainTable, ChangesOnly, Code, Entry, Event, HasEntries}
-use Rattle.vm_kernel.proofs.Common.{HasUse, HasWaiters, Header, Ids, Inherit, IsInside, List, MapChange, Mapped, None, Option, Outside}
-use Rattle.vm_kernel.proofs.Common.{Parts, Prot, Raised, Ran, RegionRow, Rests, Some, Starts, TaskId, Waiting, [], acting, all_tasks, ap, arith}
-use Rattle.vm_kernel.proofs.Common.{code_where, copy_target, count_by, count_on, cut_at_ends, entries_in, entries_in_row, entries_of, entry, eqb_tells, false}
-use Rattle.vm_kernel.proofs.Common.{fills, has_entry, has_region, holds, host_of, if◌then◌else◌, in_use, inheritance, inherited, inl, inr, is_copied}
-use Rattle.vm_kernel.proofs.Common.{is_none, is_range, is_some, is_woken, meets_declared, most_entries, named, next_page}
-use Rattle.vm_kernel.proofs.Common.{next_region, not-false, protected, protection, refl, region_at, region_entries, removed, rows_in}
-use Rattle.vm_kernel.proofs.Common.{rows_map, subst, suc, sym, tasks, true, unwrap_or, waiting, waiting_in, zero, ℕ, ◌&&◌, ◌*◌, ◌+◌, ◌-◌, ◌<◌, ◌==◌, ◌^◌, ◌||◌}
-use Rattle.vm_kernel.proofs.Common.{◌∙◌, ◌∷◌, ◌≡◌, ◌≤◌}
+use Rattle.vm_kernel.proofs.Common.{Access, AllReferred, AllRows, AllUsed, ChainTable, ChangesOnly, Code, Entry, Event, HasEntries, HasUse, HasWaiters, Header}
+use Rattle.vm_kernel.proofs.Common.{Ids, Inherit, IsInside, List, MapChange, Mapped, None, Option, Outside, Parts, Prot, Raised, Ran, RegionRow, Rests, Some}
+use Rattle.vm_kernel.proofs.Common.{Starts, TaskId, Waiting, [], acting, all_tasks, ap, arith, code_where, copy_target, count_by, count_on, cut_at_ends}
+use Rattle.vm_kernel.proofs.Common.{entries_in, entries_in_row, entries_of, entry, eqb_tells, false, fills, has_entry, has_region, holds, host_of}
+use Rattle.vm_kernel.proofs.Common.{if◌then◌else◌, in_use, inheritance, inherited, inl, inr, is_copied, is_none, is_range, is_some, is_woken, meets_declared}
+use Rattle.vm_kernel.proofs.Common.{most_entries, named, next_page, next_region, not-false, protected, protection, refl, region_at, region_entries, removed}
+use Rattle.vm_kernel.proofs.Common.{rows_in, rows_map, subst, suc, sym, tasks, true, unwrap_or, waiting, waiting_in, zero, ℕ, ◌&&◌, ◌*◌, ◌+◌, ◌-◌, ◌<◌, ◌==◌}
+use Rattle.vm_kernel.proofs.Common.{◌^◌, ◌||◌, ◌∙◌, ◌∷◌, ◌≡◌, ◌≤◌, IsShared, KnowsHomes}
 use Rattle.vm_kernel.proofs.space.RegionsFilled.{recount_filled, same_waiting}
 use Rattle.vm_state.proofs.Filling.{copies_kept, rows_unmade}
 use Rattle.std.proofs.Common.{not}
@@ -34,7 +33,6 @@ use Rattle.vm_kernel.proofs.abroad.OwnHost.{lives_in, rows_here}
 use Rattle.vm_kernel.proofs.space.SharedEntries.{shared_changed, shared_inherited, shared_protected}
 use Rattle.vm_kernel.proofs.controls.LockReplied.{replied_behind}
 use Rattle.vm_state.specs.Passed.{IsUnmet, StaysAway}
-use Rattle.vm_kernel.proofs.Common.{IsShared, KnowsHomes, ◌||◌}
 use Rattle.vm_kernel.specs.Matches.{Core, Objects, control_facts, memory_facts, object_facts, space_facts}
 use Rattle.vm_kernel.proofs.space.StillThin.{thin_chains}
 use Rattle.vm_merge.specs.Merges.{IsThin}
@@ -212,6 +210,7 @@ core_rewritten {header = header} {h = h} {past = past} {k = k} {ids = ids} {maps
       };
       objects = c.objects;
       controls = core.controls;
+      flags = core.flags;
       pages = core.pages;
     }
 

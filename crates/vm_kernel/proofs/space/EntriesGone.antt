@@ -1,11 +1,10 @@
 -- Entries that have gone leave the counts.
-use Rattle.vm_kernel.proofs.space.EntriesRewritten.{objects_recounted}
+use Rattle.vm_kernel.proofs.space.EntriesRewritten.{objects_recounted, recount_homes, recount_inside, recount_known, recount_referred}
 use Rattle.vm_kernel.proofs.Common.{ChainTable, Command, EachOf, EndsOnly, EndsRegion, Entry, Event, HasEntries, HasSlow, Header, Ids, IsEnding, IsFilledIn}
 use Rattle.vm_kernel.proofs.Common.{IsInStep, IsWhole, LegalEvents, List, Mapped, Outside, Parts, PutsEntries, QueueIsStill, RegionRow, RunsNobody, RunsNone}
-use Rattle.vm_kernel.proofs.Common.{Some, Sweeps, TaskId, WaitTable, Waiting, [], ap, append_assoc, arith, count_again, count_on, drop}
-use Rattle.vm_kernel.proofs.Common.{entries_in_row, eqb_tells, if◌then◌else◌, inl, inr, is_woken, of_both}
-use Rattle.vm_kernel.proofs.Common.{refl, region_at, region_entries, rows_in, slice_get, subst, suc, sym, waiting, zero, ℕ, ◌++◌, ◌+◌, ◌-◌, ◌<◌}
-use Rattle.vm_kernel.proofs.Common.{◌==◌, ◌∙◌, ◌∷◌, ◌≡◌, ◌≢◌, ◌≤◌, ◌⊎◌}
+use Rattle.vm_kernel.proofs.Common.{Some, Sweeps, TaskId, WaitTable, Waiting, [], ap, append_assoc, arith, count_again, count_on, drop, entries_in_row}
+use Rattle.vm_kernel.proofs.Common.{eqb_tells, if◌then◌else◌, inl, inr, is_woken, of_both, refl, region_at, region_entries, rows_in, slice_get, subst, suc, sym}
+use Rattle.vm_kernel.proofs.Common.{waiting, zero, ℕ, ◌++◌, ◌+◌, ◌-◌, ◌<◌, ◌==◌, ◌∙◌, ◌∷◌, ◌≡◌, ◌≢◌, ◌≤◌, ◌⊎◌}
 use Rattle.vm_kernel.proofs.space.RegionsFilled.{counted_unfilled, recount_filled}
 use Rattle.vm_state.proofs.Filling.{copies_kept, rows_unmade}
 use Rattle.vm_model.specs.declared.event.Event.TheVariants as event
@@ -17,7 +16,6 @@ use Rattle.vm_kernel.proofs.memory.PagesShown.{itself}
 use Rattle.vm_state.proofs.Changing.{Recounts, row_before}
 use Rattle.vm_kernel.proofs.space.CountsChanged.{entries_are, has_same, next_row, recounts_put}
 use Rattle.vm_kernel.proofs.space.RegionRows.{region_row, tops_recounted}
-use Rattle.vm_kernel.proofs.space.EntriesRewritten.{recount_homes, recount_inside, recount_known, recount_referred}
 use Rattle.vm_kernel.proofs.space.RegionCases.{region_cases}
 use Rattle.vm_state.proofs.Waited.{waits_kept}
 
@@ -84,6 +82,7 @@ runs_less header h outside doing past k ids entry rest events chains s put =
           };
           objects = objects_recounted count is m.core.objects;
           controls = m.core.controls;
+          flags = m.core.flags;
           pages = m.core.pages;
         };
         settled = m.settled;

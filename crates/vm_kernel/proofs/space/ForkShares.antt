@@ -1,16 +1,15 @@
 -- A fork makes a child, and gives it what is shared, and copies of what is copied, one entry after another.
 use Rattle.vm_kernel.specs.Changes.{CanEnter}
-use Rattle.vm_kernel.proofs.Common.{Access, AllRows, AreEntries, CanShare, ChainTable, ChangesOnly, Command, Enters, Entry, Event, HasEntries}
+use Rattle.vm_kernel.proofs.Common.{Access, AllRows, AreEntries, CanShare, ChainTable, ChangesOnly, Command, Enters, Entry, Event, HasEntries, HasWaiters}
+use Rattle.vm_kernel.proofs.Common.{HasWholePages, HaveHomes, Header, Ids, InOrder, IsFilledIn, IsInside, IsShared, IsSome, List, Mapped, None, Option, Outside}
+use Rattle.vm_kernel.proofs.Common.{Parts, PutsEntries, Ran, RegionRow, Rests, Shares, Some, Starts, Target, TaskId, Waiting, [], all_tasks, ap, arith}
+use Rattle.vm_kernel.proofs.Common.{code_where, copies, copy_target, count_again, count_by, drop, entered, entries_in, entries_in_row, entries_of, entry}
+use Rattle.vm_kernel.proofs.Common.{entry_at, eqb_tells, false, got, has_entry, has_region, head, holds, host_id, host_of, if◌then◌else◌, in_use, inl, inr}
+use Rattle.vm_kernel.proofs.Common.{is_copied, is_filled, is_fork_full, is_none, is_range, is_some, is_woken, length, length_entered, lives_on, most_entries}
+use Rattle.vm_kernel.proofs.Common.{named, nat_tests, next_region, one_case, pages_in, refl, region_at, region_entries, region_of, region_pages, reverse}
+use Rattle.vm_kernel.proofs.Common.{reverse-append, rows_entered, rows_in, rows_known, rows_map, slice_get, slice_get_within, some_is, subst, sym, tasks, true}
+use Rattle.vm_kernel.proofs.Common.{unwrap_or, waiting, ℕ, ◌%◌, ◌*◌, ◌++◌, ◌+◌, ◌/◌, ◌<◌, ◌==◌, ◌^◌, ◌∙◌, ◌∷◌, ◌≡◌, ◌≢◌, ◌≤◌, ◌⊎◌}
 use Rattle.vm_legal.proofs.Files.{file_paged}
-use Rattle.vm_kernel.proofs.Common.{HasWaiters, HasWholePages, HaveHomes, Header, Ids, InOrder, IsFilledIn, IsInside, IsShared, IsSome, List, Mapped}
-use Rattle.vm_kernel.proofs.Common.{None, Option, Outside, Parts, PutsEntries, Ran, RegionRow, Rests, Shares, Some, Starts, Target, TaskId, Waiting, []}
-use Rattle.vm_kernel.proofs.Common.{all_tasks, ap, arith, code_where, copies, copy_target, count_again, count_by, drop, entered, entries_in}
-use Rattle.vm_kernel.proofs.Common.{entries_in_row, entries_of, entry, entry_at, eqb_tells, false, got, has_entry, has_region, head, holds}
-use Rattle.vm_kernel.proofs.Common.{host_id, host_of, if◌then◌else◌, in_use, inl, inr, is_copied, is_filled, is_fork_full, is_none, is_range}
-use Rattle.vm_kernel.proofs.Common.{is_some, is_woken, length, length_entered, lives_on, most_entries, named, nat_tests, next_region, one_case, pages_in, refl}
-use Rattle.vm_kernel.proofs.Common.{region_at, region_entries, region_of, region_pages, reverse, reverse-append, rows_entered, rows_in, rows_known, rows_map}
-use Rattle.vm_kernel.proofs.Common.{slice_get, slice_get_within, some_is, subst, sym, tasks, true, unwrap_or, waiting, ℕ, ◌%◌, ◌*◌, ◌++◌, ◌+◌, ◌/◌, ◌<◌, ◌==◌}
-use Rattle.vm_kernel.proofs.Common.{◌^◌, ◌∙◌, ◌∷◌, ◌≡◌, ◌≢◌, ◌≤◌, ◌⊎◌}
 use Rattle.vm_kernel.proofs.space.RegionsFilled.{counted_unfilled, entry_some, recount_filled, same_waiting}
 use Rattle.vm_legal.proofs.Served.{later_paged as paged_temporary}
 use Rattle.vm_kernel.proofs.space.RegionsInUse.{fills_here, holds_rows, unfilled, uses_entered}
@@ -233,6 +232,7 @@ rests_shared header h outside doing task row past k k2 ids before after rests ma
                 sizes = m.core.objects.sizes;
               });
               controls = rw s.memory (controls_stay (λ o at_home. object_stays o h e past at_home) m.core.controls);
+              flags = rw s.memory m.core.flags;
               pages = rw (s.memory, s.laundry) m.core.pages;
             };
             settled = record { none_owed = refl; shut = λ region. refl };

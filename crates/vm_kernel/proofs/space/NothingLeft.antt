@@ -1,8 +1,7 @@
 -- Inside a command's step, where nothing is left to be swept: what is referred to is reached, and nothing else is on the host.
 use Rattle.vm_kernel.proofs.Common.{Bool, Event, FrameTable, Header, Ids, IsSwept, List, Matches, None, ObjectRow, Option, PageRow, Parts, Reach, RegionRow}
-use Rattle.vm_kernel.proofs.Common.{Rests}
-use Rattle.vm_kernel.proofs.Common.{Some, [], absent_at, all_tasks, ap, arith, count_by, entries_in, false, has_entry, if◌then◌else◌, in_use, inl, inr, live_in}
-use Rattle.vm_kernel.proofs.Common.{local_of_row, named, object_at, page_on, refl, region_at, row_at, rows_in, subst, sym, true, ℕ, ◌<◌, ◌≤◌, ◌∙◌, ◌≡◌}
+use Rattle.vm_kernel.proofs.Common.{Rests, Some, [], absent_at, all_tasks, ap, arith, count_by, entries_in, false, has_entry, if◌then◌else◌, in_use, inl, inr}
+use Rattle.vm_kernel.proofs.Common.{live_in, local_of_row, named, object_at, page_on, refl, region_at, row_at, rows_in, subst, sym, true, ℕ, ◌<◌, ◌≤◌, ◌∙◌, ◌≡◌}
 use Rattle.vm_kernel.proofs.abroad.OthersEvents.{with_entry}
 use Rattle.vm_kernel.proofs.space.EntriesCounted.{by_some}
 use Rattle.vm_kernel.proofs.space.RegionsFilled.{filled_temporary, row_use}
@@ -13,6 +12,7 @@ use Rattle.vm_state.proofs.Reaching.{temporary_up}
 use Rattle.vm_state.proofs.Referring.{OfRegion, OfShadow, referrer_of}
 use Rattle.vm_supply.specs.declared.woken.Woken.TheVariants as woken
 use Rattle.vm_terminate.specs.Finishes.{IsReferred}
+use Rattle.vm_state.specs.Pagers.{cached_in}
 
 -- so it is at a step's end
 pub whole_of : {header : Header} {h : ℕ} {k : Parts} {ids : Ids} {past : List Event} → Rests header h k ids past → IsWhole header h woken.Nobody k ids [] past
@@ -41,13 +41,14 @@ reaches : (header : Header) (h : ℕ) (k : Parts) (ids : Ids) (past : List Event
     → named header ≤ object
     → IsReferred k.memory.objects object → Reach header h object past
 reaches header h k ids past object whole temporary referred =
-    temporary_up whole.runs.matches.core.objects.regions whole.runs.matches.core.spaces.homes.1 whole.referred.shadows (λ r. in_use header h r past)
+    temporary_up whole.runs.matches.core.objects.regions whole.runs.matches.core.objects.kinds whole.runs.matches.core.spaces.homes.1 whole.referred.shadows
+    (λ r. in_use header h r past)
     (λ r row least found. regions_used header h k ids past whole r row least found) object temporary referred
 
 -- a declared object to which something refers is held: a task here has an entry on its region
 held : (header : Header) (h : ℕ) (k : Parts) (ids : Ids) (past : List Event) (object : ℕ) → IsWhole header h woken.Nobody k ids [] past → object < named header
     → IsReferred k.memory.objects object → IsUnheld header h object past → ⊥
-held header h k ids past object whole less referred unheld = elim (referrer_of m.core.objects.regions object referred) [
+held header h k ids past object whole less referred unheld = elim (referrer_of m.core.objects.regions object referred uncached) [
   | OfRegion r row found top ↦
       let own : r ≡ object = over_declared m.core.objects.regions m.core.objects.kinds m.core.spaces.homes.1 r row found (omega (arith, top, less)) ∙ top in
       let some : 0 < count_by all_tasks r k.maps = elim (row_use r row m.core.spaces.entries found whole.used) [
@@ -56,7 +57,7 @@ held header h k ids past object whole less referred unheld = elim (referrer_of m
       ] in
       let task = by_some all_tasks r k.maps some in
       let here = with_entry r (entries_in task.0 k.maps) task.1 in
-      let none = unheld task.0 (m.core.spaces.tasks.hosts task.0 ∙ here) in
+      let none = unheld.unmapped task.0 (m.core.spaces.tasks.hosts task.0 ∙ here) in
       let has : has_entry object (rows_in task.0 k.maps) ≡ true = subst (λ (z : ℕ). has_entry z (rows_in task.0 k.maps) ≡ true) own task.1 in
       let bad : false ≡ true = sym none ∙ (ap (has_entry object) (m.core.spaces.tasks.rows task.0 here) ∙ has) in
       cc
@@ -65,6 +66,9 @@ held header h k ids past object whole less referred unheld = elim (referrer_of m
   where
     m : Matches header h k ids [] past
     m = whole.runs.matches
+
+    uncached : referred.row.cache ≡ false
+    uncached = sym (ap cached_in referred.known) ∙ (sym (m.core.flags object less) ∙ unheld.uncached)
 
 pub swept : (header : Header) (h : ℕ) (k : Parts) (ids : Ids) (past : List Event) → IsWhole header h woken.Nobody k ids [] past → IsSwept header h past
 swept header h k ids past whole =

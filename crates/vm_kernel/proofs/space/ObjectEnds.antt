@@ -5,12 +5,11 @@ use Rattle.vm_kernel.proofs.Common.{AllEntriesInside, Below, Bool, CausedInTurn,
 use Rattle.vm_kernel.proofs.Common.{FrameTable, HasControls, HasEntries, HasPages, HasSlow, HaveHomes, Header, HostParts, Ids, Inside, IsAmid, IsInside}
 use Rattle.vm_kernel.proofs.Common.{IsOfKind, IsSettled, IsWhole, LaundryList, LegalEvents, List, Local, Mapped, Matches, None, ObjectId, ObjectRow}
 use Rattle.vm_kernel.proofs.Common.{ObjectTable, Option, Outside, PageKey, PageRow, Parts, PutsAbsent, PutsObject, Reach, RegionRow, ResidentTable, SameMarks}
-use Rattle.vm_kernel.proofs.Common.{SameObjects, Some, Unreached, Up, Woken, [], absent_at, all_tasks, ap, arith, away, backing_of}
-use Rattle.vm_kernel.proofs.Common.{entries_in, entries_of, eqb_tells, false, has_entry, has_region, host_id, if◌then◌else◌, in_use, inl, inr, is_control}
-use Rattle.vm_kernel.proofs.Common.{is_ready, is_some, is_woken, last_control, last_in, live_control, live_in, local, local_after, local_of_row, named}
-use Rattle.vm_kernel.proofs.Common.{object_at, object_home, one_case, page_in, pages_in, paging, place_of, queues_except, ready_in, refl, region_at, region_of}
-use Rattle.vm_kernel.proofs.Common.{row_at, rows_in, rows_map, some_is, subst, sym, true, waiting, without_control, ℕ, ◌&&◌, ◌++◌, ◌+◌, ◌-◌, ◌<◌, ◌==◌, ◌^◌}
-use Rattle.vm_kernel.proofs.Common.{◌||◌, ◌∙◌, ◌∷◌, ◌≡◌, ◌≤◌, ◌⊎◌}
+use Rattle.vm_kernel.proofs.Common.{SameObjects, Some, Unreached, Up, Woken, [], absent_at, all_tasks, ap, arith, away, backing_of, entries_in, entries_of}
+use Rattle.vm_kernel.proofs.Common.{eqb_tells, false, has_entry, has_region, host_id, if◌then◌else◌, in_use, inl, inr, is_control, is_ready, is_some, is_woken}
+use Rattle.vm_kernel.proofs.Common.{last_control, last_in, live_control, live_in, local, local_after, local_of_row, named, object_at, object_home, one_case}
+use Rattle.vm_kernel.proofs.Common.{page_in, pages_in, paging, place_of, queues_except, ready_in, refl, region_at, region_of, row_at, rows_in, rows_map}
+use Rattle.vm_kernel.proofs.Common.{some_is, subst, sym, true, waiting, without_control, ℕ, ◌&&◌, ◌++◌, ◌+◌, ◌-◌, ◌<◌, ◌==◌, ◌^◌, ◌||◌, ◌∙◌, ◌∷◌, ◌≡◌, ◌≤◌, ◌⊎◌}
 use Rattle.std.proofs.lemmas.Bool.{or_parts}
 use Rattle.vm_legal.specs.Licences.{DropCause, Ended}
 use Rattle.vm_legal.specs.Swept.{IsUnheld}
@@ -38,7 +37,7 @@ use Rattle.vm_state.proofs.Knowing.{known_put}
 use Rattle.vm_state.proofs.Places.{told_apart, unsent_apart, waits_dropped}
 use Rattle.vm_state.proofs.Reaching.{chain_declared, temporary_down}
 use Rattle.vm_state.proofs.Referred.{but_dropped, but_gone, but_known, referred_dropped}
-use Rattle.vm_state.proofs.Referring.{unreferred_region, unreferred_shadow}
+use Rattle.vm_state.proofs.Referring.{unreferred_region, unreferred_shadow, uncached_unreferred}
 use Rattle.vm_state.proofs.Filling.{copies_kept, filled_there, rows_unmade}
 use Rattle.vm_state.proofs.Told.{waits_told}
 use Rattle.vm_state.specs.Filling.{filled_row}
@@ -51,11 +50,12 @@ use Rattle.vm_state.proofs.Bypassing.{waits_quiet}
 use Rattle.vm_state.proofs.Passing.{quiet_if}
 use Rattle.vm_kernel.proofs.memory.PageChanges.{amidst_gone, amidst_of, amidst_returned, drop_follows, drops, fit_lost, fits_known, live_at}
 use Rattle.vm_kernel.proofs.memory.PageChanges.{gives, matches_of, objects_known, return_follows, same_objects, seen_of}
-use Rattle.vm_kernel.specs.Matches.{Amidst}
-use Rattle.vm_kernel.specs.Matches.{IsReplied}
+use Rattle.vm_kernel.specs.Matches.{Amidst, IsReplied}
 use Rattle.vm_model.specs.declared.event.Event.TheVariants as event
 use Rattle.vm_model.specs.declared.message.Message.TheVariants as message
 use Rattle.vm_objects.specs.declared.row.PagerState.TheVariants as state
+use Rattle.vm_state.specs.Pagers.{cached_in}
+use Rattle.vm_kernel.proofs.controls.FlagsKept.{flags_put, flags_set}
 
 -- no region that is in use leads to it
 
@@ -94,14 +94,15 @@ unreached header h k ids rest past o row m copies known none least reach =
 -- nothing holds a declared object to which nothing refers
 pub unheld : (header : Header) (h : ℕ) (k : Parts) (ids : Ids) (rest : List Entry) (past : List Event) (o : ℕ) (row : ObjectRow)
     → Matches header h k ids rest past → object_at k.memory.objects o ≡ Some row → row.references ≡ 0 → o < named header → IsUnheld header h o past
-unheld header h k ids rest past o row m known none declared task lives = by_test (has_entry o (entries_of header.size task past)) refl
+unheld header h k ids rest past o row m known none declared =
+    record {
+      unmapped = λ task lives. by_test task (sym (m.core.spaces.tasks.hosts task) ∙ lives) (has_entry o (entries_of header.size task past)) refl;
+      uncached = m.core.flags o declared ∙ (ap cached_in known ∙ uncached_unreferred m.core.objects.regions o row known none);
+    }
   where
-    here : is_some (entries_in task k.maps) ≡ true
-    here = sym (m.core.spaces.tasks.hosts task) ∙ lives
-
-    by_test : (b : Bool) → has_entry o (entries_of header.size task past) ≡ b → b ≡ false
-    by_test false is = refl
-    by_test true is =
+    by_test : (task : ℕ) → is_some (entries_in task k.maps) ≡ true → (b : Bool) → has_entry o (entries_of header.size task past) ≡ b → b ≡ false
+    by_test task here false is = refl
+    by_test task here true is =
         let there = region_row k.chains o (entry_there header.size o k.chains (rows_in task k.maps) (m.core.spaces.entries.inside task)
         (sym (ap (has_entry o) (m.core.spaces.tasks.rows task here)) ∙ is)) in
         absurd (unreferred_region m.core.objects.regions o row known none o there.0 there.1
@@ -430,12 +431,19 @@ ends_told header h outside doing past who k ids rest object events row objects s
     unreferred : row.references ≡ 0
     unreferred = ap (λ z. z.references) (some_is row s.row (sym found ∙ s.known)) ∙ s.none
 
+    uncached : row.cache ≡ false
+    uncached = uncached_unreferred m.core.objects.regions o row found unreferred
+
     quiet : IsOfKind header object.0 (quiet_row row)
     quiet =
         let its = m.core.objects.kinds.kinds object.0 row found in
         record {
           lives = refl;
-          temporary = λ least. record { kind = (its.temporary least).kind; number = λ some. absurd (omega (arith, some, unreferred)) };
+          temporary = λ least. record {
+            kind = (its.temporary least).kind;
+            uncached = uncached;
+            number = λ some. absurd (omega (arith, some, unreferred));
+          };
           declared =
               λ less. record {
                 kind = (its.declared less).kind;
@@ -477,8 +485,9 @@ ends_told header h outside doing past who k ids rest object events row objects s
             setting = core.setting;
             fits = fits_known found put refl core.fits;
             spaces = core.spaces;
-            objects = objects_known found put marks refl refl quiet core.objects;
+            objects = objects_known found put marks refl refl refl quiet core.objects;
             controls = controls;
+            flags = rw (own_host h) (flags_set o (quiet_row row) false put uncached core.flags);
             pages = record { shown = pages; washed = m.core.pages.washed; counted = m.core.pages.counted };
           };
           used = s.used;
@@ -570,6 +579,7 @@ inside_dropped header h past who k ids rest o left row known chains objects e le
               core.objects.sizes;
         };
         controls = controls_referred under left known k.memory.objects objects _ _ _ leaves.under leaves.put core.controls;
+        flags = flags_put under (record known { references = left }) leaves.put (ap cached_in leaves.under) core.flags;
         pages = pages_known_so leaves.marks core.pages;
       };
       used = record {

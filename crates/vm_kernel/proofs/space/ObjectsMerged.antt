@@ -57,10 +57,11 @@ use Rattle.vm_state.proofs.Referring.{sole_region, sole_shadow}
 use Rattle.vm_state.proofs.Targets.{target_unshadowed}
 use Rattle.vm_state.specs.Counts.{marks_of}
 use Rattle.vm_state.specs.Merging.{MergesObjects}
-use Rattle.vm_state.specs.Pagers.{has_pager}
+use Rattle.vm_state.specs.Pagers.{has_pager, cached_in}
 use Rattle.vm_state.specs.Waiters.{is_woken}
 use Rattle.vm_supply.specs.declared.woken.Woken.TheVariants as woken
 use Rattle.vm_terminate.specs.Finishes.{IsReferred}
+use Rattle.vm_kernel.proofs.controls.FlagsKept.{flags_put}
 
 -- the kernel with these parts and chains
 abbrev pub with_state : Parts → MergeState → Parts
@@ -155,6 +156,7 @@ module _ {header : Header} {h : ℕ} {outside : Outside} {doing : Command} {past
             m.core.objects.sizes;
       };
       controls = controls_merged upper.0 lower.0 old.chains cs2 old.parts.objects os2 merges m.core.controls;
+      flags = flags_put lower.0 (record merges.can.lower_row { references = 0 }) merges.object (ap cached_in merges.can.lower_known) m.core.flags;
       pages = record {
         shown = shown_merged header h (old.events ++ past) upper lower old.chains cs2 old.parts.objects os2 old.parts.resident moved.resident old.parts.frames
             moved.frames merges tables.rows (record { at = λ o p row found. tables.bytes row.frame.0 }) m.core.objects.regions m.core.objects.kinds

@@ -1,17 +1,17 @@
 -- A range is allocated: a region over a new object, and an entry on the whole of it.
 use Rattle.vm_kernel.proofs.memory.CoreChanges.{pages_known_so}
 use Rattle.vm_state.proofs.KnownPages.{sizes_made}
-use Rattle.vm_kernel.proofs.Common.{AllInTurn, AllReferred, Bool, ChainTable, ChangesOnly, EachIn, Enters, Entry, Event, Fit, HasCause, HasEntries}
-use Rattle.vm_kernel.proofs.Common.{HasRegions, HasSlow, HasUse, HasWaits, Header, HostParts, Ids, IfSome, IsFilledIn, IsInside, IsLined, IsMine}
-use Rattle.vm_kernel.proofs.Common.{IsUsed, List, MadeRange, MapChange, Mapped, None, ObjectId, ObjectRow, ObjectTable, Outside, Parts, PutsObject}
-use Rattle.vm_kernel.proofs.Common.{PutsRegion, Ran, Region, RegionId, RegionRow, Rests, Some, Starts, TaskId, Waiting, [], all_tasks, ap, arith, backing_of}
-use Rattle.vm_kernel.proofs.Common.{begins_copy, begins_here, both_left, code_where, copy_target, count_by, entered, entering, entries_in, entries_of, entry}
-use Rattle.vm_kernel.proofs.Common.{eqb_tells, false, fills, fit_within, got, has_entry, head, holds, home_entered, home_of, host_of}
-use Rattle.vm_kernel.proofs.Common.{if◌then◌else◌, in_use, inl, inr, is_none, is_on, is_range, is_ready, is_some, last_control, length, length_entered}
-use Rattle.vm_kernel.proofs.Common.{live_control, lives_on, local, made_here, marked_regions, meets_range, most_entries, nat_le, nat_tests, next_object}
-use Rattle.vm_kernel.proofs.Common.{next_region, object_at, object_home, one_case, page_below, pages_in, pages_of_row, place_of, refl, region_at, region_of}
-use Rattle.vm_kernel.proofs.Common.{region_pages, rows_entered, rows_in, rows_map, some_is, starts_copy, subst, sym, tasks, true, waiting, waiting_in}
-use Rattle.vm_kernel.proofs.Common.{whole_entry, ℕ, ◌%◌, ◌++◌, ◌+◌, ◌-◌, ◌/◌, ◌<◌, ◌==◌, ◌^◌, ◌||◌, ◌∙◌, ◌∷◌, ◌≡◌, ◌≢◌, ◌≤◌, ◌⊎◌}
+use Rattle.vm_kernel.proofs.Common.{AllInTurn, AllReferred, Bool, ChainTable, ChangesOnly, EachIn, Enters, Entry, Event, Fit, HasCause, HasEntries, HasRegions}
+use Rattle.vm_kernel.proofs.Common.{HasSlow, HasUse, HasWaits, Header, HostParts, Ids, IfSome, IsFilledIn, IsInside, IsLined, IsMine, IsUsed, List, MadeRange}
+use Rattle.vm_kernel.proofs.Common.{MapChange, Mapped, None, ObjectId, ObjectRow, ObjectTable, Outside, Parts, PutsObject, PutsRegion, Ran, Region, RegionId}
+use Rattle.vm_kernel.proofs.Common.{RegionRow, Rests, Some, Starts, TaskId, Waiting, [], all_tasks, ap, arith, backing_of, begins_copy, begins_here, both_left}
+use Rattle.vm_kernel.proofs.Common.{code_where, copy_target, count_by, entered, entering, entries_in, entries_of, entry, eqb_tells, false, fills, fit_within}
+use Rattle.vm_kernel.proofs.Common.{got, has_entry, head, holds, home_entered, home_of, host_of, if◌then◌else◌, in_use, inl, inr, is_none, is_on, is_range}
+use Rattle.vm_kernel.proofs.Common.{is_ready, is_some, last_control, length, length_entered, live_control, lives_on, local, made_here, marked_regions}
+use Rattle.vm_kernel.proofs.Common.{meets_range, most_entries, nat_le, nat_tests, next_object, next_region, object_at, object_home, one_case, page_below}
+use Rattle.vm_kernel.proofs.Common.{pages_in, pages_of_row, place_of, refl, region_at, region_of, region_pages, rows_entered, rows_in, rows_map, some_is}
+use Rattle.vm_kernel.proofs.Common.{starts_copy, subst, sym, tasks, true, waiting, waiting_in, whole_entry, ℕ, ◌%◌, ◌++◌, ◌+◌, ◌-◌, ◌/◌, ◌<◌, ◌==◌, ◌^◌, ◌||◌}
+use Rattle.vm_kernel.proofs.Common.{◌∙◌, ◌∷◌, ◌≡◌, ◌≢◌, ◌≤◌, ◌⊎◌, KnowsHomes}
 use Rattle.vm_supply.specs.declared.woken.Woken.TheVariants as woken
 use Rattle.vm_kernel.proofs.space.RegionsFilled.{free_unfilled, put_filled, same_waiting, unknown_unfilled}
 use Rattle.vm_kernel.proofs.space.RegionsInUse.{ApartFrom, fills_here, holds_rows, unfilled, uses_entered}
@@ -51,9 +51,9 @@ use Rattle.vm_kernel.proofs.controls.LockReplied.{replied_behind}
 use Rattle.std.proofs.lemmas.Bool.{not-false, or_parts}
 use Rattle.vm_state.specs.References.{is_live_in}
 use Rattle.vm_state.specs.Counts.{marks_of}
-use Rattle.vm_kernel.proofs.Common.{KnowsHomes}
 use Rattle.vm_kernel.proofs.space.RegionHomes.{homes_caused, homes_put}
 use Rattle.vm_kernel.proofs.space.StillThin.{thin_made}
+use Rattle.vm_kernel.proofs.controls.FlagsKept.{flags_temporary}
 
 -- what an allocation that isn't refused has
 pub record MayRange (size : ℕ) (k : Parts) (ids : Ids) (task address bytes : ℕ) : Type 0 where
@@ -524,6 +524,7 @@ rests_range header h outside task address bytes past k k2 ids maps lined rests m
                   ids.next_object pages m.core.controls unknown made.object_row
                   (λ o is. objects_stay o h (ranged task ids address bytes pages) past is)
                   (range_object_home header h task address bytes past k ids lined rests may);
+              flags = flags_temporary ids.next_object (Some (new_object pages)) (first_temporary header h past k ids rests).object made.object_row m.core.flags;
               pages = pages_known_so made.marks m.core.pages;
             };
             settled = record { none_owed = refl; shut = λ region. refl };

@@ -7,12 +7,12 @@ use Rattle.vm_kernel.proofs.Common.{HasEntries, HasKinds, HasRegions, HasSlow, H
 use Rattle.vm_kernel.proofs.Common.{IsInside, IsUsed, List, Mapped, None, ObjectRow, ObjectTable, Option, Outside, Parts, Place, PutsEntries, PutsObject, Ran}
 use Rattle.vm_kernel.proofs.Common.{Region, RegionRow, ResidentTable, Rests, SameMarks, Some, Starts, TaskId, Waiting, [], all_tasks, allows, ap, arith}
 use Rattle.vm_kernel.proofs.Common.{code_where, count_again, count_by, count_on, entered, entering, entries_in, entries_of, entry, entry_at, eqb_tells, false}
-use Rattle.vm_kernel.proofs.Common.{fit_objects, found_row, got, has_entry, head, holds, home_entered, home_of, host_of, if◌then◌else◌}
-use Rattle.vm_kernel.proofs.Common.{in_use, inl, inr, is_none, is_on, is_range, is_ready, is_some, is_woken, last_control, length, length_entered, live_control}
-use Rattle.vm_kernel.proofs.Common.{lives_on, marks_of, meets_range, most_entries, named, nat_le, nat_tests, next_object, next_region}
-use Rattle.vm_kernel.proofs.Common.{object_at, one_case, page_at, page_below, pages_in, pages_of_row, place_at, refl, region_at, region_entries, region_of}
-use Rattle.vm_kernel.proofs.Common.{region_pages, rows_entered, rows_in, rows_map, same_pages, some_is, subst, suc, sym, tasks, true, waiting}
-use Rattle.vm_kernel.proofs.Common.{waiting_in, whole_entry, zero, ℕ, ◌%◌, ◌&&◌, ◌++◌, ◌+◌, ◌-◌, ◌/◌, ◌<◌, ◌==◌, ◌^◌, ◌||◌, ◌∙◌, ◌∷◌, ◌≡◌, ◌≤◌, ◌⊎◌}
+use Rattle.vm_kernel.proofs.Common.{fit_objects, found_row, got, has_entry, head, holds, home_entered, home_of, host_of, if◌then◌else◌, in_use, inl, inr}
+use Rattle.vm_kernel.proofs.Common.{is_none, is_on, is_range, is_ready, is_some, is_woken, last_control, length, length_entered, live_control, lives_on}
+use Rattle.vm_kernel.proofs.Common.{marks_of, meets_range, most_entries, named, nat_le, nat_tests, next_object, next_region, object_at, one_case, page_at}
+use Rattle.vm_kernel.proofs.Common.{page_below, pages_in, pages_of_row, place_at, refl, region_at, region_entries, region_of, region_pages, rows_entered}
+use Rattle.vm_kernel.proofs.Common.{rows_in, rows_map, same_pages, some_is, subst, suc, sym, tasks, true, waiting, waiting_in, whole_entry, zero, ℕ, ◌%◌, ◌&&◌}
+use Rattle.vm_kernel.proofs.Common.{◌++◌, ◌+◌, ◌-◌, ◌/◌, ◌<◌, ◌==◌, ◌^◌, ◌||◌, ◌∙◌, ◌∷◌, ◌≡◌, ◌≤◌, ◌⊎◌, KnowsHomes}
 use Rattle.vm_kernel.proofs.space.RegionsFilled.{entry_some, filled_temporary, free_unfilled, row_use, same_waiting}
 use Rattle.vm_legal.proofs.Served.{later_paged as paged_temporary}
 use Rattle.vm_kernel.proofs.space.RegionsInUse.{fills_here, holds_rows, unfilled, uses_entered}
@@ -71,9 +71,10 @@ use Rattle.std.proofs.lemmas.Bool.{and_parts, not-false, or_parts}
 use Rattle.vm_state.specs.Passed.{IsUnmet, StaysAway}
 use Rattle.vm_model.specs.Regions.{marked_regions, object_pages}
 use Rattle.vm_kernel.proofs.memory.PageReturned.{controls_stay}
-use Rattle.vm_kernel.proofs.Common.{KnowsHomes}
 use Rattle.vm_kernel.proofs.space.RegionHomes.{homes_caused}
 use Rattle.vm_kernel.proofs.space.StillThin.{thin_chains, thin_grown}
+use Rattle.vm_kernel.proofs.controls.FlagsKept.{flags_put, flag_few}
+use Rattle.vm_state.specs.Pagers.{cached_in}
 
 -- regions that count other entries
 
@@ -340,7 +341,7 @@ can_copy header h task source offset row past k ids rests may =
       known = known.0;
       object = known.1;
       over = omega (arith, over, sized);
-      references = omega (arith, count, overs, unders, few, more);
+      references = (let flag = flag_few known.0.cache in omega (arith, count, flag, overs, unders, few, more));
       below = λ r high. m.core.objects.regions.unmade r (omega (arith, high, next));
       regions = omega (arith, next, more);
       marks = omega (arith, marks, few);
@@ -590,6 +591,7 @@ rests_copied header h outside doing task source offset row past k k2 ids ids2 be
               controls = controls_stay (λ o home. object_stays o h e (now ∷ past) home)
                   (controls_referred top (s.known.references + 1) s.known k.memory.objects k2.memory.objects (λ o. last_control h o past)
                   (λ o. live_control h o past) (λ o. is_ready h o past) s.object s.refers m.core.controls);
+              flags = flags_put top (record s.known { references = s.known.references + 1 }) s.refers (ap cached_in s.object) m.core.flags;
               pages = rw (frames_are, rows_are, s.laundry) (pages_known_so s.absent m.core.pages);
             };
             settled = record { none_owed = refl; shut = λ region. refl };

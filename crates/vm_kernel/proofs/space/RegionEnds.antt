@@ -5,12 +5,12 @@ use Rattle.vm_model.specs.Named.{named}
 use Rattle.vm_model.specs.Regions.{object_pages}
 use Rattle.vm_state.proofs.KnownPages.{sizes_put}
 use Rattle.vm_kernel.proofs.Common.{AllEntriesInside, AllRows, Bool, ChainTable, EndsObject, EndsRegion, Entry, Event, HasControls, HasEntries, Header, Ids}
-use Rattle.vm_kernel.proofs.Common.{IfSome, Inside, IsAmid, IsReferred, IsWhole, List, Mapped, Matches, None, ObjectId, ObjectRow, ObjectTable, Option}
-use Rattle.vm_kernel.proofs.Common.{Parts, PutsObject, PutsRegion, RegionRow, SameMarks, Some, UsesAll, Woken, [], all_tasks, ap, arith, backing_of, count_by}
-use Rattle.vm_kernel.proofs.Common.{count_on, entries_in_row, eqb_tells, false, has_entry, has_region, home_of, inl, inr, is_some, is_woken}
-use Rattle.vm_kernel.proofs.Common.{last_in, live_in, marks_of, nat_lt, nat_tests, next_object, next_region, object_at, one_case, pages_in}
-use Rattle.vm_kernel.proofs.Common.{ready_in, refl, region_at, region_entries, region_of, rows_in, some_is, subst, sym, true, unwrap_or}
-use Rattle.vm_kernel.proofs.Common.{waiting, ℕ, ◌++◌, ◌+◌, ◌-◌, ◌<◌, ◌^◌, ◌∙◌, ◌∷◌, ◌≡◌, ◌≢◌, ◌≤◌}
+use Rattle.vm_kernel.proofs.Common.{IfSome, Inside, IsAmid, IsReferred, IsWhole, List, Mapped, Matches, None, ObjectId, ObjectRow, ObjectTable, Option, Parts}
+use Rattle.vm_kernel.proofs.Common.{PutsObject, PutsRegion, RegionRow, SameMarks, Some, UsesAll, Woken, [], all_tasks, ap, arith, backing_of, count_by}
+use Rattle.vm_kernel.proofs.Common.{count_on, entries_in_row, eqb_tells, false, has_entry, has_region, home_of, inl, inr, is_some, is_woken, last_in, live_in}
+use Rattle.vm_kernel.proofs.Common.{marks_of, nat_lt, nat_tests, next_object, next_region, object_at, one_case, pages_in, ready_in, refl, region_at}
+use Rattle.vm_kernel.proofs.Common.{region_entries, region_of, rows_in, some_is, subst, sym, true, unwrap_or, waiting, ℕ, ◌++◌, ◌+◌, ◌-◌, ◌<◌, ◌^◌, ◌∙◌, ◌∷◌}
+use Rattle.vm_kernel.proofs.Common.{◌≡◌, ◌≢◌, ◌≤◌, if◌then◌else◌}
 use Rattle.vm_kernel.proofs.space.RegionsFilled.{copies_gone}
 use Rattle.vm_kernel.proofs.space.EntriesCounted.{by_zero, on_zero}
 use Rattle.vm_kernel.proofs.space.RegionRows.{region_row}
@@ -24,6 +24,8 @@ use Rattle.vm_state.proofs.Referred.{all_with, but_ended}
 use Rattle.vm_state.proofs.Referring.{refers_region}
 use Rattle.vm_state.proofs.Told.{waits_referred}
 use Rattle.vm_state.specs.References.{is_live_in}
+use Rattle.vm_kernel.proofs.controls.FlagsKept.{flags_put}
+use Rattle.vm_state.specs.Pagers.{is_ready_state, cached_in}
 
 -- no entry leads to a region that counts none
 
@@ -97,61 +99,60 @@ entries_without size r maps cs cs2 rest put has there none =
       counts = λ r2 row found. has.counts r2 row (other_row r cs cs2 put r2 row found).1;
     }
 
--- an object has another number of references
-
--- what else was known of it
-record Referred (row : ObjectRow) (before : Option ObjectRow) : Type 0 where
-  left : ℕ
+-- the row that an object had, with the same control
+record Controlled (row : ObjectRow) (x : Option ObjectRow) : Type 0 where
   was : ObjectRow
-  found : before ≡ Some was
-  is : row ≡ record was { references = left }
+  found : x ≡ Some was
+  control : row.control ≡ was.control
+  live : row.live ≡ was.live
+  state : row.state ≡ was.state
 
-referred : (r left : ℕ) (was : ObjectRow) (os os2 : ObjectTable) → object_at os r ≡ Some was → PutsObject r (Some (record was { references = left })) os os2
-    → (o : ℕ) (row : ObjectRow) → object_at os2 o ≡ Some row → Referred row (object_at os o)
-referred r left was os os2 found put o row is = elim (one_case r o (Some (record was { references = left })) (object_at os o) (object_at os2 o) (put.at o)) [
-  | inl this ↦ record {
-    left = left;
-    was = was;
-    found = subst (λ (z : ℕ). object_at os z ≡ Some was) this.0 found;
-    is = some_is row (record was { references = left }) (sym is ∙ this.1);
-  }
-  | inr other ↦ record { left = row.references; was = row; found = sym other.1 ∙ is; is = refl }
-]
+-- the row of an object is another, with the same control
+pub controls_put : {d h : ℕ} {home_at : ℕ → Option ℕ} (r : ℕ) (was now : ObjectRow) (os os2 : ObjectTable) (last_at : ℕ → ℕ) (live_at : ℕ → Option ℕ)
+    (ready_at : ℕ → Bool) → object_at os r ≡ Some was → PutsObject r (Some now) os os2 → now.control ≡ was.control → now.live ≡ was.live
+    → now.state ≡ was.state → HasControls d h os last_at live_at ready_at home_at → HasControls d h os2 last_at live_at ready_at home_at
+controls_put r was now os os2 last_at live_at ready_at found put control live state has =
+    record {
+      last = λ o. has.last o ∙ same last_in (sym control) o;
+      live = λ o. has.live o ∙ same live_in (ap (λ b. if b then Some was.control else None) (sym live)
+          ∙ ap (λ n. if now.live then Some n else None) (sym control)) o;
+      ready = λ o number is. has.ready o number is ∙ same ready_in (ap is_ready_state (sym state)) o;
+      all_live =
+          record {
+            at = λ o row is told. let b = before o row is in b.live ∙ has.all_live.at o b.was b.found (λ none. told (b.state ∙ none));
+          };
+      numbers =
+          record { at = λ o row is. let b = before o row is in subst (λ (z : ℕ). z < 2 ^ 32 - 1) (sym b.control) (has.numbers.at o b.was b.found) };
+      home = λ o row least is. let b = before o row is in has.home o b.was least b.found;
+      ended = λ o row is lives none. let b = before o row is in has.ended o b.was b.found (sym b.live ∙ lives) (sym b.state ∙ none);
+    }
+  where
+    same : {A : Type 0} (f : Option ObjectRow → A) → f (Some was) ≡ f (Some now) → (o : ℕ) → f (object_at os o) ≡ f (object_at os2 o)
+    same f is o = elim (one_case r o (Some now) (object_at os o) (object_at os2 o) (put.at o)) [
+      | inl this ↦ ap f (subst (λ (z : ℕ). object_at os z ≡ Some was) this.0 found) ∙ (is ∙ sym (ap f this.1))
+      | inr other ↦ sym (ap f other.1)
+    ]
 
--- nothing else of an object hangs on its references
-same_but : {A : Type 0} (f : Option ObjectRow → A) → ((row : ObjectRow) (n : ℕ) → f (Some (record row { references = n })) ≡ f (Some row))
-    → (r left : ℕ) (was : ObjectRow) (os os2 : ObjectTable)
-    → object_at os r ≡ Some was → PutsObject r (Some (record was { references = left })) os os2 → (o : ℕ) → f (object_at os o) ≡ f (object_at os2 o)
-same_but f same r left was os os2 found put o = elim (one_case r o (Some (record was { references = left })) (object_at os o) (object_at os2 o) (put.at o)) [
-  | inl this ↦ ap f (subst (λ (z : ℕ). object_at os z ≡ Some was) this.0 found) ∙ (sym (same was left) ∙ sym (ap f this.1))
-  | inr other ↦ sym (ap f other.1)
-]
+    before : (o : ℕ) (row : ObjectRow) → object_at os2 o ≡ Some row → Controlled row (object_at os o)
+    before o row is = elim (one_case r o (Some now) (object_at os o) (object_at os2 o) (put.at o)) [
+      | inl this ↦
+          let own = some_is row now (sym is ∙ this.1) in
+          record {
+            was = was;
+            found = subst (λ (z : ℕ). object_at os z ≡ Some was) this.0 found;
+            control = ap (λ z. z.control) own ∙ control;
+            live = ap (λ z. z.live) own ∙ live;
+            state = ap (λ z. z.state) own ∙ state;
+          }
+      | inr other ↦ record { was = row; found = sym other.1 ∙ is; control = refl; live = refl; state = refl }
+    ]
 
+-- or has another number of references
 pub controls_referred : {d h : ℕ} {home_at : ℕ → Option ℕ} (r left : ℕ) (was : ObjectRow) (os os2 : ObjectTable) (last_at : ℕ → ℕ) (live_at : ℕ → Option ℕ)
     (ready_at : ℕ → Bool) → object_at os r ≡ Some was → PutsObject r (Some (record was { references = left })) os os2
     → HasControls d h os last_at live_at ready_at home_at → HasControls d h os2 last_at live_at ready_at home_at
 controls_referred r left was os os2 last_at live_at ready_at found put has =
-    record {
-      last = λ o. has.last o ∙ same_but last_in (λ row n. refl) r left was os os2 found put o;
-      live = λ o. has.live o ∙ same_but live_in (λ row n. refl) r left was os os2 found put o;
-      ready = λ o control is. has.ready o control is ∙ same_but ready_in (λ row n. refl) r left was os os2 found put o;
-      all_live =
-          record {
-            at = λ o row is told. let b = before o row is in ap (λ z. z.live) b.is
-                ∙ has.all_live.at o b.was b.found (λ none. told (ap (λ z. z.state) b.is ∙ none));
-          };
-      numbers =
-          record {
-            at = λ o row is. let b = before o row is in subst (λ (z : ℕ). z < 2 ^ 32 - 1) (sym (ap (λ z. z.control) b.is))
-                (has.numbers.at o b.was b.found);
-          };
-      home = λ o row least is. let b = before o row is in has.home o b.was least b.found;
-      ended =
-          λ o row is live none. let b = before o row is in has.ended o b.was b.found (sym (ap (λ z. z.live) b.is) ∙ live) (sym (ap (λ z. z.state) b.is) ∙ none);
-    }
-  where
-    before : (o : ℕ) (row : ObjectRow) → object_at os2 o ≡ Some row → Referred row (object_at os o)
-    before o row is = referred r left was os os2 found put o row is
+    controls_put r was (record was { references = left }) os os2 last_at live_at ready_at found put refl refl refl has
 
 -- A region goes with which its top loses a reference: so many are left.
 pub record LosesRegion (k : Parts) (r left : ℕ) (object : ObjectId) (chains : ChainTable) (objects : ObjectTable) : Type 0 where
@@ -243,6 +244,7 @@ runs_gone header h past who k ids rest r left events object chains objects e los
                 loses.put m.core.objects.sizes;
           };
           controls = controls_referred top left was k.memory.objects objects _ _ _ loses.known loses.put m.core.controls;
+          flags = flags_put top (record was { references = left }) loses.put (ap cached_in loses.known) m.core.flags;
           pages = pages_known_so loses.marks m.core.pages;
         };
         settled = m.settled;

@@ -88,6 +88,7 @@ rests_made header h task past k ids maps rests changes free below =
               };
               objects = m.core.objects;
               controls = m.core.controls;
+              flags = m.core.flags;
               pages = m.core.pages;
             };
             settled = record { none_owed = refl; shut = λ region. refl };
@@ -134,7 +135,7 @@ ran_task header h outside task past k ids before after maps s changes told =
 
 -- the row of a new object
 abbrev pub new_object : ℕ → ObjectRow
-new_object pages = record { kind = Temp; pages = pages; state = Without; control = 0; live = false; references = 1 }
+new_object pages = record { kind = Temp; pages = pages; state = Without; control = 0; live = false; cache = false; references = 1 }
 
 -- a new object has no control
 pub controls_made : {d h : ℕ} {home_at home_at2 : ℕ → Option ℕ} (os os2 : ObjectTable) (last_at : ℕ → ℕ) (live_at : ℕ → Option ℕ) (ready_at : ℕ → Bool)

@@ -109,6 +109,7 @@ sweeps_exit header h outside task past events k ids maps gone s value changes =
             };
             objects = c.objects;
             controls = m.core.controls;
+            flags = m.core.flags;
             pages = m.core.pages;
           };
           settled = record { none_owed = refl; shut = λ region. refl };
@@ -202,6 +203,7 @@ sweeps_removed header h outside task address bytes past events k ids maps chains
             };
             objects = c.objects;
             controls = m.core.controls;
+            flags = m.core.flags;
             pages = m.core.pages;
           };
           settled = record { none_owed = refl; shut = λ region. refl };

@@ -16,6 +16,7 @@ use Rattle.vm_kernel.proofs.space.CountsChanged.{more_taken}
 use Rattle.vm_kernel.proofs.controls.LockReplied.{replied_none}
 use Rattle.vm_model.specs.Regions.{region_of}
 use Rattle.vm_state.specs.Counts.{marked_in, marks_of}
+use Rattle.vm_state.specs.Pagers.{cached_in}
 
 no_claims : (n : ℕ) → count_claims (replicate n false) ≡ 0
 no_claims zero = refl
@@ -143,6 +144,7 @@ first_rests header h k count ranged known size host declared hosts start maps re
                 ended = λ o row is. none_of (object_at k.memory.objects o) row (objects o) is;
                 home = λ o row least is. none_of (object_at k.memory.objects o) row (objects o) is;
               };
+              flags = λ o less. sym (ap cached_in (objects o));
               pages = record {
                 shown = record { shown = λ o p. rw (rows o p, marks o p) (ap (λ z. record away { absent = z }) (and-false (not (nat_lt o (named header))))) };
                 washed = record {

@@ -2,15 +2,15 @@
 use Rattle.vm_kernel.proofs.memory.CoreChanges.{pages_known_so}
 use Rattle.vm_state.proofs.KnownPages.{sizes_made}
 use Rattle.vm_kernel.proofs.Common.{AllUsed, BeganInOrder, Bool, ChainTable, Command, EachOf, Entry, Event, Grows, HasEntries, HasRegions, HasUse, HasWaiters}
-use Rattle.vm_kernel.proofs.Common.{Header, Ids, InOrder, IsAllowed, IsDoneInTurn, IsFilledIn, IsInUse, IsInside, IsLined, LegalEvents, List}
-use Rattle.vm_kernel.proofs.Common.{MadeRange, Mapped, Matches, None, ObjectId, ObjectRow, Option, Outside, PageRow, Parts, Place, PutsEntry, PutsRegion}
-use Rattle.vm_kernel.proofs.Common.{QueueIsStill, Ran, RegionId, RegionRow, Rests, RunsNone, Some, Starts, TaskId, WaitTable, Waiting, Works, [], all_tasks, ap}
-use Rattle.vm_kernel.proofs.Common.{arith, backing_of, begun_at, copy_target, count_by, entries_in, entries_of, entry, entry_at, eqb_tells, false, fills}
-use Rattle.vm_kernel.proofs.Common.{fills_in, has_entry, head, holds, home_of, host_of, if◌then◌else◌, in_use, inl, inr, is_on}
-use Rattle.vm_kernel.proofs.Common.{is_range, is_ready, is_some, is_woken, last_control, length, live_control, lives_on, made_here, marked_regions}
-use Rattle.vm_kernel.proofs.Common.{named, nat_le, nat_lt, nat_tests, next_object, next_page, next_region, object_at, object_home, page_at, place_at}
-use Rattle.vm_kernel.proofs.Common.{puts_cases, refl, region_at, region_of, row_at, rows_in, rows_map, some_is, subst, suc, sym, tasks, true, waiting}
-use Rattle.vm_kernel.proofs.Common.{with_entries, zero, ℕ, ◌%◌, ◌&&◌, ◌*◌, ◌++◌, ◌+◌, ◌/◌, ◌<◌, ◌==◌, ◌^◌, ◌||◌, ◌∙◌, ◌∷◌, ◌≡◌, ◌≤◌, ◌⊎◌}
+use Rattle.vm_kernel.proofs.Common.{Header, Ids, InOrder, IsAllowed, IsDoneInTurn, IsFilledIn, IsInUse, IsInside, IsLined, LegalEvents, List, MadeRange, Mapped}
+use Rattle.vm_kernel.proofs.Common.{Matches, None, ObjectId, ObjectRow, Option, Outside, PageRow, Parts, Place, PutsEntry, PutsRegion, QueueIsStill, Ran}
+use Rattle.vm_kernel.proofs.Common.{RegionId, RegionRow, Rests, RunsNone, Some, Starts, TaskId, WaitTable, Waiting, Works, [], all_tasks, ap, arith, backing_of}
+use Rattle.vm_kernel.proofs.Common.{begun_at, copy_target, count_by, entries_in, entries_of, entry, entry_at, eqb_tells, false, fills, fills_in, has_entry}
+use Rattle.vm_kernel.proofs.Common.{head, holds, home_of, host_of, if◌then◌else◌, in_use, inl, inr, is_on, is_range, is_ready, is_some, is_woken, last_control}
+use Rattle.vm_kernel.proofs.Common.{length, live_control, lives_on, made_here, marked_regions, named, nat_le, nat_lt, nat_tests, next_object, next_page}
+use Rattle.vm_kernel.proofs.Common.{next_region, object_at, object_home, page_at, place_at, puts_cases, refl, region_at, region_of, row_at, rows_in, rows_map}
+use Rattle.vm_kernel.proofs.Common.{some_is, subst, suc, sym, tasks, true, waiting, with_entries, zero, ℕ, ◌%◌, ◌&&◌, ◌*◌, ◌++◌, ◌+◌, ◌/◌, ◌<◌, ◌==◌, ◌^◌, ◌||◌}
+use Rattle.vm_kernel.proofs.Common.{◌∙◌, ◌∷◌, ◌≡◌, ◌≤◌, ◌⊎◌, KnowsHomes}
 use Rattle.std.proofs.Math.Nat.{mul-lt-mul_of_pos_right}
 use Rattle.std.proofs.lemmas.Bool.{or_parts}
 use Rattle.std.specs.Prelude.{IsSome}
@@ -64,9 +64,9 @@ use Rattle.vm_waits.specs.declared.waiting.On.TheVariants as on
 use Rattle.vm_waits.specs.declared.waiting.Want.TheVariants as want
 use Rattle.vm_state.specs.Passed.{IsUnmet, StaysAway}
 use Rattle.vm_state.specs.Counts.{marks_of}
-use Rattle.vm_kernel.proofs.Common.{KnowsHomes}
 use Rattle.vm_kernel.proofs.space.RegionHomes.{homes_caused, homes_put}
 use Rattle.vm_kernel.proofs.space.StillThin.{thin_made}
+use Rattle.vm_kernel.proofs.controls.FlagsKept.{flags_temporary}
 
 -- An address behind another in its entry is in the same entry.
 
@@ -603,6 +603,7 @@ module _ (header : Header) (h : ℕ) (outside : Outside) (task : TaskId) (addres
               ids.next_object
               pages m.core.controls unknown made.object_row
               (λ o is. objects_stay o h (its ∷ begun ∷ []) past is) object_now;
+          flags = flags_temporary ids.next_object (Some (new_object pages)) temporary.object made.object_row m.core.flags;
           pages = pages_known_so made.marks m.core.pages;
         };
         settled = record { none_owed = refl; shut = λ r. none_left (r == n) };

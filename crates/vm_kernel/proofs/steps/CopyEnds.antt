@@ -1,13 +1,12 @@
 -- A slow copy ends once all its pages are copied: its row goes, and its task gets the entry of what it filled.
 use Rattle.vm_kernel.proofs.Common.{Bool, ChainTable, ChangesOnly, Command, Enters, Entry, Event, HasCopies, HasUse, HasWaiters, Header, Ids, IsFilledIn}
-use Rattle.vm_legal.proofs.Files.{file_paged}
 use Rattle.vm_kernel.proofs.Common.{IsInside, IsUsed, LegalEvents, List, Mapped, Matches, None, ObjectId, Option, Outside, Parts, PutsEntries, PutsEntry}
 use Rattle.vm_kernel.proofs.Common.{RegionRow, Some, TaskId, WaitTable, Waiting, Works, [], ap, arith, begun_at, copy_target, entered, entries_in}
-use Rattle.vm_kernel.proofs.Common.{entries_in_row, entries_of, entry, eqb_tells, false, fills_in, got, holds, host_of, if◌then◌else◌}
-use Rattle.vm_kernel.proofs.Common.{in_use, inl, inr, is_range, is_some, is_woken, length, lives_on, most_entries, named, nat_lt, nat_tests, next_page}
-use Rattle.vm_kernel.proofs.Common.{next_region, one_case, owed, page_below, pages_in, refl, region_at, region_entries, region_of, region_pages, rows_in}
-use Rattle.vm_kernel.proofs.Common.{some_is, subst, sym, tasks, true, waiting, waiting_in, whole_entry, with_entries, ℕ, ◌*◌, ◌++◌, ◌+◌, ◌-◌, ◌/◌, ◌<◌}
-use Rattle.vm_kernel.proofs.Common.{◌^◌, ◌∙◌, ◌∷◌, ◌≡◌, ◌≤◌, ◌⊎◌}
+use Rattle.vm_kernel.proofs.Common.{entries_in_row, entries_of, entry, eqb_tells, false, fills_in, got, holds, host_of, if◌then◌else◌, in_use, inl, inr}
+use Rattle.vm_kernel.proofs.Common.{is_range, is_some, is_woken, length, lives_on, most_entries, named, nat_lt, nat_tests, next_page, next_region, one_case}
+use Rattle.vm_kernel.proofs.Common.{owed, page_below, pages_in, refl, region_at, region_entries, region_of, region_pages, rows_in, some_is, subst, sym, tasks}
+use Rattle.vm_kernel.proofs.Common.{true, waiting, waiting_in, whole_entry, with_entries, ℕ, ◌*◌, ◌++◌, ◌+◌, ◌-◌, ◌/◌, ◌<◌, ◌^◌, ◌∙◌, ◌∷◌, ◌≡◌, ◌≤◌, ◌⊎◌}
+use Rattle.vm_legal.proofs.Files.{file_paged}
 use Rattle.std.proofs.Math.Nat.{mul-div_cancel}
 use Rattle.std.specs.Prelude.{MatchOption}
 use Rattle.vm_abroad.proofs.Home.{object_stays}
@@ -407,6 +406,7 @@ matches_ended header h outside doing k ids past w address pages target next c la
           sizes = m.core.objects.sizes;
         };
         controls = controls_stay (λ o home. object_stays o h second (first ∷ past) home) m.core.controls;
+        flags = m.core.flags;
         pages = m.core.pages;
       };
       settled = record { none_owed = refl; shut = λ region. refl };

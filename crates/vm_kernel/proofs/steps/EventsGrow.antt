@@ -8,6 +8,7 @@ use Rattle.vm_kernel.proofs.Common.{taken_letter, taken_more, unwrap_or, ℕ, �
 use Rattle.std.specs.Prelude.{IfOk}
 use Rattle.vm_legal.proofs.Owing.{behind_none}
 use Rattle.vm_kernel.proofs.abroad.OwnEvents.{mine_of}
+use Rattle.vm_legal.proofs.Locks.{no_change, none_changed}
 
 pub suffices : (header : Header) (h : ℕ) (fs : FrameTable) (past : List Event)
     → HasFrames (slice_get (reverse header.frames.items) h) fs (frames_held header h past) (frames_wired h past) → Suffice header h past
@@ -159,6 +160,7 @@ paid_of header past events lined inner none =
       error = λ host object page is. none_of _ _ plain.error is;
       absence = λ host object page declared is. none_of _ _ plain.absence is;
       lock = λ request is. no_request request (events ++ past) (none_locked (events ++ past) plain.taken) is;
+      change = λ request is wanted. no_change request (events ++ past) (none_changed (events ++ past) plain.taken) is;
       slot = λ host object control page dirty keep bytes temporary is lacks. none_of _ _ plain.taken is;
     }
 

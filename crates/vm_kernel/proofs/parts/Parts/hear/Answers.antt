@@ -1,6 +1,9 @@
 use Rattle.vm_kernel.proofs.Common.{IsAnswer, arith, false, subst, sym, true, ℕ, ◌++◌, ◌≡◌}
 use Rattle.vm_kernel.proofs.lists.PageJoins.{answer_plays}
-use Rattle.vm_kernel.proofs.controls.WordHeard.{Heard, hears_done}
+use Rattle.vm_kernel.proofs.controls.WordHeard.{Heard, flags_heard, hears_done}
+use Rattle.vm_kernel.proofs.controls.WordTaken.{heard, works_flagged}
+use Rattle.vm_kernel.specs.Matches.{Works}
+use Rattle.vm_legal.specs.Cached.{is_cached}
 use Rattle.vm_kernel.proofs.room.EndsSpend.{heard_spends}
 use Rattle.vm_kernel.proofs.controls.FailureBuffers.{failing_dies, failing_kept}
 use Rattle.vm_kernel.proofs.parts.Parts.hear.Given as given
@@ -8,17 +11,26 @@ use Rattle.vm_kernel.proofs.parts.Parts.hear.Goals as goal
 
 -- the message was heard
 all_done : (g : given.Over) (c : goal.In_ok-woken g) → Heard g.given.header g.given.host g.given.outside g.given.command c.args.self.now c.args.ids.now
-    c.in_ok-woken.woken c.answer.new.parts c.answer.new.log.items (g.given.front ++ g.given.past)
+    c.in_ok-woken.woken c.answer.new.parts (λ o. is_cached g.given.host o g.given.past) c.answer.new.log.items (g.given.front ++ g.given.past)
 all_done g c =
     hears_done g.given.header g.given.host g.given.outside g.given.command c.args.self.now c.args.ids.now c.args.log.now.items c.answer.new.log.items
     g.given.past g.given.front c.args.object c.args.control c.args.message.now c.in_ok-woken.woken c.answer.new.parts
-    c.requires.0 c.requires.1.0 c.requires.1.1.0 c.requires.1.1.1 c.in_ok-woken.ensures.fit c.in_ok-woken.ensures.buffers c.in_ok-woken.ensures.answered
+    c.requires.0 c.requires.1.0 c.requires.1.1.0 c.requires.1.1.1.1 c.in_ok-woken.ensures.fit c.in_ok-woken.ensures.buffers c.in_ok-woken.ensures.answered
+
+-- and flags are those of the history
+all_works : (g : given.Over) (c : goal.In_ok-woken g) → Works g.given.header g.given.host (heard c.args.self.now c.answer.new.parts) c.args.ids.now
+    c.in_ok-woken.woken (c.answer.new.log.items ++ (g.given.front ++ g.given.past))
+all_works g c =
+    let all = all_done g c in
+    works_flagged all.works
+    (λ o less. flags_heard g.given.host o c.args.self.now.size g.given.past g.given.front c.answer.new.log.items c.args.object c.args.control c.args.message.now
+    c.requires.1.0 c.requires.1.1.0 c.requires.1.1.1.0 all.brought)
 
 pub answer-requires-clause-answer : goal.answer-requires-clause-answer
 answer-requires-clause-answer g c = subst (λ (z : ℕ). IsAnswer z c.args.message.now) (sym c.requires.0.matches.core.fits.buffers) c.requires.1.1.0
 
 pub returns-clause-works : goal.returns-clause-works
-returns-clause-works g c = (all_done g c).works
+returns-clause-works g c = all_works g c
 
 pub returns-clause-fails : goal.returns-clause-fails
 returns-clause-fails g c = (all_done g c).fails
@@ -44,14 +56,14 @@ returns-clause-zeroed g c = (all_done g c).paid
 pub returns-clause-plays : goal.returns-clause-plays
 returns-clause-plays g c =
     answer_plays g.given.header (g.given.front ++ g.given.past) c.args.self.now.host c.args.object _ c.in_ok-woken.woken c.args.self.now c.args.log.now.items
-    c.answer.new.log.items c.answer.new.parts c.in_ok-woken.ensures.answered c.requires.1.1.1
+    c.answer.new.log.items c.answer.new.parts c.in_ok-woken.ensures.answered c.requires.1.1.1.1
 
 pub returns-clause-spends : goal.returns-clause-spends
 returns-clause-spends g c =
     let all = all_done g c in
     heard_spends g.given.header g.given.host g.given.past (c.answer.new.log.items ++ (g.given.front ++ g.given.past)) c.args.self.now c.args.ids.now
     c.answer.new.parts c.args.log.now c.answer.new.log
-    c.requires.0.matches all.works.matches all.brought c.in_ok-woken.ensures.rooms.1 c.in_ok-woken.ensures.spare c.in_ok-woken.ensures.rooms.0
+    c.requires.0.matches (all_works g c).matches all.brought c.in_ok-woken.ensures.rooms.1 c.in_ok-woken.ensures.spare c.in_ok-woken.ensures.rooms.0
 
 pub returns-clause-buffers : goal.returns-clause-buffers
 returns-clause-buffers g c = c.in_ok-woken.ensures.buffers

@@ -5,3 +5,9 @@ ghost-obey g a = g.given
 
 abbrev pub ghost-hear : goal.ghost-hear
 ghost-hear g a = g.given
+
+abbrev pub ghost-change : goal.ghost-change
+ghost-change g a = g.given
+
+abbrev pub ghost-ready : goal.ghost-ready
+ghost-ready g a = g.given

@@ -4,6 +4,7 @@ use Rattle.vm_kernel.proofs.lists.ListsAsTold.{plays_both}
 use Rattle.vm_kernel.proofs.controls.WaitersFail.{absence_goes, each_failed, each_goes, paid_failed, paid_goes}
 use Rattle.vm_kernel.proofs.steps.EventsGrow.{goes_both, on_ok}
 use Rattle.vm_kernel.proofs.controls.LockHeeded.{ended_still, locked_goes}
+use Rattle.vm_kernel.proofs.controls.StaySaid.{change_goes}
 use Rattle.vm_kernel.proofs.steps.FramesInTurn.{unrun_after}
 use Rattle.vm_kernel.proofs.parts.Parts.take.Given as given
 use Rattle.vm_kernel.proofs.room.PartsOfStep.{few_behind, listed_few, more_fewer, ok_has, room_behind, told_behind, word_costs, word_few}
@@ -45,6 +46,13 @@ returns-clause-locked g c =
     on_ok c.restart.result _ _ (λ goes. locked_goes g.given.header g.given.host g.given.outside g.given.command (taken g) c.wake.new.log.items
     c.restart.new.log.items goes paid) c.restart.ensures.goes
 
+pub returns-clause-changed : goal.returns-clause-changed
+returns-clause-changed g c =
+    let paid = change_goes g.given.header g.given.host g.given.outside g.given.command (taken g) c.heed.new.log.items c.wake.new.log.items
+    c.in_ok-wake.ensures.goes c.in_ok-woken.ensures.changed in
+    on_ok c.restart.result _ _ (λ goes. change_goes g.given.header g.given.host g.given.outside g.given.command (taken g) c.wake.new.log.items
+    c.restart.new.log.items goes paid) c.restart.ensures.goes
+
 pub returns-clause-ended : goal.returns-clause-ended
 returns-clause-ended g c =
     let rows = c.args.self.now.waits.rows in
@@ -75,7 +83,7 @@ returns-clause-restarts g c =
 
 -- what the word and the end of those whom it fails tell
 abbrev cost : (g : given.Over) → goal.After-restart g → ℕ
-cost g c = heeding c.args.message.now c.args.self.now + waking c.in_ok-woken.woken c.heed.new.self c.args.ids.now
+cost g c = heeding c.args.message.now c.args.self.now c.args.ids.now + waking c.in_ok-woken.woken c.heed.new.self c.args.ids.now
 
 cost_few : (g : given.Over) (c : goal.After-restart g) → cost g c ≤ front (word_breadth c.args.message.now) c.args.self.now
 cost_few g c =
@@ -85,7 +93,7 @@ cost_few g c =
 all_spends : (g : given.Over) (c : goal.After-restart g) → Spends (cost g c) 0 0 c.args.self.now c.args.log.now c.wake.new.self c.wake.new.log
 all_spends g c =
     spends_both c.args.self.now c.heed.new.self c.wake.new.self c.args.log.now c.heed.new.log c.wake.new.log _ _ _
-    (spends_more c.args.self.now c.heed.new.self c.args.log.now c.heed.new.log (heeding c.args.message.now c.args.self.now) 0
+    (spends_more c.args.self.now c.heed.new.self c.args.log.now c.heed.new.log (heeding c.args.message.now c.args.self.now c.args.ids.now) 0
     (waking c.in_ok-woken.woken c.heed.new.self c.args.ids.now) c.in_ok-woken.ensures.spends) c.in_ok-wake.ensures.spends
 
 pub returns-clause-few : goal.returns-clause-few
@@ -122,12 +130,14 @@ returns-clause-room g c = λ more had marks has skip asks.
 
 pub returns-in_err-woken-clause-room : goal.returns-in_err-woken-clause-room
 returns-in_err-woken-clause-room g c = λ more had marks has skip asks.
-    let few = word_few c.args.message.now c.args.self.now (listed_few c.requires.0.matches c.stand_once.ensures) in
-    absurd (let bad : false ≡ true = c.in_err-woken.ensures.succeeds (roomy_fewer _ _ _ 0 c.args.self.now _ had.tables few (omega arith)) asks marks in cc)
+    let few = word_few c.args.message.now c.args.self.now c.args.ids.now (listed_few c.requires.0.matches c.stand_once.ensures) in
+    absurd (let bad : false ≡ true = c.in_err-woken.ensures.succeeds (roomy_fewer _ _ _ 0 c.args.self.now _ had.tables few (omega arith)) asks (λ ends. has)
+    marks in
+    cc)
 
 pub returns-in_err-wake-clause-room : goal.returns-in_err-wake-clause-room
 returns-in_err-wake-clause-room g c = λ more had marks has skip asks.
-    let told = heeding c.args.message.now c.args.self.now in
+    let told = heeding c.args.message.now c.args.self.now c.args.ids.now in
     let later = waking c.in_ok-woken.woken c.heed.new.self c.args.ids.now in
     let few = word_costs c.args.message.now c.in_ok-woken.woken c.args.self.now c.heed.new.self c.args.ids.now
     (listed_few c.requires.0.matches c.stand_once.ensures) c.in_ok-woken.ensures.dies in
