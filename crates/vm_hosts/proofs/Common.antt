@@ -30,20 +30,17 @@ pub use Rattle.vm_kernel.specs.declared.breadth.Breadth.{Breadth}
 pub use Rattle.vm_kernel.specs.Rooms.{CanServeOn, IsReady as IsReadyOn, MayServe, ServeRoom, breadth_of, dues, front, full_dues, has_queue, making, most}
 pub use Rattle.vm_kernel.specs.Rooms.{own_dues, rooms_of, to_run, with_rooms, with_rooms_of}
 pub use Rattle.vm_kernel.specs.Serving.{HasQueue}
-pub use Rattle.vm_kernel.specs.Taking.{IsAbsencePaid, IsErrorPaid, IsLockPaid}
-pub use Rattle.vm_legal.specs.InTurn.{EndsAll}
+pub use Rattle.vm_kernel.specs.Taking.{IsAbsencePaid, IsChangePaid, IsErrorPaid, IsLockPaid}
+pub use Rattle.vm_legal.specs.InTurn.{EndsAll, WaitsAt, IsDoneInTurn, AllInTurn, LicensedInTurn}
 pub use Rattle.vm_kernel.specs.declared.parts.Parts.{Parts}
 pub use Rattle.vm_legal.proofs.Inside.{absence_more, before_more, error_more, since_more}
-pub use Rattle.vm_legal.proofs.Paying.{lock_more, locked_more}
+pub use Rattle.vm_legal.proofs.Paying.{attributes_more, lock_more, locked_more}
 pub use Rattle.vm_legal.proofs.Stretched.{each_both, inner_both, licensed_both, moments_both, of_both}
 pub use Rattle.vm_legal.specs.Bytes.{OwnBytes}
-pub use Rattle.vm_legal.specs.InTurn.{WaitsAt}
 pub use Rattle.vm_legal.specs.Follows.{IsConsequence}
-pub use Rattle.vm_legal.specs.InTurn.{IsDoneInTurn}
 pub use Rattle.vm_legal.specs.Frames.{FramesSuffice, Suffice, frames_free, frames_used}
 pub use Rattle.vm_legal.specs.Homes.{EntersNext, IsOnlyOfHost, gives_frame, is_home}
 pub use Rattle.vm_legal.specs.Licences.{HasCause, IsBehind, PagerSends, ReturnsOn, Says, owed, zeroes}
-pub use Rattle.vm_legal.specs.InTurn.{AllInTurn, LicensedInTurn}
 pub use Rattle.vm_legal.specs.Outside.{Outside, is_file, is_file_kept, is_file_kind, kind_in, kind_of}
 pub use Rattle.vm_legal.specs.Prompt.{PromptAt}
 pub use Rattle.vm_legal.specs.Refusal.{is_elsewhere, refusal}

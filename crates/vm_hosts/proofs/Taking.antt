@@ -1,8 +1,8 @@
 -- A step that began with a taking.
 use Rattle.vm_hosts.proofs.Common.{AllInner, AllRest, Command, Down, EndsAll, EndsInTurn, Event, EventsFollow, Header, HostId, HostTable, Ids, IsAbsencePaid}
-use Rattle.vm_hosts.proofs.Common.{IsErrorPaid, IsLockPaid, LegalEvents, LicensedInTurn, List, Message, MomentsIn, ObjectId, Outside, PartInTurn, Parts, Passed}
-use Rattle.vm_hosts.proofs.Common.{Rests, ServeInTurn, Suffice, Went, [], absence_more, ap, append-nil, append_assoc, frames_abroad, length, lock_more}
-use Rattle.vm_hosts.proofs.Common.{locked_more, paid_more, since_more, subst, sym, zeroes, ℕ, ◌++◌, ◌<◌, ◌∙◌, ◌∷◌, ◌≡◌, ◌≢◌}
+use Rattle.vm_hosts.proofs.Common.{IsChangePaid, IsErrorPaid, IsLockPaid, LegalEvents, LicensedInTurn, List, Message, MomentsIn, ObjectId, Outside, PartInTurn}
+use Rattle.vm_hosts.proofs.Common.{Parts, Passed, Rests, ServeInTurn, Suffice, Went, [], absence_more, ap, append-nil, append_assoc, frames_abroad, length}
+use Rattle.vm_hosts.proofs.Common.{lock_more, locked_more, paid_more, since_more, subst, sym, zeroes, ℕ, ◌++◌, ◌<◌, ◌∙◌, ◌∷◌, ◌≡◌, ◌≢◌, attributes_more}
 use Rattle.vm_model.specs.declared.event.Event.TheVariants as event
 use Rattle.vm_hosts.specs.Steps as steps
 use Rattle.vm_hosts.proofs.Acting.{Acts, acting_rests, acts_both, acts_one, only_of, others}
@@ -10,6 +10,7 @@ use Rattle.vm_hosts.proofs.Serving.{acts_goes, follows_goes, turns_part, turns_w
 use Rattle.vm_hosts.proofs.Stretches.{follows_both, follows_none}
 use Rattle.vm_hosts.proofs.Tables.{all_suffice, put, same_number}
 use Rattle.vm_legal.proofs.Paying.{ends_more}
+use Rattle.vm_legal.specs.Steps.{changes}
 
 -- the events of a kernel alone, behind nothing
 goes_alone : (header : Header) (h : ℕ) (outside : Outside) (doing : Command) (past events : List Event)
@@ -100,7 +101,7 @@ pub ends_went : (header : Header) (outside : Outside) (doing : Command) (past ol
 ends_went header outside doing past old new hosts went ends =
     goes_behind (EndsAll header) past old new went.more went.is (ends_more header went.more (old ++ past) went.follows.stretch.inner ends)
 
--- so are zeros, where there is no page, and what a lock request owes
+-- so are zeros, where there is no page, what a lock request owes, and what a change of attributes owes
 
 absence_paid : (header : Header) (more past : List Event) → AllInner more → IsAbsencePaid header past → IsAbsencePaid header (more ++ past)
 absence_paid header more past inner paid =
@@ -109,6 +110,10 @@ absence_paid header more past inner paid =
 
 lock_paid : (header : Header) (more past : List Event) → AllInner more → IsLockPaid header past → IsLockPaid header (more ++ past)
 lock_paid header more past inner paid = λ request is. locked_more header request more past inner (paid request (sym (lock_more more past inner) ∙ is))
+
+change_paid : (more past : List Event) → AllInner more → IsChangePaid past → IsChangePaid (more ++ past)
+change_paid more past inner paid = λ request is wanted.
+    since_more (changes request.host request.object) more past inner (paid request (sym (attributes_more more past inner) ∙ is) wanted)
 
 pub zeroed_went : (header : Header) (outside : Outside) (doing : Command) (past old new : List Event) (hosts : HostTable)
     → Went header outside doing past old hosts new → IsAbsencePaid header (old ++ past) → IsAbsencePaid header (new ++ past)
@@ -119,3 +124,8 @@ pub locked_went : (header : Header) (outside : Outside) (doing : Command) (past 
     → Went header outside doing past old hosts new → IsLockPaid header (old ++ past) → IsLockPaid header (new ++ past)
 locked_went header outside doing past old new hosts went paid =
     goes_behind (IsLockPaid header) past old new went.more went.is (lock_paid header went.more (old ++ past) went.follows.stretch.inner paid)
+
+pub changed_went : (header : Header) (outside : Outside) (doing : Command) (past old new : List Event) (hosts : HostTable)
+    → Went header outside doing past old hosts new → IsChangePaid (old ++ past) → IsChangePaid (new ++ past)
+changed_went header outside doing past old new hosts went paid =
+    goes_behind IsChangePaid past old new went.more went.is (change_paid went.more (old ++ past) went.follows.stretch.inner paid)

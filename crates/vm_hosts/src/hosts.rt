@@ -14,7 +14,7 @@ ghost use Rattle.vm_legal.specs.Refusal.{is_elsewhere, refusal};
 ghost use Rattle.vm_kernel.specs.Begun.{IsLined, targets_here};
 ghost use Rattle.vm_kernel.specs.Built.{kernel_runs};
 ghost use Rattle.vm_kernel.specs.Matches.{IsRanged};
-ghost use Rattle.vm_kernel.specs.Taking.{IsAbsencePaid, IsErrorPaid, IsLockPaid, IsWord};
+ghost use Rattle.vm_kernel.specs.Taking.{IsAbsencePaid, IsChangePaid, IsErrorPaid, IsLockPaid, IsWord};
 ghost use Rattle.vm_legal.specs.InTurn.{EndsAll};
 ghost use Rattle.vm_kernel.specs.Refusing.{maps_elsewhere, takes_name};
 ghost use Rattle.vm_kernel.specs.Rooms.{IsReady as IsReadyOn, breadth_of, with_rooms_of, word_breadth};
@@ -172,6 +172,7 @@ impl Hosts {
         ensures failed { OnOk result (IsErrorPaid given.header (log.new.items ++ event.Taken (channels.Down host object control) message.now ∷ given.past)) }
         ensures zeroed { OnOk result (IsAbsencePaid given.header (log.new.items ++ event.Taken (channels.Down host object control) message.now ∷ given.past)) }
         ensures locked { OnOk result (IsLockPaid given.header (log.new.items ++ event.Taken (channels.Down host object control) message.now ∷ given.past)) }
+        ensures changed { OnOk result (IsChangePaid (log.new.items ++ event.Taken (channels.Down host object control) message.now ∷ given.past)) }
         ensures ended { OnOk result (EndsAll given.header (log.new.items ++ event.Taken (channels.Down host object control) message.now ∷ given.past)) }
         ensures few { OnOk result ((events : ℕ) → IsReady (Some host) (word_breadth message.now) events self.old log.old.room → length log.new.items ≤ events) }
         ensures err { OnErr result (AllRest given.header self.new given.past × (AllQueued given.header self.new given.past × (log.new.items ≡ []))) }
@@ -217,6 +218,7 @@ impl Hosts {
         ensures failed { OnOk result (IsErrorPaid given.header (log.new.items ++ (given.front ++ given.past))) }
         ensures zeroed { OnOk result (IsAbsencePaid given.header (log.new.items ++ (given.front ++ given.past))) }
         ensures locked { OnOk result (IsLockPaid given.header (log.new.items ++ (given.front ++ given.past))) }
+        ensures changed { OnOk result (IsChangePaid (log.new.items ++ (given.front ++ given.past))) }
         ensures ended { OnOk result (EndsAll given.header (log.new.items ++ (given.front ++ given.past))) }
         ensures few { OnOk result ((events : ℕ) → IsReady (Some host) (word_breadth message.now) events self.old log.old.room → length log.new.items ≤ events) }
         ensures err { OnErr result (AllRest given.header self.new given.past × (AllQueued given.header self.new given.past × (log.new.items ≡ []))) }

@@ -21,6 +21,7 @@ word_up size made (message.Return control page dirty keep bytes) word = (tt, wor
 word_up size made (message.Unlock control page access) word = (tt, tt)
 word_up size made (message.Completed control page count) word = (tt, tt)
 word_up size made (message.Terminate control) word = (tt, tt)
+word_up size made (message.Changed control cache strategy) word = (tt, tt)
 word_up size made other word = absurd word
 
 -- the event is a pager's: it tells that a page was lost, by its own backing, or sends down

@@ -1,4 +1,4 @@
--- What a file's pager says for a clean.
+-- What a file's pager says for a clean, and of whether the file stays.
 use Rattle.vm_system.proofs.Common.{AllInner, AllInTurn, Bool, CanTellAll, CleanEvents, Command, EachIn, EachOf, Event, FileTable, FramesSuffice, Header}
 use Rattle.vm_system.proofs.Common.{IsKnownAs, IsNobodys, IsOrderly, Known, KnownControl, List, MakesNoControl, MomentsIn, None, ObjectId, Option, Outside}
 use Rattle.vm_system.proofs.Common.{OwnBytes, PageNo, Some, State, SystemStands, [], ap, arith, clean_head, false, head, home_for, inl, inr, is_file, is_made}
@@ -13,7 +13,9 @@ use Rattle.vm_model.specs.declared.event.Event.TheVariants as event
 use Rattle.vm_model.specs.declared.message.Message.TheVariants as message
 use Rattle.vm_system.proofs.Agreeing.{IsSpared}
 use Rattle.vm_flat.proofs.Voids.{file_paged}
-use Rattle.vm_system.proofs.Sayings.{orderly_cleaned}
+use Rattle.pg_file.specs.Answers.{CacheEvents}
+use Rattle.vm_legal.specs.Follows.{cache_head}
+use Rattle.vm_system.proofs.Sayings.{orderly_cached, orderly_cleaned}
 
 -- the pager of an object knows the control that it knew in front of a line
 pub known_line : (n o line : ℕ) (h : List Event) → known_below n o (event.Line line ∷ h) ≡ known_below n o h
@@ -86,19 +88,40 @@ head_events : (object : ObjectId) (page : PageNo) (count : ℕ) (flush : Bool) (
 head_events object page count flush None events is = sym is
 head_events object page count flush (Some known) events is = sym is
 
+stay_events : (object : ObjectId) (cache : Bool) (known : Option KnownControl) (events : List Event) → CacheEvents known object.0 cache events
+    → cache_head object cache (known_of known) ≡ events
+stay_events object cache None events is = sym is
+stay_events object cache (Some known) events is = sym is
+
+-- behind a line the pager of a file knows the same control
+file_knows : (header : Header) (outside : Outside) (s : State) (object : ObjectId) (line : ℕ) (pager : FileTable) → SystemStands header outside s
+    → is_file header object.0 ≡ true → slice_get s.files.items object.0 ≡ Some pager
+    → known_below (length header.frames.items) object.0 (event.Line line ∷ s.history.items) ≡ known_of pager.known
+file_knows header outside s object line pager stands file at =
+    known_line (length header.frames.items) object.0 line s.history.items
+    ∙ known_tie header object.0 pager.known s.history.items stands.agrees.orderly (file_paged header object.0 file)
+    (stands.agrees.files.stand object.0 pager file at).known_is
+
 pub asked_is : (header : Header) (outside : Outside) (s : State) (object : ObjectId) (page : PageNo) (count : ℕ) (flush : Bool) (line : ℕ) (pager : FileTable)
     (events : List Event) → SystemStands header outside s → is_file header object.0 ≡ true
     → slice_get s.files.items object.0 ≡ Some pager → CleanEvents pager.known pager.object page count flush events
     → head header (event.Line line ∷ s.history.items) (command.Clean object page count flush) ≡ Some events
 asked_is header outside s object page count flush line pager events stands file at says =
-    let past = s.history.items in
-    let files = stands.agrees.files in
-    let its = files.stand object.0 pager file at in
+    let its = stands.agrees.files.stand object.0 pager file at in
     let own : CleanEvents pager.known object.0 page count flush events = subst (λ (o : ℕ). CleanEvents pager.known o page count flush events) its.object_is
     says in
-    let tie = known_tie header object.0 pager.known past stands.agrees.orderly (file_paged header object.0 file) its.known_is in
-    ap (λ (z : Option Known). Some (clean_head object page count flush z)) (known_line (length header.frames.items) object.0 line past ∙ tie)
+    ap (λ (z : Option Known). Some (clean_head object page count flush z)) (file_knows header outside s object line pager stands file at)
     ∙ ap (λ (z : List Event). Some z) (head_events object page count flush pager.known events own)
+
+pub stay_is : (header : Header) (outside : Outside) (s : State) (object : ObjectId) (cache : Bool) (line : ℕ) (pager : FileTable) (events : List Event)
+    → SystemStands header outside s → is_file header object.0 ≡ true → slice_get s.files.items object.0 ≡ Some pager
+    → CacheEvents pager.known pager.object cache events
+    → head header (event.Line line ∷ s.history.items) (command.Cache object cache) ≡ Some events
+stay_is header outside s object cache line pager events stands file at says =
+    let its = stands.agrees.files.stand object.0 pager file at in
+    let own : CacheEvents pager.known object.0 cache events = subst (λ (o : ℕ). CacheEvents pager.known o cache events) its.object_is says in
+    ap (λ (z : Option Known). Some (cache_head object cache z)) (file_knows header outside s object line pager stands file at)
+    ∙ ap (λ (z : List Event). Some z) (stay_events object cache pager.known events own)
 
 -- what is asked behind a line has its cause, is no host's, and can be told
 pub record IsAsked (header : Header) (outside : Outside) (doing : Command) (past asked : List Event) : Type 0 where
@@ -161,6 +184,34 @@ asked_one header outside object page count flush line h (Some known) file is =
       can = λ orderly. ((tt, (orderly.made known.host object.0).known known.control there.0), tt);
     }
 
+pub asked_stay : (header : Header) (outside : Outside) (object : ObjectId) (cache : Bool) (line : ℕ) (h : List Event) (known : Option Known)
+    → is_file header object.0 ≡ true → known_below (length header.frames.items) object.0 h ≡ known
+    → IsAsked header outside (command.Cache object cache) (event.Line line ∷ h) (cache_head object cache known)
+asked_stay header outside object cache line h None file is = asked_none header outside (command.Cache object cache) (event.Line line ∷ h)
+asked_stay header outside object cache line h (Some known) file is =
+    let there = known_there (length header.frames.items) object.0 h known is in
+    record {
+      back = refl;
+      licensed = (
+        (
+          paged_sends header outside (command.Cache object cache) known.host object.0 known.control (message.Attributes cache 0 true) (event.Line line ∷ h)
+              (file_paged header object.0 file) (file, refl, refl, there.0, (refl, refl), refl),
+          tt,
+        ),
+        tt,
+      );
+      own_bytes = (tt, tt);
+      frames = λ now. (now, tt);
+      inner = (tt, tt);
+      nobodys = (tt, tt);
+      controls = (tt, tt);
+      spared = (tt, tt);
+      silent = (file_unshared header object.0 file, tt);
+      orderly =
+          λ orderly. orderly_cached header known.host object known.control cache (event.Line line ∷ h) orderly there.1 (file_unshared header object.0 file);
+      can = λ orderly. ((tt, (orderly.made known.host object.0).known known.control there.0), tt);
+    }
+
 -- what is cleaned is a file
 pub cleaned_file : (header : Header) (past : List Event) (object : ObjectId) (page : PageNo) (count : ℕ) (flush : Bool)
     → refusal header past (command.Clean object page count flush) ≡ None → is_file header object.0 ≡ true
@@ -171,9 +222,22 @@ cleaned_file header past object page count flush accepted =
     by true c accepted = refl
     by false c accepted = absurd (let bad : Some code.InvalidArgument ≡ None = accepted in cc)
 
+-- and so is what stays or goes
+pub cached_file : (header : Header) (past : List Event) (object : ObjectId) (cache : Bool) → refusal header past (command.Cache object cache) ≡ None
+    → is_file header object.0 ≡ true
+cached_file header past object cache accepted = by (is_file header object.0) accepted
+  where
+    by : (b : Bool) → code_where (not b) code.InvalidArgument None ≡ None → b ≡ true
+    by true accepted = refl
+    by false accepted = absurd (let bad : Some code.InvalidArgument ≡ None = accepted in cc)
+
 -- what is asked is one event at most
 
 pub clean_few : (known : Option KnownControl) (object : ℕ) (page : PageNo) (count : ℕ) (flush : Bool) (events : List Event)
     → CleanEvents known object page count flush events → length events ≤ 1
 clean_few None object page count flush events is = rw is (omega arith)
 clean_few (Some control) object page count flush events is = rw is (omega arith)
+
+pub stay_few : (known : Option KnownControl) (object : ℕ) (cache : Bool) (events : List Event) → CacheEvents known object cache events → length events ≤ 1
+stay_few None object cache events is = rw is (omega arith)
+stay_few (Some control) object cache events is = rw is (omega arith)

@@ -5,8 +5,7 @@ pub use Rattle.pg_default.proofs.Causes.{causes}
 pub use Rattle.pg_default.proofs.Debts.{paid}
 pub use Rattle.pg_default.proofs.Others.{empty, others, others_carry}
 pub use Rattle.pg_default.proofs.Standing.{stands, start}
-pub use Rattle.pg_default.specs.Answers.{LeavesAreas, PagerAnswer, RequestAnswer, SuppliesStored}
-pub use Rattle.pg_default.specs.Answers.{after_message, became, device_failed, told_of}
+pub use Rattle.pg_default.specs.Answers.{LeavesAreas, PagerAnswer, RequestAnswer, SuppliesStored, after_message, became, device_failed, told_of}
 pub use Rattle.pg_default.specs.Stands.{IsApart, IsOther, PagerServes, PagerStands, content_of, is_ended, is_heard_elsewhere, taking}
 pub use Rattle.pg_file.specs.Answers.{CleanEvents, FileAnswer, LeavesFile, TellsPage, clean_request}
 pub use Rattle.pg_file.specs.Files.{FileTable, has_lost}
@@ -53,8 +52,9 @@ pub use Rattle.vm_kernel.proofs.steps.EventsGrow.{paid_of}
 pub use Rattle.vm_kernel.specs.Abroad.{IsNobodys}
 pub use Rattle.vm_kernel.specs.Begun.{CreatesHere, IsLined, KernelSays, SomeKernelSays}
 pub use Rattle.vm_kernel.specs.Matches.{IsRanged, host_id}
-pub use Rattle.vm_kernel.specs.Taking.{IsAbsencePaid, IsErrorPaid, IsLockPaid, IsWord}
-pub use Rattle.vm_legal.specs.InTurn.{EndsAll}
+pub use Rattle.vm_kernel.specs.Taking.{IsAbsencePaid, IsChangePaid, IsErrorPaid, IsLockPaid, IsWord}
+pub use Rattle.vm_legal.specs.InTurn.{EndsAll, FollowsInTurn, FollowsSoFarInTurn, IsDoneInTurn, IsGroupInTurn, IsRunInTurn, IsWholeInTurn, IsWholeSoFarInTurn}
+pub use Rattle.vm_legal.specs.InTurn.{AllInTurn, LicensedInTurn}
 pub use Rattle.vm_legal.proofs.Groups.{open_of, so_far}
 pub use Rattle.vm_legal.proofs.Inside.{before_more, taken_more, takings_more}
 pub use Rattle.vm_legal.proofs.Locks.{no_request}
@@ -65,13 +65,11 @@ pub use Rattle.vm_legal.specs.Accesses.{Comes, Copies, Elsewhere, HasPlace, Nowh
 pub use Rattle.vm_legal.specs.Bytes.{CopiesCurrent, FlatBytes, LoadsCurrent, OwnBytes}
 pub use Rattle.vm_legal.specs.Debts.{IsPaid}
 pub use Rattle.vm_legal.specs.Follows.{IsConsequence, IsDoneSoFar, clean_head, head, take_head}
-pub use Rattle.vm_legal.specs.InTurn.{FollowsInTurn, FollowsSoFarInTurn, IsDoneInTurn, IsGroupInTurn, IsRunInTurn, IsWholeInTurn, IsWholeSoFarInTurn}
 pub use Rattle.vm_legal.specs.Frames.{FramesSuffice, Gives, Suffice, change_where, frames_after, frames_held, frames_used, returns_out, taken_down_change}
 pub use Rattle.vm_legal.specs.Frames.{taken_up_change}
 pub use Rattle.vm_legal.specs.Homes.{gives_frame}
 pub use Rattle.vm_legal.specs.Legal.{HasOneWriter, Holds, IsAtRest, CanonicalFor}
 pub use Rattle.vm_legal.specs.Licences.{HasCause, MaySendUp, MayTake, ReturnsOn, is_paged, lock_taken, owed, tells, up}
-pub use Rattle.vm_legal.specs.InTurn.{AllInTurn, LicensedInTurn}
 pub use Rattle.vm_legal.specs.Outside.{NoneIsTemporary, Outside, is_file, is_shared, is_wild, kind_of}
 pub use Rattle.vm_legal.specs.Pagers.{Known, known_after, known_below, known_control, last_return, or_known}
 pub use Rattle.vm_legal.specs.Prompt.{AReady, AnAnswer, AnUnlock, Awaits, HostIsFull, IsExhausted, IsSource, NoneInVain, Prompt, AllServed, WaitsForPager}

@@ -1,8 +1,8 @@
 -- The history stays legal with the step of each command.
-use Rattle.std.proofs.Common.{zero, suc, length, refl, ap, ℕ, Some, None, Option}
+use Rattle.std.proofs.Common.{zero, suc, length, refl, ap, ℕ, Some, None, Option, ◌||◌, ◌&&◌, nat_lt}
 use Rattle.vm_base.specs.declared.ids.ObjectId.{ObjectId}
 use Rattle.vm_base.specs.declared.ids.TaskId.{TaskId}
-use Rattle.vm_legal.specs.Follows.{clean_head, map_head}
+use Rattle.vm_legal.specs.Follows.{cache_head, clean_head, map_head, SoFarBy}
 use Rattle.vm_system.proofs.Common.{AllInner, NoneIsTemporary, AllInTurn, AllServed, Began, Bool, Code, Command, EachEvent, EachIn, EachOf, Entry, Event}
 use Rattle.vm_system.proofs.Common.{FollowsSoFarInTurn, FramesSuffice, HasCause, Header, Holds, HostTable, IfNone, IsAtRest, IsConsequence}
 use Rattle.vm_system.proofs.Common.{IsDoneInTurn, IsGroupInTurn, IsPaid, IsRunInTurn, IsWholeInTurn, IsWholeSoFarInTurn, KeepsCanonical, List, MomentsIn, None}
@@ -12,31 +12,25 @@ use Rattle.vm_system.proofs.Common.{inner_both, is_copied, is_copy_full, is_else
 use Rattle.vm_system.proofs.Common.{licensed_both, marked_below, marked_regions, meets_range, moment_last, moments_both, moments_whole, most_entries, nat_le}
 use Rattle.vm_system.proofs.Common.{new_marks, next_object, next_region, not, of_both, refl, refusal, region_of, reverse, settles, so_far, steps_whole, subst}
 use Rattle.vm_system.proofs.Common.{suc, sym, takings_more, true, waiting, zero, ℕ, ◌++◌, ◌+◌, ◌/◌, ◌∙◌, ◌∷◌, ◌≡◌}
-use Rattle.std.proofs.Common.{◌||◌, ◌&&◌, nat_lt}
 use Rattle.vm_base.specs.declared.code.Code.TheVariants as code
 use Rattle.vm_hosts.specs.Steps.{ActsOn}
 use Rattle.vm_kernel.specs.Begun.{acts_on}
 use Rattle.vm_model.specs.declared.event.Event.TheVariants as event
 use Rattle.vm_model.specs.declared.command.Command.TheVariants as command
 use Rattle.vm_system.proofs.Cleaning.{IsAsked, known_line}
-use Rattle.vm_system.proofs.Silent.{all_settled, paid_inner, prompt_code, prompt_line}
+use Rattle.vm_system.proofs.Silent.{all_settled, paid_inner, prompt_code, prompt_line, ends_lined, awake_code, awake_line}
 use Rattle.sms_server.specs.Stands.{IsOther as IsServerOther}
 use Rattle.vm_shared.proofs.Currents.{flat_of}
-use Rattle.vm_shared.proofs.Pages.{writers as one_writer}
-use Rattle.vm_shared.proofs.Pages.{legal as pages_legal}
+use Rattle.vm_shared.proofs.Pages.{writers as one_writer, legal as pages_legal}
 use Rattle.sms_server.proofs.Acting.{others_recall as recalled_other, others_serve as served_other}
 use Rattle.vm_system.proofs.Lawfulness.{others_said, recalled_more, served_more}
 use Rattle.vm_legal.proofs.Turns.{so_far_of as weak_so_far}
-use Rattle.vm_legal.specs.Follows.{SoFarBy}
-use Rattle.vm_legal.specs.InTurn.{AllRecalled, StepIsInTurn}
+use Rattle.vm_legal.specs.InTurn.{AllRecalled, StepIsInTurn, NoneSleeps}
 use Rattle.vm_legal.specs.Serving.{HostsServed}
 use Rattle.vm_legal.proofs.Serving.{one_served}
 use Rattle.vm_system.proofs.Served.{nobodys_own}
 use Rattle.vm_model.specs.Moments.{BeforeSteps}
-use Rattle.vm_system.proofs.Silent.{ends_lined}
-use Rattle.vm_legal.specs.InTurn.{NoneSleeps}
 use Rattle.vm_system.proofs.Awake.{awake_of}
-use Rattle.vm_system.proofs.Silent.{awake_code, awake_line}
 
 -- a line in front changes no refusal and no head
 
@@ -151,6 +145,8 @@ head_line header line h (command.FailPaging count) = refl
 head_line header line h (command.Map task address bytes object offset) = map_line header task address bytes object offset line h (host_of task.0 h)
 head_line header line h (command.Clean object page count flush) =
     ap (λ z. Some (clean_head object page count flush z)) (known_line (length header.frames.items) object.0 line h)
+head_line header line h (command.Cache object cache) =
+    ap (λ z. Some (cache_head object cache z)) (known_line (length header.frames.items) object.0 line h)
 head_line header line h other = refl
 
 -- events inside a step take nothing
@@ -304,6 +300,7 @@ idle_done : (header : Header) (group past : List Event) (doing : Command) → is
 idle_done header group past (command.FailFiles count) is = tt
 idle_done header group past (command.FailPaging count) is = tt
 idle_done header group past (command.Clean object page count flush) is = tt
+idle_done header group past (command.Cache object cache) is = tt
 idle_done header group past (command.Say host object m) is = tt
 idle_done header group past other is = absurd (let bad : false ≡ true = is in cc)
 

@@ -8,7 +8,9 @@ use Rattle.std.specs.Prelude.{◌<◌}
 use Rattle.vm_model.specs.declared.event.Event.TheVariants as event
 use Rattle.vm_model.specs.declared.message.Message.TheVariants as message
 use Rattle.vm_legal.proofs.Served.{later_paged}
+use Rattle.vm_legal.specs.Cached.{Attributes, attributes_taken}
 use Rattle.vm_legal.specs.Licences.{LockRequest}
+use Rattle.vm_legal.proofs.Locks.{no_change}
 use Rattle.vm_model.specs.Controls.{is_control}
 use Rattle.vm_system.proofs.Endings.{ends_taken}
 use Rattle.vm_system.proofs.Hearing.{heard_next}
@@ -29,6 +31,7 @@ word_stays size old new (message.Return control page dirty keep bytes) kept word
 word_stays size old new (message.Unlock control page access) kept word = word
 word_stays size old new (message.Completed control page count) kept word = word
 word_stays size old new (message.Terminate control) kept word = word
+word_stays size old new (message.Changed control cache strategy) kept word = word
 word_stays size old new m kept word = absurd word
 
 letter_stays : (header : Header) (old new : List Event) → Grew old new → (c : Channel) (m : Message)
@@ -146,11 +149,16 @@ orderly_none header = record {
   known = λ h o control at. absurd (let bad : None ≡ Some control = at in cc);
   heard = λ h o p shared. record { holder = λ holds. absurd (omega (arith, holds)); waiter = λ stands. never stands };
   locks = λ request is shared. absurd (let bad : None ≡ Some request = is in cc);
+  changes = λ request is. no_change request [] refl is;
 }
 
 -- lock requests of the server are of one page
 abbrev HasCounted : Header → List Event → Type 0
 HasCounted header past = (request : LockRequest) → lock_taken past ≡ Some request → is_shared header request.object ≡ true → request.count ≡ 1
+
+-- and it never changes attributes
+abbrev ChangesNone : Header → List Event → Type 0
+ChangesNone header past = (request : Attributes) → attributes_taken past ≡ Some request → is_shared header request.object ≡ false
 
 -- the event is no message
 abbrev pub IsSilent : Event → Type 0
@@ -171,6 +179,13 @@ locks_silent header (event.Sent channel m) past silent old = absurd silent
 locks_silent header (event.Taken channel m) past silent old = absurd silent
 locks_silent header (event.Line line) past silent old = λ request is shared. absurd (let bad : None ≡ Some request = is in cc)
 locks_silent header e past silent old = old
+
+-- nor does it change attributes
+changes_silent : (header : Header) (e : Event) (past : List Event) → IsSilent e → ChangesNone header past → ChangesNone header (e ∷ past)
+changes_silent header (event.Sent channel m) past silent old = absurd silent
+changes_silent header (event.Taken channel m) past silent old = absurd silent
+changes_silent header (event.Line line) past silent old = λ request is. no_change request (event.Line line ∷ past) refl is
+changes_silent header e past silent old = old
 
 pub orderly_silent : (header : Header) (e : Event) (past : List Event) → IsSilent e → IsOrderly header past → IsOrderly header (e ∷ past)
 orderly_silent header (event.Sent channel m) past silent old = absurd silent
@@ -193,6 +208,7 @@ orderly_silent header e past silent old = record {
   known = old.known;
   heard = λ h o p shared. heard_silent header e past silent old.heard h o p shared;
   locks = locks_silent header e past silent old.locks;
+  changes = changes_silent header e past silent old.changes;
 }
 
 pub orderly_line : (header : Header) (line : ℕ) (past : List Event) → IsOrderly header past → IsOrderly header (event.Line line ∷ past)
@@ -242,6 +258,23 @@ locks_taken header host object control (message.Lock page count returns flush lo
     by false is = absurd (let bad : None ≡ Some request = is in cc)
 locks_taken header host object control m past letter request is shared = absurd (let bad : None ≡ Some request = is in cc)
 
+-- nor was a change of attributes of a shared object
+changes_taken : (header : Header) (host : HostId) (object : ObjectId) (control : ℕ) (m : Message) (past : List Event)
+    → IsHostLetter header past (record { channel = Down host object control; message = m })
+    → ChangesNone header (event.Taken (Down host object control) m ∷ past)
+changes_taken header host object control (message.Attributes cache strategy reply) past letter request is =
+    by (is_control control (live_control host.0 object.0 past)) is
+  where
+    plain : (b : Bool) → is_shared header object.0 ≡ b → is_shared header object.0 ≡ false
+    plain true shared = absurd (letter.2 shared)
+    plain false none = none
+
+    by : (b : Bool) → (if b then Some (record { host = host.0; object = object.0; control = control; cache = cache; strategy = strategy; reply = reply })
+        else None) ≡ Some request → is_shared header request.object ≡ false
+    by true is = let its : object.0 ≡ request.object = cc in subst (λ (n : ℕ). is_shared header n ≡ false) its (plain (is_shared header object.0) refl)
+    by false is = absurd (let bad : None ≡ Some request = is in cc)
+changes_taken header host object control m past letter request is = absurd (let bad : None ≡ Some request = is in cc)
+
 pub orderly_taken : (header : Header) (channel : Channel) (m : Message) (past : List Event) → IsOrderly header past → first (queue channel past) ≡ Some m
     → IsOrderly header (event.Taken channel m ∷ past)
 orderly_taken header (Up host object) m past old head = record {
@@ -257,6 +290,7 @@ orderly_taken header (Up host object) m past old head = record {
   known = λ h o control at. known_taken header host object m past h o control old (letter_first header (Up host object) m past old head).0 at;
   heard = heard_next header (event.Taken (Up host object) m) past (letter_first header (Up host object) m past old head) old.heard;
   locks = λ request is shared. absurd (let bad : None ≡ Some request = is in cc);
+  changes = λ request is. absurd (let bad : None ≡ Some request = is in cc);
 }
 orderly_taken header (Down host object control) m past old head = record {
   letters = letters_taken header (Down host object control) m past old;
@@ -267,4 +301,5 @@ orderly_taken header (Down host object control) m past old head = record {
   known = old.known;
   heard = heard_next header (event.Taken (Down host object control) m) past tt old.heard;
   locks = locks_taken header host object control m past (letter_first header (Down host object control) m past old head);
+  changes = changes_taken header host object control m past (letter_first header (Down host object control) m past old head);
 }

@@ -199,6 +199,16 @@ made_completed host object control count page past h o made lives = has_made h o
     (λ k. is_made (Down (host_id h) (record { 0 = o }) k) past) (known_control h o past) (facts_of h o past made) (of_number host object h o control past lives)
     (λ k at. at))
 
+pub made_changed : (host : HostId) (object : ObjectId) (control : ℕ) (cache : Bool) (strategy : ℕ) (past : List Event) (h o : ℕ) → HasMade h o past
+    → live_control host.0 object.0 past ≡ Some control
+    → HasMade h o (event.Sent (Up host object) (message.Changed control cache strategy) ∷ past)
+made_changed host object control cache strategy past h o made lives =
+    has_made h o (event.Sent (Up host object) (message.Changed control cache strategy) ∷ past)
+    (facts_said (host.0 == h && object.0 == o) (live_control h o past) (live_control h o past) (last_control h o past) control (is_ended h o past)
+    (queue (up h o) past) (message.Changed control cache strategy) (is_made (up h o) past)
+    (λ k. is_made (Down (host_id h) (record { 0 = o }) k) past) (known_control h o past) (facts_of h o past made) (of_number host object h o control past lives)
+    (λ k at. at))
+
 pub made_returned : (host : HostId) (object : ObjectId) (control : ℕ) (page : PageNo) (dirty keep : Bool) (bytes : List ℕ) (past : List Event) (h o : ℕ)
     → HasMade h o past → live_control host.0 object.0 past ≡ Some control
     → HasMade h o (event.Sent (Up host object) (message.Return control page dirty keep bytes) ∷ past)

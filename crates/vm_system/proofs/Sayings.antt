@@ -20,7 +20,7 @@ use Rattle.vm_system.proofs.Hearing.{heard_next}
 use Rattle.vm_system.proofs.Homes.{home_declared, home_kept, home_temporary, paged_file}
 use Rattle.vm_system.proofs.Letters.{Grew, lettered, letters_end, letters_stay, orderly_silent, queued}
 use Rattle.vm_quiet.proofs.Sane.{at_place}
-use Rattle.vm_system.proofs.Makings.{made_completed, made_created, made_kept, made_opened, made_requested, made_returned, made_terminated}
+use Rattle.vm_system.proofs.Makings.{made_changed, made_completed, made_created, made_kept, made_opened, made_requested, made_returned, made_terminated}
 use Rattle.vm_system.proofs.Makings.{made_unlocked, of_number, own}
 use Rattle.vm_system.proofs.Washings.{washed_sent}
 use Rattle.vm_legal.proofs.Turns.{cause_of}
@@ -57,10 +57,15 @@ sent_up header host object m past old letter home ending made = record {
   known = old.known;
   heard = heard_next header (event.Sent (Up host object) m) past tt old.heard;
   locks = old.locks;
+  changes = old.changes;
 }
 
 flipped : (a h n o : ℕ) → h == a ≡ true → o == n ≡ true → (a == h && n == o) ≡ true
 flipped a h n o is at = grind (arith, nat_tests)
+
+-- what is of no shared object is no matter of the server
+pub never_shared : {A : Type 0} (header : Header) (o : ℕ) → is_shared header o ≡ false → is_shared header o ≡ true → A
+never_shared header o plain shared = never (sym plain ∙ shared)
 
 -- what a message does where it is sent
 pub record Sends (header : Header) (c : Channel) (m : Message) (past : List Event) : Type 0 where
@@ -205,6 +210,21 @@ returned header host object control page dirty keep bytes past old known lives w
   can = ((old.made host.0 object.0).live control lives).0;
 }
 
+changed : (header : Header) (host : HostId) (object : ObjectId) (control : ℕ) (cache : Bool) (strategy : ℕ) (past : List Event) → IsOrderly header past
+    → host.0 < length header.frames.items → live_control host.0 object.0 past ≡ Some control
+    → is_shared header object.0 ≡ false → Sends header (Up host object) (message.Changed control cache strategy) past
+changed header host object control cache strategy past old known lives plain = record {
+  orderly =
+      sent_up header host object (message.Changed control cache strategy) past old (known, tt, λ shared. never_shared header object.0 plain shared)
+      (λ h o. (old.home h o).made)
+      (λ h o above. ends_said (host.0 == h && object.0 == o) (is_ended h o past) (live_control h o past) control (queue (up h o) past)
+      (message.Changed control cache strategy) (queued header h o past old above)
+      (of_number host object h o control past lives) refl)
+      (λ h o. made_changed host object control cache strategy past h o (old.made h o) lives);
+  page = tt;
+  can = ((old.made host.0 object.0).live control lives).0;
+}
+
 terminated : (header : Header) (host : HostId) (object : ObjectId) (control : ℕ) (past : List Event) → IsOrderly header past
     → host.0 < length header.frames.items → live_control host.0 object.0 past ≡ Some control
     → Sends header (Up host object) (message.Terminate control) past
@@ -246,6 +266,8 @@ said_up header doing host object (message.Unlock control page access) past old k
 said_up header doing host object (message.Completed control page count) past old known may said creates =
     completed header host object control count page past old known may.live (λ shared. old.locks _ may.taken shared)
 said_up header doing host object (message.Terminate control) past old known may said creates = terminated header host object control past old known may.live
+said_up header doing host object (message.Changed control cache strategy) past old known may said creates =
+    changed header host object control cache strategy past old known may.live (old.changes _ may.taken)
 said_up header doing host object m past old known may said creates = absurd said
 
 -- the host of what is said
@@ -257,6 +279,7 @@ said_here h size host object (message.Request control page access) said = said
 said_here h size host object (message.Unlock control page access) said = said
 said_here h size host object (message.Completed control page count) said = said
 said_here h size host object (message.Terminate control) said = said
+said_here h size host object (message.Changed control cache strategy) said = said
 said_here h size host object m said = absurd said
 
 -- what an event does where it is told
@@ -321,6 +344,7 @@ sent_down header host object control m past old known answer word may = record {
   known = old.known;
   heard = heard_next header (sent_to host object control m) past may old.heard;
   locks = old.locks;
+  changes = old.changes;
 }
 
 -- the pager of a host, which is not the server of shared memory, answers a control, whose channel was made
@@ -329,10 +353,6 @@ pub record Server (header : Header) (host at : ℕ) (object : ObjectId) (control
   pub own : at ≡ host
   pub made : is_made (Down (host_id host) object control) past ≡ true
   pub plain : is_shared header object.0 ≡ false
-
--- so it is no matter of the server
-pub never_shared : {A : Type 0} (header : Header) (o : ℕ) → is_shared header o ≡ false → is_shared header o ≡ true → A
-never_shared header o plain shared = never (sym plain ∙ shared)
 
 pub told_none : (header : Header) (past : List Event) → IsOrderly header past → AllTold header [] past
 told_none header past old = record { orderly = old; can = tt }
@@ -411,6 +431,9 @@ answered header host object (message.Unlock control page access) past old new ev
 answered header host object (message.Completed control page count) past old new events orderly letter home sized plain is =
     subst (λ (x : List Event). AllTold header x (taking host object (message.Completed control page count) past)) (sym is.1)
     (told_none header (taking host object (message.Completed control page count) past) orderly)
+answered header host object (message.Changed control cache strategy) past old new events orderly letter home sized plain is =
+    subst (λ (x : List Event). AllTold header x (taking host object (message.Changed control cache strategy) past)) (sym is.1)
+    (told_none header (taking host object (message.Changed control cache strategy) past) orderly)
 answered header host object m past old new events orderly letter home sized plain is = absurd letter.1
 
 pub orderly_answered : (header : Header) (host : ℕ) (object : ObjectId) (m : Message) (past : List Event) (old new : SlotTable) (events : List Event)
@@ -492,6 +515,9 @@ filed header host object m past old new events orderly letter own sized unshared
     by (message.Completed control page count) orderly letter is =
         subst (λ (x : List Event). AllTold header x (taking host object (message.Completed control page count) past)) (sym is.1)
         (told_none header (taking host object (message.Completed control page count) past) orderly)
+    by (message.Changed control cache strategy) orderly letter is =
+        subst (λ (x : List Event). AllTold header x (taking host object (message.Changed control cache strategy) past)) (sym is.1)
+        (told_none header (taking host object (message.Changed control cache strategy) past) orderly)
     by m orderly letter is = absurd letter.1
 
 pub orderly_filed : (header : Header) (host : ℕ) (object : ObjectId) (m : Message) (past : List Event) (old new : FileTable) (events : List Event)
@@ -514,4 +540,11 @@ pub orderly_cleaned : (header : Header) (host : ℕ) (object : ObjectId) (contro
     → is_shared header object.0 ≡ false → IsOrderly header (event.Sent (Down (host_id host) object control) (message.Lock page count 2 flush 8 true) ∷ past)
 orderly_cleaned header host object control page count flush past old known plain =
     sent_down header host object control (message.Lock page count 2 flush 8 true) past old known (omega arith, inr refl)
+    (λ shared. never_shared header object.0 plain shared) (λ shared. never_shared header object.0 plain shared)
+
+pub orderly_cached : (header : Header) (host : ℕ) (object : ObjectId) (control : ℕ) (cache : Bool) (past : List Event)
+    → IsOrderly header past → host < length header.frames.items
+    → is_shared header object.0 ≡ false → IsOrderly header (event.Sent (Down (host_id host) object control) (message.Attributes cache 0 true) ∷ past)
+orderly_cached header host object control cache past old known plain =
+    sent_down header host object control (message.Attributes cache 0 true) past old known tt
     (λ shared. never_shared header object.0 plain shared) (λ shared. never_shared header object.0 plain shared)

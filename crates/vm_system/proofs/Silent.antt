@@ -8,12 +8,11 @@ use Rattle.vm_model.specs.declared.event.Event.TheVariants as event
 use Rattle.vm_base.specs.declared.ids.HostId.{HostId}
 use Rattle.vm_base.specs.declared.ids.ObjectId.{ObjectId}
 use Rattle.vm_legal.proofs.Inside.{error_more}
-use Rattle.vm_legal.specs.InTurn.{EndsAll}
+use Rattle.vm_legal.specs.InTurn.{EndsAll, NoneSleeps}
 use Rattle.std.proofs.Common.{sym, ◌∙◌}
 use Rattle.vm_legal.specs.Steps.{error_taken}
 use Rattle.vm_model.specs.declared.message.Channel.TheVariants.{Up}
 use Rattle.vm_model.specs.declared.message.Message.{Message}
-use Rattle.vm_legal.specs.InTurn.{NoneSleeps}
 
 -- the accesses that wait, and what they wait for
 
@@ -112,8 +111,9 @@ prompt_line header line h prompt host below = record {
       let swept = (prompt host below).swept in record {
         pages = swept.pages;
         controls = swept.controls;
-        declared_pages = swept.declared_pages;
-        declared_controls = swept.declared_controls;
+        declared_pages =
+            λ object page low held. swept.declared_pages object page low (record { unmapped = held.unmapped; uncached = held.uncached });
+        declared_controls = λ object low held. swept.declared_controls object low (record { unmapped = held.unmapped; uncached = held.uncached });
       };
   thin = λ upper lower pair.
       (prompt host below).thin upper lower (record {
@@ -267,8 +267,9 @@ prompt_code header why h prompt host below = record {
       let swept = (prompt host below).swept in record {
         pages = swept.pages;
         controls = swept.controls;
-        declared_pages = swept.declared_pages;
-        declared_controls = swept.declared_controls;
+        declared_pages =
+            λ object page low held. swept.declared_pages object page low (record { unmapped = held.unmapped; uncached = held.uncached });
+        declared_controls = λ object low held. swept.declared_controls object low (record { unmapped = held.unmapped; uncached = held.uncached });
       };
   thin = λ upper lower pair.
       (prompt host below).thin upper lower (record {
@@ -319,5 +320,6 @@ paid_start header = record {
   error = λ host object page is. nothing_taken is;
   absence = λ host object page declared is. nothing_taken is;
   lock = λ request is. nothing_taken is;
+  change = λ request is wanted. nothing_taken is;
   slot = λ host object control page dirty keep bytes temporary is lacks. nothing_taken is;
 }

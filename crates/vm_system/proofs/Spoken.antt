@@ -5,7 +5,7 @@ use Rattle.vm_system.proofs.Common.{length, live_control, never, not, refl, refu
 use Rattle.vm_base.specs.declared.code.Code.TheVariants as code
 use Rattle.vm_base.specs.declared.ids.ObjectKind.{ObjectKind}
 use Rattle.vm_base.specs.declared.ids.ObjectKind.TheVariants as kinds
-use Rattle.vm_legal.specs.Follows.{say_head}
+use Rattle.vm_legal.specs.Follows.{say_head, cache_head}
 use Rattle.vm_legal.specs.Licences.{PagerSends, Says}
 use Rattle.vm_legal.specs.Outside.{is_wild_kind}
 use Rattle.vm_model.specs.Ranges.{InRange, IsSaid}
@@ -13,7 +13,7 @@ use Rattle.vm_model.specs.declared.command.Command.TheVariants as command
 use Rattle.vm_model.specs.declared.event.Event.TheVariants as event
 use Rattle.vm_model.specs.declared.message.Channel.TheVariants.{Down}
 use Rattle.vm_model.specs.declared.message.Message.TheVariants as message
-use Rattle.vm_system.proofs.Cleaning.{IsAsked, asked_none, asked_one, cleaned_file}
+use Rattle.vm_system.proofs.Cleaning.{IsAsked, asked_none, asked_one, asked_stay, cached_file, cleaned_file}
 use Rattle.vm_system.proofs.Sayings.{never_shared, sent_down}
 use Rattle.vm_system.proofs.TakenWild.{wild_unshared}
 
@@ -23,6 +23,7 @@ said_word size (message.Ready cache strategy) is = tt
 said_word size (message.Supply page lock precious bytes) is = let few = is.1 in (omega (arith, few), is.2)
 said_word size (message.Unavailable page) is = tt
 said_word size (message.Error page reason) is = tt
+said_word size (message.Attributes cache strategy reply) is = tt
 said_word size (message.Lock page count returns flush lock reply) is = let few = is.2 in (omega (arith, few), locks is.3)
   where
     locks : (lock ≤ 3) ⊎ (lock ≡ 8) → (lock < 4) ⊎ (lock ≡ 8)
@@ -35,6 +36,7 @@ said_page size (message.Supply page lock precious bytes) is = is.2
 said_page size (message.Ready cache strategy) is = tt
 said_page size (message.Unavailable page) is = tt
 said_page size (message.Error page reason) is = tt
+said_page size (message.Attributes cache strategy reply) is = tt
 said_page size (message.Lock page count returns flush lock reply) is = tt
 said_page size m is = absurd is
 
@@ -45,6 +47,7 @@ said_quiet size host object control (message.Supply page lock precious bytes) is
 said_quiet size host object control (message.Ready cache strategy) is = tt
 said_quiet size host object control (message.Unavailable page) is = tt
 said_quiet size host object control (message.Error page reason) is = tt
+said_quiet size host object control (message.Attributes cache strategy reply) is = tt
 said_quiet size host object control (message.Lock page count returns flush lock reply) is = tt
 said_quiet size host object control m is = absurd is
 
@@ -118,6 +121,10 @@ asked_fine header outside (command.Clean object page count flush) line h asked r
     (same_Some (clean_head object page count flush (known_below (length header.frames.items) object.0 h)) asked is)
     (asked_one header outside object page count flush line h (known_below (length header.frames.items) object.0 h)
     (cleaned_file header h object page count flush accepted) refl)
+asked_fine header outside (command.Cache object cache) line h asked range accepted idle is =
+    subst (λ (z : List Event). IsAsked header outside (command.Cache object cache) (event.Line line ∷ h) z)
+    (same_Some (cache_head object cache (known_below (length header.frames.items) object.0 h)) asked is)
+    (asked_stay header outside object cache line h (known_below (length header.frames.items) object.0 h) (cached_file header h object cache accepted) refl)
 asked_fine header outside (command.Say host object m) line h asked range accepted idle is =
     let heed = heeded header h host object m accepted in
     let said : say_head host object m (Some heed.control) ≡ Some asked = rw heed.lives at is in

@@ -2,7 +2,7 @@
 use Rattle.vm_system.proofs.Common.{[], AllFilesServe, AllInner, AllServe, Bool, CanTellAll, Channel, ChannelId, Device, Down, EndsAll, Event, Header, HostId}
 use Rattle.vm_system.proofs.Common.{HostTable, HostsPart, IsAbsencePaid, IsErrorPaid, IsLockPaid, IsPaid, IsWord, Letter, LicensedInTurn, List, MayTakeFrom}
 use Rattle.vm_system.proofs.Common.{Message, None, ObjectId, Option, Posts, ServerStands, Some, Spares, State, Step, Took, Up, ap, devices, false, first}
-use Rattle.vm_system.proofs.Common.{length, owed, queue, sym, taken_letter, taken_more, true, up, ℕ, ◌++◌, ◌<◌, ◌∙◌, ◌∷◌, ◌≡◌, ServerTable, subst}
+use Rattle.vm_system.proofs.Common.{length, owed, queue, sym, taken_letter, taken_more, true, up, ℕ, ◌++◌, ◌<◌, ◌∙◌, ◌∷◌, ◌≡◌, ServerTable, subst, IsChangePaid}
 use Rattle.vm_system.proofs.Served.{served_down}
 use Rattle.vm_model.specs.declared.event.Device.TheVariants.{Files, Paging}
 use Rattle.vm_model.specs.declared.event.Event.TheVariants as event
@@ -64,9 +64,9 @@ down_paid : (header : Header) (at : HostId) (object : ObjectId) (control : ℕ) 
     → owed (events ++ event.Taken (Down at object control) m ∷ past) ≡ None
     → IsErrorPaid header (events ++ event.Taken (Down at object control) m ∷ past)
     → IsAbsencePaid header (events ++ event.Taken (Down at object control) m ∷ past)
-    → IsLockPaid header (events ++ event.Taken (Down at object control) m ∷ past)
+    → IsLockPaid header (events ++ event.Taken (Down at object control) m ∷ past) → IsChangePaid (events ++ event.Taken (Down at object control) m ∷ past)
     → IsPaid header (events ++ event.Taken (Down at object control) m ∷ past)
-down_paid header at object control m events past inner none failed zeroed locked = record {
+down_paid header at object control m events past inner none failed zeroed locked changed = record {
   none_owed = none;
   init = λ host o k size paged is. absurd (not_up at object control m events past o host _ inner is);
   create = λ host o k size paged is. absurd (not_up at object control m events past o host _ inner is);
@@ -74,6 +74,7 @@ down_paid header at object control m events past inner none failed zeroed locked
   error = failed;
   absence = zeroed;
   lock = locked;
+  change = changed;
   slot = λ host o k page dirty keep bytes temporary is lacks. absurd (not_up at object control m events past o host _ inner is);
 }
 
@@ -95,11 +96,13 @@ pub took_down : (given : Step) (line : Option ℕ) (number : ChannelId) (host : 
     → IsErrorPaid given.header (events ++ event.Taken (Down host object control) m ∷ given.past)
     → IsAbsencePaid given.header (events ++ event.Taken (Down host object control) m ∷ given.past)
     → IsLockPaid given.header (events ++ event.Taken (Down host object control) m ∷ given.past)
+    → IsChangePaid (events ++ event.Taken (Down host object control) m ∷ given.past)
     → EndsAll given.header (events ++ event.Taken (Down host object control) m ∷ given.past) → new.size ≡ s.size
     → new.pagers.items ≡ s.pagers.items → new.files.items ≡ s.files.items → new.declared.items ≡ s.declared.items → new.server ≡ s.server
     → new.history.items ≡ events ++ event.Taken (Down host object control) m ∷ given.past → Posts new new.history.items → new.log.items ≡ []
     → Took given new
-took_down given line number host object control m s new events may head passed failed zeroed locked ended size pagers files declared server items posts none =
+took_down given line number host object control m s new events may head passed failed zeroed locked changed ended size pagers files declared server items posts
+    none =
     let header = given.header in
     let outside = given.outside in
     let doing = given.command in
@@ -114,7 +117,7 @@ took_down given line number host object control m s new events may head passed f
     (server_other header s.server (event.Taken channel m) given.past tt front.server) in
     let licence = taken_licensed header outside doing channel m given.past head may.may (front_settled given s front) in
     let owed : IsPaid header new.history.items = rw items (down_paid header host object control m events given.past stretch.inner
-    (all_settled header new.hosts (events ++ past) passed.ended.rests) failed zeroed locked) in
+    (all_settled header new.hosts (events ++ past) passed.ended.rests) failed zeroed locked changed) in
     record {
       stands = record {
         built = front.built;

@@ -7,18 +7,16 @@ use Rattle.vm_model.specs.declared.command.Command.TheVariants as command
 use Rattle.vm_model.specs.declared.event.Event.TheVariants as event
 use Rattle.vm_system.proofs.Opening.{HoldsUpTo, holds_taken, step_is, steps_taken}
 use Rattle.sms_server.proofs.Acting.{others_recall as recalled_other, others_serve as served_other}
-use Rattle.vm_system.proofs.Silent.{ends_lined, prompt_line}
+use Rattle.vm_system.proofs.Silent.{ends_lined, prompt_line, awake_line}
 use Rattle.vm_legal.proofs.Turns.{open_in_turn, so_far_of as weak_so_far}
-use Rattle.vm_legal.specs.InTurn.{AllRecalled, StepIsInTurn}
+use Rattle.vm_legal.specs.InTurn.{AllRecalled, StepIsInTurn, NoneSleeps}
 use Rattle.vm_legal.proofs.Serving.{one_served}
-use Rattle.vm_model.specs.Moments.{BeforeSteps}
+use Rattle.vm_model.specs.Moments.{BeforeSteps, EachEvent}
 use Rattle.std.proofs.Common.{[]}
 use Rattle.vm_system.proofs.Sharing.{none_temporary}
-use Rattle.vm_legal.specs.InTurn.{NoneSleeps}
 use Rattle.vm_system.proofs.Awake.{awake_of}
-use Rattle.vm_system.proofs.Silent.{awake_line}
-use Rattle.vm_model.specs.Moments.{EachEvent}
 use Rattle.vm_legal.specs.Licences.{HasCause}
+use Rattle.vm_legal.proofs.Locks.{no_change}
 
 some_none : {A : Type 0} → {x : A} → Some x ≡ None → ⊥
 some_none is = absurd (let bad : true ≡ false = ap is_some is in cc)
@@ -58,6 +56,7 @@ paid_line header line past = record {
   error = λ host object page is. absurd (some_none (sym is));
   absence = λ host object page declared is. absurd (some_none (sym is));
   lock = λ request is. no_request request (event.Line line ∷ past) refl is;
+  change = λ request is wanted. no_change request (event.Line line ∷ past) refl is;
   slot = λ host object control page dirty keep bytes temporary is lacks. absurd (some_none (sym is));
 }
 

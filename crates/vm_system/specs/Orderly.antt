@@ -12,6 +12,7 @@ use Rattle.vm_model.specs.Homes.{home_of, object_home}
 use Rattle.vm_model.specs.PagePart.{page_part}
 use Rattle.vm_model.specs.Server.{Wanting, line}
 use Rattle.vm_model.specs.Side.{side}
+use Rattle.vm_legal.specs.Cached.{Attributes, attributes_taken}
 use Rattle.vm_legal.specs.Frames.{returns_out}
 use Rattle.vm_legal.specs.Homes.{gives_frame}
 use Rattle.vm_legal.specs.Licences.{LockRequest, is_paged, lock_taken, up}
@@ -35,6 +36,7 @@ IsWordUp size made (message.Return control page dirty keep bytes) = length bytes
 IsWordUp size made (message.Unlock control page access) = Unit {0}
 IsWordUp size made (message.Completed control page count) = Unit {0}
 IsWordUp size made (message.Terminate control) = Unit {0}
+IsWordUp size made (message.Changed control cache strategy) = Unit {0}
 IsWordUp size made other = ⊥
 
 -- what the server of shared memory is told; a first control that is made for a reclaim is never one of its objects'
@@ -132,3 +134,4 @@ pub record IsOrderly (header : Header) (past : List Event) : Type 0 where
   pub known : (h o control : ℕ) → known_control h o past ≡ Some control → h < length header.frames.items
   pub heard : (h o p : ℕ) → is_shared header o ≡ true → HasHeard header h o p past
   pub locks : (request : LockRequest) → lock_taken past ≡ Some request → is_shared header request.object ≡ true → request.count ≡ 1
+  pub changes : (request : Attributes) → attributes_taken past ≡ Some request → is_shared header request.object ≡ false

@@ -140,5 +140,6 @@ abbrev pub is_idle : Command → Bool
 is_idle (command.FailFiles count) = true
 is_idle (command.FailPaging count) = true
 is_idle (command.Clean object page count flush) = true
+is_idle (command.Cache object cache) = true
 is_idle (command.Say host object m) = true
 is_idle other = false

@@ -1,5 +1,5 @@
 // Why a command is refused.
-ghost use Rattle.std.specs.Prelude.{◌≡◌, ◌<◌, true, length, None, Some};
+ghost use Rattle.std.specs.Prelude.{◌≡◌, ◌<◌, Bool, true, length, None, Some};
 ghost use Rattle.vm_model.specs.declared.command.Command.TheVariants as command;
 ghost use Rattle.vm_model.specs.declared.message.Message.{Message as Word};
 ghost use Rattle.vm_model.specs.Ranges.{InRange};
@@ -26,6 +26,7 @@ impl State {
         match command {
             Command::Take { .. }
             | Command::Clean { .. }
+            | Command::Cache { .. }
             | Command::Say { .. }
             | Command::Settle { .. }
             | Command::FailFiles { .. }
@@ -51,6 +52,7 @@ impl State {
                 count,
                 ..
             } => self.clean_refusal(*object, *page, *count),
+            Command::Cache { object, .. } => self.cache_refusal(*object),
             Command::Say { host, object, .. } => self.say_refusal(*host, *object),
             Command::Settle { .. } | Command::FailFiles { .. } | Command::FailPaging { .. } => None,
             _ => self.hosts.refusal(host, command),
@@ -72,6 +74,19 @@ impl State {
             return Some(Code::InvalidArgument);
         }
         None
+    }
+
+    // Only a file stays or goes as its pager is told.
+    fn cache_refusal(&self, object: ObjectId) -> Option<Code>
+        ghost given: { Step }
+        requires stands { SystemStands given.header given.outside self.now }
+        requires declared { object.0 < named given.header }
+        ensures { (cache : Bool) → result ≡ refusal given.header self.now.history.items (command.Cache object cache) }
+    {
+        if self.kind(object) == ObjectKind::File {
+            return None;
+        }
+        Some(Code::InvalidArgument)
     }
 
     // Nothing is said where no control lives, and for wild objects alone: other pagers are the system's own.

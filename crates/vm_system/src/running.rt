@@ -67,8 +67,8 @@ impl State {
         Ok(())
     }
 
-    // A command that is no host's: a file's pager says what a clean asks of it, or a wild object's what the
-    // script says, and the frame queues are served.
+    // A command that is no host's: a file's pager says what a clean asks of it, or whether the file stays,
+    // or a wild object's what the script says, and the frame queues are served.
     pub fn pass(&mut self, line: u32, command: &Command) -> Result<(), NoMemory>
         ghost given: { Step }
         requires given { given ≡ record {
@@ -94,7 +94,8 @@ impl State {
         Ok(())
     }
 
-    // What a file's pager says for a clean, and what is said for a wild object: one event at most.
+    // What a file's pager says for a clean, or of whether the file stays, and what is said for a wild
+    // object: one event at most.
     fn asked(&self, command: &Command) -> Result<Events, NoMemory>
         ghost given: { Step }
         requires stands { SystemStands given.header given.outside self.now }
@@ -112,6 +113,7 @@ impl State {
                 count,
                 flush,
             } => self.files[object.0 as usize].clean(*page, *count, *flush),
+            Command::Cache { object, cache } => self.files[object.0 as usize].cache(*cache),
             Command::Say {
                 host,
                 object,

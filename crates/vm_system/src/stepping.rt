@@ -66,6 +66,7 @@ impl State {
                 Ok(())
             }
             Command::Clean { .. } => self.pass(line, command),
+            Command::Cache { .. } => self.pass(line, command),
             Command::Say { .. } => self.pass(line, command),
             _ => self.begin(line, host, command),
         }

@@ -44,6 +44,7 @@ start_paid header = record {
   error = λ host object page is. absurd (nothing is);
   absence = λ host object page declared is. absurd (nothing is);
   lock = λ request is. absurd (nothing is);
+  change = λ request is wanted. absurd (nothing is);
   slot = λ host object control page dirty keep bytes temporary is lacks. absurd (nothing is);
 }
   where

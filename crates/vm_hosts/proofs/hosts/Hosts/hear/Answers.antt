@@ -4,7 +4,7 @@ use Rattle.vm_kernel.specs.Begun as begun
 use Rattle.vm_hosts.proofs.Dues.{acted_few, acted_room, acting_ready, front_fits, front_room, other_dues}
 use Rattle.vm_hosts.proofs.Rooms.{all_rooms, on_err, queued_rooms}
 use Rattle.vm_hosts.proofs.Tables.{found}
-use Rattle.vm_hosts.proofs.Taking.{ends_went, locked_went, paid_went, passed_on, taken_follows, taken_rests, taken_turns, zeroed_went}
+use Rattle.vm_hosts.proofs.Taking.{changed_went, ends_went, locked_went, paid_went, passed_on, taken_follows, taken_rests, taken_turns, zeroed_went}
 use Rattle.vm_kernel.specs.Rooms.{word_breadth}
 use Rattle.vm_hosts.proofs.hosts.Hosts.hear.Goals as goal
 
@@ -77,6 +77,11 @@ pub returns-clause-locked : goal.returns-clause-locked
 returns-clause-locked g c =
     locked_went g.given.header g.given.outside g.given.command (g.given.front ++ g.given.past) c.take.new.log.items c.serve_all.new.log.items
     c.serve_all.new.self c.serve_all.ensures.went c.in_ok-take.ensures.locked
+
+pub returns-clause-changed : goal.returns-clause-changed
+returns-clause-changed g c =
+    changed_went g.given.header g.given.outside g.given.command (g.given.front ++ g.given.past) c.take.new.log.items c.serve_all.new.log.items
+    c.serve_all.new.self c.serve_all.ensures.went c.in_ok-take.ensures.changed
 
 pub returns-clause-ended : goal.returns-clause-ended
 returns-clause-ended g c =

@@ -2,7 +2,7 @@ use Rattle.vm_system.proofs.Common.{Command, None, ap, is_some, refl, refusal, s
 use Rattle.vm_model.specs.Ranges.{InRange}
 use Rattle.vm_kernel.proofs.steps.EventsGrow.{if_ok}
 use Rattle.vm_system.proofs.Beginning.{there_at}
-use Rattle.vm_system.proofs.Cleaning.{asked_is, clean_few, cleaned_file}
+use Rattle.vm_system.proofs.Cleaning.{asked_is, cached_file, clean_few, cleaned_file, stay_few, stay_is}
 use Rattle.vm_system.proofs.Spoken.{heeded}
 use Rattle.vm_system.proofs.state.State.asked.Goals as goal
 
@@ -22,6 +22,24 @@ returns-in-Clean g c =
           there says)) c.clean.ensures;
       few = if_ok c.clean.result (λ events says. clean_few c.index.result.now.known c.index.result.now.object clean.page
           clean.count clean.flush events.items says) c.clean.ensures;
+    }
+
+pub returns-in-Cache : goal.returns-in-Cache
+returns-in-Cache g c =
+    let s = c.args.self.now in
+    let stay = c.in-Cache in
+    let stands = c.requires.0 in
+    let range = subst (λ (z : Command). InRange g.given.header z) stay.is c.requires.1.1.0 in
+    let accepted = subst (λ (z : Command). refusal g.given.header s.history.items z ≡ None) stay.is c.requires.1.1.1.1 in
+    let file = cached_file g.given.header s.history.items stay.object stay.cache accepted in
+    let there = there_at s.files.items stay.object.0 c.index-in-Cache.result.now _ stands.agrees.files.count range c.index-in-Cache.ensures in
+    record {
+      head = if_ok c.cache.result (λ events says. rw (c.requires.1.0.1, stay.is)
+          (stay_is g.given.header g.given.outside s stay.object stay.cache c.requires.1.0.0 c.index-in-Cache.result.now events.items stands file there says))
+          c.cache.ensures;
+      few =
+          if_ok c.cache.result (λ events says. stay_few c.index-in-Cache.result.now.known c.index-in-Cache.result.now.object stay.cache events.items says)
+          c.cache.ensures;
     }
 
 pub say-requires : goal.say-requires

@@ -9,3 +9,6 @@ returns-in-Take g c =
 
 pub returns-in-Say : goal.returns-in-Say
 returns-in-Say g c = rw c.in-Say.is (c.say_refusal.ensures c.in-Say.message)
+
+pub returns-in-Cache : goal.returns-in-Cache
+returns-in-Cache g c = rw c.in-Cache.is (c.cache_refusal.ensures c.in-Cache.cache)

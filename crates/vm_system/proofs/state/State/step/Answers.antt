@@ -108,6 +108,32 @@ returns-in-Clean g c =
           goes_still _ _ _ _ (λ unarmed. still g.P.Backing.later g.met.P.Backing.later_same c.args.paging.now) c.pass-in-Clean.ensures.spares.paging.devices;
     }
 
+pub returns-in-Cache : goal.returns-in-Cache
+returns-in-Cache g c =
+    let unarmed_files : arms device.Files c.args.command.now ≡ None = ap (arms device.Files) c.in-Cache.is in
+    let unarmed_paging : arms device.Paging c.args.command.now ≡ None = ap (arms device.Paging) c.in-Cache.is in
+    record {
+      made = c.pass-in-Cache.ensures.made;
+      grew = on_either c.pass-in-Cache.result (λ made. made.grew) (λ still. grew_none _ _ still.1) c.pass-in-Cache.ensures.made c.pass-in-Cache.ensures.err;
+      err = c.pass-in-Cache.ensures.err;
+      unmoved = on_err_weaker c.pass-in-Cache.result (λ still. ((refl, refl), (refl, refl))) c.pass-in-Cache.ensures.err;
+      backings = λ start fit. fit_spared _ _ start _ _ _ _ c.pass-in-Cache.ensures.spares fit;
+      alone =
+          on_ok_weaker c.pass-in-Cache.result (λ made count same. absurd (let bad : command.Cache c.in-Cache.object c.in-Cache.cache ≡ command.Settle
+          count = sym c.in-Cache.is ∙ same in cc)) c.pass-in-Cache.ensures.made;
+      files =
+          on_ok_weaker c.pass-in-Cache.result (λ made. leaves_same g.given.header device.Files c.args.command.now _ c.args.files.now unarmed_files)
+          c.pass-in-Cache.ensures.made;
+      paging =
+          on_ok_weaker c.pass-in-Cache.result (λ made. leaves_same g.given.header device.Paging c.args.command.now _ c.args.paging.now unarmed_paging)
+          c.pass-in-Cache.ensures.made;
+      calm = on_err_weaker c.pass-in-Cache.result (λ still up. (still.1, refl, refl)) c.pass-in-Cache.ensures.err;
+      files_go =
+          goes_still _ _ _ _ (λ unarmed. still g.F.Backing.later g.met.F.Backing.later_same c.args.files.now) c.pass-in-Cache.ensures.spares.files.devices;
+      paging_goes =
+          goes_still _ _ _ _ (λ unarmed. still g.P.Backing.later g.met.P.Backing.later_same c.args.paging.now) c.pass-in-Cache.ensures.spares.paging.devices;
+    }
+
 pub returns-in-Say : goal.returns-in-Say
 returns-in-Say g c =
     let unarmed_files : arms device.Files c.args.command.now ≡ None = ap (arms device.Files) c.in-Say.is in

@@ -152,7 +152,8 @@ returns-clause-took g c =
     let e = c.in_ok-take.ensures in
     let passed : HostsPart given.header given.outside given.command (event.Taken channel m ∷ given.past) new.hosts events = rw (two.hosts, one.hosts)
     e.passed in
-    took_down given c.args.line c.args.number c.args.host c.args.object c.args.control m t new events may head passed e.failed e.zeroed e.locked e.ended
+    took_down given c.args.line c.args.number c.args.host c.args.object c.args.control m t new events may head passed e.failed e.zeroed e.locked e.changed
+    e.ended
     (two.size ∙ one.size) (rw (two.pagers, one.pagers) refl) (rw (two.files, one.files) refl)
     (rw (two.declared, one.declared) refl) (two.server ∙ one.server) items c.commit_log.ensures.posts c.commit_log.ensures.log
 
