@@ -60,6 +60,7 @@ impl System {
                 Ok(())
             }
             Command::Clean { object, page, count, flush } => self.clean_file(object, page, count, flush),
+            Command::Cache { object, cache } => self.cache_file(object, cache),
             Command::Wire { host, count } => self.wire(host, count),
             Command::Unwire { host, count } => self.unwire(host, count),
             Command::FailFiles { count } => {
@@ -246,10 +247,12 @@ impl System {
         require(!is_file || owner == NO_HOST || owner == host, Code::WrongHost)?;
         self.check_free(task, range)?;
         self.owners[number as usize] = host;
+        if self.regions[at].entries == 0 {
+            self.objects[at].references += 1;
+        }
         self.regions[at].entries += 1;
         self.enter(task, Entry { offset, inherit: SHARE, ..whole_entry(range, number) });
         if self.objects[at].pager == Pager::Without {
-            self.objects[at].references = 1;
             self.begin_control(at);
         }
         Ok(())
@@ -401,6 +404,12 @@ impl System {
         let is_file = self.objects[object as usize].kind == Kind::File;
         require(is_file && count > 0 && page + count <= self.pages[object as usize], Code::InvalidArgument)?;
         self.clean(object, page, count, flush);
+        Ok(())
+    }
+
+    fn cache_file(&mut self, object: u32, cache: bool) -> Result<(), Code> {
+        require(self.objects[object as usize].kind == Kind::File, Code::InvalidArgument)?;
+        self.cache(object, cache);
         Ok(())
     }
 

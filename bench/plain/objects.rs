@@ -19,7 +19,7 @@ const ABSENT: u16 = 0x8000;
 pub struct Object {
     pub number: u32,
     pub control: u32,
-    /// The regions and shadows over it.
+    /// The regions and shadows over it, and one more where it stays without.
     pub references: u32,
     /// The backing object's index, and the shift to its pages.
     pub under: u32,
@@ -39,6 +39,8 @@ pub struct Object {
     pub kind: Kind,
     /// What the kernel knows of the pager; a control lives but where it is without.
     pub pager: Pager,
+    /// Whether it stays when its last entry goes.
+    pub stays: bool,
 }
 
 impl Object {
@@ -58,6 +60,7 @@ impl Object {
             host,
             kind,
             pager: Pager::Without,
+            stays: false,
         }
     }
 

@@ -256,4 +256,11 @@ impl System {
             self.send(self.index(host, object), control, message);
         }
     }
+
+    /// The pager of a file says whether it stays, where it knows a control.
+    pub fn cache(&mut self, object: u32, cache: bool) {
+        if let Some((host, control)) = self.files_of[object as usize].known {
+            self.send(self.index(host, object), control, Message::Attributes { cache });
+        }
+    }
 }

@@ -11,12 +11,14 @@ pub enum Message {
     Unlock { control: u32, page: u32, access: u32 },
     Return { control: u32, page: u32, dirty: bool, keep: bool, bytes: Page },
     Completed { control: u32, page: u32, count: u32 },
+    Changed { control: u32, cache: bool },
     Terminate { control: u32 },
     Ready { strategy: u32 },
     Supply { page: u32, lock: u32, bytes: Page },
     Unavailable { page: u32 },
     Error { page: u32 },
     Lock { page: u32, count: u32, returns: u32, flush: bool, lock: u32, reply: bool },
+    Attributes { cache: bool },
 }
 
 /// A channel of a host's object, which `index` is; up where the control is 0, and else down to that control.

@@ -55,6 +55,7 @@ pub enum Command {
     Settle { count: u32 },
     Pageout { host: u8, count: u32 },
     Clean { object: u32, page: u32, count: u32, flush: bool },
+    Cache { object: u32, cache: bool },
     Wire { host: u8, count: u32 },
     Unwire { host: u8, count: u32 },
     FailFiles { count: u32 },
@@ -194,7 +195,7 @@ fn is_name(word: &[u8]) -> bool {
 fn words_behind(words: &Words) -> Option<usize> {
     Some(match words.words[0] {
         b"exit" | b"settle" | b"take" => 1,
-        b"task" | b"fork" | b"pageout" | b"wire" | b"unwire" | b"fail" => 2,
+        b"task" | b"fork" | b"pageout" | b"cache" | b"wire" | b"unwire" | b"fail" => 2,
         b"load" | b"allocate" | b"deallocate" => 3,
         b"store" | b"protect" | b"inherit" | b"clean" => 4,
         b"map" | b"copy" => 5,
@@ -208,6 +209,7 @@ fn words_said(words: &Words) -> usize {
     match words.words[3] {
         b"unavailable" => 1,
         b"ready" | b"error" => 2,
+        b"attributes" => 3,
         b"supply" => 4,
         b"lock" => 6,
         _ => words.count.saturating_sub(4),
@@ -334,6 +336,7 @@ impl<'a> Reader<'a> {
                 let (object, page, count) = (self.object(it.word())?, it.count(4096)?, it.count(4096)?);
                 Command::Clean { object, page, count, flush: it.count(1)? == 1 }
             }
+            b"cache" => Command::Cache { object: self.object(it.word())?, cache: it.count(1)? == 1 },
             b"fail" => match it.word() {
                 b"files" => Command::FailFiles { count: it.number(1, 1_000_000)? as u32 },
                 b"paging" => Command::FailPaging { count: it.number(1, 1_000_000)? as u32 },
@@ -389,6 +392,11 @@ impl<'a> Reader<'a> {
                     return Err(Fault::OutOfRange);
                 }
                 it.count(1)?;
+            }
+            b"attributes" => {
+                for most in [1, 3, 1] {
+                    it.count(most)?;
+                }
             }
             _ => return Err(Fault::UnknownWord),
         }

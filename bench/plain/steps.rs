@@ -35,9 +35,30 @@ impl System {
                     self.send_up(object, Message::Completed { control, page, count });
                 }
             }
+            Message::Attributes { cache } => {
+                self.send_up(object, Message::Changed { control, cache });
+                self.keep(object, cache);
+            }
             _ => {}
         }
         self.restart();
+    }
+
+    // An object stays when its last entry goes, or no more.
+    fn keep(&mut self, object: usize, stays: bool) {
+        let it = &mut self.objects[object];
+        if it.stays == stays {
+            return;
+        }
+        it.stays = stays;
+        if stays {
+            it.references += 1;
+            return;
+        }
+        it.references -= 1;
+        if it.references == 0 {
+            self.end_object(object);
+        }
     }
 
     // The frame of a page that is asked.
