@@ -8,7 +8,7 @@ use Rattle.vm_base.specs.declared.ids.ObjectId.{ObjectId}
 use Rattle.vm_base.specs.declared.ids.ObjectKind.{ObjectKind}
 use Rattle.vm_base.specs.declared.ids.ObjectKind.TheVariants.{Temp, File, Shared, Wild}
 use Rattle.vm_legal.proofs.Answering.{itself}
-use Rattle.vm_legal.proofs.Locks.{came_down, no_attributes, no_change, no_lock, no_request}
+use Rattle.vm_legal.proofs.Locks.{came_down, no_attributes, no_destroy, no_change, no_lock, no_request}
 use Rattle.vm_legal.specs.Debts.{IsPaid}
 use Rattle.vm_legal.specs.Licences.{is_paged, owed, up}
 use Rattle.vm_legal.specs.Outside.{is_file_kept, is_file_kind, is_shared, is_shared_kind, kind_in}
@@ -130,6 +130,7 @@ paid_of header h object m now shared other did = record {
   absence = λ at o page low is. absurd (none-some _ (sym did.no_absence ∙ is));
   lock = λ request is. no_request request now (no_lock now (ap came_down did.took)) is;
   change = λ request is wanted. no_change request now (no_attributes now (ap came_down did.took)) is;
+  destroy = λ at o wild is. absurd (none-some _ (sym (no_destroy now (ap came_down did.took)) ∙ is));
   slot = λ at o control page dirty keep bytes high is lacks.
       let d = declared_of header object.0 shared in
       let same : object.0 ≡ o = ap object_of (sym did.took ∙ is) in

@@ -1,5 +1,5 @@
 -- An event of a host, read at that host: the test whose it is computes away.
-use Rattle.std.proofs.Common.{◌≡◌, ℕ, ◌==◌, ◌&&◌, Bool, true, false, List, ◌∷◌, Option, refl, ap, arith}
+use Rattle.std.proofs.Common.{Bool, List, Option, ap, arith, false, if◌then◌else◌, refl, true, ℕ, ◌&&◌, ◌==◌, ◌∷◌, ◌≡◌}
 use Rattle.std.proofs.lemmas.Bool.Decides.{nat_tests}
 use Rattle.vm_base.specs.declared.ids.HostId.{HostId}
 use Rattle.vm_base.specs.declared.ids.ObjectId.{ObjectId}
@@ -14,7 +14,8 @@ use Rattle.vm_model.specs.Local.{Local, Place, effect, local, local_after}
 use Rattle.vm_model.specs.Regions.{backing_of, object_pages}
 use Rattle.vm_legal.specs.Accesses.{is_ready}
 use Rattle.vm_legal.specs.Cached.{is_cached}
-use Rattle.vm_legal.specs.Frames.{change, frames_after, frames_held, frames_wired, returns_out, sent_up_change, taken_down_change, taken_up_change}
+use Rattle.vm_legal.specs.Frames.{change, frames_after, frames_held, frames_wired, given_at_end, returns_out, sent_up_change, taken_down_change}
+use Rattle.vm_legal.specs.Frames.{taken_up_change}
 use Rattle.vm_legal.specs.Homes.{gives_frame, is_home}
 use Rattle.vm_abroad.specs.Own.{own_cached, own_change, own_effect, own_last, own_live, own_out, own_ready, own_wired}
 
@@ -130,12 +131,12 @@ change_taken b own other is = refl
 pub change_own : (header : Header) (h : ℕ) (e : Event) (past : List Event) → is_home header h e past ≡ true
     → change header h e past ≡ own_change (λ o. backing_of header o past) (λ o. object_pages header o past)
     (λ o page. (local header h (record { object = o; page = page }) past).here) (λ o control page. is_control control (live_control h o past) &&
-    (local header h (record { object = o; page = page }) past).asked) e
+    (local header h (record { object = o; page = page }) past).asked) (λ o. given_at_end header h o past) e
 change_own header h (event.Zeroed at object page) past is = rw is refl
 change_own header h (event.Raised at lower lower_page upper upper_page) past is = rw is refl
 change_own header h (event.CopiedPage task page object object_page target) past is = rw is refl
 change_own header h (event.Dropped at object page) past is = rw is refl
-change_own header h (event.Sent (Up at object) m) past is = ap (λ z. sent_up_change z m) is
+change_own header h (event.Sent (Up at object) m) past is = ap (λ z. sent_up_change z (given_at_end header h object.0 past) m) is
 change_own header h (event.Sent (Down at object control) m) past is = refl
 change_own header h (event.Taken (Up at object) m) past is = ap (λ z. taken_up_change z m) (both_left (at.0 == h) (gives_frame m) is)
 change_own header h (event.Taken (Down at object control) m) past is =
@@ -148,7 +149,7 @@ pub held_own : (header : Header) (h : ℕ) (e : Event) (past : List Event) → i
     → frames_held header h (e ∷ past)
     ≡ frames_after (own_change (λ o. backing_of header o past) (λ o. object_pages header o past)
     (λ o page. (local header h (record { object = o; page = page }) past).here) (λ o control page. is_control control (live_control h o past) &&
-    (local header h (record { object = o; page = page }) past).asked) e) (frames_held header h past)
+    (local header h (record { object = o; page = page }) past).asked) (λ o. given_at_end header h o past) e) (frames_held header h past)
 held_own header h e past is = ap (λ z. frames_after z (frames_held header h past)) (change_own header h e past is)
 
 pub wired_own : (header : Header) (h : ℕ) (e : Event) (past : List Event) → is_home header h e past ≡ true

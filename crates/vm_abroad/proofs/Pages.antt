@@ -12,7 +12,8 @@ use Rattle.vm_model.specs.Controls.{control_after, is_control, last_control, liv
 use Rattle.vm_model.specs.Local.{Elsewhere, Local, Place, effect, local, local_after}
 use Rattle.vm_legal.specs.Accesses.{is_ready}
 use Rattle.vm_legal.specs.Cached.{is_cached}
-use Rattle.vm_legal.specs.Frames.{Keeps, change, frames_after, frames_held, frames_wired, returns_out, sent_up_change, taken_down_change, taken_up_change}
+use Rattle.vm_legal.specs.Frames.{Keeps, change, frames_after, frames_held, frames_wired, given_at_end, returns_out, sent_up_change, taken_down_change}
+use Rattle.vm_legal.specs.Frames.{taken_up_change}
 use Rattle.vm_legal.specs.Homes.{gives_frame, is_home}
 use Rattle.vm_abroad.specs.Same.{SamePages}
 
@@ -106,9 +107,10 @@ cached_abroad header h other past is o = refl
 
 -- frames
 
-change_sent : (b : Bool) (m : Message) → b ≡ false → sent_up_change b m ≡ Keeps
-change_sent b (message.Request control page access) is = rw is refl
-change_sent b other is = refl
+change_sent : (b : Bool) (asked : ℕ) (m : Message) → b ≡ false → sent_up_change b asked m ≡ Keeps
+change_sent b asked (message.Request control page access) is = rw is refl
+change_sent b asked (message.Terminate control) is = rw is refl
+change_sent b asked other is = refl
 
 change_returned : (b : Bool) (m : Message) → (b && gives_frame m) ≡ false → taken_up_change b m ≡ Keeps
 change_returned b (message.Return control page dirty keep bytes) is = rw is refl
@@ -124,7 +126,7 @@ change_abroad header h (event.Zeroed at object page) past is = rw is refl
 change_abroad header h (event.Raised at lower lower_page upper upper_page) past is = rw is refl
 change_abroad header h (event.CopiedPage task page object object_page target) past is = rw is refl
 change_abroad header h (event.Dropped at object page) past is = rw is refl
-change_abroad header h (event.Sent (Up at object) m) past is = change_sent (at.0 == h) m is
+change_abroad header h (event.Sent (Up at object) m) past is = change_sent (at.0 == h) (given_at_end header h object.0 past) m is
 change_abroad header h (event.Sent (Down at object control) m) past is = refl
 change_abroad header h (event.Taken (Up at object) m) past is = change_returned (at.0 == h) m is
 change_abroad header h (event.Taken (Down at object control) m) past is =

@@ -149,8 +149,9 @@ module _ (header : Header) (h : ℕ) (old new : List Event) (sound : Sound heade
 
   wants_now : (task : ℕ) (access : Access) (r page : ℕ) → IsRegionOf header h r old → WantsFrame header h task access r page old
       → WantsFrame header h task access r page new
-  wants_now task access r page own (Nowhere top top_page steps is sinks) =
-      Nowhere top top_page steps (top_now r page top top_page own is) (sinks_now r page top top_page steps own is sinks)
+  wants_now task access r page own (Nowhere served top top_page steps is sinks) =
+      Nowhere (λ declared none. served declared (sym (same.pages.live r) ∙ none)) top top_page steps (top_now r page top top_page own is)
+      (sinks_now r page top top_page steps own is sinks)
   wants_now task access r page own (Elsewhere object object_page comes away unasked may ready) =
       Elsewhere object object_page (comes_now r page object object_page own comes) (ap (λ z. z.here) (page_now object object_page) ∙ away)
       (ap (λ z. z.asked) (page_now object object_page) ∙ unasked)

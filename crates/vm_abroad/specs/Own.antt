@@ -28,18 +28,19 @@ own_effect links lengths place others live (event.Merged upper lower) =
     merge_effect upper.0 lower.0 (links upper.0).shift (lengths upper.0) (lengths lower.0) place others
 own_effect links lengths place others live other = Elsewhere
 
--- to its frames; which pages are here, and whether its live control of an object has asked for one, come in as functions too
-abbrev pub own_change : (ℕ → Backing) → (ℕ → ℕ) → (ℕ → ℕ → Bool) → (ℕ → ℕ → ℕ → Bool) → Event → FrameChange
-own_change links lengths here asked (event.Zeroed at object page) = Takes
-own_change links lengths here asked (event.Raised at lower lower_page upper upper_page) = Takes
-own_change links lengths here asked (event.CopiedPage task page object object_page target) = Takes
-own_change links lengths here asked (event.Dropped at object page) = Gives
-own_change links lengths here asked (event.Sent (Up at object) m) = sent_up_change true m
-own_change links lengths here asked (event.Taken (Up at object) m) = taken_up_change true m
-own_change links lengths here asked (event.Taken (Down at object control) m) = taken_down_change (asked object.0 control) m
-own_change links lengths here asked (event.Merged upper lower) =
+-- to its frames; which pages are here, whether its live control of an object has asked for one, and what the end of
+-- that gives back, come in as functions too
+abbrev pub own_change : (ℕ → Backing) → (ℕ → ℕ) → (ℕ → ℕ → Bool) → (ℕ → ℕ → ℕ → Bool) → (ℕ → ℕ) → Event → FrameChange
+own_change links lengths here asked given (event.Zeroed at object page) = Takes
+own_change links lengths here asked given (event.Raised at lower lower_page upper upper_page) = Takes
+own_change links lengths here asked given (event.CopiedPage task page object object_page target) = Takes
+own_change links lengths here asked given (event.Dropped at object page) = Gives
+own_change links lengths here asked given (event.Sent (Up at object) m) = sent_up_change true (given object.0) m
+own_change links lengths here asked given (event.Taken (Up at object) m) = taken_up_change true m
+own_change links lengths here asked given (event.Taken (Down at object control) m) = taken_down_change (asked object.0 control) m
+own_change links lengths here asked given (event.Merged upper lower) =
     GivesSome (pages_gone here upper.0 lower.0 (links upper.0).shift (lengths upper.0) (lengths lower.0))
-own_change links lengths here asked other = Keeps
+own_change links lengths here asked given other = Keeps
 
 -- to the live control of an object, the last one, whether that is ready, and whether the object stays when its last entry goes
 abbrev pub own_live : ℕ → Event → Option ℕ → Option ℕ

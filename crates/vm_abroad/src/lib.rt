@@ -16,7 +16,7 @@ ghost use Rattle.vm_model.specs.Regions.{backing_of, object_pages};
 ghost use Rattle.vm_legal.specs.Accesses.{is_ready};
 ghost use Rattle.vm_legal.specs.Cached.{is_cached};
 ghost use Rattle.vm_legal.specs.Follows.{FollowsSoFar};
-ghost use Rattle.vm_legal.specs.Frames.{frames_after, frames_held, frames_wired, returns_out};
+ghost use Rattle.vm_legal.specs.Frames.{frames_after, frames_held, given_at_end, frames_wired, returns_out};
 ghost use Rattle.vm_legal.specs.Homes.{EntersNext, IsOnlyOfHost, is_home};
 ghost use Rattle.vm_legal.specs.Licences.{HasCause};
 ghost use Rattle.vm_legal.specs.Merges.{IsThin};
@@ -71,7 +71,7 @@ pub fn own_events_move_their_host()
     ensures held { (header : Header) (h : ℕ) (e : Event) (past : List Event) → is_home header h e past ≡ true
         → frames_held header h (e ∷ past) ≡ frames_after (own_change (λ o. backing_of header o past) (λ o. object_pages header o past)
         (λ o page. (local header h (record { object = o; page = page }) past).here) (λ o control page. is_control control (live_control h o past) &&
-        (local header h (record { object = o; page = page }) past).asked) e) (frames_held header h past) }
+        (local header h (record { object = o; page = page }) past).asked) (λ o. given_at_end header h o past) e) (frames_held header h past) }
     ensures wired { (header : Header) (h : ℕ) (e : Event) (past : List Event)
         → is_home header h e past ≡ true → frames_wired h (e ∷ past) ≡ own_wired e (frames_wired h past) }
     ensures out { (header : Header) (h : ℕ) (e : Event) (past : List Event) → is_home header h e past ≡ true

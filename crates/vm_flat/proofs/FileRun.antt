@@ -14,9 +14,9 @@ use Rattle.vm_model.specs.Moments.{EachEvent}
 use Rattle.vm_model.specs.Waiting.{Loading, Storing}
 use Rattle.vm_legal.specs.Outside.{Outside, Told, is_shared}
 use Rattle.vm_legal.specs.Bytes.{OwnBytes, CopiesCurrent, FlatBytes}
-use Rattle.vm_legal.specs.Licences.{HasCause, Reclaimed, Created}
-use Rattle.vm_flat.proofs.FileStart.{all, mapped, settling, past_0, past_1, past_2, past_3, past_4, past_5, past_6, past_7, past_8, past_9, past_10, past_11}
-use Rattle.vm_flat.proofs.FileStart.{past_12, past_13, past_14, past_15, past_16}
+use Rattle.vm_legal.specs.Licences.{ByError, Created, HasCause, Reclaimed}
+use Rattle.vm_flat.proofs.FileStart.{all, mapped, past_0, past_1, past_10, past_11, past_12, past_13, past_14, past_15, past_16, past_2, past_3, past_4, past_5}
+use Rattle.vm_flat.proofs.FileStart.{past_6, past_7, past_8, past_9, settling}
 use Rattle.vm_legal.proofs.Unshared.{NoneIsShared, loads_unshared, none_shared}
 use Rattle.vm_flat.proofs.Loads.{answers}
 
@@ -488,12 +488,12 @@ caused_44 : EachEvent (HasCause header outside) past_44
 caused_44 = (
   (
     settling,
-    record {
+    ByError (record {
       access = Loading 0 1;
       waits = record { waits = refl; at = record { host = 0; entry = own; lives = refl; found = refl }; left = tt };
       error = refl;
       place = record { top = 1; top_page = 0; steps = 0; is_top = record { object = refl; page = refl }; leads = (refl, refl) };
-    },
+    }),
   ),
   caused_43,
 )

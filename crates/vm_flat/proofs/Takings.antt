@@ -1,6 +1,6 @@
 -- In a step that took a message no task loses an entry; so whoever lives there lives on.
-use Rattle.std.proofs.Common.{ℕ, ◌≡◌, ◌<◌, ◌≤◌, ◌+◌, ◌-◌, ◌/◌, ◌⊎◌, inl, inr, List, [], ◌∷◌, ◌++◌, reverse, length, Bool, true, false, Option, Some, None}
-use Rattle.std.proofs.Common.{MatchOption, refl, sym, ap, subst, ◌∙◌, arith, append_assoc, if◌then◌else◌}
+use Rattle.std.proofs.Common.{Bool, List, MatchOption, None, Option, Some, [], ap, append_assoc, arith, false, if◌then◌else◌, inl, inr, length, refl, reverse}
+use Rattle.std.proofs.Common.{subst, sym, true, ℕ, ◌++◌, ◌+◌, ◌-◌, ◌/◌, ◌<◌, ◌∙◌, ◌∷◌, ◌≡◌, ◌≤◌, ◌⊎◌}
 use mathlib.Core.List.{reverse_aux}
 use Rattle.std.proofs.lemmas.Bool.Decides.{nat_tests}
 use Rattle.std.specs.Prelude.{◌==◌, ◌&&◌, ◌||◌, is_some, nat_lt}
@@ -36,18 +36,20 @@ use Rattle.vm_legal.specs.Cached.{is_cached}
 use Rattle.vm_legal.specs.Follows.{Follows, FollowsAnyCut, IsBegun, IsConsequence, IsGroup, IsRun, cache_head, clean_head, copy_head, fork_head, head, inherits}
 use Rattle.vm_legal.specs.Follows.{inherits_all, map_head, next_behind, opening, say_head, take_head}
 use Rattle.vm_legal.specs.Frames.{frames_wired}
-use Rattle.vm_legal.specs.Licences.{AllLicensed, HasCause}
+use Rattle.vm_legal.specs.Licences.{AllLicensed, Destroyed, EndCause, HasCause, Unheld, Unreachable}
 use Rattle.vm_legal.specs.Swept.{IsUnheld, IsUnmapped}
 use Rattle.vm_legal.specs.Outside.{Outside}
 use Rattle.vm_legal.specs.Pagers.{Known, known_below}
 use Rattle.vm_legal.specs.Prompt.{Prompt}
 use Rattle.vm_legal.specs.Refusal.{refusal}
-use Rattle.vm_legal.specs.Steps.{Letter, absence_taken, before_step, taken_letter}
+use Rattle.vm_legal.specs.Steps.{Asked, Letter, absence_taken, before_step, taken_letter}
 use Rattle.vm_legal.specs.Stretches.{AllInner, EachIn}
 use Rattle.vm_legal.specs.Walks.{page_on}
 use Rattle.vm_flat.proofs.Pagers.{not_taken}
 use Rattle.vm_flat.proofs.Using.{by_cause}
 use Rattle.vm_flat.proofs.Voids.{Came, absent, came, not_absent}
+use Rattle.vm_legal.specs.Destroyed.{destroy_taken}
+use Rattle.std.proofs.lemmas.Option.{none-some}
 
 -- the event takes no entry from a task, nor changes where a task lives
 abbrev pub KeepsEntries : Event → Type 0
@@ -358,6 +360,22 @@ ends_never header host o p past keeps prompt inside below is kept unheld =
       uncached = sym kept.cached ∙ unheld.uncached;
     })) was.lived)
 
+-- the step took no end of an object
+absent_undestroyed : {a : Asked} (header : Header) (past : List Event) → absence_taken header past ≡ Some a → destroy_taken past ≡ None
+absent_undestroyed header [] is = refl
+absent_undestroyed header (event.Line line ∷ past) is = refl
+absent_undestroyed header (event.Taken (Up at object) m ∷ past) is = refl
+absent_undestroyed header (event.Taken (Down at object control) (message.Destroy reason) ∷ past) is = not_absent _ is
+absent_undestroyed header (event.Taken (Down at object control) m ∷ past) is = refl
+absent_undestroyed header (e ∷ past) is = absent_undestroyed header past is
+
+-- so a declared object that ends is one that nothing holds
+unheld_by : (header : Header) (h k : ℕ) (past : List Event) → k < named header → destroy_taken past ≡ None → EndCause header h k past
+    → IsUnheld header h k past
+unheld_by header h k past below none (Unreachable above gone unasked) = absurd (omega (arith, above, below))
+unheld_by header h k past below none (Unheld declared unheld unasked) = unheld
+unheld_by header h k past below none (Destroyed destroyed) = absurd (none-some _ (sym none ∙ destroyed.taken))
+
 moved : (P : ℕ → ℕ → Type 0) (a b h o : ℕ) → (a == h && b == o) ≡ true → P a b → P h o
 moved P a b h o same there =
     let host_is : a ≡ h = grind (arith, nat_tests) in
@@ -401,7 +419,8 @@ kept_then header outside host o p (event.Sent (Up at object) (message.Terminate 
     (without_control control (live_control host o past))
     (λ same. by_cause header outside (event.Sent (Up at object) (message.Terminate control)) past caused.0 (λ doing c.
     ends_never header host o p past keeps.1 prompt inside below is was
-    (moved (λ h k. k < named header → IsUnheld header h k past) at.0 object.0 host o same c.unheld below)))
+    (unheld_by header host o past below (absent_undestroyed header past is)
+    (moved (λ h k. EndCause header h k past) at.0 object.0 host o same c.why))))
     was.lives was.cached in
     record { lives = apart.0; cached = apart.1 }
 kept_then header outside host o p (event.Sent (Up at object) m ∷ past) caused keeps prompt inside below is =

@@ -18,6 +18,9 @@ use Rattle.vm_legal.specs.Licences.{Caused, HasCause, is_paged, pager_has, tells
 use Rattle.vm_legal.specs.Outside.{Outside, is_file, is_private, is_said, start_page, zeros}
 use Rattle.vm_legal.specs.Pagers.{newer}
 use Rattle.vm_legal.specs.Used as V
+use Rattle.vm_legal.specs.Walks as W
+use Rattle.vm_legal.specs.Destroyed.{IsDestroyed}
+use Rattle.vm_legal.proofs.Unshared.{paged_tame}
 use Rattle.vm_legal.specs.Walks.{page_on}
 use Rattle.vm_flat.specs.Places.{spot}
 use Rattle.vm_flat.proofs.Locals.{spot_is_local}
@@ -90,6 +93,24 @@ down header outside doing host o control (message.Lock page count returns flush 
 down header outside doing host o control (message.Ready cache strategy) past ours c = tt
 down header outside doing host o control other past ours c = tt
 
+-- no pager destroys a private object
+private_destroyed : {A : Type 0} (header : Header) (outside : Outside) (host o : ℕ) (past : List Event) → is_private header outside o ≡ true
+    → IsDestroyed header host o past → A
+private_destroyed header outside host o past ours destroyed =
+    absurd (let bad : false ≡ true = sym (paged_tame header o (private_paged header outside o ours)) ∙ destroyed.wild in cc)
+
+-- so one ends because no region leads to it, or nothing holds it
+record EndsUnasked (header : Header) (host o : ℕ) (past : List Event) : Type 0 where
+  unreached : named header ≤ o → W.Reach header host o past → ⊥
+  unasked : (page : ℕ) → (page_on header host o page past).asked ≡ false
+
+ended : (header : Header) (outside : Outside) (host o : ℕ) (past : List Event) → is_private header outside o ≡ true → L.EndCause header host o past
+    → EndsUnasked header host o past
+ended header outside host o past ours (L.Unreachable above gone unasked) = record { unreached = λ temporary. gone; unasked = unasked }
+ended header outside host o past ours (L.Unheld below unheld unasked) =
+    record { unreached = λ temporary reach. absurd (omega (arith, below, temporary)); unasked = unasked }
+ended header outside host o past ours (L.Destroyed destroyed) = private_destroyed header outside host o past ours destroyed
+
 up : (header : Header) (outside : Outside) (doing : Command) (host o : ℕ) (m : Message) (past : List Event) → EachEvent (HasCause header outside) past
     → is_private header outside o ≡ true → L.MaySendUp header doing host o m past → S.MaySendUp header outside host o m past
 up header outside doing host o (message.Init number size) past caused ours c =
@@ -114,17 +135,20 @@ up header outside doing host o (message.Return number page dirty keep bytes) pas
       flag = c.flag;
     }
 up header outside doing host o (message.Terminate number) past caused ours c =
-    record { live = c.live; unreached = λ above reach. c.unreached above (reached header outside host o past reach); away = c.away; unasked = c.unasked }
+    let ends = ended header outside host o past ours c.why in
+    record { live = c.live; unreached = λ above reach. ends.unreached above (reached header outside host o past reach); away = c.away; unasked = ends.unasked }
 up header outside doing host o other past caused ours c = tt
 
 -- pages
 
-leaves : (header : Header) (outside : Outside) (doing : Command) (host o p : ℕ) (past : List Event) (page : Local) → L.DropCause header doing host o p page past
+leaves : (header : Header) (outside : Outside) (doing : Command) (host o p : ℕ) (past : List Event) (page : Local) → is_private header outside o ≡ true
+    → L.DropCause header doing host o p page past
     → S.Leaves header outside host o p page.dirty past
-leaves header outside doing host o p past page (L.Reclaimed clean plain why) = S.Clean clean
-leaves header outside doing host o p past page (L.Unreached above gone) = S.Unreached above (λ reach. gone (reached header outside host o past reach))
-leaves header outside doing host o p past page (L.Flushed returns locked spared) = S.Flushed returns page.precious locked spared
-leaves header outside doing host o p past page (L.Ended clean plain below unheld) = S.Clean clean
+leaves header outside doing host o p past page ours (L.Reclaimed clean plain why) = S.Clean clean
+leaves header outside doing host o p past page ours (L.Unreached above gone) = S.Unreached above (λ reach. gone (reached header outside host o past reach))
+leaves header outside doing host o p past page ours (L.Flushed returns locked spared) = S.Flushed returns page.precious locked spared
+leaves header outside doing host o p past page ours (L.Discarded destroyed rising) = private_destroyed header outside host o past ours destroyed
+leaves header outside doing host o p past page ours (L.Ended clean plain below unheld) = S.Clean clean
 
 filled : (header : Header) (outside : Outside) (host o p : ℕ) (past : List Event) → EachEvent (HasCause header outside) past
     → is_private header outside o ≡ true → (L.Fills header host o p past ⊎ L.Bottoms header host o p past)
@@ -181,7 +205,7 @@ sustains header outside doing (event.CopiedPage task page object object_page tar
 sustains header outside doing (event.Zeroed host object page) past caused c = λ ours. filled header outside host.0 object.0 page.0 past caused ours c
 sustains header outside doing (event.Raised host lower lower_page upper upper_page) past caused c = c
 sustains header outside doing (event.Dropped host object page) past caused c = λ ours.
-    record { here = c.here; why = leaves header outside doing host.0 object.0 page.0 past (page_on header host.0 object.0 page.0 past) c.why }
+    record { here = c.here; why = leaves header outside doing host.0 object.0 page.0 past (page_on header host.0 object.0 page.0 past) ours c.why }
 sustains header outside doing (event.Sent (Up host object) m) past caused c = λ ours. up header outside doing host.0 object.0 m past caused ours c
 sustains header outside doing (event.Sent (Down host object control) m) past caused c = λ ours.
     down header outside doing host.0 object.0 control m past ours (paged_may header outside doing host.0 object.0 control m past

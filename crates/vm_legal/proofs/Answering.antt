@@ -14,7 +14,7 @@ use Rattle.vm_model.specs.declared.message.Channel.TheVariants.{Up, Down}
 use Rattle.vm_model.specs.declared.message.Message.{Message}
 use Rattle.vm_model.specs.declared.message.Message.TheVariants as message
 use Rattle.vm_model.specs.declared.script.Header.{Header}
-use Rattle.vm_legal.proofs.Locks.{came_down, no_attributes, no_change, no_lock, no_request}
+use Rattle.vm_legal.proofs.Locks.{came_down, no_attributes, no_destroy, no_change, no_lock, no_request}
 use Rattle.vm_legal.specs.Debts.{IsPaid}
 use Rattle.vm_legal.specs.Licences.{owed, up}
 use Rattle.vm_legal.specs.Pagers.{LacksSlot}
@@ -90,6 +90,7 @@ paid_of header host o m now did = record {
   absence = λ at object page declared is. absurd (none-some _ (sym did.no_absence ∙ is));
   lock = λ request is. no_request request now (no_lock now (ap came_down did.took)) is;
   change = λ request is wanted. no_change request now (no_attributes now (ap came_down did.took)) is;
+  destroy = λ at object wild is. absurd (none-some _ (sym (no_destroy now (ap came_down did.took)) ∙ is));
   slot = λ at object control page dirty keep bytes temporary is lacks.
       let same = sym did.took ∙ is in
       subst (λ (k : ℕ). since (lacks_slot k page) now ≡ true) (ap object_of same)

@@ -6,11 +6,15 @@ use Rattle.vm_model.specs.declared.event.Event.TheVariants as event
 use Rattle.vm_model.specs.declared.script.Header.{Header}
 use Rattle.vm_legal.specs.Cached.{attributes_taken}
 use Rattle.vm_legal.specs.Debts.{IsPaid, HasLocked}
+use Rattle.vm_legal.specs.Destroyed.{HasDestroyed, destroy_taken}
+use Rattle.vm_legal.specs.Accesses.{Waits}
+use Rattle.vm_model.specs.Waiting.{Access}
 use Rattle.vm_legal.specs.Frames.{frames_free}
 use Rattle.vm_legal.specs.InTurn.{EndsAll, EndsWaiters, WaitsAt}
 use Rattle.vm_legal.specs.Licences.{LockRequest, gives_back, lock_taken, owed, zeroes}
 use Rattle.vm_legal.specs.Pagers.{LacksSlot}
-use Rattle.vm_legal.specs.Steps.{answers, changes, completes, drops_page, fails_access, fails_task, lacks_slot, readies, returns_page}
+use Rattle.vm_legal.specs.Steps.{answers, before_step, changes, completes, drops_page, ends_control, fails_access, fails_of, fails_task, lacks_slot, readies}
+use Rattle.vm_legal.specs.Steps.{returns_page}
 use Rattle.vm_legal.specs.Walks.{page_on}
 use Rattle.vm_legal.specs.Stretches.{AllInner, IsInner}
 
@@ -35,6 +39,15 @@ attributes_inner other past inner = refl
 pub attributes_more : (events past : List Event) → AllInner events → attributes_taken (events ++ past) ≡ attributes_taken past
 attributes_more [] past inner = refl
 attributes_more (e ∷ events) past inner = attributes_inner e (events ++ past) inner.0 ∙ attributes_more events past inner.1
+
+destroy_inner : (e : Event) (past : List Event) → IsInner e → destroy_taken (e ∷ past) ≡ destroy_taken past
+destroy_inner (event.Line line) past inner = absurd inner
+destroy_inner (event.Taken channel m) past inner = absurd inner
+destroy_inner other past inner = refl
+
+pub destroy_more : (events past : List Event) → AllInner events → destroy_taken (events ++ past) ≡ destroy_taken past
+destroy_more [] past inner = refl
+destroy_more (e ∷ events) past inner = destroy_inner e (events ++ past) inner.0 ∙ destroy_more events past inner.1
 
 lock_inner : (e : Event) (past : List Event) → IsInner e → lock_taken (e ∷ past) ≡ lock_taken past
 lock_inner (event.Line line) past inner = absurd inner
@@ -66,6 +79,27 @@ locked_more header request events past inner had =
       reply = λ wanted. since_more (completes request.host request.object) events past inner (had.reply wanted);
     }
 
+-- an access waited on the object's region
+record WaitedOn (header : Header) (host object task : ℕ) (access : Access) (past : List Event) : Type 0 where
+  waits : Waits header task access past
+  on_host : waits.at.host ≡ host
+  region_is : waits.at.entry.region.0 ≡ object
+
+-- an end that was done is done still
+pub destroyed_more : (header : Header) (host object : ℕ) (events past : List Event) → AllInner events → HasDestroyed header host object past
+    → HasDestroyed header host object (events ++ past)
+destroyed_more header host object events past inner had =
+    let same = before_more events past inner in
+    record {
+      pages = λ page here. since_more (drops_page host object page) events past inner
+          (had.pages page (subst (λ (z : List Event). (page_on header host object page z).here ≡ true) same here));
+      ended = since_more (ends_control host object) events past inner had.ended;
+      failed = λ task access waits on region.
+          let was : WaitedOn header host object task access (before_step past) = subst (λ (z : List Event). WaitedOn header host object task access z) same
+          (record { waits = waits; on_host = on; region_is = region }) in
+          since_more (fails_of task object) events past inner (had.failed task access was.waits was.on_host was.region_is);
+    }
+
 pub paid_more : (header : Header) (events past : List Event) → AllInner events → IsPaid header past → owed (events ++ past) ≡ None
     → IsPaid header (events ++ past)
 paid_more header events past inner paid none =
@@ -86,6 +120,8 @@ paid_more header events past inner paid none =
       lock = λ request is. locked_more header request events past inner (paid.lock request (sym (lock_more events past inner) ∙ is));
       change = λ request is wanted.
           since_more (changes request.host request.object) events past inner (paid.change request (sym (attributes_more events past inner) ∙ is) wanted);
+      destroy = λ host object wild is.
+          destroyed_more header host object events past inner (paid.destroy host object wild (sym (destroy_more events past inner) ∙ is));
       slot = λ host object control page dirty keep bytes temporary is lacks.
           since_more (lacks_slot object page) events past inner
           (paid.slot host object control page dirty keep bytes temporary (sym same ∙ is)

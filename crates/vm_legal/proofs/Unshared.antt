@@ -1,4 +1,4 @@
--- Where no object is shared nothing is asked of loads of shared memory.
+-- Where no object is shared nothing is asked of loads of shared memory; which objects are neither shared nor wild.
 use Rattle.std.proofs.Common.{ℕ, ◌≡◌, ◌∙◌, ◌<◌, ◌≤◌, List, [], ◌∷◌, Bool, true, false, nat_lt, refl, ap, sym, arith, ◌&&◌, Option, Some, None, if◌then◌else◌}
 use Rattle.std.proofs.lemmas.Bool.Decides.{nat_tests}
 use Rattle.vm_base.specs.declared.ids.ObjectKind.{ObjectKind}
@@ -9,8 +9,10 @@ use Rattle.vm_model.specs.declared.script.Declared.{Declared}
 use Rattle.vm_model.specs.declared.script.Header.{Header}
 use Rattle.vm_model.specs.Moments.{EachEvent}
 use Rattle.vm_model.specs.Named.{declared, named}
+use Rattle.std.specs.Prelude.{not, ◌||◌}
+use Rattle.vm_legal.specs.Licences.{is_paged}
 use Rattle.vm_legal.specs.Bytes.{LoadsCurrent}
-use Rattle.vm_legal.specs.Outside.{Outside, is_file, is_file_kept, is_file_kind, is_shared, is_shared_kind, kind_in}
+use Rattle.vm_legal.specs.Outside.{Outside, is_file, is_file_kept, is_file_kind, is_shared, is_shared_kind, is_wild, is_wild_kind, kind_in, kind_of}
 
 -- no object is shared
 abbrev pub NoneIsShared : Header → Type 0
@@ -54,3 +56,29 @@ file_unshared header o file = by_row (nat_lt o (named header)) (declared header 
     by_row true None is = refl
     by_row true (Some object) is = by_kind object.kind is
     by_row false row is = refl
+
+-- neither a temporary object is wild, nor a file
+pub paged_tame : (header : Header) (o : ℕ) → is_paged header o ≡ true → is_wild header o ≡ false
+paged_tame header o paged = by_row (nat_lt o (named header)) (declared header o) paged
+  where
+    by_kind : (kind : ObjectKind) → is_file_kind kind ≡ true → is_wild_kind kind ≡ false
+    by_kind Temp is = refl
+    by_kind File is = refl
+    by_kind Shared is = refl
+    by_kind Wild is = absurd (let bad : false ≡ true = is in cc)
+
+    by_row : (below : Bool) (row : Option Declared) → not below || (below && is_file_kept row) ≡ true
+        → is_wild_kind (if below then kind_in row else Temp) ≡ false
+    by_row true None is = refl
+    by_row true (Some object) is = by_kind object.kind is
+    by_row false row is = refl
+
+-- no shared object is
+pub shared_tame : (header : Header) (o : ℕ) → is_shared header o ≡ true → is_wild header o ≡ false
+shared_tame header o shared = by (kind_of header o) shared
+  where
+    by : (kind : ObjectKind) → is_shared_kind kind ≡ true → is_wild_kind kind ≡ false
+    by Temp is = refl
+    by File is = refl
+    by Shared is = refl
+    by Wild is = absurd (let bad : false ≡ true = is in cc)

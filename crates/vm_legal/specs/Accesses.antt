@@ -1,5 +1,5 @@
 -- The accesses that wait: where they lead, how far their walks get, and what they want.
-use Rattle.std.specs.Prelude.{ℕ, zero, suc, ◌/◌, ◌<◌, ◌≡◌, Bool, true, false, List, [], ◌∷◌, length, if◌then◌else◌, ◌==◌, ◌&&◌, ◌||◌, Some}
+use Rattle.std.specs.Prelude.{ℕ, zero, suc, ◌/◌, ◌<◌, ◌≡◌, Bool, true, false, List, [], ◌∷◌, length, if◌then◌else◌, ◌==◌, ◌&&◌, ◌||◌, Some, None}
 use Rattle.vm_base.specs.declared.entry.Entry.{Entry}
 use Rattle.vm_base.specs.Entries.{entry_at, page_at}
 use Rattle.vm_model.specs.declared.event.Event.{Event}
@@ -8,6 +8,7 @@ use Rattle.vm_model.specs.declared.message.Channel.TheVariants.{Up, Down}
 use Rattle.vm_model.specs.declared.message.Message.TheVariants as message
 use Rattle.vm_model.specs.declared.script.Header.{Header}
 use Rattle.vm_model.specs.Controls.{is_control, live_control}
+use Rattle.vm_model.specs.Named.{named}
 use Rattle.vm_model.specs.Regions.{region_of, backing_of}
 use Rattle.vm_model.specs.Tasks.{host_of, entries_of}
 use Rattle.vm_model.specs.Waiting.{Access, Loading, Storing, Copying, waiting, next_page, address_of, is_store}
@@ -91,8 +92,9 @@ pub record WaitsUnlocked (header : Header) (host object page : ℕ) (past : List
 
 -- why an access wants a frame
 pub data WantsFrame (header : Header) (host task : ℕ) (access : Access) (region page : ℕ) (past : List Event) : Type 0 where
-  -- its walk finds the page nowhere
-  Nowhere : (top top_page steps : ℕ) → IsTop (region_of header region past) page top top_page
+  -- its walk finds the page nowhere, and a declared object has a control
+  Nowhere : (region < named header → live_control host region past ≡ None → ⊥) → (top top_page steps : ℕ)
+      → IsTop (region_of header region past) page top top_page
       → Sinks (λ k q. sight header host k q past) (λ k. backing_of header k past) steps top top_page → WantsFrame header host task access region page past
   -- its walk stops at a page that isn't asked yet, and whose pager is ready
   Elsewhere : (object object_page : ℕ) → Comes header host region page object object_page past → (page_on header host object object_page past).here ≡ false

@@ -6,12 +6,12 @@ use Rattle.vm_model.specs.declared.script.Header.{Header}
 use Rattle.vm_model.specs.Local.{Local}
 use Rattle.vm_model.specs.Named.{named}
 use Rattle.vm_legal.specs.Cached.{Attributes, attributes_taken}
+use Rattle.vm_legal.specs.Destroyed.{HasDestroyed, destroy_taken}
 use Rattle.vm_legal.specs.Licences.{LockRequest, gives_back, is_paged, lock_taken, owed, up, zeroes}
 use Rattle.vm_legal.specs.Outside.{is_wild}
 use Rattle.vm_legal.specs.Pagers.{LacksSlot}
-use Rattle.vm_legal.specs.Steps.{answers, absence_taken, before_step, changes, completes, drops_page, error_taken, fails_access, lacks_slot, readies}
-use Rattle.vm_legal.specs.Steps.{returns_page}
-use Rattle.vm_legal.specs.Steps.{since, taken_letter}
+use Rattle.vm_legal.specs.Steps.{absence_taken, answers, before_step, changes, completes, drops_page, error_taken, fails_access, lacks_slot, readies}
+use Rattle.vm_legal.specs.Steps.{returns_page, since, taken_letter}
 use Rattle.vm_legal.specs.Walks.{page_on}
 
 -- what the host had of a page when the step took a lock_request
@@ -50,6 +50,9 @@ pub record IsPaid (header : Header) (past : List Event) : Type 0 where
   pub lock : (request : LockRequest) → lock_taken past ≡ Some request → HasLocked header request past
   -- a change of attributes that wants a reply has it
   pub change : (request : Attributes) → attributes_taken past ≡ Some request → request.reply ≡ true → since (changes request.host request.object) past ≡ true
+  -- the end of a wild object by its pager is done
+  pub destroy : (host object : ℕ) → is_wild header object ≡ true → destroy_taken past ≡ Some (record { host = host; object = object })
+      → HasDestroyed header host object past
   -- where a pager has no page of a declared object, zeros come
   pub absence : (host object page : ℕ) → object < named header → absence_taken header past ≡ Some (record { host = host; object = object; page = page })
       → since (zeroes object page) past ≡ true

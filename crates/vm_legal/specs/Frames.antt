@@ -1,5 +1,5 @@
 -- The frames of a host that are in use, wired and free.
-use Rattle.std.specs.Prelude.{ℕ, zero, suc, ◌+◌, ◌-◌, ◌≤◌, ◌==◌, ◌&&◌, not, Bool, List, [], ◌∷◌, if◌then◌else◌, IfSome, reverse, slice_get, unwrap_or}
+use Rattle.std.specs.Prelude.{ℕ, zero, suc, ◌+◌, ◌-◌, ◌≤◌, ◌==◌, ◌&&◌, not, Bool, false, List, [], ◌∷◌, if◌then◌else◌, IfSome, reverse, slice_get, unwrap_or}
 use Rattle.vm_model.specs.declared.event.Event.{Event}
 use Rattle.vm_model.specs.declared.event.Event.TheVariants as event
 use Rattle.vm_model.specs.declared.message.Channel.TheVariants.{Up, Down}
@@ -10,6 +10,7 @@ use Rattle.vm_model.specs.Controls.{is_control, live_control}
 use Rattle.vm_model.specs.Homes.{object_home}
 use Rattle.vm_model.specs.Local.{is_on, local, moves_up}
 use Rattle.vm_model.specs.Regions.{backing_of, object_pages}
+use Rattle.vm_legal.specs.Destroyed.{destroy_taken, is_destroyed}
 use Rattle.vm_legal.specs.Living.{lives_on}
 
 -- what an event does to the frames in use
@@ -22,10 +23,43 @@ pub data FrameChange : Type 0 where
 abbrev pub change_where : Bool → FrameChange → FrameChange
 change_where test change = if test then change else Keeps
 
--- A request takes the frame for its page. A return that keeps no copy gives its frame back when its pager takes it.
-abbrev pub sent_up_change : Bool → Message → FrameChange
-sent_up_change here (message.Request control page access) = change_where here Takes
-sent_up_change here other = Keeps
+-- the message answers the request for a page of those that are asked
+abbrev pub is_answered : (ℕ → Bool) → Message → Bool
+is_answered asked (message.Supply page lock precious bytes) = asked page.0
+is_answered asked (message.Unavailable page) = asked page.0
+is_answered asked (message.Error page reason) = asked page.0
+is_answered asked other = false
+
+-- how many pages of an object are asked behind what a host says of it
+abbrev pub asked_behind : Message → ℕ → ℕ
+asked_behind (message.Request control page access) asked = asked + 1
+asked_behind (message.Init control size) asked = 0
+asked_behind (message.Create control size) asked = 0
+asked_behind (message.Terminate control) asked = 0
+asked_behind other asked = asked
+
+-- how many pages of an object are asked on a host: each request asks for one, its answer takes one back, and the end of a control all
+abbrev pub asked_pages : Header → ℕ → ℕ → List Event → ℕ
+asked_pages header h o [] = 0
+asked_pages header h o (event.Sent (Up host object) m ∷ past) =
+    if host.0 == h && object.0 == o then asked_behind m (asked_pages header h o past) else asked_pages header h o past
+asked_pages header h o (event.Taken (Down host object control) m ∷ past) =
+    if (host.0 == h && (object.0 == o && is_control control (live_control h o past)))
+    && is_answered (λ page. (local header h (record { object = o; page = page }) past).asked) m
+    then asked_pages header h o past - 1
+    else asked_pages header h o past
+asked_pages header h o (e ∷ past) = asked_pages header h o past
+
+-- what the end of the object's control gives back: where its pager destroyed it, the frames of what is asked; nothing is asked else
+abbrev pub given_at_end : Header → ℕ → ℕ → List Event → ℕ
+given_at_end header h o past = if is_destroyed h o (destroy_taken past) then asked_pages header h o past else 0
+
+-- A request takes the frame for its page. A return that keeps no copy gives its frame back when its pager takes it. The end of a control that
+-- its pager destroyed gives the frames of the pages back that are asked of it.
+abbrev pub sent_up_change : Bool → ℕ → Message → FrameChange
+sent_up_change here given (message.Request control page access) = change_where here Takes
+sent_up_change here given (message.Terminate control) = change_where here (GivesSome given)
+sent_up_change here given other = Keeps
 
 abbrev pub taken_up_change : Bool → Message → FrameChange
 taken_up_change here (message.Return control page dirty keep bytes) = change_where (here && not keep) Gives
@@ -54,7 +88,7 @@ change header host (event.Dropped at object page) past = change_where (at.0 == h
 change header host (event.Merged upper lower) past =
     change_where (is_on host (object_home upper.0 past)) (GivesSome (pages_gone (λ o p. (local header host (record { object = o; page = p }) past).here)
     upper.0 lower.0 (backing_of header upper.0 past).shift (object_pages header upper.0 past) (object_pages header lower.0 past)))
-change header host (event.Sent (Up at object) m) past = sent_up_change (at.0 == host) m
+change header host (event.Sent (Up at object) m) past = sent_up_change (at.0 == host) (given_at_end header host object.0 past) m
 change header host (event.Taken (Up at object) m) past = taken_up_change (at.0 == host) m
 change header host (event.Taken (Down at object control) m) past =
     taken_down_change (λ page. at.0 == host && (is_control control (live_control host object.0 past) &&

@@ -18,19 +18,32 @@ use Rattle.vm_model.specs.Server.{Wanting, first, line, wants_write}
 use Rattle.vm_model.specs.Side.{side}
 use Rattle.vm_model.specs.Waiting.{Access, is_store}
 use Rattle.vm_legal.specs.Accesses.{Comes, FindsPage, HasPlace, Waits, begun_at, names, page_of}
+use Rattle.vm_legal.specs.Destroyed.{HostObject, destroy_taken}
 use Rattle.vm_legal.specs.Follows.{FollowsBy, FollowsSoFarBy, IsDone, IsGroupBy, IsRunBy, IsWholeBy, SoFarBy}
 use Rattle.vm_legal.specs.Frames.{frames_free}
-use Rattle.vm_legal.specs.Licences.{Caused, DeviceFails, DropCause, Drops, Ended, Fails, GivesBack, HasSlot, IsBackingOf, IsBehind, MaySendUp, ReturnCause}
-use Rattle.vm_legal.specs.Licences.{TakesReturn, Unreached}
+use Rattle.vm_legal.specs.Licences.{ByError, Caused, DeviceFails, DropCause, Drops, Ended, Fails, GivesBack, HasSlot, IsBackingOf, IsBehind, MaySendUp}
+use Rattle.vm_legal.specs.Licences.{ReturnCause, TakesReturn, Unreached, Unserved}
 use Rattle.vm_legal.specs.Outside.{Outside, is_shared}
 use Rattle.vm_legal.specs.Prompt.{Awaits}
 use Rattle.vm_legal.specs.Serving.{HostsServed}
-use Rattle.vm_legal.specs.Steps.{before_step, error_taken, fails_task, since}
+use Rattle.vm_legal.specs.Steps.{before_step, error_taken, fails_of, fails_task, since}
 use Rattle.vm_legal.specs.Walks.{page_on}
 
 -- those whom the error that the step took has ended before began earlier
 abbrev pub FailsInTurn : ℕ → ℕ → ℕ → List Event → Type 0
 FailsInTurn task object page past = (other : ℕ) → since (fails_task other object page) past ≡ true → begun_at other past < begun_at task past
+
+-- those who waited on the object when the step took its end, and began earlier, have failed in front
+abbrev pub FallsInTurn : Header → ℕ → ℕ → List Event → Type 0
+FallsInTurn header task object past =
+    (host other : ℕ) (access : Access) (waits : Waits header other access (before_step past))
+    → destroy_taken past ≡ Some (record { host = host; object = object })
+    → waits.at.host ≡ host → waits.at.entry.region.0 ≡ object → begun_at other past < begun_at task past → since (fails_of other object) past ≡ true
+
+-- who fails does so by rising beginning
+abbrev pub FailureInTurn : (header : Header) (task object page : ℕ) (past : List Event) → Fails header task object page past → Type 0
+FailureInTurn header task object page past (ByError fails) = FailsInTurn task object page past
+FailureInTurn header task object page past (Unserved fails) = FallsInTurn header task object past
 
 -- no page of the object with a smaller number is here
 abbrev pub IsFirstHere : Header → ℕ → ℕ → ℕ → List Event → Type 0
@@ -61,7 +74,8 @@ SendsInTurn header why host object other past = MaySendUp header why host object
 
 -- the event has its cause, and comes in its turn
 abbrev pub CausedInTurn : Header → Outside → Command → Event → List Event → Type 0
-CausedInTurn header outside why (event.Failed task object page) past = Fails header task.0 object.0 page.0 past × FailsInTurn task.0 object.0 page.0 past
+CausedInTurn header outside why (event.Failed task object page) past =
+    (fails : Fails header task.0 object.0 page.0 past) × FailureInTurn header task.0 object.0 page.0 past fails
 CausedInTurn header outside why (event.Dropped host object page) past =
     (drops : Drops header why host.0 object.0 page.0 past)
     × DropsInTurn header why host.0 object.0 page.0 (page_on header host.0 object.0 page.0 past) past drops.why

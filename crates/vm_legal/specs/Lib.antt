@@ -1,6 +1,7 @@
 pub mod Accesses
 pub mod Bytes
 pub mod Cached
+pub mod Destroyed
 pub mod Debts
 pub mod Flat
 pub mod Follows

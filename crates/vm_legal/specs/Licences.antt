@@ -1,6 +1,6 @@
 -- Why an event stands where it does: its cause, in the events in front of it.
-use Rattle.std.specs.Prelude.{ℕ, zero, suc, ◌+◌, ◌*◌, ◌/◌, ◌%◌, ◌<◌, ◌≤◌, ◌≡◌, ◌⊎◌, List, [], ◌∷◌, ◌++◌, Bool, true, false, not, Option, Some, None}
-use Rattle.std.specs.Prelude.{MatchOption, if◌then◌else◌, ◌==◌, ◌&&◌, ◌||◌, nat_lt}
+use Rattle.std.specs.Prelude.{Bool, List, MatchOption, None, Option, Some, [], false, if◌then◌else◌, nat_lt, not, suc, true, zero, ℕ, ◌%◌, ◌&&◌, ◌*◌, ◌++◌, ◌+◌}
+use Rattle.std.specs.Prelude.{◌/◌, ◌<◌, ◌==◌, ◌||◌, ◌∷◌, ◌≡◌, ◌≤◌, ◌⊎◌}
 use Rattle.vm_base.specs.Entries.{page_at}
 use Rattle.vm_base.specs.declared.ids.Inherit.TheVariants.{Copy}
 use Rattle.vm_base.specs.declared.ids.TaskId.{TaskId}
@@ -32,6 +32,7 @@ use Rattle.vm_model.specs.Words.{Supplying, Locking, in_range}
 use Rattle.vm_model.specs.Waiting.{Access, Loading, Storing, Copying, Target, waiting, next_page, copy_target, is_store}
 use Rattle.vm_legal.specs.Accesses.{At, Waits, Comes, HasPlace, is_ready, names, page_of}
 use Rattle.vm_legal.specs.Cached.{Changes}
+use Rattle.vm_legal.specs.Destroyed.{FailsUnserved, IsDestroyed}
 use Rattle.vm_legal.specs.Living.{tasks}
 use Rattle.vm_legal.specs.Merges.{Merges}
 use Rattle.vm_legal.specs.Outside.{Outside, is_file, is_said, is_wild, kind_of, start_page, zeros}
@@ -130,11 +131,16 @@ pub record EndsCopy (header : Header) (task : ℕ) (past : List Event) : Type 0 
   pub all : next_page task past * header.size ≡ bytes
 
 -- an access ends by the error that the step took, for a page of its chain that was asked
-pub record Fails (header : Header) (task object page : ℕ) (past : List Event) : Type 0 where
+pub record FailsByError (header : Header) (task object page : ℕ) (past : List Event) : Type 0 where
   pub access : Access
   pub waits : Waits header task access past
   pub error : error_taken header past ≡ Some (record { host = waits.at.host; object = object; page = page })
   pub place : HasPlace header waits.at.entry.region.0 (page_of header task access past waits.at.entry) object page past
+
+-- why an access fails
+pub data Fails (header : Header) (task object page : ℕ) (past : List Event) : Type 0 where
+  ByError : FailsByError header task object page past → Fails header task object page past
+  Unserved : FailsUnserved header task object page past → Fails header task object page past
 
 -- 3 for a store on its top place, and 1 for everything else
 abbrev pub desired_access : Access → ℕ → ℕ
@@ -306,13 +312,22 @@ pub record Opens (header : Header) (host control object size : ℕ) (past : List
   pub on_host : at.host ≡ host
   pub region : at.entry.region.0 ≡ object
 
--- an object ends on a host: it is a declared one that nothing holds there, or no region leads to it, and nothing of it is here or asked
+-- why an object ends on a host
+pub data EndCause (header : Header) (host object : ℕ) (past : List Event) : Type 0 where
+  -- no region leads to it, and nothing of it is asked
+  Unreachable : named header ≤ object → (Reach header host object past → ⊥) → ((page : ℕ) → (page_on header host object page past).asked ≡ false)
+      → EndCause header host object past
+  -- nothing holds it there, and nothing of it is asked
+  Unheld : object < named header → IsUnheld header host object past → ((page : ℕ) → (page_on header host object page past).asked ≡ false)
+      → EndCause header host object past
+  -- its pager ends it, with what is asked
+  Destroyed : IsDestroyed header host object past → EndCause header host object past
+
+-- an object ends on a host, where nothing of it is here
 pub record Ends (header : Header) (host control object : ℕ) (past : List Event) : Type 0 where
   pub live : live_control host object past ≡ Some control
-  pub unreached : named header ≤ object → Reach header host object past → ⊥
-  pub unheld : object < named header → IsUnheld header host object past
   pub away : (page : ℕ) → (page_on header host object page past).here ≡ false
-  pub unasked : (page : ℕ) → (page_on header host object page past).asked ≡ false
+  pub why : EndCause header host object past
 
 -- what a host sends up
 abbrev pub MaySendUp : Header → Command → ℕ → ℕ → Message → List Event → Type 0
@@ -473,6 +488,9 @@ pub data DropCause (header : Header) (doing : Command) (host object page : ℕ) 
   Unreached : named header ≤ object → (Reach header host object past → ⊥) → DropCause header doing host object page seen past
   -- its pager flushes it, and doesn't want it back
   Flushed : (returns : ℕ) → IsLocked host object page returns true past → gives_back returns seen.dirty seen.precious ≡ false
+      → DropCause header doing host object page seen past
+  -- its pager ends the object, which goes by rising page
+  Discarded : IsDestroyed header host object past → ((q : ℕ) → q < page → (page_on header host object q past).here ≡ false)
       → DropCause header doing host object page seen past
   -- it is clean, and its object ends on the host
   Ended : seen.dirty ≡ false → seen.precious ≡ false → object < named header → IsUnheld header host object past

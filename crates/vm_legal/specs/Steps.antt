@@ -154,6 +154,20 @@ abbrev pub fails_task : ℕ → ℕ → ℕ → Event → Bool
 fails_task t o p (event.Failed task object page) = task.0 == t && (object.0 == o && page.0 == p)
 fails_task t o p other = false
 
+-- the event ends the access of a task for some page of the object
+abbrev pub fails_of : ℕ → ℕ → Event → Bool
+fails_of t o (event.Failed task object page) = task.0 == t && object.0 == o
+fails_of t o other = false
+
+abbrev pub is_termination : Message → Bool
+is_termination (message.Terminate control) = true
+is_termination other = false
+
+-- the event ends the control of the object on the host
+abbrev pub ends_control : ℕ → ℕ → Event → Bool
+ends_control h o (event.Sent (Up host object) m) = host.0 == h && (object.0 == o && is_termination m)
+ends_control h o other = false
+
 -- a page for which the live control of a host took an error, or the word that there is none, while it was asked
 pub record Asked : Type 0 where
   pub host : ℕ

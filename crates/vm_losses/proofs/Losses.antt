@@ -18,7 +18,7 @@ use Rattle.vm_model.specs.Moments.{EachEvent}
 use Rattle.vm_model.specs.Named.{named}
 use Rattle.vm_model.specs.Server.{first}
 use Rattle.vm_model.specs.Side.{rest}
-use Rattle.vm_legal.specs.Licences.{HasCause, IsFault, PagerSends}
+use Rattle.vm_legal.specs.Licences.{ByError, Fails, FailsByError, HasCause, IsFault, PagerSends, Unserved}
 use Rattle.vm_legal.specs.Outside.{Outside, is_wild, is_wild_kind, kind_of}
 use Rattle.vm_legal.specs.Pagers.{is_lost}
 use Rattle.vm_legal.specs.Steps.{Asked, error_of, error_taken, fails_reading, lacks_slot, since}
@@ -192,6 +192,12 @@ error_fits header outside (e ∷ past) place causes none is tame =
     or_right (lacks_slot place.object place.page e) (ever (lacks_slot place.object place.page) past)
     (error_fits header outside past place causes.1 none is tame)
 
+-- what isn't wild fails by an error alone
+failed_by : (header : Header) (task object page : ℕ) (past : List Event) → Fails header task object page past → is_wild header object ≡ false
+    → FailsByError header task object page past
+failed_by header task object page past (ByError fails) tame = fails
+failed_by header task object page past (Unserved fails) tame = never (sym tame ∙ fails.wild)
+
 pub fails_unslotted : (header : Header) (outside : Outside) (history : List Event) → EachEvent (HasCause header outside) history
     → ever is_device_event history ≡ false → EachEvent (FailsUnslotted header) history
 fails_unslotted header outside [] causes none = tt
@@ -199,7 +205,8 @@ fails_unslotted header outside (event.Failed task object page ∷ past) causes n
   where
     now : is_wild header object.0 ≡ false → (named header ≤ object.0) × (ever (lacks_slot object.0 page.0) past ≡ true)
     now tame =
-        let lost : ever (lacks_slot object.0 page.0) past ≡ true = error_fits header outside past _ causes.1 none causes.0.1.error tame in
+        let lost : ever (lacks_slot object.0 page.0) past ≡ true = error_fits header outside past _ causes.1 none (failed_by header task.0 object.0 page.0 past
+        causes.0.1 tame).error tame in
         (slotless_temporary header outside object.0 page.0 past causes.1 lost, lost)
 fails_unslotted header outside (event.DeviceFailed who way object page ∷ past) causes none = never (sym none)
 fails_unslotted header outside (e ∷ past) causes none = (tt, fails_unslotted header outside past causes.1 none)

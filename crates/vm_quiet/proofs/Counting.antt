@@ -16,25 +16,28 @@ use Rattle.vm_model.specs.declared.script.Header.{Header}
 use Rattle.vm_model.specs.Channels.{queue}
 use Rattle.vm_model.specs.Controls.{is_control, last_control, live_control}
 use Rattle.vm_model.specs.Homes.{object_home}
-use Rattle.vm_model.specs.Local.{LocalEffect, Local, Place, Zeroes, Raises, Stores, Drops, Moves, Returns, Asks, Unlocks, TakesPage, TakesNothing, TakesError}
-use Rattle.vm_model.specs.Local.{TakesLock, Begins, Ends, Elsewhere, is_on, local, local_after, merge_effect}
+use Rattle.vm_model.specs.Local.{Asks, Begins, Drops, Elsewhere, Ends, Local, LocalEffect, Moves, Place, Raises, Returns, Stores, TakesError, TakesLock}
+use Rattle.vm_model.specs.Local.{TakesNothing, TakesPage, Unlocks, Zeroes, is_on, local, local_after, merge_effect}
 use Rattle.vm_model.specs.Moments.{EachEvent}
 use Rattle.vm_model.specs.Regions.{backing_of, object_pages}
 use Rattle.vm_model.specs.Server.{first}
 use Rattle.vm_model.specs.Tasks.{host_of}
 use Rattle.vm_model.specs.Words.{in_range}
-use Rattle.vm_legal.specs.Frames.{Takes, Gives, GivesSome, frames_after, frames_held, pages_gone, returns_out, change_where}
-use Rattle.vm_legal.specs.Licences.{HasCause, MaySendUp}
+use Rattle.vm_legal.specs.Frames.{Gives, GivesSome, Takes, asked_pages, change_where, frames_after, frames_held, given_at_end, pages_gone, returns_out}
+use Rattle.vm_legal.specs.Licences.{Destroyed, EndCause, HasCause, MaySendUp, Unheld, Unreachable}
 use Rattle.vm_legal.specs.Merges.{Merges}
 use Rattle.vm_legal.specs.Outside.{Outside}
 use Rattle.vm_legal.specs.Walks.{page_on}
 use Rattle.vm_model.proofs.Ports.{same_control}
 use Rattle.vm_quiet.specs.Places.{FramesAreCounted, has_frame}
 use Rattle.vm_quiet.proofs.Letters.{never, some_out}
+use Rattle.vm_legal.specs.Destroyed.{destroy_taken, is_destroyed}
+use Rattle.vm_quiet.proofs.Asking.{Asking, asked_of, asking_of}
+use Rattle.vm_quiet.proofs.Minus.{held_minus}
 use Rattle.vm_quiet.proofs.Merging.{gone_same, held_merged, merged_below, pair_apart, place_left}
 use Rattle.vm_quiet.proofs.Places.{Held, one_if, held_none, held_same, held_more, held_less, held_some, test_there}
-use Rattle.vm_quiet.proofs.Sane.{Base, IsVacant, base_of, there, at_place, vacant_zeroed, vacant_raised, vacant_copied, left, right, control_of}
-use Rattle.vm_quiet.proofs.Sane.{merged_pair, merged_unasked, own_number, unasked_dead}
+use Rattle.vm_quiet.proofs.Sane.{Base, IsVacant, at_place, base_of, control_of, left, merged_pair, merged_unasked, own_number, right, there, unasked_dead}
+use Rattle.vm_quiet.proofs.Sane.{vacant_copied, vacant_raised, vacant_zeroed}
 
 abbrev pub framed : Header → ℕ → List Event → ℕ → ℕ → Bool
 framed header host past o p = has_frame (page_on header host o p past)
@@ -126,6 +129,49 @@ unasked_kept size page is = ap (λ a. page.here || a) (sym is)
 dead_none : (live : Option ℕ) → live ≡ None → is_some live ≡ false
 dead_none live e = ap (λ (l : Option ℕ). is_some l) e
 
+-- a control ends, and what is asked of it
+ended_two : (size : ℕ) (own object live : Bool) (page : Local) → ((own && object) ≡ true → live ≡ true) → (page.here ≡ true → page.asked ≡ false)
+    → has_frame (local_after size (if own && object then (if live then Ends else Elsewhere) else Elsewhere) page)
+    ≡ (if own && (object && page.asked) then false else has_frame page)
+ended_two size true true true page is apart = by page.here page.asked apart
+  where
+    by : (a b : Bool) → (a ≡ true → b ≡ false) → (a || false) ≡ (if b then false else (a || b))
+    by true true apart = never (sym (apart refl))
+    by true false apart = refl
+    by false true apart = refl
+    by false false apart = refl
+ended_two size true true false page is apart = never (is refl)
+ended_two size true false live page is apart = refl
+ended_two size false object live page is apart = refl
+
+itself : (a b : ℕ) → (a == a && b == b) ≡ true
+itself a b = grind (arith, nat_tests)
+
+-- what is given back is what is asked: without a destroy nothing is
+asking_end : (header : Header) (host o : ℕ) (past : List Event) → EndCause header host o past → Asking header host o past
+    → Held (asked_of header host o past) (given_at_end header host o past)
+asking_end header host o past why h = by (is_destroyed host o (destroy_taken past)) refl
+  where
+    left : (page : ℕ) → EndCause header host o past → is_destroyed host o (destroy_taken past) ≡ false → (page_on header host o page past).asked ≡ false
+    left page (Unreachable above gone unasked) none = unasked page
+    left page (Unheld below unheld unasked) none = unasked page
+    left page (Destroyed destroyed) none = never (sym none ∙ (ap (is_destroyed host o) destroyed.taken ∙ itself host o))
+
+    one : (b : Bool) (q p : ℕ) → (o == q) ≡ b → is_destroyed host o (destroy_taken past) ≡ false → (b && (page_on header host q p past).asked) ≡ false
+    one true q p is none = subst (λ (k : ℕ). (page_on header host k p past).asked ≡ false) (own_number o q is) (left p why none)
+    one false q p is none = refl
+
+    by : (b : Bool) → is_destroyed host o (destroy_taken past) ≡ b → Held (asked_of header host o past) (given_at_end header host o past)
+    by true is = subst (λ (n : ℕ). Held (asked_of header host o past) n) (ap (λ z. if z then asked_pages header host o past else 0) (sym is)) h
+    by false is = subst (λ (n : ℕ). Held (asked_of header host o past) n) (ap (λ z. if z then asked_pages header host o past else 0) (sym is))
+        (held_none (asked_of header host o past) (λ q p. one (o == q) q p refl is))
+
+ends_some : (own : Bool) (U V W : ℕ → ℕ → Bool) (n k r f : ℕ) → ((o p : ℕ) → V o p ≡ true → U o p ≡ true)
+    → ((o p : ℕ) → W o p ≡ (if own && V o p then false else U o p)) → Held U n → (own ≡ true → Held V k) → n + r ≡ f
+    → (m : ℕ) × Held W m × (m + r ≡ frames_after (change_where own (GivesSome k)) f)
+ends_some true U V W n k r f inside new h v e = let left = held_minus U V W n k inside new h (v refl) in (n - k, left.0, omega (arith, e, left.1))
+ends_some false U V W n k r f inside new h v e = (n, held_same U W n new h, e)
+
 -- a return without a copy
 out_more : (own : Bool) (U V : ℕ → ℕ → Bool) (n a b r f : ℕ) → (own ≡ true → U a b ≡ true)
     → ((o p : ℕ) → V o p ≡ (if own && (a == o && b == p) then false else U o p)) → Held U n → n + r ≡ f → (k : ℕ) × Held V k
@@ -155,26 +201,31 @@ asks_used size own object at live page is =
     either false = refl
 
 count_up : (header : Header) (host : ℕ) (at : HostId) (object : ObjectId) (m : Message) (past : List Event) → Base header host past
-    → ((doing : Command) × MaySendUp header doing at.0 object.0 m past) → Count header host past → Count header host (event.Sent (Up at object) m ∷ past)
-count_up header host at object (message.Init control size) past base c count =
+    → ((doing : Command) × MaySendUp header doing at.0 object.0 m past) → ((k : ℕ) → Asking header host k past) → Count header host past
+    → Count header host (event.Sent (Up at object) m ∷ past)
+count_up header host at object (message.Init control size) past base c asking count =
     sent_same header host at object (message.Init control size) past
     (λ o p. kept_if header.size (at.0 == host && object.0 == o) Begins (page_on header host o p past)
     (λ is. unasked_kept header.size (page_on header host o p past) (unasked_dead header host o p past base
     (dead_none (live_control host o past) (at_place (λ h k. live_control h k past ≡ None) at.0 object.0 host o is c.1.none)))))
     refl refl count
-count_up header host at object (message.Create control size) past base c count =
+count_up header host at object (message.Create control size) past base c asking count =
     sent_same header host at object (message.Create control size) past
     (λ o p. kept_if header.size (at.0 == host && object.0 == o) Begins (page_on header host o p past)
     (λ is. unasked_kept header.size (page_on header host o p past) (unasked_dead header host o p past base
     (base.numbered o (at_place (λ h k. last_control h k past ≡ 0) at.0 object.0 host o is c.1.never)))))
     refl refl count
-count_up header host at object (message.Terminate control) past base c count =
-    sent_same header host at object (message.Terminate control) past
-    (λ o p. kept_two header.size (at.0 == host && object.0 == o) (is_control control (live_control host o past)) Ends (page_on header host o p past)
-    (λ is t. unasked_kept header.size (page_on header host o p past) (at_place (λ h k. (page_on header h k p past).asked ≡ false) at.0 object.0 host o is
-    (c.1.unasked p))))
-    refl refl count
-count_up header host at object (message.Request control page access) past base c count =
+count_up header host at object (message.Terminate control) past base c asking count =
+    let left = ends_some (at.0 == host) (framed header host past) (asked_of header host object.0 past)
+    (framed header host (event.Sent (Up at object) (message.Terminate control) ∷ past)) count.number (given_at_end header host object.0 past)
+    (returns_out host past) (frames_held header host past)
+    (λ o p is. asked_framed (page_on header host o p past) (right (object.0 == o) (page_on header host o p past).asked is))
+    (λ o p. ended_two header.size (at.0 == host) (object.0 == o) (is_control control (live_control host o past)) (page_on header host o p past)
+    (λ is. control_of (live_control host o past) control (at_place (λ h k. live_control h k past ≡ Some control) at.0 object.0 host o is c.1.live))
+    (base.sane o p).apart) count.held
+    (λ is. asking_end header host object.0 past (on_host (λ h. EndCause header h object.0 past) at.0 host is c.1.why) (asking object.0)) count.sum in
+    record { number = left.0; held = left.1; sum = left.2 }
+count_up header host at object (message.Request control page access) past base c asking count =
     record {
       number = if at.0 == host then count.number + 1 else count.number;
       held =
@@ -188,11 +239,11 @@ count_up header host at object (message.Request control page access) past base c
           count.held;
       sum = takes (at.0 == host) count.number (returns_out host past) (frames_held header host past) count.sum;
     }
-count_up header host at object (message.Return control page dirty true bytes) past base c count =
+count_up header host at object (message.Return control page dirty true bytes) past base c asking count =
     sent_same header host at object (message.Return control page dirty true bytes) past
     (λ o p. kept_two header.size (at.0 == host && object.0 == o) (page.0 == p) (Returns true) (page_on header host o p past) (λ s t. refl))
     (no_out (at.0 == host) (returns_out host past)) refl count
-count_up header host at object (message.Return control page dirty false bytes) past base c count =
+count_up header host at object (message.Return control page dirty false bytes) past base c asking count =
     let out = out_more (at.0 == host) (framed header host past) (framed header host
     (event.Sent (Up at object) (message.Return control page dirty false bytes) ∷ past)) count.number object.0 page.0 (returns_out host past)
     (frames_held header host past)
@@ -201,19 +252,19 @@ count_up header host at object (message.Return control page dirty false bytes) p
     (λ is. (base.sane o p).apart (there (λ h k q. (page_on header h k q past).here ≡ true) at.0 object.0 page.0 host o p is c.1.here)))
     count.held count.sum in
     record { number = out.0; held = out.1; sum = out.2 }
-count_up header host at object (message.Unlock control page access) past base c count =
+count_up header host at object (message.Unlock control page access) past base c asking count =
     sent_same header host at object (message.Unlock control page access) past
     (λ o p. kept_two header.size (at.0 == host && object.0 == o) (page.0 == p) Unlocks (page_on header host o p past) (λ s t. refl))
     refl refl count
-count_up header host at object (message.Completed control page number) past base c count =
+count_up header host at object (message.Completed control page number) past base c asking count =
     sent_same header host at object (message.Completed control page number) past
     (λ o p. kept_if header.size (at.0 == host && object.0 == o) Elsewhere (page_on header host o p past) (λ is. refl))
     refl refl count
-count_up header host at object (message.Changed control cache strategy) past base c count =
+count_up header host at object (message.Changed control cache strategy) past base c asking count =
     sent_same header host at object (message.Changed control cache strategy) past
     (λ o p. kept_if header.size (at.0 == host && object.0 == o) Elsewhere (page_on header host o p past) (λ is. refl))
     refl refl count
-count_up header host at object m past base c count = absurd c.1
+count_up header host at object m past base c asking count = absurd c.1
 
 -- what comes down
 
@@ -509,8 +560,8 @@ count_merged header host upper lower past base c count = by (is_on host (object_
         }
 
 pub count_next : (header : Header) (outside : Outside) (host : ℕ) (e : Event) (past : List Event) → Base header host past → HasCause header outside e past
-    → Count header host past → Count header host (e ∷ past)
-count_next header outside host (event.Zeroed at object page) past base c count =
+    → ((k : ℕ) → Asking header host k past) → Count header host past → Count header host (e ∷ past)
+count_next header outside host (event.Zeroed at object page) past base c asking count =
     record {
       number = if at.0 == host then count.number + 1 else count.number;
       held = more_if (at.0 == host) (framed header host past) (framed header host (event.Zeroed at object page ∷ past)) count.number object.0 page.0
@@ -520,7 +571,7 @@ count_next header outside host (event.Zeroed at object page) past base c count =
           count.held;
       sum = takes (at.0 == host) count.number (returns_out host past) (frames_held header host past) count.sum;
     }
-count_next header outside host (event.Raised at lower lower_page upper upper_page) past base c count =
+count_next header outside host (event.Raised at lower lower_page upper upper_page) past base c asking count =
     record {
       number = if at.0 == host then count.number + 1 else count.number;
       held =
@@ -533,7 +584,7 @@ count_next header outside host (event.Raised at lower lower_page upper upper_pag
           count.held;
       sum = takes (at.0 == host) count.number (returns_out host past) (frames_held header host past) count.sum;
     }
-count_next header outside host (event.CopiedPage task page object object_page target) past base c count =
+count_next header outside host (event.CopiedPage task page object object_page target) past base c asking count =
     record {
       number = if is_on host (host_of task.0 past) then count.number + 1 else count.number;
       held =
@@ -545,7 +596,7 @@ count_next header outside host (event.CopiedPage task page object object_page ta
           count.held;
       sum = takes (is_on host (host_of task.0 past)) count.number (returns_out host past) (frames_held header host past) count.sum;
     }
-count_next header outside host (event.Stored task object page at size value) past base c count =
+count_next header outside host (event.Stored task object page at size value) past base c asking count =
     record {
       number = count.number;
       held = held_same (framed header host past) (framed header host (event.Stored task object page at size value ∷ past)) count.number
@@ -553,7 +604,7 @@ count_next header outside host (event.Stored task object page at size value) pas
           (page_on header host o p past) (λ is. refl)) count.held;
       sum = count.sum;
     }
-count_next header outside host (event.Dropped at object page) past base c count =
+count_next header outside host (event.Dropped at object page) past base c asking count =
     record {
       number = if at.0 == host then count.number - 1 else count.number;
       held =
@@ -569,11 +620,11 @@ count_next header outside host (event.Dropped at object page) past base c count 
   where
     own : (at.0 == host) ≡ true → (page_on header host object.0 page.0 past).here ≡ true
     own is = on_host (λ h. (page_on header h object.0 page.0 past).here ≡ true) at.0 host is c.1.here
-count_next header outside host (event.Merged upper lower) past base c count = count_merged header host upper lower past base c.1 count
-count_next header outside host (event.Sent (Up at object) m) past base c count = count_up header host at object m past base c count
-count_next header outside host (event.Taken (Up at object) m) past base c count = count_taken header host at object m past base c.1.0 count
-count_next header outside host (event.Taken (Down at object control) m) past base c count = count_down header host at object control m past base count
-count_next header outside host e past base c count =
+count_next header outside host (event.Merged upper lower) past base c asking count = count_merged header host upper lower past base c.1 count
+count_next header outside host (event.Sent (Up at object) m) past base c asking count = count_up header host at object m past base c asking count
+count_next header outside host (event.Taken (Up at object) m) past base c asking count = count_taken header host at object m past base c.1.0 count
+count_next header outside host (event.Taken (Down at object control) m) past base c asking count = count_down header host at object control m past base count
+count_next header outside host e past base c asking count =
     record {
       number = count.number;
       held = held_same (framed header host past) (framed header host past) count.number (λ o p. refl) count.held;
@@ -583,7 +634,8 @@ count_next header outside host e past base c count =
 pub count_of : (header : Header) (outside : Outside) (host : ℕ) (history : List Event) → EachEvent (HasCause header outside) history → Count header host history
 count_of header outside host [] c = record { number = 0; held = held_none (framed header host []) (λ o p. refl); sum = refl }
 count_of header outside host (e ∷ past) c =
-    count_next header outside host e past (base_of header outside host past c.1) c.0 (count_of header outside host past c.1)
+    count_next header outside host e past (base_of header outside host past c.1) c.0 (λ k. asking_of header outside host k past c.1)
+    (count_of header outside host past c.1)
 
 pub frames_counted : (header : Header) (outside : Outside) (host : ℕ) (history : List Event) → EachEvent (HasCause header outside) history
     → FramesAreCounted header host history

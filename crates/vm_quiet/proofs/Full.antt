@@ -1,5 +1,5 @@
 -- The worked history meets the premises, and its load waits.
-use Rattle.std.proofs.Common.{inr, ℕ, ◌≡◌, List, [], Bool, true, false, refl, subst, arith, Option, Some, None}
+use Rattle.std.proofs.Common.{Bool, List, None, Option, Some, [], arith, false, inr, refl, subst, sym, true, ℕ, ◌∙◌, ◌≡◌}
 use Rattle.std.proofs.lemmas.Bool.Decides.{nat_tests}
 use Rattle.std.specs.Prelude.{◌==◌, if◌then◌else◌}
 use Rattle.vm_base.specs.declared.ids.Inherit.TheVariants.{Copy}
@@ -15,8 +15,9 @@ use Rattle.vm_legal.specs.Steps.{absence_taken, error_taken, taken_letter}
 use Rattle.vm_legal.specs.Undelivered.{undelivered}
 use Rattle.vm_quiet.specs.Full.{header, history, outside, region}
 use Rattle.vm_quiet.specs.Places.{AllPaged}
-use Rattle.vm_legal.proofs.Locks.{no_change, no_request, none_changed, none_locked}
+use Rattle.vm_legal.proofs.Locks.{no_change, no_request, none_changed, none_destroyed, none_locked}
 use Rattle.vm_quiet.proofs.Letters.{never}
+use Rattle.std.proofs.lemmas.Option.{none-some}
 
 pub full_paged : AllPaged header
 full_paged o below = absurd (omega (arith, below))
@@ -34,6 +35,7 @@ idle past made took failed lacked =
       absence = λ h o p ours is. absurd (cc);
       lock = λ request is. no_request request past (none_locked past took) is;
       change = λ request is wanted. no_change request past (none_changed past took) is;
+      destroy = λ h o tame is. absurd (none-some _ (sym (none_destroyed past took) ∙ is));
       slot = λ h o k p dirty keep bytes ours is lacks. absurd (cc);
     }
 

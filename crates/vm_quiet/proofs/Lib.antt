@@ -2,9 +2,11 @@ pub mod Letters
 pub mod Places
 pub mod Sane
 pub mod Merging
+pub mod Minus
 pub mod Counting
 pub mod Unlocked
 pub mod Ways
+pub mod Asking
 pub mod Awaited
 pub mod Carried
 pub mod Quiet

@@ -28,6 +28,8 @@ use Rattle.vm_legal.proofs.Unshared.{NoneIsShared, none_shared}
 use Rattle.vm_quiet.specs.Quiet.{SharedAreAnswered}
 use Rattle.vm_quiet.specs.Unanswered.{both, header, history, object, outside, region}
 use Rattle.vm_quiet.proofs.Letters.{never}
+use Rattle.vm_legal.specs.Destroyed.{destroy_taken}
+use Rattle.std.proofs.lemmas.Option.{none-some}
 
 pub wild_kinds : NoneIsTemporary header
 wild_kinds o below = let first : 0 ≡ o = omega (arith, below) in subst (λ k. kind_of header k ≢ Temp) first (λ is. absurd (let bad : Wild ≡ Temp = is in cc))
@@ -50,8 +52,8 @@ letter_object None = 0
 letter_object (Some letter) = channel_object letter.channel
 
 paid : (past : List Event) → owed past ≡ None → letter_object (taken_letter past) ≡ 0 → error_taken header past ≡ None
-    → absence_taken header past ≡ None → lock_taken past ≡ None → attributes_taken past ≡ None → IsPaid header past
-paid past made took failed lacked locked unchanged =
+    → absence_taken header past ≡ None → lock_taken past ≡ None → attributes_taken past ≡ None → destroy_taken past ≡ None → IsPaid header past
+paid past made took failed lacked locked unchanged kept =
     record {
       none_owed = made;
       init = λ h o k size tame is. never (sym tame ∙ sym (ap (is_wild header) (sym took ∙ ap letter_object is)));
@@ -61,32 +63,33 @@ paid past made took failed lacked locked unchanged =
       absence = λ h o p ours is. absurd (cc);
       lock = λ request is. no_request request past locked is;
       change = λ request is wanted. no_change request past unchanged is;
+      destroy = λ h o tame is. absurd (none-some _ (sym kept ∙ is));
       slot = λ h o k p dirty keep bytes later is lacks. (let first : 0 ≡ o = sym took ∙ ap letter_object is in absurd (omega (arith, first, later)));
     }
 
 pub wild_paid : IsPaid header history
-wild_paid = paid history refl refl refl refl refl refl
+wild_paid = paid history refl refl refl refl refl refl refl
 
 pub wild_steps : BeforeSteps (IsPaid header) history
 wild_steps = (
-  paid _ refl refl refl refl refl refl,
+  paid _ refl refl refl refl refl refl refl,
   (
-    paid _ refl refl refl refl refl refl,
+    paid _ refl refl refl refl refl refl refl,
     (
-      paid _ refl refl refl refl refl refl,
+      paid _ refl refl refl refl refl refl refl,
       (
-        paid _ refl refl refl refl refl refl,
+        paid _ refl refl refl refl refl refl refl,
         (
-          paid _ refl refl refl refl refl refl,
+          paid _ refl refl refl refl refl refl refl,
           (
-            paid _ refl refl refl refl refl refl,
+            paid _ refl refl refl refl refl refl refl,
             (
-              paid _ refl refl refl refl refl refl,
+              paid _ refl refl refl refl refl refl refl,
               (
-                paid _ refl refl refl refl refl refl,
+                paid _ refl refl refl refl refl refl refl,
                 (
-                  paid _ refl refl refl refl refl refl,
-                  (paid _ refl refl refl refl refl refl, (paid _ refl refl refl refl refl refl, (paid _ refl refl refl refl refl refl, tt))),
+                  paid _ refl refl refl refl refl refl refl,
+                  (paid _ refl refl refl refl refl refl refl, (paid _ refl refl refl refl refl refl refl, (paid _ refl refl refl refl refl refl refl, tt))),
                 ),
               ),
             ),

@@ -1,6 +1,6 @@
 -- Each event that has its cause has one in the part of each shared page.
-use Rattle.std.proofs.Common.{◌≡◌, ℕ, ◌+◌, ◌/◌, ◌%◌, ◌<◌, ◌≤◌, ◌==◌, ◌&&◌, ◌∙◌, List, [], ◌∷◌, Bool, true, false, Option, Some, None, if◌then◌else◌, refl, ap}
-use Rattle.std.proofs.Common.{sym, subst, replicate, arith}
+use Rattle.std.proofs.Common.{Bool, List, None, Option, Some, [], ap, arith, false, if◌then◌else◌, refl, replicate, subst, sym, true, ℕ, ◌%◌, ◌&&◌, ◌+◌, ◌/◌}
+use Rattle.std.proofs.Common.{◌<◌, ◌==◌, ◌∙◌, ◌∷◌, ◌≡◌, ◌≤◌}
 use Rattle.std.proofs.lemmas.Bool.Decides.{nat_tests}
 use Rattle.vm_model.specs.declared.command.Command.{Command}
 use Rattle.vm_model.specs.declared.event.Event.{Event}
@@ -22,12 +22,14 @@ use Rattle.vm_model.specs.TaskPlace.{means_page, task_host}
 use Rattle.vm_model.specs.Tasks.{host_of}
 use Rattle.vm_model.specs.Waiters.{readers, waiter_of, waiters}
 use Rattle.vm_model.specs.Waiting.{Access, Copying, Loading, is_store, next_page, waiting}
-use Rattle.vm_model.specs.Words.{Act, ActEffect, UpWord, act_of, Asking, Begins, Copies, Doing, Drops, Ending, EndsCopy, Fails, Loads, Locking, Nothing, Opens}
-use Rattle.vm_model.specs.Words.{OtherDown, OtherUp, Puts, Returning, SendsUp, SentDown, StepBegins, Stores, Supplying, TakenUp, TakesDown, Unlocking}
+use Rattle.vm_model.specs.Words.{Act, ActEffect, Asking, Begins, Copies, Doing, Drops, Ending, EndsCopy, Fails, Loads, Locking, Nothing, Opens, OtherDown}
+use Rattle.vm_model.specs.Words.{OtherUp, Puts, Returning, SendsUp, SentDown, StepBegins, Stores, Supplying, TakenUp, TakesDown, Unlocking, UpWord, act_of}
 use Rattle.vm_model.specs.Words.{down_word, in_range, sent_act_effect, up_word}
 use Rattle.vm_legal.specs.Accesses.{HasPageLeft}
 use Rattle.vm_legal.specs.Bytes.{AnswersOwn, OwnBytes, PutsOwn}
 use Rattle.vm_legal.specs.Licences as L
+use Rattle.vm_legal.proofs.Unshared.{shared_tame}
+use Rattle.vm_legal.specs.Destroyed.{IsDestroyed}
 use Rattle.vm_legal.specs.Licences.{HasCause, LockRequest, MaySendUp, ReturnCause, ServerSends, gives_back, is_answered_over, lock_taken}
 use Rattle.vm_legal.specs.Outside.{Outside, is_shared, kind_of as kind_of_object}
 use Rattle.vm_legal.specs.Steps.{completes, since}
@@ -41,8 +43,8 @@ use Rattle.vm_quiet.proofs.Letters.{never}
 use Rattle.vm_shared.proofs.Declared.{shared_declared}
 use Rattle.vm_shared.proofs.Kept.{IsShareds, lives_of, shareds_of, still_lives, uncopied, unmerged, unraised, unzeroed}
 use Rattle.vm_shared.proofs.Order.{down_in_order, up_in_order}
-use Rattle.vm_shared.proofs.Rows.{asks_row, completes_row, drops_row, ends_row, hears_row, kept_reply, load_row, locked_step, names_store, opens_row}
-use Rattle.vm_shared.proofs.Rows.{not_given, returns_row, store_row, takes_row, unlocks_row}
+use Rattle.vm_shared.proofs.Rows.{asks_row, completes_row, drops_row, ends_row, hears_row, kept_reply, load_row, locked_step, names_store, not_given, opens_row}
+use Rattle.vm_shared.proofs.Rows.{returns_row, store_row, takes_row, unlocks_row}
 use Rattle.vm_shared.proofs.Servers.{IsElsewhere, IsServersLock, IsServersRequest, lock_is, none_fails, shared_sends}
 use Rattle.vm_shared.proofs.Stepped.{SteppedAt, step_in, stepped_of}
 use Rattle.vm_shared.proofs.Waiters.{asks_reason, loads_waiter, stores_waiter, unlocks_store}
@@ -210,12 +212,22 @@ opens_sent header outside h o p control size past caused shared c =
     (page_on header h o p past) (live_control h o past) control (last_control h o past) k.is c.none
     (page_control header.size past h o p (down_in_order header outside past caused)) c.number
 
+-- its server destroys no object
+shared_destroyed : {A : Type 0} (header : Header) (h o : ℕ) (past : List Event) → is_shared header o ≡ true → IsDestroyed header h o past → A
+shared_destroyed header h o past shared destroyed = absurd (let bad : false ≡ true = sym (shared_tame header o shared) ∙ destroyed.wild in cc)
+
+ends_unasked : (header : Header) (h o : ℕ) (past : List Event) → is_shared header o ≡ true → L.EndCause header h o past → (page : ℕ)
+    → (page_on header h o page past).asked ≡ false
+ends_unasked header h o past shared (L.Unreachable temporary unreached unasked) page = unasked page
+ends_unasked header h o past shared (L.Unheld declared unheld unasked) page = unasked page
+ends_unasked header h o past shared (L.Destroyed destroyed) page = shared_destroyed header h o past shared destroyed
+
 ends_sent : (header : Header) (outside : Outside) (h o p control : ℕ) (past : List Event) → EachEvent (HasCause header outside) past → is_shared header o ≡ true
     → L.Ends header h control o past → Cause header.size h (SendsUp control (Ending control)) (page_part header.size o p past)
 ends_sent header outside h o p control past caused shared c =
     let k : Known header h o p past = known header outside past caused h o p shared in
     ends_row (waiters h (page_part header.size o p past)) (readers h (page_part header.size o p past)) (side h (page_part header.size o p past))
-    (page_on header h o p past) (live_control h o past) control k.is c.live (c.away p) (c.unasked p)
+    (page_on header h o p past) (live_control h o past) control k.is c.live (c.away p) (ends_unasked header h o past shared c.why p)
 
 up_sent : (header : Header) (outside : Outside) (doing : Command) (h o p : ℕ) (m : Message) (past : List Event) → EachEvent (HasCause header outside) past
     → is_shared header o ≡ true → MaySendUp header doing h o m past → Cause header.size h (sent_act_effect p m) (page_part header.size o p past)
@@ -272,6 +284,7 @@ drop_clean : (header : Header) (outside : Outside) (doing : Command) (h o p : �
     → is_shared header o ≡ true → L.DropCause header doing h o p (page_on header h o p past) past → (page_on header h o p past).dirty ≡ false
 drop_clean header outside doing h o p past caused shared (L.DropCause.Reclaimed clean plain reclaims) = clean
 drop_clean header outside doing h o p past caused shared (L.DropCause.Ended clean plain declared unheld) = clean
+drop_clean header outside doing h o p past caused shared (L.DropCause.Discarded destroyed rising) = shared_destroyed header h o past shared destroyed
 drop_clean header outside doing h o p past caused shared (L.DropCause.Unreached temporary unreached) =
     let less = shared_declared header o shared in absurd (omega (arith, less, temporary))
 drop_clean header outside doing h o p past caused shared (L.DropCause.Flushed returns locked none) =
@@ -349,7 +362,8 @@ stored header outside task o p at bytes value past caused shared c own =
 
 no_failure : (header : Header) (outside : Outside) (task o p : ℕ) (past : List Event) → EachEvent (HasCause header outside) past → is_shared header o ≡ true
     → L.Fails header task o p past → ⊥
-no_failure header outside task o p past caused shared c =
+no_failure header outside task o p past caused shared (L.Unserved c) = absurd (let bad : false ≡ true = sym (shared_tame header o shared) ∙ c.wild in cc)
+no_failure header outside task o p past caused shared (L.ByError c) =
     let is : IsElsewhere (Some (record { host = c.waits.at.host; object = o; page = p })) header = subst (λ a. IsElsewhere a header) c.error
     (none_fails header outside past caused) in is shared
 

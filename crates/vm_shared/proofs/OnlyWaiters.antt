@@ -16,8 +16,8 @@ use Rattle.vm_model.specs.TaskPlace.{has_page, means_page, task_host}
 use Rattle.vm_model.specs.Tasks.{entries_of, host_of}
 use Rattle.vm_model.specs.Waiters.{Waiter, waiter_of, waiters, waiters_after, without_task}
 use Rattle.vm_model.specs.Waiting.{Access, Copying, Loading, Storing, address_of, next_page, waiting}
-use Rattle.vm_model.specs.Words.{Act, ActEffect, Begins, BeginsCopy, Copies, EndsCopy, Fails, Loads, Nothing, Puts, Stores}
-use Rattle.vm_model.specs.Words.{act_if, act_of, effect_on, times_meant, to_others}
+use Rattle.vm_model.specs.Words.{Act, ActEffect, Begins, BeginsCopy, Copies, EndsCopy, Fails, Loads, Nothing, Puts, Stores, act_if, act_of, effect_on}
+use Rattle.vm_model.specs.Words.{times_meant, to_others}
 use Rattle.vm_legal.specs.Licences as L
 use Rattle.vm_legal.specs.Licences.{HasCause}
 use Rattle.vm_legal.specs.Outside.{Outside, is_shared}
@@ -27,6 +27,7 @@ use Rattle.vm_shared.proofs.Declared.{comes_from_declared, declared_top_own, pla
 use Rattle.vm_shared.proofs.Numbering.{IsOwn, numbering}
 use Rattle.vm_shared.proofs.Waiters.{IsPlainAccess, at_address, copies_plain, is_of, itself, none_waits, number_is, same, spares, spares_on, waiter_for}
 use Rattle.vm_shared.proofs.Waiters.{waiter_stays}
+use Rattle.vm_legal.specs.Accesses.{Waits, page_of}
 
 -- a task waits on the host with a load or a store of page p of o, and wants this of the page
 pub record IsWaiting (size o p h task : ℕ) (w : Waiter) (past : List Event) : Type 0 where
@@ -254,20 +255,32 @@ stored_here header outside o p h task w object page at size value past caused sm
     let place = declared_top_own header past c.waits.at.entry.region.0 (page_at header.size c.address c.waits.at.entry) object page k.numbered less c.is_top in
     record { host = was.on; place = place_meant object page c.waits.at.entry.region.0 (page_at header.size c.address c.waits.at.entry) o p place meant }
 
+-- an access waits here that ends for a page, which is its own
+failed_on : (header : Header) (outside : Outside) (o p h task : ℕ) (w : Waiter) (object page : ℕ) (past : List Event)
+    → EachEvent (HasCause header outside) past → o < named header → (access : Access) (waits : Waits header task access past)
+    → (waits.at.entry.region.0 < named header → IsOwn waits.at.entry.region.0 (page_of header task access past waits.at.entry) object page)
+    → IsWaiting header.size o p h task w past → IsHere h (task_host task past) object page o p
+failed_on header outside o p h task w object page past caused small access waits own was =
+    let one : was.access ≡ access = one_access task past was.access access was.waits waits.waits in
+    let address : ℕ = address_of header.size (next_page task past) access in
+    let same : at_address was.access ≡ address = ap at_address one
+    ∙ sym (plain_address header.size (next_page task past) access (subst IsPlainAccess one was.plain)) in
+    let meant = entry_meant header o p task address waits.at.entry past waits.at.found
+    (ap (λ a. means_page header.size o p task a past) (sym same) ∙ was.means) in
+    let less : waits.at.entry.region.0 < named header = subst (λ (n : ℕ). n < named header) (sym meant.region) small in
+    let place = own less in
+    record { host = was.on; place = place_meant object page waits.at.entry.region.0 (page_at header.size address waits.at.entry) o p place meant }
+
 failed_here : (header : Header) (outside : Outside) (o p h task : ℕ) (w : Waiter) (object page : ℕ) (past : List Event)
     → EachEvent (HasCause header outside) past → o < named header → L.Fails header task object page past → IsWaiting header.size o p h task w past
     → IsHere h (task_host task past) object page o p
-failed_here header outside o p h task w object page past caused small c was =
-    let k = numbering header outside past caused in
-    let one : was.access ≡ c.access = one_access task past was.access c.access was.waits c.waits.waits in
-    let address : ℕ = address_of header.size (next_page task past) c.access in
-    let same : at_address was.access ≡ address = ap at_address one
-    ∙ sym (plain_address header.size (next_page task past) c.access (subst IsPlainAccess one was.plain)) in
-    let meant = entry_meant header o p task address c.waits.at.entry past c.waits.at.found
-    (ap (λ a. means_page header.size o p task a past) (sym same) ∙ was.means) in
-    let less : c.waits.at.entry.region.0 < named header = subst (λ (n : ℕ). n < named header) (sym meant.region) small in
-    let place = place_from_declared header past c.waits.at.entry.region.0 (page_at header.size address c.waits.at.entry) object page k.numbered less c.place in
-    record { host = was.on; place = place_meant object page c.waits.at.entry.region.0 (page_at header.size address c.waits.at.entry) o p place meant }
+failed_here header outside o p h task w object page past caused small (L.ByError c) was =
+    failed_on header outside o p h task w object page past caused small c.access c.waits (λ less. place_from_declared header past c.waits.at.entry.region.0
+    (page_at header.size (address_of header.size (next_page task past) c.access) c.waits.at.entry) object page (numbering header outside past caused).numbered
+    less
+    c.place) was
+failed_here header outside o p h task w object page past caused small (L.Unserved c) was =
+    failed_on header outside o p h task w object page past caused small c.access c.waits (λ less. record { region = c.region_is; page = sym c.page_is }) was
 
 ended_by : {A : Type 0} (size o p h task owner object page : ℕ) (e f : ActEffect) (w : Waiter) (past : List Event) → (owner == task) ≡ true
     → waiters_after e (waiters h (page_part size o p past)) ≡ without_task owner (waiters h (page_part size o p past)) → Keeps f

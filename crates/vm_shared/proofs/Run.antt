@@ -16,7 +16,7 @@ use Rattle.vm_model.specs.PagePart.{page_part}
 use Rattle.vm_model.specs.Tasks.{entries_of, has_entry}
 use Rattle.vm_model.specs.Waiting.{Loading, Storing}
 use Rattle.vm_legal.specs.Bytes.{OwnBytes}
-use Rattle.vm_legal.specs.Licences.{Ended, HasCause, IsDoneAt, Wanted}
+use Rattle.vm_legal.specs.Licences.{Ended, HasCause, IsDoneAt, Unheld, Wanted}
 use Rattle.vm_legal.specs.Swept.{IsUnheld}
 use Rattle.vm_legal.specs.Living.{lives_on}
 use Rattle.vm_legal.specs.Walks.{page_on}
@@ -796,10 +796,8 @@ caused_41 = (
     settling,
     record {
       live = refl;
-      unreached = λ above. absurd (omega (arith, above));
-      unheld = λ less. unheld_then;
       away = away_then;
-      unasked = unasked_then;
+      why = Unheld (omega arith) unheld_then unasked_then;
     },
   ),
   caused_40,

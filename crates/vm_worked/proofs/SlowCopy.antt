@@ -35,8 +35,8 @@ use Rattle.vm_quiet.proofs.Letters.{never}
 use Rattle.vm_quiet.specs.Unended.{copied, down, file, filled, host, mapped, page, task, up, zero_page}
 use Rattle.vm_quiet.specs.Unended as unended
 use Rattle.vm_worked.specs.Worked.{both, commands, header, history, outside}
-use Rattle.vm_worked.proofs.Steps.{awake_bare, awake_idle, bare_thin, clash, each_step, ends_nobody, nobody, number_is, one_host, one_writer, owes_nothing}
-use Rattle.vm_worked.proofs.Steps.{recalls, neither, not_shared, one_suffices, served, suffice}
+use Rattle.vm_worked.proofs.Steps.{awake_bare, awake_idle, bare_thin, clash, each_step, ends_nobody, neither, nobody, not_shared, number_is, one_host}
+use Rattle.vm_worked.proofs.Steps.{one_suffices, one_writer, owes_nothing, recalls, served, suffice}
 
 -- the moments at which a step has ended
 
@@ -311,6 +311,7 @@ paid_readied =
       absence = λ h o p ours is. absurd (cc);
       lock = λ request is. no_request request readied refl is;
       change = λ request is wanted. no_change request readied refl is;
+      destroy = λ h o wild is. absurd (cc);
       slot = λ h o k p dirty keep bytes ours is lacks. no_return k p dirty keep bytes (ap message_in is);
     }
   where
@@ -337,6 +338,7 @@ paid_supplied =
       absence = λ h o p ours is. absurd (cc);
       lock = λ request is. no_request request supplied refl is;
       change = λ request is wanted. no_change request supplied refl is;
+      destroy = λ h o wild is. absurd (cc);
       slot = λ h o k p dirty keep bytes ours is lacks. no_return k p dirty keep bytes (ap message_in is);
     }
   where
@@ -353,18 +355,18 @@ all_paid : BeforeSteps (IsPaid header) history
 all_paid = (
   paid_supplied,
   (
-    owes_nothing header settles_again refl refl refl refl refl refl,
+    owes_nothing header settles_again refl refl refl refl refl refl refl,
     (
-      owes_nothing header asked refl refl refl refl refl refl,
+      owes_nothing header asked refl refl refl refl refl refl refl,
       (
-        owes_nothing header settled refl refl refl refl refl refl,
+        owes_nothing header settled refl refl refl refl refl refl refl,
         (
           paid_readied,
           (
-            owes_nothing header settles refl refl refl refl refl refl,
+            owes_nothing header settles refl refl refl refl refl refl refl,
             (
-              owes_nothing header opened refl refl refl refl refl refl,
-              (owes_nothing header made refl refl refl refl refl refl, (owes_nothing header [] refl refl refl refl refl refl, tt)),
+              owes_nothing header opened refl refl refl refl refl refl refl,
+              (owes_nothing header made refl refl refl refl refl refl refl, (owes_nothing header [] refl refl refl refl refl refl refl, tt)),
             ),
           ),
         ),
@@ -374,7 +376,7 @@ all_paid = (
 )
 
 paid_now : IsPaid header history
-paid_now = owes_nothing header history refl refl refl refl refl refl
+paid_now = owes_nothing header history refl refl refl refl refl refl refl
 
 abbrev map_group : List Event
 map_group = event.Sent up (message.Init 1 16) ∷ event.Entered task 0 16 mapped 0 both Share ∷ []

@@ -25,6 +25,8 @@ use Rattle.vm_legal.specs.Walks.{page_on}
 use Rattle.vm_legal.proofs.Locks.{no_change, no_request}
 use Rattle.vm_legal.proofs.Unshared.{NoneIsShared}
 use Rattle.vm_quiet.proofs.Letters.{never}
+use Rattle.vm_legal.specs.Destroyed.{destroy_taken}
+use Rattle.std.proofs.lemmas.Option.{none-some}
 
 pub number_is : (a b : ℕ) → (a == b) ≡ true → a ≡ b
 number_is a b is = grind (arith, nat_tests)
@@ -98,11 +100,12 @@ came_up (Some letter) = up letter.channel
     up (Up host object) = true
     up (Down host object control) = false
 
--- a step owes nothing that took nothing of a host, nor an error, nor the word that there is no page, nor a lock_request, nor a change of attributes
+-- a step owes nothing that took nothing of a host, nor an error, nor the word that there is no page, nor a lock_request, nor a change of attributes, nor the
+-- end of an object
 pub owes_nothing : (header : Header) (past : List Event) → owed past ≡ None → came_up (taken_letter past) ≡ false → error_taken header past ≡ None
     → absence_taken header past ≡ None
-    → lock_taken past ≡ None → attributes_taken past ≡ None → IsPaid header past
-owes_nothing header past made down failed lacked unlocked unchanged =
+    → lock_taken past ≡ None → attributes_taken past ≡ None → destroy_taken past ≡ None → IsPaid header past
+owes_nothing header past made down failed lacked unlocked unchanged kept =
     record {
       none_owed = made;
       init = λ h o k size ours is. never (sym down ∙ ap came_up is);
@@ -112,6 +115,7 @@ owes_nothing header past made down failed lacked unlocked unchanged =
       absence = λ h o p ours is. absurd (cc);
       lock = λ request is. no_request request past unlocked is;
       change = λ request is wanted. no_change request past unchanged is;
+      destroy = λ h o wild is. absurd (none-some _ (sym kept ∙ is));
       slot = λ h o k p dirty keep bytes ours is lacks. never (sym down ∙ ap came_up is);
     }
 

@@ -20,7 +20,7 @@ use Rattle.vm_legal.specs.Follows.{Follows}
 use Rattle.vm_legal.specs.Frames.{FramesSuffice}
 use Rattle.vm_legal.specs.InTurn.{DropsInTurn}
 use Rattle.vm_legal.specs.Legal.{CanonicalFor, LegalFor}
-use Rattle.vm_legal.specs.Licences.{AllLicensed, DropCause, Ended, Flushed, Reclaimed, Unreached}
+use Rattle.vm_legal.specs.Licences.{AllLicensed, Discarded, DropCause, Ended, Flushed, Reclaimed, Unreached}
 use Rattle.vm_legal.specs.Prompt.{AllServed, Prompt}
 use Rattle.vm_legal.specs.Swept.{IsSwept}
 use Rattle.vm_legal.specs.Reclaims.{PagesOut, Starves}
@@ -32,6 +32,7 @@ use Rattle.vm_quiet.specs.Full.{host, object, region, task}
 use Rattle.vm_worked.specs.Swapped.{commands, first, header, history, outside, second}
 use Rattle.vm_worked.proofs.Steps.{clash, each_step, neither, nobody, not_shared, number_is, one_suffices, one_writer, owes_nothing, served, suffice}
 use Rattle.vm_worked.proofs.Turns.{each_in_turn}
+use Rattle.vm_legal.specs.Destroyed.{HostObject}
 
 -- the moments at which a step has ended
 
@@ -194,18 +195,18 @@ prompt_now = nobody header refl history (λ t. idle_ended (0 == t)) nothing_left
 
 all_paid : BeforeSteps (IsPaid header) history
 all_paid = (
-  owes_nothing header loaded_both refl refl refl refl refl refl,
+  owes_nothing header loaded_both refl refl refl refl refl refl refl,
   (
-    owes_nothing header loaded refl refl refl refl refl refl,
+    owes_nothing header loaded refl refl refl refl refl refl refl,
     (
-      owes_nothing header allocated refl refl refl refl refl refl,
-      (owes_nothing header made refl refl refl refl refl refl, (owes_nothing header [] refl refl refl refl refl refl, tt)),
+      owes_nothing header allocated refl refl refl refl refl refl refl,
+      (owes_nothing header made refl refl refl refl refl refl refl, (owes_nothing header [] refl refl refl refl refl refl refl, tt)),
     ),
   ),
 )
 
 paid_now : IsPaid header history
-paid_now = owes_nothing header history refl refl refl refl refl refl
+paid_now = owes_nothing header history refl refl refl refl refl refl refl
 
 -- each command has its group
 
@@ -384,6 +385,8 @@ out_of_turn : (doing : Command) (seen : Local) (why : DropCause header doing 0 0
 out_of_turn doing seen (Reclaimed clean plain reclaims) turn = elim reclaims.may [ inl pages ↦ no_pageout doing pages | inr starves ↦ no_starving starves ]
 out_of_turn doing seen (Unreached temporary apart) turn = clash (turn 0 (omega arith))
 out_of_turn doing seen (Flushed returns locked gives) turn = no_request _ ended refl locked.taken
+out_of_turn doing seen (Discarded destroyed rising) turn =
+    let bad : ◌≡◌ {A = Option HostObject} None (Some (record { host = 0; object = 0 })) = destroyed.taken in absurd (cc)
 out_of_turn doing seen (Ended clean plain declared unheld) turn = absurd (omega (arith, declared))
 
 pub not_canonical : (run : List Numbered) → CanonicalFor header outside run history → ⊥
