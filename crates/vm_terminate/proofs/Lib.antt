@@ -1,3 +1,4 @@
+mod Dropping
 mod Found
 mod Leaving
 pub mod Living

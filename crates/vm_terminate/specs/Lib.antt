@@ -1,3 +1,4 @@
 pub mod Counts
+pub mod Destroys
 pub mod Finishes
 pub mod Steps

@@ -1,9 +1,10 @@
 -- The steps of an object's end, as its calls take them.
-use Rattle.std.specs.Prelude.{ℕ, ◌<◌, ◌≡◌, true, List, Option, Some, None}
+use Rattle.std.specs.Prelude.{ℕ, ◌<◌, ◌≤◌, ◌≡◌, true, List, Option, Some, None}
 use Rattle.vm_base.specs.declared.ids.FrameNo.{FrameNo}
 use Rattle.vm_base.specs.declared.ids.ObjectId.{ObjectId}
 use Rattle.vm_model.specs.declared.event.Event.{Event}
 use Rattle.vm_objects.specs.declared.row.ObjectRow.{ObjectRow}
+use Rattle.vm_parts.specs.Changes.{is_here}
 use Rattle.vm_parts.specs.declared.parts.HostParts.{HostParts}
 use Rattle.vm_resident.specs.Resident.{ResidentTable, row_at}
 use Rattle.vm_resident.specs.declared.page_row.PageRow.{PageRow}
@@ -17,6 +18,10 @@ finish_state parts chains held room events = record { parts = parts; chains = ch
 -- no page of an object is asked
 abbrev pub AllHere : ResidentTable → ℕ → Type 0
 AllHere table o = (p : ℕ) (page : PageRow) → row_at table o p ≡ Some page → page.here ≡ true
+
+-- no page of an object is here, from one on
+abbrev pub NoneHereFrom : ResidentTable → ℕ → ℕ → Type 0
+NoneHereFrom table o n = (p : ℕ) → n ≤ p → is_here (row_at table o p) ≡ true → ⊥
 
 -- What becomes of what stood under an object that has ended: nothing was there; or it stays, since something else refers to it; or it ends too, and as
 -- each chain ends, so does that.

@@ -68,8 +68,8 @@ pub fn finish<L: Holder>(
     }
 }
 
-// Ends the control of an object, where one lives, and tells the pager.
-fn end_control(
+/// Ends the control of an object, where one lives, and tells the pager.
+pub fn end_control(
     host: HostId,
     object: ObjectId,
     known: ObjectRow,
@@ -82,9 +82,11 @@ fn end_control(
         (finish_state parts.old chains held room log.old.items) (finish_state parts.new chains held room log.new.items)) }
     ensures fit { OnOk result (Fit parts.new) }
     ensures buffers { OnOk result (parts.new.buffers ≡ parts.old.buffers) }
+    ensures queues { parts.new.queues ≡ parts.old.queues }
     ensures spare { parts.new.resident.spare ≡ parts.old.resident.spare }
     ensures rows { parts.new.objects.rows ≡ parts.old.objects.rows }
     ensures log { log.old.room ≤ log.new.room + 1 }
+    ensures told { length log.new.items ≤ length log.old.items + 1 }
     ensures quiet { known.live ≡ false → log.old.room ≤ log.new.room }
     ensures succeeds { 0 < log.old.room → IsOk result }
     ensures idle { known.live ≡ false → IsOk result }
