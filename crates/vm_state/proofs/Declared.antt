@@ -136,7 +136,13 @@ kind_referred header o known n some is =
     record {
       lives = is.lives;
       temporary = λ least. let its = is.temporary least in record { kind = its.kind; uncached = its.uncached; number = λ more. its.number some };
-      declared = λ less. let its = is.declared less in record { kind = its.kind; pages = its.pages; told = λ more. its.told some; number = its.number };
+      declared =
+          λ less. let its = is.declared less in record {
+            kind = its.kind;
+            pages = its.pages;
+            told = λ tame more. its.told tame some;
+            number = its.number;
+          };
     }
 
 -- a new object of temporary memory

@@ -1,7 +1,7 @@
 -- Who waits, where an object is merged into the shadow over it: nobody waits for either, and the places of each access are as they were, but for the lower's.
 use Rattle.std.proofs.Common.{◌≡◌, ◌∙◌, ℕ, zero, suc, ◌+◌, ◌<◌, ◌≤◌, Bool, true, false, List, ◌∷◌, Option, Some, None, ap, arith, sym, subst, inl, inr}
 use Rattle.std.proofs.lemmas.Bool.Decides.{eqb_tells}
-use Rattle.std.specs.Prelude.{◌⊎◌, if◌then◌else◌, nat_lt, not}
+use Rattle.std.specs.Prelude.{if◌then◌else◌, nat_lt, not}
 use Rattle.vm_abroad.specs.Home.{HaveHomes}
 use Rattle.vm_base.specs.declared.ids.Lock.{Lock}
 use Rattle.vm_base.specs.declared.ids.ObjectId.{ObjectId}
@@ -40,7 +40,7 @@ use Rattle.vm_state.specs.Merging.{MergesObjects, MergesRows}
 use Rattle.vm_state.specs.Pagers.{has_pager, ready_in}
 use Rattle.vm_state.specs.Passed.{IsPlaceBehind, IsUnmet, LeadsOver, Passed, StaysAway}
 use Rattle.vm_state.specs.Places.{place_of}
-use Rattle.vm_state.specs.References.{AllReferred, is_live_in}
+use Rattle.vm_state.specs.References.{AllReferred, MayLock, is_live_in}
 use Rattle.vm_state.specs.Stands.{HasKinds, HasRegions, KnowsPages}
 use Rattle.vm_state.specs.Waiters.{Asker, HasWaiters, IsPagerTold, IsPlaceOf, LeadsTo, Reason, is_awaited}
 use Rattle.vm_waits.specs.declared.waiting.On.{On}
@@ -207,12 +207,11 @@ open_lets_in lock writes free keeps = by writes (sym (ap (λ z. keeps_out z writ
 
 -- and nobody waits for a page of an object whose pages are here, and of which no control lives
 no_awaited : (rs : ResidentTable) (os : ObjectTable) (o p : ℕ) (what : Want) → ((row : PageRow) → row_at rs o p ≡ Some row → row.here ≡ true)
-    → ((row : PageRow) → row_at rs o p ≡ Some row → (row.lock ≡ unlocked) ⊎ (is_live_in (object_at os o) ≡ true)) → is_live_in (object_at os o) ≡ false
-    → IsAwaitedBy rs what o p → ⊥
+    → ((row : PageRow) → row_at rs o p ≡ Some row → MayLock os o row) → is_live_in (object_at os o) ≡ false → IsAwaitedBy rs what o p → ⊥
 no_awaited rs os o p what here locks quiet awaits = elim awaits [
   | inl asked ↦ let bad : true ≡ false = sym (here asked.row asked.found) ∙ asked.away in cc
   | inr locked ↦ elim (locks locked.row locked.found) [
-    | inl free ↦ open_lets_in locked.row.lock (is_storing what) free locked.locked
+    | inl free ↦ open_lets_in locked.row.lock (is_storing what) free.0 locked.locked
     | inr lives ↦ let bad : true ≡ false = sym lives ∙ quiet in cc
   ]
 ]

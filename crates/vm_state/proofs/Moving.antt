@@ -1,11 +1,13 @@
 -- The pages that are here, where those of an object move up to the shadow over it: which row each has, and what that is to what a host knows of its pages.
 use Rattle.std.proofs.Common.{◌≡◌, ◌∙◌, ℕ, ◌+◌, ◌<◌, ◌≤◌, ◌==◌, Bool, true, false, List, Option, Some, None, ap, arith, refl, sym, subst, inl, inr}
 use Rattle.std.proofs.lemmas.Bool.Decides.{nat_tests}
-use Rattle.std.specs.Prelude.{if◌then◌else◌, nat_lt}
+use Rattle.std.specs.Prelude.{if◌then◌else◌, nat_lt, ◌⊎◌}
+use Rattle.vm_abroad.proofs.Regions.{kind_cases}
 use Rattle.vm_maps.specs.Maps.{Mapped}
 use Rattle.vm_model.specs.declared.script.Header.{Header}
+use Rattle.vm_model.specs.Named.{named}
 use Rattle.vm_model.specs.Waiting.{Target}
-use Rattle.vm_objects.specs.Objects.{ObjectTable}
+use Rattle.vm_objects.specs.Objects.{ObjectTable, object_at}
 use Rattle.vm_objects.specs.declared.row.ObjectRow.{ObjectRow}
 use Rattle.vm_parts.proofs.Rows.{one_case, some_is}
 use Rattle.vm_resident.specs.Resident.{ResidentTable, row_at}
@@ -18,8 +20,8 @@ use Rattle.vm_state.proofs.Knowing.{known_cases, referred_still}
 use Rattle.vm_state.proofs.Merging.{IsLower, IsOther, IsUpper, StandsNow, joined_some, lower_quiet, merged_apart, stands_now}
 use Rattle.vm_state.specs.Filling.{AllUsed, HasCopies, filled_row, fills_in}
 use Rattle.vm_state.specs.Merging.{MergesObjects, MergesRows, its_own_or}
-use Rattle.vm_state.specs.References.{AllReferred, MayLock, is_live_in}
-use Rattle.vm_state.specs.Stands.{HasKinds}
+use Rattle.vm_state.specs.References.{AllReferred, MayLock, is_live_in, is_temporary_in, is_temporary_kind}
+use Rattle.vm_state.specs.Stands.{HasKinds, IsOfKind}
 use Rattle.vm_terminate.specs.Finishes.{IsReferred}
 use Rattle.vm_waits.specs.Waits.{entry}
 use Rattle.vm_waits.specs.declared.waiting.Waiting.{Waiting}
@@ -106,9 +108,28 @@ referred_merged header upper lower shift pages cs cs2 os os2 rs rs2 merges moves
         let bad : false ≡ true = sym (lower_quiet kinds merges.can) ∙ (sym kind.lives ∙ lives) in
         cc
 
+    upper_kind : IsOfKind header upper merges.can.upper_row
+    upper_kind = kinds.kinds upper merges.can.upper_row merges.can.upper_known
+
+    undeclared : (upper < named header) ⊎ (named header ≤ upper) → named header ≤ upper
+    undeclared (inl less) = absurd (let number = (upper_kind.declared less).number in let never = merges.can.upper_never in omega (arith, number, never))
+    undeclared (inr least) = least
+
     keeps : (o : ℕ) → (lower ≡ o → ⊥) → IsReferred os o → IsReferred os2 o
     keeps o other referred =
         referred_still lower (record merges.can.lower_row { references = 0 }) os os2 merges.object o (λ same. absurd (other same)) referred
+
+    known_elsewhere : (o : ℕ) → (lower ≡ o → ⊥) → object_at os2 o ≡ object_at os o
+    known_elsewhere o other = elim (known_cases lower (record merges.can.lower_row { references = 0 }) os os2 merges.object o) [
+      | inl this ↦ absurd (other this.0)
+      | inr apart_from ↦ apart_from.1
+    ]
+
+    temporary : is_temporary_in (object_at os2 upper) ≡ true
+    temporary =
+        let least : named header ≤ upper = undeclared (kind_cases header upper) in
+        ap is_temporary_in (known_elsewhere upper (λ e. apart (sym e)) ∙ merges.can.upper_known)
+        ∙ ap is_temporary_kind ((upper_kind.temporary least).kind)
 
     upper_referred : (o : ℕ) → upper ≡ o → IsReferred os2 o
     upper_referred o same =
@@ -119,15 +140,11 @@ referred_merged header upper lower shift pages cs cs2 os os2 rs rs2 merges moves
     pages_now o p row (Rose same none less was) = upper_referred o same
 
     locks_now : (o p : ℕ) (row : PageRow) → RowWas upper lower shift pages rs o p row → MayLock os2 o row
-    locks_now o p row (Stayed other was) = elim (all.locks o p row was) [
-      | inl unlocked ↦ inl unlocked
-      | inr lives ↦ elim (known_cases lower (record merges.can.lower_row { references = 0 }) os os2 merges.object o) [
-        | inl this ↦ absurd (other this.0)
-        | inr apart_from ↦ inr (ap is_live_in apart_from.1 ∙ lives)
-      ]
-    ]
+    locks_now o p row (Stayed other was) =
+        let known : object_at os2 o ≡ object_at os o = known_elsewhere o other in
+        elim (all.locks o p row was) [ inl free ↦ inl (free.0, ap is_temporary_in known ∙ free.1) | inr lives ↦ inr (ap is_live_in known ∙ lives) ]
     locks_now o p row (Rose same none less was) = elim (all.locks lower (shift + p) row was) [
-      | inl unlocked ↦ inl unlocked
+      | inl free ↦ inl (free.0, subst (λ (z : ℕ). is_temporary_in (object_at os2 z) ≡ true) same temporary)
       | inr lives ↦ absurd (quiet (sym (ap is_live_in merges.can.lower_known) ∙ lives))
     ]
 

@@ -13,7 +13,7 @@ use Rattle.vm_shadow.specs.declared.region_row.RegionRow.{RegionRow}
 use Rattle.vm_shadow.specs.declared.shadow_row.ShadowRow.{ShadowRow}
 use Rattle.vm_state.proofs.Changing.{SameButEntries}
 use Rattle.vm_state.proofs.Knowing.{known_cases, known_put, referred_still}
-use Rattle.vm_state.specs.References.{AllReferred, AllReferredBut, MayLock, is_live_in}
+use Rattle.vm_state.specs.References.{AllReferred, AllReferredBut, MayLock, is_live_in, is_temporary_in, is_temporary_kind}
 use Rattle.vm_terminate.specs.Finishes.{IsReferred}
 
 pub all_but : (o : ℕ) (cs : ChainTable) (os : ObjectTable) (rs : ResidentTable) → AllReferred cs os rs → AllReferredBut o cs os rs
@@ -76,26 +76,48 @@ referred_chains cs cs2 os rs before all =
       shadows = λ x row found. elim (before x row found) [ inl was ↦ all.shadows x row was | inr is ↦ is ];
     }
 
--- whose control lived, it lives still: one object is known otherwise
+-- an object that is known otherwise has a control where one lived, and is temporary memory still
+pub record StaysServed (os : ObjectTable) (o : ℕ) (new : ObjectRow) : Type 0 where
+  pub live : is_live_in (object_at os o) ≡ true → new.live ≡ true
+  pub kind : is_temporary_in (object_at os o) ≡ true → is_temporary_kind new.kind ≡ true
+
+pub stays_served : {os : ObjectTable} {o : ℕ} {row new : ObjectRow} → object_at os o ≡ Some row → new.live ≡ row.live → new.kind ≡ row.kind
+    → StaysServed os o new
+stays_served found live kind =
+    record {
+      live = λ lives. live ∙ (sym (ap is_live_in found) ∙ lives);
+      kind = λ temporary. ap is_temporary_kind kind ∙ (sym (ap is_temporary_in found) ∙ temporary);
+    }
+
+-- so does one that was not known
+pub comes_served : {os : ObjectTable} {o : ℕ} {new : ObjectRow} → object_at os o ≡ None → StaysServed os o new
+comes_served none =
+    record {
+      live = λ lives. absurd (let bad : false ≡ true = sym (ap is_live_in none) ∙ lives in cc);
+      kind = λ temporary. absurd (let bad : false ≡ true = sym (ap is_temporary_in none) ∙ temporary in cc);
+    }
+
+-- one object is known otherwise: its pages may be locked still
 pub locks_known : (o : ℕ) (new : ObjectRow) (os os2 : ObjectTable) (rs : ResidentTable) → PutsObject o (Some new) os os2
-    → ((p : ℕ) (row : PageRow) → row_at rs o p ≡ Some row → is_live_in (object_at os o) ≡ true → new.live ≡ true)
+    → ((p : ℕ) (row : PageRow) → row_at rs o p ≡ Some row → StaysServed os o new)
     → ((x p : ℕ) (row : PageRow) → row_at rs x p ≡ Some row → MayLock os x row) → (x p : ℕ) (row : PageRow) → row_at rs x p ≡ Some row → MayLock os2 x row
-locks_known o new os os2 rs put stays locks x p row found = elim (locks x p row found) [
-  | inl open_now ↦ inl open_now
-  | inr lives ↦ elim (known_cases o new os os2 put x) [
-    | inl this ↦
-        inr
-        (ap is_live_in this.1
-        ∙ stays p row (subst (λ (z : ℕ). row_at rs z p ≡ Some row) (sym this.0) found)
-        (subst (λ (z : ℕ). is_live_in (object_at os z) ≡ true) (sym this.0) lives))
-    | inr other ↦ inr (ap is_live_in other.1 ∙ lives)
-  ]
+locks_known o new os os2 rs put stays locks x p row found = elim (known_cases o new os os2 put x) [
+  | inl this ↦ this_one this.0 this.1 (locks x p row found)
+  | inr other ↦ elim (locks x p row found) [ inl free ↦ inl (free.0, ap is_temporary_in other.1 ∙ free.1) | inr lives ↦ inr (ap is_live_in other.1 ∙ lives) ]
 ]
+  where
+    serves : o ≡ x → StaysServed os o new
+    serves same = stays p row (subst (λ (z : ℕ). row_at rs z p ≡ Some row) (sym same) found)
+
+    this_one : o ≡ x → object_at os2 x ≡ Some new → MayLock os x row → MayLock os2 x row
+    this_one same now (inl free) =
+        inl (free.0, ap is_temporary_in now ∙ (serves same).kind (subst (λ (z : ℕ). is_temporary_in (object_at os z) ≡ true) (sym same) free.1))
+    this_one same now (inr lives) =
+        inr (ap is_live_in now ∙ (serves same).live (subst (λ (z : ℕ). is_live_in (object_at os z) ≡ true) (sym same) lives))
 
 -- one object is known otherwise, and has references still where it had some, and a control where one lived
 pub referred_known : (o : ℕ) (new : ObjectRow) (cs : ChainTable) (os os2 : ObjectTable) (rs : ResidentTable) → PutsObject o (Some new) os os2
-    → (IsReferred os o → 0 < new.references) → (new.live ≡ true → 0 < new.references)
-    → (is_live_in (object_at os o) ≡ true → new.live ≡ true) → AllReferred cs os rs → AllReferred cs os2 rs
+    → (IsReferred os o → 0 < new.references) → (new.live ≡ true → 0 < new.references) → StaysServed os o new → AllReferred cs os rs → AllReferred cs os2 rs
 referred_known o new cs os os2 rs put still lives stays all =
     record {
       live = λ x known found live. elim (known_cases o new os os2 put x) [
@@ -105,7 +127,7 @@ referred_known o new cs os os2 rs put still lives stays all =
         | inr other ↦ all.live x known (sym other.1 ∙ found) live
       ];
       pages = λ x p row found. keeps x (all.pages x p row found);
-      locks = locks_known o new os os2 rs put (λ p row found is. stays is) all.locks;
+      locks = locks_known o new os os2 rs put (λ p row found. stays) all.locks;
       shadows = λ x row found. keeps x (all.shadows x row found);
     }
   where
@@ -163,8 +185,7 @@ but_gone one o p cs os rs rs2 put but =
 
 -- the one that ends is known otherwise
 pub but_known : (o : ℕ) (new : ObjectRow) (cs : ChainTable) (os os2 : ObjectTable) (rs : ResidentTable) → PutsObject o (Some new) os os2
-    → ((p : ℕ) (row : PageRow) → row_at rs o p ≡ Some row → is_live_in (object_at os o) ≡ true → new.live ≡ true) → AllReferredBut o cs os rs
-    → AllReferredBut o cs os2 rs
+    → ((p : ℕ) (row : PageRow) → row_at rs o p ≡ Some row → StaysServed os o new) → AllReferredBut o cs os rs → AllReferredBut o cs os2 rs
 but_known o new cs os os2 rs put stays but =
     record {
       live = λ x known apart found live. elim (known_cases o new os os2 put x) [
@@ -183,15 +204,18 @@ referred_recounted old new os rs same all = referred_chains old new os rs (λ x 
 -- an object has another control
 pub referred_controlled : (o : ℕ) (row row2 : ObjectRow) (cs : ChainTable) (os os2 : ObjectTable) (rs : ResidentTable) → object_at os o ≡ Some row
     → PutsObject o (Some row2) os os2 → row2.references ≡ row.references
-    → (row2.live ≡ true → 0 < row2.references) → (row.live ≡ true → row2.live ≡ true) → AllReferred cs os rs → AllReferred cs os2 rs
-referred_controlled o row row2 cs os os2 rs found put same lives stays all =
+    → (row2.live ≡ true → 0 < row2.references) → (row.live ≡ true → row2.live ≡ true) → row2.kind ≡ row.kind → AllReferred cs os rs → AllReferred cs os2 rs
+referred_controlled o row row2 cs os os2 rs found put same lives stays kind all =
     referred_known o row2 cs os os2 rs put (λ is. subst (λ (z : ℕ). 0 < z) (ap (λ z. z.references) (some_is is.row row (sym is.known ∙ found)) ∙ sym same)
-    is.some) lives (λ is. stays (sym (ap is_live_in found) ∙ is)) all
+    is.some) lives (record {
+      live = λ live. stays (sym (ap is_live_in found) ∙ live);
+      kind = λ temporary. ap is_temporary_kind kind ∙ (sym (ap is_temporary_in found) ∙ temporary);
+    }) all
 
 -- a region is made over a new object, or is over one that has references
 pub referred_put : (o : ℕ) (new : ObjectRow) (r : ℕ) (row : Option RegionRow) (cs cs2 : ChainTable) (os os2 : ObjectTable) (rs : ResidentTable)
     → PutsRegion r row cs cs2 → PutsObject o (Some new) os os2 → 0 < new.references
-    → (is_live_in (object_at os o) ≡ true → new.live ≡ true) → AllReferred cs os rs → AllReferred cs2 os2 rs
+    → StaysServed os o new → AllReferred cs os rs → AllReferred cs2 os2 rs
 referred_put o new r row cs cs2 os os2 rs put putting some stays all =
     referred_chains cs cs2 os2 rs (λ x shadow found. inl (sym (ap (λ f. f x) put.shadows) ∙ found))
     (referred_known o new cs os os2 rs putting (λ is. some) (λ live. some) stays all)
@@ -199,8 +223,7 @@ referred_put o new r row cs cs2 os os2 rs put putting some stays all =
 -- a region is copied, and its top has more references
 pub referred_copied : (o : ℕ) (new : ObjectRow) (source copy offset pages : ℕ) (row : RegionRow) (cs cs2 : ChainTable) (os os2 : ObjectTable)
     (rs : ResidentTable) → CopiesRegion source copy offset pages row cs cs2
-    → PutsObject o (Some new) os os2 → 0 < new.references → (is_live_in (object_at os o) ≡ true → new.live ≡ true) → AllReferred cs os rs
-    → AllReferred cs2 os2 rs
+    → PutsObject o (Some new) os os2 → 0 < new.references → StaysServed os o new → AllReferred cs os rs → AllReferred cs2 os2 rs
 referred_copied o new source copy offset pages row cs cs2 os os2 rs copies putting some stays all =
     referred_chains cs cs2 os2 rs (λ x shadow found. inl (sym (ap (λ f. f x) copies.shadows) ∙ found))
     (referred_known o new cs os os2 rs putting (λ is. some) (λ live. some) stays all)
@@ -208,8 +231,7 @@ referred_copied o new source copy offset pages row cs cs2 os os2 rs copies putti
 -- a region gets an object of its own
 pub referred_shadowed : (region : ℕ) (object : ObjectId) (row : RegionRow) (new : ObjectRow) (cs cs2 : ChainTable) (os os2 : ObjectTable) (rs : ResidentTable)
     → ShadowsRegion region object row cs cs2
-    → PutsObject object.0 (Some new) os os2 → 0 < new.references → (is_live_in (object_at os object.0) ≡ true → new.live ≡ true) → AllReferred cs os rs
-    → AllReferred cs2 os2 rs
+    → PutsObject object.0 (Some new) os os2 → 0 < new.references → StaysServed os object.0 new → AllReferred cs os rs → AllReferred cs2 os2 rs
 referred_shadowed region object row new cs cs2 os os2 rs shadows putting some stays all =
     referred_chains cs cs2 os2 rs before (referred_known object.0 new cs os os2 rs putting (λ is. some) (λ live. some) stays all)
   where
@@ -223,18 +245,17 @@ referred_shadowed region object row new cs cs2 os os2 rs shadows putting some st
 -- a region goes, and its top may end
 pub but_ended : (r : ℕ) (x : Option RegionRow) (o : ℕ) (new : ObjectRow) (cs cs2 : ChainTable) (os os2 : ObjectTable) (rs : ResidentTable)
     → PutsRegion r x cs cs2 → PutsObject o (Some new) os os2
-    → (is_live_in (object_at os o) ≡ true → new.live ≡ true) → AllReferred cs os rs → AllReferredBut o cs2 os2 rs
+    → StaysServed os o new → AllReferred cs os rs → AllReferredBut o cs2 os2 rs
 but_ended r x o new cs cs2 os os2 rs put putting stays all =
-    but_known o new cs2 os os2 rs putting (λ p row found is. stays is) (all_but o cs2 os rs
+    but_known o new cs2 os os2 rs putting (λ p row found. stays) (all_but o cs2 os rs
     (referred_chains cs cs2 os rs (λ y shadow found. inl (sym (ap (λ f. f y) put.shadows) ∙ found)) all))
 
 -- what stood under an object that ends goes, and may end then
 pub but_dropped : (o under : ℕ) (new : ObjectRow) (cs cs2 : ChainTable) (os os2 : ObjectTable) (rs : ResidentTable) → DropsShadow o cs cs2
-    → PutsObject under (Some new) os os2
-    → (is_live_in (object_at os under) ≡ true → new.live ≡ true) → ((known : ObjectRow) → object_at os o ≡ Some known → known.live ≡ false)
+    → PutsObject under (Some new) os os2 → StaysServed os under new → ((known : ObjectRow) → object_at os o ≡ Some known → known.live ≡ false)
     → ((p : ℕ) → row_at rs o p ≡ None) → AllReferredBut o cs os rs → AllReferredBut under cs2 os2 rs
 but_dropped o under new cs cs2 os os2 rs drop putting stays quiet bare but =
-    but_known under new cs2 os os2 rs putting (λ p row found is. stays is) (all_but under cs2 os rs (all_ended o cs2 os rs dropped quiet bare gone))
+    but_known under new cs2 os os2 rs putting (λ p row found. stays) (all_but under cs2 os rs (all_ended o cs2 os rs dropped quiet bare gone))
   where
     gone : shadow_at cs2 o ≡ None
     gone = elim (one_case o o None (shadow_at cs o) (shadow_at cs2 o) (drop.at o)) [ inl this ↦ this.1 | inr other ↦ absurd (other.0 refl) ]
@@ -252,7 +273,7 @@ but_dropped o under new cs cs2 os os2 rs drop putting stays quiet bare but =
 
 -- the same, where something else refers to that still
 pub referred_dropped : (o under : ℕ) (new : ObjectRow) (cs cs2 : ChainTable) (os os2 : ObjectTable) (rs : ResidentTable) → DropsShadow o cs cs2
-    → PutsObject under (Some new) os os2 → 0 < new.references → (is_live_in (object_at os under) ≡ true → new.live ≡ true)
+    → PutsObject under (Some new) os os2 → 0 < new.references → StaysServed os under new
     → ((known : ObjectRow) → object_at os o ≡ Some known → known.live ≡ false) → ((p : ℕ) → row_at rs o p ≡ None) → AllReferredBut o cs os rs
     → AllReferred cs2 os2 rs
 referred_dropped o under new cs cs2 os os2 rs drop putting some stays quiet bare but =

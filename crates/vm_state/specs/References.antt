@@ -1,5 +1,7 @@
 -- How often an object is referred to on a host: by the regions over it, and by the shadows over it.
 use Rattle.std.specs.Prelude.{ℕ, zero, suc, ◌+◌, ◌<◌, ◌≡◌, ◌==◌, ◌⊎◌, Bool, true, false, Option, Some, None}
+use Rattle.vm_base.specs.declared.ids.ObjectKind.{ObjectKind}
+use Rattle.vm_base.specs.declared.ids.ObjectKind.TheVariants.{Temp, File, Shared, Wild}
 use Rattle.vm_objects.specs.Objects.{ObjectTable, object_at}
 use Rattle.vm_objects.specs.declared.row.ObjectRow.{ObjectRow}
 use Rattle.vm_parts.specs.Changes.{one, unlocked}
@@ -34,11 +36,22 @@ abbrev pub is_live_in : Option ObjectRow → Bool
 is_live_in None = false
 is_live_in (Some known) = known.live
 
--- the page isn't locked, or a control of its object lives, whose pager locked it
-abbrev pub MayLock : ObjectTable → ℕ → PageRow → Type 0
-MayLock objects o row = (row.lock ≡ unlocked) ⊎ (is_live_in (object_at objects o) ≡ true)
+abbrev pub is_temporary_kind : ObjectKind → Bool
+is_temporary_kind Temp = true
+is_temporary_kind File = false
+is_temporary_kind Shared = false
+is_temporary_kind Wild = false
 
--- no page is locked whose pager isn't told
+-- the object is known, and temporary memory
+abbrev pub is_temporary_in : Option ObjectRow → Bool
+is_temporary_in None = false
+is_temporary_in (Some known) = is_temporary_kind known.kind
+
+-- the page is one of temporary memory, and isn't locked; or a control of its object lives
+abbrev pub MayLock : ObjectTable → ℕ → PageRow → Type 0
+MayLock objects o row = ((row.lock ≡ unlocked) × (is_temporary_in (object_at objects o) ≡ true)) ⊎ (is_live_in (object_at objects o) ≡ true)
+
+-- no page is locked whose pager isn't told, and a declared object has pages only while a control of it lives
 abbrev pub MayAllLock : ObjectTable → ResidentTable → Type 0
 MayAllLock objects resident = (o p : ℕ) (row : PageRow) → row_at resident o p ≡ Some row → MayLock objects o row
 
@@ -47,7 +60,7 @@ abbrev pub AreShadowsReferred : ChainTable → ObjectTable → Type 0
 AreShadowsReferred chains objects = (o : ℕ) (row : ShadowRow) → shadow_at chains o ≡ Some row → IsReferred objects o
 
 -- something refers to each object whose control lives, that has a page or whose page is asked, or that is a shadow; and no page is locked whose pager isn't
--- told
+-- told, nor has a declared object pages then
 pub record AllReferred (chains : ChainTable) (objects : ObjectTable) (resident : ResidentTable) : Type 0 where
   pub live : (o : ℕ) (known : ObjectRow) → object_at objects o ≡ Some known → known.live ≡ true → 0 < known.references
   pub pages : (o p : ℕ) (row : PageRow) → row_at resident o p ≡ Some row → IsReferred objects o

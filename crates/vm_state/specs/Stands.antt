@@ -1,6 +1,6 @@
 -- What a kernel's tables say of a history: each table by itself, of the facts that it stands for.
-use Rattle.std.specs.Prelude.{ℕ, All, if◌then◌else◌, ◌≢◌, ◌≡◌, ◌+◌, ◌<◌, ◌≤◌, ◌^◌, ◌==◌, ◌||◌, is_some, ◌⊎◌, Bool, true, false, List, [], ◌∷◌, length, Option}
-use Rattle.std.specs.Prelude.{Some, None, IsSome}
+use Rattle.std.specs.Prelude.{All, Bool, IsSome, List, None, Option, Some, [], false, if◌then◌else◌, is_some, length, true, ℕ, ◌+◌, ◌<◌, ◌==◌, ◌^◌, ◌||◌, ◌∷◌}
+use Rattle.std.specs.Prelude.{◌≡◌, ◌≢◌, ◌≤◌, ◌⊎◌}
 use Rattle.vm_base.specs.declared.entry.Entry.{Entry}
 use Rattle.vm_base.specs.declared.ids.FrameNo.{FrameNo}
 use Rattle.vm_base.specs.declared.ids.Inherit.TheVariants.{Copy}
@@ -11,7 +11,7 @@ use Rattle.vm_fault.specs.Walks.{ChainsFit}
 use Rattle.vm_frames.specs.Frames.{FrameTable, claimed, frame_count, is_claimed}
 use Rattle.vm_maps.specs.Maps.{Mapped, entries_in, rows_in}
 use Rattle.vm_legal.specs.Licences.{is_paged}
-use Rattle.vm_legal.specs.Outside.{is_file, kind_of}
+use Rattle.vm_legal.specs.Outside.{is_file, is_wild, kind_of}
 use Rattle.vm_model.specs.declared.script.Header.{Header}
 use Rattle.vm_model.specs.Local.{Local, is_on}
 use Rattle.vm_model.specs.Named.{declared_pages, named}
@@ -49,11 +49,12 @@ pub record IsTemporary (known : ObjectRow) : Type 0 where
   pub uncached : known.cache ≡ false
   pub number : 0 < known.references → known.control ≡ (if has_pager known.state then 1 else 0)
 
--- a declared object, as it was declared; it had a control, and while something refers to it, its pager knows it
+-- a declared object, as it was declared; it had a control, and while something refers to it, its pager knows it, but that the pager of a wild one may have
+-- ended it
 pub record IsDeclared (header : Header) (o : ℕ) (known : ObjectRow) : Type 0 where
   pub kind : known.kind ≡ kind_of header o
   pub pages : known.pages ≡ declared_pages header o
-  pub told : 0 < known.references → known.live ≡ true
+  pub told : is_wild header o ≡ false → 0 < known.references → known.live ≡ true
   pub number : 0 < known.control
 
 -- an object is of the kind that its number says, and a control of it lives while it has a pager
