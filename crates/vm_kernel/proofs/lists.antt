@@ -1,4 +1,5 @@
 -- The lists of pages, and what a reclaim passes over.
+pub mod CountedTwice
 pub mod FramesSkipped
 pub mod ListsAsTold
 pub mod PageJoins

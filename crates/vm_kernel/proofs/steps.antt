@@ -2,6 +2,7 @@
 pub mod AccessBegins
 pub mod AccessCauses
 pub mod AccessRun
+pub mod AccessUnserved
 pub mod AfterRun
 pub mod BeforeAll
 pub mod CommandsBuilt

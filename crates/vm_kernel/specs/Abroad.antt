@@ -20,7 +20,7 @@ pub record IsCommon (header : Header) (ids : Ids) (past : List Event) : Type 0 w
   pub marks : ids.marks ≡ marks_of header past
   pub few : next_object header past + marks_of header past ≤ most_objects
   pub settled : IsSettled past
-  pub replied : IsReplied past
+  pub replied : IsReplied header past
   pub homes : HaveHomes header past
 
 -- an event of no host: a line, a refusal, what a pager says or its device does, and the taking of a message that gives no frame back

@@ -3,6 +3,7 @@ pub mod Begun
 pub mod Built
 pub mod Caching
 pub mod Changes
+pub mod Destroying
 pub mod Endings
 pub mod Fits
 pub mod Forking

@@ -11,12 +11,13 @@ use Rattle.vm_base.specs.declared.ids.ObjectKind.TheVariants.{Temp}
 use Rattle.vm_frames.specs.Frames.{FrameTable}
 use Rattle.vm_kernel.specs.Fits.{PartsFit}
 use Rattle.vm_kernel.specs.declared.parts.Parts.{Parts}
-use Rattle.vm_legal.specs.Accesses.{begun_at, is_ready}
+use Rattle.vm_legal.specs.Accesses.{Waits, begun_at, is_ready}
 use Rattle.vm_legal.specs.Cached.{is_cached}
+use Rattle.vm_legal.specs.Destroyed.{destroy_taken, is_destroyed}
 use Rattle.vm_legal.specs.Frames.{frames_held, frames_wired, returns_out}
 use Rattle.vm_legal.specs.Licences.{LockRequest, lock_taken, owed}
 use Rattle.vm_legal.specs.Living.{tasks as made_tasks}
-use Rattle.vm_legal.specs.Steps.{completes, since}
+use Rattle.vm_legal.specs.Steps.{before_step, completes, fails_of, since}
 use Rattle.vm_legal.specs.Used.{in_use}
 use Rattle.vm_maps.specs.Maps.{Mapped}
 use Rattle.vm_merge.specs.Merges.{IsThin}
@@ -27,7 +28,7 @@ use Rattle.vm_model.specs.Named.{named}
 use Rattle.vm_model.specs.Ranges.{IsBetween}
 use Rattle.vm_model.specs.Regions.{Backing, Region, backing_of, next_object, next_region, object_pages, region_of}
 use Rattle.vm_model.specs.Tasks.{entries_of, host_of}
-use Rattle.vm_model.specs.Waiting.{Target, copy_target, next_page, waiting}
+use Rattle.vm_model.specs.Waiting.{Access, Target, copy_target, next_page, waiting}
 use Rattle.vm_model.specs.declared.event.Event.{Event}
 use Rattle.vm_model.specs.declared.script.Declared.{Declared}
 use Rattle.vm_model.specs.declared.script.Header.{Header}
@@ -42,8 +43,7 @@ use Rattle.vm_state.specs.Passed.{IsUnmet, StaysAway}
 use Rattle.vm_state.specs.Places.{known_local, place_of}
 use Rattle.vm_state.specs.References.{AllReferred}
 use Rattle.vm_state.specs.Stands.{AreShared, HasControls, HasEntries, HasFlags, HasFrames, HasHomes, HasKinds, HasLaundry, HasPages, HasRegions, HasTasks}
-use Rattle.vm_state.specs.Stands.{HasUse}
-use Rattle.vm_state.specs.Stands.{KnowsFiles, KnowsPages}
+use Rattle.vm_state.specs.Stands.{HasUse, KnowsFiles, KnowsPages}
 use Rattle.vm_state.specs.Waiters.{BeganInOrder, HasWaiters, is_woken}
 use Rattle.vm_supply.specs.declared.woken.Woken.{Woken}
 use Rattle.vm_supply.specs.declared.woken.Woken.TheVariants as woken
@@ -72,13 +72,21 @@ pub record IsSettled (past : List Event) : Type 0 where
   pub none_owed : owed past ≡ None
   pub shut : IsShut past
 
--- a lock request that the step took is done, where its pager wants to be told that
-pub record IsReplied (past : List Event) : Type 0 where
+-- a lock request that the step took is done, where its pager wants to be told that; and whoever waited on an object that its pager ended in the step has
+-- failed
+pub record IsReplied (header : Header) (past : List Event) : Type 0 where
   pub at : (request : LockRequest) → lock_taken past ≡ Some request → request.reply ≡ true → since (completes request.host request.object) past ≡ true
+  pub fallen : (host object task : ℕ) (access : Access) (waits : Waits header task access (before_step past))
+      → destroy_taken past ≡ Some (record { host = host; object = object }) → waits.at.host ≡ host → waits.at.entry.region.0 ≡ object
+      → since (fails_of task object) past ≡ true
 
 -- the regions of a host are on it, and all that a history knows of homes
 abbrev pub KnowsHomes : Header → ℕ → ChainTable → List Event → Type 0
 KnowsHomes header h chains past = HasHomes header h chains (λ r. home_of r past) × HaveHomes header past
+
+-- a declared object that its pager ended in this step has no control any more
+abbrev pub IsCalm : ℕ → (ℕ → Option ℕ) → (ℕ → Bool) → Type 0
+IsCalm count live destroyed = (o : ℕ) → destroyed o ≡ true → (o < count) × (live o ≡ None)
 
 -- The facts of a history, as values: what an event leaves of them is the same value behind it.
 
@@ -140,6 +148,7 @@ pub record ControlFacts : Type 0 where
   pub live : ℕ → Option ℕ
   pub ready : ℕ → Bool
   pub cached : ℕ → Bool
+  pub destroyed : ℕ → Bool
 
 abbrev pub control_facts : ℕ → List Event → ControlFacts
 control_facts h past =
@@ -148,6 +157,7 @@ control_facts h past =
       live = λ o. live_control h o past;
       ready = λ o. is_ready h o past;
       cached = λ o. is_cached h o past;
+      destroyed = λ o. is_destroyed h o (destroy_taken past);
     }
 
 -- its pages and frames
@@ -207,13 +217,14 @@ pub record Core (header : Header) (h : ℕ) (k : Parts) (ids : Ids) (gone : List
   pub objects : Objects header h k.chains k.memory.objects ids s.objects
   pub controls : HasControls (named header) h k.memory.objects c.last c.live c.ready (λ o. home_in s.objects.home (s.objects.made_for o))
   pub flags : HasFlags (named header) k.memory.objects c.cached
+  pub calm : IsCalm (named header) c.live c.destroyed
   pub pages : Pages header h k.memory.frames k.memory.resident k.memory.objects k.laundry m
 
 -- the kernel of a host after a history, also inside a step; the counts of entries include some that have just gone
 pub record Matches (header : Header) (h : ℕ) (k : Parts) (ids : Ids) (gone : List Entry) (past : List Event) : Type 0 where
   pub core : Core header h k ids gone (space_facts header past) (control_facts h past) (memory_facts header h past)
   pub settled : IsSettled past
-  pub replied : IsReplied past
+  pub replied : IsReplied header past
 
 -- the accesses that wait, of a kernel with these maps, regions, pages and objects; some may have been woken
 abbrev pub HasWaits : Header → ℕ → Parts → Woken → List Event → Type 0
@@ -249,11 +260,21 @@ pub record Works (header : Header) (h : ℕ) (k : Parts) (ids : Ids) (who : Woke
   pub waits : HasWaits header h k who past
   pub order : HasOrder k past
 
+-- the same, while the pager's word of the step isn't done yet: nobody knows of it but the accesses that it is about
+pub record Undone (header : Header) (h : ℕ) (k : Parts) (ids : Ids) (past : List Event) : Type 0 where
+  pub core : Core header h k ids [] (space_facts header past) (control_facts h past) (memory_facts header h past)
+  pub settled : IsSettled past
+  pub used : UsesAll header k past
+  pub referred : AllReferred k.chains k.memory.objects k.memory.resident
+  pub thin : IsThin k.chains k.memory.objects
+  pub waits : HasWaits header h k woken.Nobody past
+  pub order : HasOrder k past
+
 -- the same, but for the flags by which declared objects stay without an entry: these are still others
 pub record WorksBut (header : Header) (h : ℕ) (k : Parts) (ids : Ids) (who : Woken) (flags : ℕ → Bool) (past : List Event) : Type 0 where
   pub core : Core header h k ids [] (space_facts header past) (record (control_facts h past) { cached = flags }) (memory_facts header h past)
   pub settled : IsSettled past
-  pub replied : IsReplied past
+  pub replied : IsReplied header past
   pub used : UsesAll header k past
   pub referred : AllReferred k.chains k.memory.objects k.memory.resident
   pub thin : IsThin k.chains k.memory.objects

@@ -14,6 +14,7 @@ use Rattle.vm_model.specs.Named.{named}
 use Rattle.vm_model.specs.Regions.{backing_of, object_pages}
 use Rattle.vm_model.specs.Words.{in_range}
 use Rattle.vm_legal.specs.Accesses.{WaitsUnlocked}
+use Rattle.vm_legal.specs.Destroyed.{IsDestroyed}
 use Rattle.vm_legal.specs.Licences.{LockRequest, lock_taken}
 use Rattle.vm_legal.specs.Swept.{IsUnheld}
 use Rattle.vm_legal.specs.Prompt.{IsSource}
@@ -131,12 +132,19 @@ pub record DepartsLocked (host : ℕ) (past : List Event) (object page : ℕ) (o
   pub over : in_range page request.page request.count ≡ true
   pub departs : Departs object page old.queues old new
 
--- a page goes as the victim, or for a lock request, or its object is in no chain, or nothing holds it, and then its pages go in any order
+-- a page goes of an object that its pager ends
+pub record DepartsDestroyed (header : Header) (host : ℕ) (past : List Event) (object page : ℕ) (old new : Paging) : Type 0 where
+  pub destroyed : IsDestroyed header host object past
+  pub departs : Departs object page old.queues old new
+
+-- a page goes as the victim, or for a lock request, or its pager ends its object, or that is in no chain, or nothing holds it, and then its pages go in any
+-- order
 pub data DepartsFrom (header : Header) (host : ℕ) (by : Sparing) (past : List Event) (object page : ℕ) (old new : Paging) : Type 0 where
   AsVictim : IsVictim header host by past object page old new → DepartsFrom header host by past object page old new
   AsUnreached : (Reach header host object past → ⊥) → Departs object page old.queues old new → DepartsFrom header host by past object page old new
   AsUnheld : DepartsUnheld header host past object page old new → DepartsFrom header host by past object page old new
   AsLocked : DepartsLocked host past object page old new → DepartsFrom header host by past object page old new
+  AsDestroyed : DepartsDestroyed header host past object page old new → DepartsFrom header host by past object page old new
 
 -- in front of the create that a return needs
 abbrev pub uncreated : List Event → List Event

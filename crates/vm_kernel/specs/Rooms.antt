@@ -1,6 +1,6 @@
 -- Room for a step: what is still to be told at most where accesses are run again and the queue is served, and what there is room for.
-use Rattle.std.specs.Prelude.{ℕ, zero, suc, ◌+◌, ◌*◌, ◌-◌, ◌<◌, ◌≤◌, ◌≡◌, ◌==◌, ◌&&◌, ◌||◌, Bool, false, true, List, length, Option, Some, None, if◌then◌else◌}
-use Rattle.std.specs.Prelude.{vec_capacity, min, nat_lt}
+use Rattle.std.specs.Prelude.{Bool, List, None, Option, Some, false, if◌then◌else◌, length, min, nat_lt, suc, true, vec_capacity, zero, ℕ, ◌&&◌, ◌*◌, ◌+◌, ◌-◌}
+use Rattle.std.specs.Prelude.{◌<◌, ◌==◌, ◌||◌, ◌≡◌, ◌≤◌}
 use Rattle.vm_base.specs.declared.ids.PageKey.{PageKey}
 use Rattle.vm_base.specs.Limits.{most_pages}
 use Rattle.vm_base.specs.Listing.{Listed}
@@ -122,6 +122,7 @@ word_breadth (message.Lock page count returns flush lock reply) = breadth.Pages
 word_breadth (message.Error page reason) = breadth.Pages
 word_breadth (message.Ready cache strategy) = breadth.Pages
 word_breadth (message.Attributes cache strategy reply) = breadth.Pages
+word_breadth (message.Destroy reason) = breadth.Pages
 word_breadth other = breadth.Few
 
 -- what a fork of a task tells and makes at most: it makes a task, and copies each entry
@@ -130,7 +131,8 @@ of_entries task k = 1 + 4 * length (rows_in task k.maps)
 
 -- What is told at most in front of the accesses that are run: some events; a fork makes a task and copies entries; a copy may wait for its pages, and then each
 -- frame counts twice; an end takes each page and each control, and then one object may be merged for each entry of the task; a pageout reclaims each page, of
--- which a new pager may be told, a lock request may have each page given back, an error may end slow copies, and a flag that goes may end an object.
+-- which a new pager may be told, a lock request may have each page given back, an error may end slow copies, and a flag that goes, or a pager, may end an
+-- object.
 abbrev pub front : Breadth → Parts → ℕ
 front breadth.Few k = 5
 front (breadth.Entries task) k = of_entries task.0 k
@@ -138,11 +140,12 @@ front breadth.Frames k = 2 * frame_count k.memory.frames + 5
 front breadth.Pages k = 2 * frame_count k.memory.frames + length k.memory.objects.entries + 1
 front (breadth.Ends task) k = 2 * frame_count k.memory.frames + length k.memory.objects.entries + 1 + length (rows_in task.0 k.maps)
 
--- what the word itself tells at most: a lock request has each page given back, and has its reply; a flag that goes may end an object
+-- what the word itself tells at most: a lock request has each page given back, and has its reply; a flag that goes may end an object, and so does a pager
 abbrev pub heeding : Message → Parts → Ids → ℕ
 heeding (message.Lock page count returns flush lock reply) k ids = listed_pages k.memory.queues + 1
 heeding (message.Ready cache strategy) k ids = 1 + leaving k ids
 heeding (message.Attributes cache strategy reply) k ids = 1 + leaving k ids
+heeding (message.Destroy reason) k ids = listed_pages k.memory.queues + 1
 heeding other k ids = 1
 
 -- the word may end an object

@@ -13,8 +13,7 @@ use Rattle.vm_model.specs.declared.command.Command.{Command}
 use Rattle.vm_model.specs.declared.script.Header.{Header}
 use Rattle.vm_legal.specs.Outside.{Outside}
 use Rattle.vm_legal.specs.Stretches.{EachOf}
-use Rattle.vm_model.specs.Named.{named}
-use Rattle.vm_objects.specs.Objects.{ObjectTable, object_at}
+use Rattle.vm_objects.specs.Objects.{object_at}
 use Rattle.vm_objects.specs.declared.row.ObjectRow.{ObjectRow}
 use Rattle.vm_shadow.specs.Chains.{ChainTable, PutsRegion, region_at, shadow_at}
 use Rattle.vm_shadow.specs.declared.ids.Ids.{Ids}
@@ -122,10 +121,6 @@ pub record EndsRegion (header : Header) (h : ℕ) (who : Woken) (k : Parts) (ids
   pub copies : HasSlow header k past
   pub unfilled : (task : ℕ) → fills_in region (entry k.waits.rows task) ≡ false
   pub referred : AllReferred k.chains k.memory.objects k.memory.resident
-
--- where an object is declared, its control lives
-abbrev pub IsKnownToPager : Header → ObjectTable → ℕ → Type 0
-IsKnownToPager header objects o = (known : ObjectRow) → object_at objects o ≡ Some known → o < named header → known.live ≡ true
 
 -- nothing refers to an object any more, and something to each other one that lives, has pages or is a shadow
 pub record EndsObject (header : Header) (h : ℕ) (who : Woken) (k : Parts) (ids : Ids) (gone : List Entry) (object : ℕ) (past : List Event) : Type 0 where

@@ -27,7 +27,7 @@ use Rattle.vm_waits.specs.declared.waiting.On.TheVariants as on
 use Rattle.vm_waits.specs.declared.waiting.Waiting.{Waiting}
 use Rattle.vm_state.specs.Waiters.{Asker, is_awaited, is_woken}
 
--- what a pager may say, where a page has so many bytes: it answers, asks for locks, or says whether its object stays without an entry
+-- what a pager may say, where a page has so many bytes: it answers, asks for locks, says whether its object stays without an entry, or ends it
 abbrev pub IsWord : ℕ → Message → Type 0
 IsWord size (message.Lock page count returns flush lock reply) = IsLockRequest (message.Lock page count returns flush lock reply)
 IsWord size (message.Ready cache strategy) = IsAnswer size (message.Ready cache strategy)
@@ -35,6 +35,7 @@ IsWord size (message.Supply page lock precious bytes) = IsAnswer size (message.S
 IsWord size (message.Unavailable page) = IsAnswer size (message.Unavailable page)
 IsWord size (message.Error page reason) = IsAnswer size (message.Error page reason)
 IsWord size (message.Attributes cache strategy reply) = Unit {0}
+IsWord size (message.Destroy reason) = Unit {0}
 IsWord size other = ⊥
 
 -- the message is a lock request

@@ -64,11 +64,13 @@ pub data IsFront (task : TaskId) : Bool → List Event → Type 0 where
   Pages : (some : Bool) → (front : List Event) → AreCopied task some front → IsFront task some front
 
 -- what a task's access did when it was run, and whether it claimed a frame: no more than make a shadow, take a mark, or copy pages; it found its page and
--- ended; it copied its last page and ended; it asked for the unlock of its page; it claimed one for a page of zeros, or for a copy of its page, with which it
--- ended; or it claimed one for a page that it asked for, on which it waits now, and none of those that were run earlier
+-- ended; it met an object without a control, and failed; it copied its last page and ended; it asked for the unlock of its page; it claimed one for a page of
+-- zeros, or for a copy of its page, with which it ended; or it claimed one for a page that it asked for, on which it waits now, and none of those that were
+-- run earlier
 pub data Did (rows : List Waiting) (earlier : ℕ → Type 0) (task : TaskId) : Bool → List Event → Type 0 where
   Nothing : (claims : Bool) → (front : List Event) → IsFront task claims front → Did rows earlier task claims front
   Found : (front : List Event) → IsFront task false front → (end : Event) → IsEnd task.0 end → Did rows earlier task false (end ∷ front)
+  Unserved : (object : ObjectId) → (page : PageNo) → Did rows earlier task false (event.Failed task object page ∷ [])
   Filled : (front : List Event) → AreCopied task true front → (address bytes : ℕ) → (region : RegionId)
       → Did rows earlier task true (event.Entered task address bytes region 0 (record { read = true; write = true }) Copy ∷ event.CopyEnded task ∷ front)
   ForUnlock : (claims : Bool) → (front : List Event) → IsFront task claims front → (host : HostId) → (key : PageKey) → (control access : ℕ)

@@ -15,8 +15,8 @@ pub enum Breadth {
     Entries(TaskId),
     /// Each frame of a host twice: a copy may wait for its pages.
     Frames,
-    /// The pages and the controls of a host, which go with a slow copy or an object that nothing holds, or
-    /// are paged out or given back.
+    /// The pages and the controls of a host, which go with a slow copy or an object that nothing holds or
+    /// whose pager ends it, or are paged out or given back.
     Pages,
     /// These, as they go with a task or a range of it, and an object for each of its entries, which may be
     /// merged then.
@@ -45,7 +45,8 @@ impl Breadth {
             Message::Lock { .. }
             | Message::Error { .. }
             | Message::Ready { .. }
-            | Message::Attributes { .. } => Breadth::Pages,
+            | Message::Attributes { .. }
+            | Message::Destroy { .. } => Breadth::Pages,
             _ => Breadth::Few,
         }
     }

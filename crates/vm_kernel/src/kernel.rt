@@ -9,6 +9,7 @@ ghost use Rattle.vm_objects.specs.Objects.{object_at};
 ghost use Rattle.vm_model.specs.Ranges.{InRange};
 ghost use Rattle.vm_legal.specs.Refusal.{refusal};
 ghost use Rattle.vm_kernel.specs.Begun.{Doing, Given, IsLaundered, Passed, Passing, Ran, Served, Starts, acts_on, targets_here};
+ghost use Rattle.vm_kernel.specs.Destroying.{IsDestroyPaid, MayDestroy, is_destroy, queue_behind};
 ghost use Rattle.vm_kernel.specs.Built.{kernel_runs};
 ghost use Rattle.vm_kernel.specs.Endings.{EndsByAddress};
 ghost use Rattle.vm_kernel.specs.Plays.{PlaysAnswer, PlaysBy, may_reclaim, paging};
@@ -138,14 +139,16 @@ impl Kernel {
     }
 
     /// Takes what a pager says to a control of an object, and adds what happened behind the taking to the
-    /// log, which is empty, up to where the frame queues are served. What isn't for the live control, or answers nothing, is
-    /// discarded (this profile).
+    /// log, which is empty, up to where the frame queues are served. What isn't for the live control, or
+    /// answers nothing, is discarded (this profile).
     ///
     /// The messages are memory_object_ready, memory_object_data_supply, memory_object_data_unavailable,
-    /// memory_object_data_error, memory_object_lock_request and memory_object_change_attributes. Whoever
-    /// waited for the unlock of a page that a lock request is over is run again behind
-    /// memory_object_lock_completed. Where a declared object that has no entry here is to stay no more, by a
-    /// change of attributes or a first ready, it ends, behind memory_object_change_completed.
+    /// memory_object_data_error, memory_object_lock_request, memory_object_change_attributes, and for a wild
+    /// object memory_object_destroy. Whoever waited for the unlock of a page that a lock request is over is
+    /// run again behind memory_object_lock_completed. Where a declared object that has no entry here is to
+    /// stay no more, by a change of attributes or a first ready, it ends, behind
+    /// memory_object_change_completed. An object that its pager ends loses its pages, changed ones too, and
+    /// its control, and then each access that waits on it fails, in the order in which they began.
     ///
     /// It fails for want of memory alone. Behind `reserve`, and with room for as many events in the log, it
     /// does only for a lock request of an object that isn't declared, and then all but room is as it was.
@@ -161,19 +164,21 @@ impl Kernel {
         requires rests { Rests given.header given.host self.old ids.old given.past }
         requires front { given.front ≡ event.Taken (Down (host_id given.host) object control) message.now ∷ [] }
         requires word { IsWord given.header.size message.now }
+        requires destroy { is_destroy message.now ≡ true → MayDestroy given.header given.host object.0 given.past }
         requires nothing { log.old.items ≡ [] }
         ensures passed { OnOk result (Passed given.header given.host given.outside given.command (given.front ++ given.past) self.new ids.new log.new.items) }
         ensures failed { OnOk result (IsErrorPaid given.header (log.new.items ++ (given.front ++ given.past))) }
         ensures zeroed { OnOk result (IsAbsencePaid given.header (log.new.items ++ (given.front ++ given.past))) }
         ensures locked { OnOk result (IsLockPaid given.header (log.new.items ++ (given.front ++ given.past))) }
         ensures changed { OnOk result (IsChangePaid (log.new.items ++ (given.front ++ given.past))) }
+        ensures destroyed { OnOk result (IsDestroyPaid given.header (log.new.items ++ (given.front ++ given.past))) }
         ensures plays { OnOk result (PlaysAnswer given.header (given.front ++ given.past) object
             (outcome_of (object_at self.old.memory.objects object.0) control (row_at self.old.memory.resident object.0) message.now) (paging self.old)
             log.new.items (paging self.new)) }
         ensures ended { HasQueue given.header given.host self.old given.past
             → OnOk result (EndsAll given.header (log.new.items ++ (given.front ++ given.past))) }
-        ensures restarts { OnOk result (Restarted given.header given.host self.new.waits.rows (given.front ++ given.past) self.old.waits.queue
-            self.new.waits.queue log.new.items) }
+        ensures restarts { OnOk result (Restarted given.header given.host self.new.waits.rows (given.front ++ given.past)
+            (queue_behind object.0 control message.now self.old) self.new.waits.queue log.new.items) }
         ensures few { OnOk result (length log.new.items + dues self.new ≤ full_dues self.old + front (word_breadth message.now) self.old) }
         ensures room { (more : ℕ) → IsReady (word_breadth message.now) self.old → most (word_breadth message.now) self.old + more ≤ log.old.room
             → OnOk result (ServeRoom more self.new log.new.room) }

@@ -9,6 +9,7 @@ mod caching;
 mod changes;
 mod copying;
 mod counting;
+mod destroying;
 mod dropping;
 mod forking;
 mod kernel;

@@ -4,6 +4,7 @@ ghost use Rattle.vm_base.specs.declared.ids.PageKey.{PageKey};
 ghost use Rattle.vm_model.specs.declared.event.Event.TheVariants as event;
 ghost use Rattle.vm_model.specs.declared.message.Channel.TheVariants.{Down};
 ghost use Rattle.vm_kernel.specs.Begun.{LegalEvents, Passing};
+ghost use Rattle.vm_kernel.specs.Destroying.{IsDestroyPaid, MayDestroy, is_destroy, queue_behind};
 ghost use Rattle.vm_kernel.specs.Matches.{Rests, Works, host_id};
 ghost use Rattle.vm_kernel.specs.Plays.{Plays, PlaysAnswer, paging};
 ghost use Rattle.vm_kernel.specs.Rooms.{Dies, HasBuffers, IsRoomy, KeepsSkip, Spends, heeding, may_end};
@@ -30,8 +31,8 @@ use vm_supply::Woken;
 use vm_waits::{On, Waits};
 
 impl Parts {
-    /// Does what a pager says: its answer is heard, its lock request is obeyed, or its object stays without
-    /// an entry from now on, or no more.
+    /// Does what a pager says: its answer is heard, its lock request is obeyed, its object stays without an
+    /// entry from now on, or no more, or its object ends.
     pub fn heed(
         &mut self,
         ids: &Ids,
@@ -44,6 +45,7 @@ impl Parts {
         requires rests { Rests given.header given.host self.old ids.now given.past }
         requires front { given.front ≡ event.Taken (Down (host_id given.host) object control) message.now ∷ [] }
         requires word { IsWord self.old.size message.now }
+        requires destroy { is_destroy message.now ≡ true → MayDestroy given.header given.host object.0 given.past }
         requires nothing { log.old.items ≡ [] }
         ensures works { IfOk result (λ woken. Works given.header given.host self.new ids.now woken (log.new.items ++ (given.front ++ given.past))) }
         ensures fails { IfOk result (λ woken. FailsNow given.header given.host woken (log.new.items ++ (given.front ++ given.past))) }
@@ -51,12 +53,13 @@ impl Parts {
         ensures asker { IfOk result (λ woken. HasAsker woken self.new.waits.rows) }
         ensures answered { IfOk result (λ woken. IsAnswered woken self.new.memory.resident) }
         ensures askers { IfOk result (λ woken. KeepsAskers woken self.old.waits.rows self.new.waits.rows) }
-        ensures queue { OnOk result (self.new.waits.queue ≡ self.old.waits.queue) }
+        ensures queue { OnOk result (self.new.waits.queue ≡ queue_behind object.0 control message.now self.old) }
         ensures goes { OnOk result (LegalEvents given.header given.host given.outside given.command (given.front ++ given.past) [] log.new.items) }
         ensures early { OnOk result (RunsNoneYet log.new.items) }
         ensures zeroed { OnOk result (IsAbsencePaid given.header (log.new.items ++ (given.front ++ given.past))) }
         ensures locked { OnOk result (IsLockPaid given.header (log.new.items ++ (given.front ++ given.past))) }
         ensures changed { OnOk result (IsChangePaid (log.new.items ++ (given.front ++ given.past))) }
+        ensures destroyed { OnOk result (IsDestroyPaid given.header (log.new.items ++ (given.front ++ given.past))) }
         ensures plays { OnOk result (PlaysAnswer given.header (given.front ++ given.past) object
             (outcome_of (object_at self.old.memory.objects object.0) control (row_at self.old.memory.resident object.0) message.now) (paging self.old)
             log.new.items (paging self.new)) }
@@ -77,6 +80,10 @@ impl Parts {
             }
             Message::Attributes { .. } => {
                 self.change(ids, object, control, message, log)?;
+                Ok(Woken::Nobody)
+            }
+            Message::Destroy { .. } => {
+                self.destroy(ids, object, control, log)?;
                 Ok(Woken::Nobody)
             }
             Message::Ready { .. } => self.ready(ids, object, control, message, log),

@@ -1,5 +1,5 @@
 // Accesses that wait are run again, and the frame queue is served.
-ghost use Rattle.std.specs.Prelude.{ℕ, ◌≡◌, ◌+◌, ◌<◌, ◌≤◌, ◌++◌, true, false, length, IfOk, IfSome, IsOk, OnOk, Some};
+ghost use Rattle.std.specs.Prelude.{ℕ, ◌≡◌, ◌+◌, ◌<◌, ◌≤◌, ◌++◌, true, false, length, IfOk, IfSome, IsOk, None, OnOk, Some};
 ghost use Rattle.vm_frames.specs.Frames.{claimed, free};
 ghost use Rattle.vm_legal.specs.Accesses.{FindsPage, Wants};
 ghost use Rattle.vm_legal.specs.InTurn.{EndsNext, NoneSleepsOn};
@@ -9,6 +9,7 @@ ghost use Rattle.vm_model.specs.Named.{named};
 ghost use Rattle.vm_supply.specs.declared.woken.Woken.TheVariants as woken;
 ghost use Rattle.vm_waits.specs.Waits.{entry, first_in_queue, queued};
 ghost use Rattle.vm_kernel.specs.Begun.{Doing, LegalEvents};
+ghost use Rattle.vm_kernel.specs.Destroying.{unserved};
 ghost use Rattle.vm_kernel.specs.Matches.{Rests, Works};
 ghost use Rattle.vm_kernel.specs.Rooms.{HasRoom, IsSkipRoom, KeepsSpare, ServeRoom, StopsRoom, dues, to_run};
 ghost use Rattle.vm_kernel.specs.Serving.{Attempts, HasQueue, IsHere, IsTheSource, IsToCopy, QueueIsServed, RunsFirst, runs_now, wants_frame};
@@ -26,7 +27,7 @@ use vm_shadow::Ids;
 use vm_waits::{On, Waiting};
 
 impl Parts {
-    // Runs an access once, a slow copy page by page.
+    // Runs an access once; one on a declared object without a control fails.
     fn attempt(
         &mut self,
         ids: &mut Ids,
@@ -38,6 +39,39 @@ impl Parts {
         requires works { Works given.header given.host self.old ids.old woken.Nobody (log.old.items ++ given.past) }
         requires waits { entry self.old.waits.rows waiting.task.0 ≡ Some waiting }
         requires runs { runs_now waiting.on ≡ true }
+        ensures works { OnOk result (Works given.header given.host self.new ids.new woken.Nobody (log.new.items ++ given.past)) }
+        ensures goes { OnOk result (LegalEvents given.header given.host given.outside given.command given.past log.old.items log.new.items) }
+        ensures ends { OnOk result (FindsPage given.header waiting.task.0 (log.old.items ++ given.past) → EndsNext waiting.task.0 log.old.items log.new.items) }
+        ensures attempts { IfOk result (λ answer. Attempts given.header given.host waiting may_claim answer self.old self.new (log.old.items ++ given.past)
+            (log.new.items ++ given.past)) }
+        ensures plays { OnOk result (Plays given.header given.past log.old.items (paging self.old) log.new.items (paging self.new)) }
+        ensures once { IfOk result (λ answer. RunsOnce waiting may_claim (wants_frame answer) self.old.waits self.new.waits log.old.items log.new.items) }
+        ensures room { (more : ℕ) → HasRoom more self.old log.old.room → IsOk result × HasRoom more self.new log.new.room }
+        ensures spare { OnOk result (KeepsSpare self.old self.new) }
+        ensures few { OnOk result (length log.new.items + dues self.new ≤ length log.old.items + dues self.old) }
+    {
+        match self.unserved(waiting) {
+            Some(key) => {
+                self.end_unserved(ids, waiting, key, log)?;
+                Ok(Attempt::Ran)
+            }
+            None => self.run_access(ids, waiting, may_claim, log),
+        }
+    }
+
+    // Runs an access, a slow copy page by page; its object has a control.
+    fn run_access(
+        &mut self,
+        ids: &mut Ids,
+        waiting: Waiting,
+        may_claim: bool,
+        log: &mut Events,
+    ) -> Result<Attempt, NoMemory>
+        ghost given: { Doing }
+        requires works { Works given.header given.host self.old ids.old woken.Nobody (log.old.items ++ given.past) }
+        requires waits { entry self.old.waits.rows waiting.task.0 ≡ Some waiting }
+        requires runs { runs_now waiting.on ≡ true }
+        requires served { unserved self.old waiting ≡ None }
         ensures works { OnOk result (Works given.header given.host self.new ids.new woken.Nobody (log.new.items ++ given.past)) }
         ensures goes { OnOk result (LegalEvents given.header given.host given.outside given.command given.past log.old.items log.new.items) }
         ensures ends { OnOk result (FindsPage given.header waiting.task.0 (log.old.items ++ given.past) → EndsNext waiting.task.0 log.old.items log.new.items) }

@@ -5,7 +5,7 @@ ghost use Rattle.vm_base.specs.declared.ids.ObjectId.{ObjectId};
 ghost use Rattle.vm_model.specs.Regions.{region_of};
 ghost use Rattle.vm_kernel.specs.Begun.{Doing, LegalEvents};
 ghost use Rattle.vm_kernel.specs.Endings.{CountsOut, EndsAndMerges, EndsBelow, EndsSoFar};
-ghost use Rattle.vm_kernel.specs.Sweeping.{Ending, EndsObject, EndsOnly, EndsRegion, IsBareTop, IsKnownToPager, IsWhole, LeavesLoser, OnlyLoses, Releasing};
+ghost use Rattle.vm_kernel.specs.Sweeping.{Ending, EndsObject, EndsOnly, EndsRegion, IsBareTop, IsWhole, LeavesLoser, OnlyLoses, Releasing};
 ghost use Rattle.vm_kernel.specs.Sweeping.{Sweeps};
 ghost use Rattle.vm_kernel.specs.Plays.{Plays, paging};
 ghost use Rattle.vm_kernel.specs.Rooms.{HasBuffers, HasRowsFor, IsRoomy, KeepsSkip, Spends, leaving, with_rows};
@@ -178,7 +178,6 @@ impl Parts {
     ) -> Result<Option<ObjectId>, NoMemory>
         ghost given: { Ending }
         requires ends { EndsObject given.header given.host given.who self.old ids.now given.rest object.0 (log.old.items ++ given.past) }
-        requires told { IsKnownToPager given.header self.old.memory.objects object.0 }
         ensures whole { OnOk result (IsWhole given.header given.host given.who self.new ids.now given.rest (log.new.items ++ given.past)) }
         ensures goes { OnOk result (LegalEvents given.header given.host given.outside given.command given.past log.old.items log.new.items) }
         ensures waits { OnOk result (self.new.waits ≡ self.old.waits) }

@@ -12,6 +12,7 @@ matches_with {k = k} queues buffers waits same fit size m =
     record {
       core = record {
         setting = m.core.setting;
+        calm = m.core.calm;
         fits = record { parts = fit; plain = m.core.fits.plain; buffers = size ∙ m.core.fits.buffers };
         spaces = spaces_refilled same m.core.spaces;
         objects = m.core.objects;

@@ -1,18 +1,20 @@
 -- What is no event of a host leaves what its kernel stands for.
 use Rattle.vm_kernel.proofs.Common.{AllInTurn, AllRows, ApartElsewhere, BeganInOrder, Below, Bool, Command, Down, EachIn, EachOf, EntersNext, Entry, Event}
+use Rattle.vm_kernel.proofs.Common.{HasCause, HasControls, HasFrames, HasLaundry, HasOrder, HasPages, HasQueue, HasRegions, HasTasks, HasUse, HasWaits}
+use Rattle.vm_kernel.proofs.Common.{HaveHomes, Header, Ids, IfSome, IsAbroad, IsAmong, IsCommon, IsHeldOn, IsInside, IsMine, IsNobodys, IsOfHost, IsRegionOf}
+use Rattle.vm_kernel.proofs.Common.{IsShut, IsUsed, Knows, List, Matches, MomentsIn, None, Option, Outside, Parts, PromptAt, RegionRow, Rests, SameFacts}
+use Rattle.vm_kernel.proofs.Common.{SameForHost, Some, Sound, Suffice, Up, Waiting, [], all_tasks, ap, apart_abroad, arith, backing_of, begun_at, both_left}
+use Rattle.vm_kernel.proofs.Common.{copy_target, entries_in, entries_of, entry, eqb_tells, false, fills, frames_free, frames_held, frames_used, frames_wired}
+use Rattle.vm_kernel.proofs.Common.{has_entry, has_region, holds, home_of, homes_next, homes_stay, host_of, if◌then◌else◌, in_use, inl, inr, is_among}
+use Rattle.vm_kernel.proofs.Common.{is_control, is_home, is_ready, is_some, is_used, last_control, leads_now, live_control, lives_on, local, named, nat_lt}
+use Rattle.vm_kernel.proofs.Common.{nat_tests, next_object, next_region, not, pages_abroad, place_of, refl, region_at, region_of, returns_out, reverse, rows_in}
+use Rattle.vm_kernel.proofs.Common.{rows_map, slice_get, sound_next, stays, subst, suc, swept_now, sym, tasks, true, unwrap_or, use_of, use_same, used_of}
+use Rattle.vm_kernel.proofs.Common.{vain_now, zero, ℕ, ◌++◌, ◌<◌, ◌==◌, ◌∙◌, ◌∷◌, ◌≡◌, ◌≤◌, ◌⊎◌}
 use Rattle.vm_legal.proofs.Files.{file_paged}
-use Rattle.vm_kernel.proofs.Common.{HasCause, HasControls, HasFrames, HasLaundry, HasOrder, HasPages, HasQueue, HasRegions, HasTasks, HasUse, HasWaits, Header}
-use Rattle.vm_kernel.proofs.Common.{Ids, IfSome, IsAbroad, IsAmong, IsCommon, IsHeldOn, IsInside, IsMine, IsNobodys, IsOfHost, IsRegionOf, IsShut, IsUsed}
-use Rattle.vm_kernel.proofs.Common.{Knows, List, Matches, MomentsIn, None, Option, Outside, Parts, PromptAt, RegionRow, Rests, SameFacts, SameForHost, Some}
-use Rattle.vm_kernel.proofs.Common.{Sound, Suffice, Up, Waiting, [], all_tasks, ap, apart_abroad, arith, backing_of, begun_at, copy_target, entries_in}
-use Rattle.vm_kernel.proofs.Common.{entries_of, entry, eqb_tells, false, fills, frames_free, frames_held, frames_used, frames_wired, has_entry, has_region}
-use Rattle.vm_kernel.proofs.Common.{holds, home_of, homes_stay, host_of, in_use, inl, inr, is_among, is_home, is_ready, is_some, is_used, last_control}
-use Rattle.vm_kernel.proofs.Common.{leads_now, live_control, lives_on, local, named, nat_lt, nat_tests, next_object, next_region, pages_abroad, place_of, refl}
-use Rattle.vm_kernel.proofs.Common.{region_at, region_of, returns_out, reverse, rows_in, rows_map, slice_get, sound_next, stays, subst, suc, swept_now, sym}
-use Rattle.vm_kernel.proofs.Common.{tasks, true, unwrap_or, use_of, use_same, used_of, vain_now, zero, ℕ, ◌++◌, ◌<◌, ◌==◌, ◌∙◌, ◌∷◌, ◌≡◌, ◌≤◌, ◌⊎◌}
 use Rattle.vm_kernel.proofs.space.RegionsFilled.{row_use}
 use Rattle.vm_kernel.proofs.space.RegionsInUse.{fills_here, waits_some}
 use Rattle.vm_state.proofs.Filling.{used_told}
+use Rattle.vm_model.specs.declared.message.Message.TheVariants as message
 use Rattle.vm_model.specs.declared.event.Event.TheVariants as event
 use Rattle.std.specs.Prelude.{◌&&◌, ◌+◌, ◌==◌, ◌||◌}
 use Rattle.vm_model.specs.Homes.{object_home}
@@ -27,7 +29,6 @@ use Rattle.vm_objects.specs.declared.row.ObjectRow.{ObjectRow}
 use Rattle.vm_model.specs.Regions.{made}
 use Rattle.vm_abroad.proofs.Thin.{thin_now}
 use Rattle.vm_legal.specs.Homes.{is_open, starts_copy}
-use Rattle.vm_kernel.proofs.Common.{HaveHomes, both_left, homes_next, not}
 use Rattle.vm_parts.specs.Changes.{one}
 use Rattle.vm_shadow.specs.Chains.{ChainTable, shadow_at}
 use Rattle.vm_shadow.specs.declared.shadow_row.ShadowRow.{ShadowRow}
@@ -51,6 +52,9 @@ use Rattle.vm_state.proofs.Bypassing.{waits_beyond}
 use Rattle.vm_state.proofs.Passing.{only_before}
 use Rattle.vm_state.specs.Passed.{IsAway, IsUnmet, StaysAway}
 use Rattle.vm_state.specs.Counts.{marks_of}
+use Rattle.vm_legal.specs.Destroyed.{destroy_taken, is_destroyed}
+use Rattle.vm_kernel.specs.Matches.{IsCalm}
+use Rattle.vm_abroad.proofs.Pages.{live_abroad}
 
 -- what a kernel says of all hosts
 
@@ -194,6 +198,29 @@ returns_abroad header outside h (e ∷ events) past abroad =
       returned = λ o p. returned_abroad header h o p e (events ++ past) abroad.0.foreign ∙ before.returned o p;
       only = λ only. before.only (only_before (named header) h e (events ++ past) only);
     }
+
+-- nor has it destroyed an object of this host
+calm_next : (header : Header) (h o : ℕ) (e : Event) (past : List Event) → is_home header h e past ≡ false → is_destroyed h o (destroy_taken (e ∷ past)) ≡ true
+    → is_destroyed h o (destroy_taken past) ≡ true
+calm_next header h o (event.Line line) past foreign is = absurd (let bad : false ≡ true = is in cc)
+calm_next header h o (event.Taken (Up at object) m) past foreign is = absurd (let bad : false ≡ true = is in cc)
+calm_next header h o (event.Taken (Down at object control) (message.Destroy reason)) past foreign is =
+    by (is_control control (live_control at.0 object.0 past)) is
+  where
+    by : (b : Bool) → is_destroyed h o (if b then Some (record { host = at.0; object = object.0 }) else None) ≡ true
+        → is_destroyed h o (destroy_taken past) ≡ true
+    by true now = absurd (let bad : false ≡ true = sym (ap (λ z. z && object.0 == o) foreign) ∙ now in cc)
+    by false now = absurd (let bad : false ≡ true = now in cc)
+calm_next header h o (event.Taken (Down at object control) m) past foreign is = absurd (let bad : false ≡ true = is in cc)
+calm_next header h o e past foreign is = is
+
+calm_abroad : (header : Header) (outside : Outside) (h : ℕ) (events past : List Event)
+    → IsCalm (named header) (λ o. live_control h o past) (λ o. is_destroyed h o (destroy_taken past)) → EachIn (IsAbroad header outside h) events past
+    → IsCalm (named header) (λ o. live_control h o (events ++ past)) (λ o. is_destroyed h o (destroy_taken (events ++ past)))
+calm_abroad header outside h [] past calm abroad = calm
+calm_abroad header outside h (e ∷ events) past calm abroad = λ o is.
+    let was = calm_abroad header outside h events past calm abroad.1 o (calm_next header h o e (events ++ past) abroad.0.foreign is) in
+    (was.0, live_abroad header h e (events ++ past) abroad.0.foreign o ∙ was.1)
 
 -- a kernel whose host's facts read the same stands for them still
 
@@ -341,14 +368,16 @@ module _ (header : Header) (h : ℕ) (k : Parts) (ids next : Ids) (past new : Li
       }
 
   -- tasks elsewhere hold none of its regions, and its regions and objects stay on their host
-  pub rests_same : SameReturns (named header) h past new → ApartElsewhere header h new → ((r : ℕ) → home_of r past ≡ Some h → home_of r new ≡ Some h)
+  pub rests_same : IsCalm (named header) (λ o. live_control h o new) (λ o. is_destroyed h o (destroy_taken new)) → SameReturns (named header) h past new
+      → ApartElsewhere header h new → ((r : ℕ) → home_of r past ≡ Some h → home_of r new ≡ Some h)
       → ((r : ℕ) → is_on h (home_of r new) ≡ is_on h (home_of r past)) → ((o : ℕ) → object_home o past ≡ Some h → object_home o new ≡ Some h)
       → Rests header h k next new
-  rests_same returns apart home known objects = record {
+  rests_same calm returns apart home known objects = record {
     matches =
         record {
           core = record {
             setting = rests.matches.core.setting;
+            calm = calm;
             fits = rests.matches.core.fits;
             spaces = record {
               tasks = tasks_same;
@@ -435,7 +464,8 @@ module _ (header : Header) (outside : Outside) (h : ℕ) (k : Parts) (ids : Ids)
 
   pub rests_abroad : (next : Ids) → IsCommon header next (events ++ past) → Rests header h k next (events ++ past)
   rests_abroad next common =
-      rests_same header h k ids next past (events ++ past) rests stay.same common (returns_abroad header outside h events past abroad)
+      rests_same header h k ids next past (events ++ past) rests stay.same common (calm_abroad header outside h events past rests.matches.core.calm abroad)
+      (returns_abroad header outside h events past abroad)
       (apart_abroad header outside h events past abroad (apart_of header h k ids past rests))
       (λ r is. homes_stay r h events past is)
       (λ r. homes_abroad header outside h r events past abroad)

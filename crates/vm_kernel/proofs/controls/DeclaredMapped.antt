@@ -1,16 +1,16 @@
 -- A declared object is mapped: a task gets an entry on its region, which counts one more or is made, and where no control of the object lives one begins.
-use Rattle.vm_kernel.proofs.Common.{Begins, Bool, ChainTable, ChangesOnly, Command, EachOf, Elsewhere, Entry, Event, HasControls, HasPages, Header, Ids, IfSome}
-use Rattle.vm_kernel.proofs.Common.{IsInside, IsReferred, IsSome, List, MapChange, Mapped, Matches, None, ObjectId, ObjectRow, ObjectTable, Option, Outside}
-use Rattle.vm_kernel.proofs.Common.{Parts, Plays, PutsObject, PutsRegion, QueueIsStill, Ran, RegionRow, Rests, RunsNone, SameMarks, Shares, Some, Starts}
-use Rattle.vm_kernel.proofs.Common.{TaskId, Temp, Up, [], ap, arith, code_where, entered, entering, entries_in, entries_in_row, entries_of, entry_at}
-use Rattle.vm_kernel.proofs.Common.{eqb_tells, false, get_or, got, has_pager, head, holds, host_id, host_of, if◌then◌else◌, in_use, inl, inr, is_none, is_range}
-use Rattle.vm_kernel.proofs.Common.{is_ready, is_some, last_control, length, live_control, live_in, local, marks_of, meets_range, most_entries, named}
-use Rattle.vm_kernel.proofs.Common.{nat_tests, next_object, next_region, object_at, object_home, page_below, pages_in, paging, place_of, refl, region_at}
-use Rattle.vm_kernel.proofs.Common.{region_entries, region_pages, reverse, rows_in, slice_get, some_is, subst, sym, true, waiting, with_entries, ℕ, ◌&&◌}
-use Rattle.vm_kernel.proofs.Common.{◌+◌, ◌-◌, ◌/◌, ◌<◌, ◌==◌, ◌^◌, ◌||◌, ◌∙◌, ◌∷◌, ◌≡◌, ◌≤◌, ◌⊎◌}
+use Rattle.vm_kernel.proofs.Common.{Begins, Bool, ChainTable, ChangesOnly, Command, EachOf, Elsewhere, Entry, Event, HasControls, Header, Ids, IfSome, IsInside}
+use Rattle.vm_kernel.proofs.Common.{IsReferred, IsSome, List, MapChange, Mapped, Matches, None, ObjectId, ObjectRow, ObjectTable, Option, Outside, Parts, Plays}
+use Rattle.vm_kernel.proofs.Common.{PutsObject, PutsRegion, QueueIsStill, Ran, RegionRow, Rests, RunsNone, SameMarks, Shares, Some, Starts, TaskId, Temp, Up}
+use Rattle.vm_kernel.proofs.Common.{[], ap, arith, code_where, entered, entering, entries_in, entries_in_row, entries_of, entry_at, eqb_tells, false, get_or}
+use Rattle.vm_kernel.proofs.Common.{got, has_pager, has_region, head, holds, host_id, host_of, if◌then◌else◌, in_use, inl, inr, is_none, is_range, is_ready}
+use Rattle.vm_kernel.proofs.Common.{is_some, last_control, length, live_control, live_in, local, marks_of, meets_range, most_entries, named, nat_tests}
+use Rattle.vm_kernel.proofs.Common.{next_object, next_region, object_at, object_home, page_below, pages_in, paging, place_of, refl, region_at, region_entries}
+use Rattle.vm_kernel.proofs.Common.{region_pages, reverse, rows_in, slice_get, some_is, subst, sym, true, waiting, with_entries, ℕ, ◌&&◌, ◌+◌, ◌-◌, ◌/◌, ◌<◌}
+use Rattle.vm_kernel.proofs.Common.{◌==◌, ◌^◌, ◌||◌, ◌∙◌, ◌∷◌, ◌≡◌, ◌≤◌, ◌⊎◌}
 use Rattle.vm_kernel.proofs.space.RegionsFilled.{filled_temporary}
 use Rattle.vm_kernel.proofs.space.RegionRows.{region_row}
-use Rattle.std.proofs.Common.{nat_le, nat_lt, not, suc, zero}
+use Rattle.std.proofs.Common.{nat_le, nat_lt, not}
 use Rattle.std.proofs.lemmas.Bool.{not-false, or_parts}
 use Rattle.std.proofs.lemmas.List.{length-reverse}
 use Rattle.std.proofs.lemmas.Option.{slice_get_cases}
@@ -28,7 +28,7 @@ use Rattle.vm_objects.specs.declared.row.PagerState.{PagerState}
 use Rattle.vm_parts.specs.Changes.{one}
 use Rattle.vm_state.proofs.Declared.{IsWhole, whole_row}
 use Rattle.vm_state.proofs.Knowing.{known_put}
-use Rattle.vm_state.proofs.Referring.{refers_region, uncached_unreferred}
+use Rattle.vm_state.proofs.Referring.{refers_region}
 use Rattle.vm_state.specs.Places.{known_local}
 use Rattle.vm_state.specs.References.{is_over}
 use Rattle.vm_kernel.specs.Mapping.{Again, Begins as BeginsControl, First, Holds, IsOpen, Opens, declared_region, referred, shared_entry}
@@ -37,17 +37,17 @@ use Rattle.vm_kernel.proofs.controls.DeclaredRegion.{declared_references, map_en
 use Rattle.vm_kernel.proofs.steps.EventsGrow.{licensed, suffices}
 use Rattle.vm_kernel.proofs.steps.HeadAlone.{heads_one, ran_head}
 use Rattle.vm_legal.proofs.Heads.{passed}
-use Rattle.vm_kernel.proofs.memory.WhatIsKnown.{other_if, pages_known}
 use Rattle.vm_kernel.proofs.abroad.OwnEvents.{mine_of, own_named, own_task}
 use Rattle.vm_kernel.proofs.abroad.OwnHost.{lives_here, lives_in, named_host, own_host, rows_here}
 use Rattle.vm_kernel.proofs.memory.PagesShown.{itself}
 use Rattle.vm_kernel.proofs.lists.ListsAsTold.{lists_same, plays_both, plays_told}
-use Rattle.vm_kernel.proofs.memory.PageReturned.{pages_created, unasked}
 use Rattle.vm_kernel.proofs.space.ForkShares.{MayShare, few_entries, rests_shared}
 use Rattle.vm_kernel.proofs.controls.LockReplied.{replied_behind}
 use Rattle.vm_state.proofs.Bypassing.{waits_quiet}
 use Rattle.vm_state.proofs.Passing.{quiet_if}
 use Rattle.vm_kernel.proofs.controls.FlagsKept.{flags_put, flags_set}
+use Rattle.vm_kernel.proofs.controls.NextControl.{BeginsNext, beginning, begins_anew, controlled, pages_begun, rests_begun, uncached_row}
+use Rattle.vm_base.specs.declared.ids.HostId.{HostId}
 use Rattle.vm_kernel.proofs.space.RegionEnds.{controls_put}
 use Rattle.vm_legal.specs.Cached.{is_cached}
 use Rattle.vm_state.specs.Pagers.{cached_in}
@@ -59,6 +59,9 @@ use Rattle.vm_model.specs.declared.command.Command.TheVariants as command
 use Rattle.vm_model.specs.declared.event.Event.TheVariants as event
 use Rattle.vm_model.specs.declared.message.Message.TheVariants as message
 use Rattle.vm_objects.specs.declared.row.PagerState.TheVariants as state
+use Rattle.vm_kernel.specs.Begun.{IsLined}
+use Rattle.vm_kernel.proofs.controls.WordTaken.{calm_none}
+use Rattle.vm_legal.specs.Destroyed.{destroy_taken}
 
 -- what isn't elsewhere is here
 here_of : (a b : Bool) → (a && not b) ≡ false → a ≡ true → b ≡ true
@@ -144,10 +147,6 @@ found_entered new (row ∷ rows) some free =
     by true later = own new (row ∷ rows) some
     by false later = rw apart later
 
--- that a pager is told of an object
-abbrev pub beginning : ℕ → ObjectId → ℕ → ℕ → Event
-beginning h object control size = event.Sent (Up (host_id h) object) (message.Init control size)
-
 -- no control of the object lived
 pub was_dead : (header : Header) (h : ℕ) (past : List Event) (k : Parts) (ids : Ids) (object : ℕ) (new : ObjectRow) → Rests header h k ids past
     → BeginsAnew (object_at k.memory.objects object) new → live_control h object past ≡ None
@@ -184,28 +183,15 @@ map_opens header h task address bytes object offset new past k ids rests may ane
       region = refl;
     }
 
--- the pages show what they did, where a control begins of an object without one
-pages_opened : (header : Header) (h : ℕ) (task : TaskId) (row : Entry) (object : ObjectId) (control : ℕ) (past : List Event) (k : Parts) (ids : Ids)
-    → Rests header h k ids past → live_control h object.0 past ≡ None
-    → HasPages k.memory.frames k.memory.resident k.memory.objects (λ o p. known_local header o p
-    (local header h (place_of o p) (beginning h object control header.size ∷ got task row ∷ past)))
-pages_opened header h task row object control past k ids rests dead =
-    let before = got task row ∷ past in
-    rw (own_host h)
-    (pages_known header header.size (λ o p. if object.0 == o then Begins else Elsewhere) (λ o p. local header h (place_of o p) before)
-    (λ o p. other_if (object.0 == o) Begins tt)
-    (pages_created header.size k.memory.frames k.memory.resident k.memory.objects (λ o p. known_local header o p (local header h (place_of o p) before))
-    object.0 rests.matches.core.pages.shown (λ q. unasked header h object.0 q before dead)))
-
 -- the kernel behind both events
 pub rests_opened : (header : Header) (h : ℕ) (outside : Outside) (doing : Command) (task : TaskId) (address bytes : ℕ) (object : ObjectId) (offset pages : ℕ)
     (new : ObjectRow) (past : List Event) (k : Parts) (ids : Ids) (objects : ObjectTable) (chains : ChainTable) (maps : Mapped)
-    → Rests header h k ids past → MayMap header h k task.0 address bytes object offset past
+    → Rests header h k ids past → IsLined past → MayMap header h k task.0 address bytes object offset past
     → OpensDeclared header task (shared_entry address bytes object offset) object pages new k objects chains maps
     → BeginsAnew (object_at k.memory.objects object.0) new
     → Rests header h (with_declared k objects chains maps) ids (beginning h object new.control header.size ∷ got task (shared_entry address bytes object offset)
     ∷ past)
-rests_opened header h outside doing task address bytes object offset pages new past k ids objects chains maps rests may o anew =
+rests_opened header h outside doing task address bytes object offset pages new past k ids objects chains maps rests lined may o anew =
     let m = rests.matches in
     let enters = got task (shared_entry address bytes object offset) in
     let begins = beginning h object new.control header.size in
@@ -215,11 +201,12 @@ rests_opened header h outside doing task address bytes object offset pages new p
     rw (own_host h) (controls_opened header k.memory.objects objects (λ x. last_control h x past) (λ x. live_control h x past) (λ x. is_ready h x past) object.0
     new m.core.controls may.declared o.known.live anew o.put) in
     let flags : HasFlags (named header) objects (λ x. is_cached h x now) = rw (own_host h) (flags_set object.0 new false o.put anew.uncached m.core.flags) in
-    rests_declared now rests o
+    rests_declared now rests may.declared o
     (record {
       core = core_declared header h outside doing task address bytes object offset pages new past k ids objects chains maps (control_facts h now)
           (λ x p. known_local header x p (local header h (place_of x p) now)) rests may o controls flags
-          (pages_opened header h task (shared_entry address bytes object offset) object new.control past k ids rests
+          (calm_none h (named header) (λ x. live_control h x now) now (ap destroy_taken lined.is))
+          (pages_begun header h object new.control (enters ∷ past) k.memory.frames k.memory.resident k.memory.objects m.core.pages.shown
           (was_dead header h past k ids object.0 new rests anew));
       settled = record { none_owed = refl; shut = λ region. refl };
       replied = replied_behind tt (replied_behind tt m.replied);
@@ -239,13 +226,13 @@ pub rests_kept : (header : Header) (h : ℕ) (outside : Outside) (doing : Comman
 rests_kept header h outside doing task address bytes object offset pages new past k ids objects chains maps rests may o still =
     let m = rests.matches in
     let now = got task (shared_entry address bytes object offset) ∷ past in
-    rests_declared now rests o
+    rests_declared now rests may.declared o
     (record {
       core = core_declared header h outside doing task address bytes object offset pages new past k ids objects chains maps (control_facts h now)
           (λ x p. known_local header x p (local header h (place_of x p) now)) rests may o
           (controls_put object.0 still.row new k.memory.objects objects (λ x. last_control h x past) (λ x. live_control h x past) (λ x. is_ready h x past)
           still.found o.put (ap (λ z. z.control) still.same) (ap (λ z. z.live) still.same) (ap (λ z. z.state) still.same) m.core.controls)
-          (flags_put object.0 new o.put (ap cached_in still.found ∙ sym (ap (λ z. z.cache) still.same)) m.core.flags) m.core.pages.shown;
+          (flags_put object.0 new o.put (ap cached_in still.found ∙ sym (ap (λ z. z.cache) still.same)) m.core.flags) m.core.calm m.core.pages.shown;
       settled = record { none_owed = refl; shut = λ region. refl };
       replied = replied_behind tt m.replied;
     })
@@ -275,22 +262,6 @@ referred_row header h past k ids o row rests less free found =
     m.core.objects.regions m.core.objects.kinds m.core.spaces.homes.1 less (omega (arith, less, more)) in
     let none : one (is_over o (region_at k.chains o)) ≡ 0 = ap (λ z. one (is_over o z)) free in
     omega (arith, count, all, none)
-
--- and where no control of it lives it doesn't stay
-uncached_row : (header : Header) (h : ℕ) (past : List Event) (k : Parts) (ids : Ids) (o : ℕ) (row : ObjectRow) → Rests header h k ids past → o < named header
-    → object_at k.memory.objects o ≡ Some row → row.live ≡ false → row.cache ≡ false
-uncached_row header h past k ids o row rests less found dead =
-    uncached_unreferred rests.matches.core.objects.regions o row found (by row.references refl)
-  where
-    by : (n : ℕ) → row.references ≡ n → row.references ≡ 0
-    by zero is = is
-    by (suc n) is =
-        let lives = ((rests.matches.core.objects.kinds.kinds o row found).declared less).told (omega (arith, is)) in
-        absurd (let bad : true ≡ false = sym lives ∙ dead in cc)
-
--- the object, with its region, and with a control of that number that lives
-abbrev controlled : ℕ → PagerState → ObjectRow → ObjectRow
-controlled control pager row = record row { control = control; live = true; state = pager }
 
 becomes_known : (header : Header) (h : ℕ) (past : List Event) (k : Parts) (ids : Ids) (o : ℕ) (d : Declared) (control : ℕ) (pager : PagerState)
     → Rests header h k ids past → o < named header → declared header o ≡ Some d → region_at k.chains o ≡ None → has_pager pager ≡ true → 0 < control
@@ -379,10 +350,23 @@ was_quiet header h past k ids o d control rests less is free dead next few = (
           uncached = uncached_row header h past k ids o row rests less found quiet;
         }
 
--- its region was there, and a control of the object lives; or the region begins, and a control lives already or begins too
+-- its region refers to it
+some_refer : (header : Header) (h : ℕ) (past : List Event) (k : Parts) (ids : Ids) (o : ℕ) (known : ObjectRow) → Rests header h k ids past → o < named header
+    → has_region k.chains o ≡ true → object_at k.memory.objects o ≡ Some known → 0 < known.references
+some_refer header h past k ids o known rests less there found =
+    let m = rests.matches in
+    let region = region_row k.chains o there in
+    let whole = whole_row m.core.objects.regions m.core.spaces.homes.1 o region.0 less region.1 in
+    let refers = subst (λ (z : ℕ). IsReferred k.memory.objects z) whole.top (refers_region m.core.objects.regions o region.0 region.1) in
+    subst (λ (z : ObjectRow). 0 < z.references) (some_is refers.row known (sym refers.known ∙ found)) refers.some
+
+-- its region was there, and a control of the object lives, or begins; or the region begins, and a control lives already or begins too
 pub data MapsTo (header : Header) (h : ℕ) (task : TaskId) (row : Entry) (object : ObjectId) (past : List Event) (k k2 : Parts) (before after : List Event) :
     Type 0 where
   WasThere : (control : ℕ) → live_control h object.0 past ≡ Some control → IsInside header.size k.chains row → Shares task row k k2 before after
+      → MapsTo header h task row object past k k2 before after
+  WasEnded : (known : ObjectRow) (between : Parts) → IsInside header.size k.chains row → Shares task row k between before (got task row ∷ before)
+      → BeginsNext object known between k2 → after ≡ beginning h object (known.control + 1) header.size ∷ got task row ∷ before
       → MapsTo header h task row object past k k2 before after
   WasKept : (objects : ObjectTable) (chains : ChainTable) (maps : Mapped) (pages : ℕ) (new : ObjectRow)
       → OpensDeclared header task row object pages new k objects chains maps → LivesStill (object_at k.memory.objects object.0) new
@@ -404,6 +388,12 @@ puts_twice o x y old mid new first second =
             ∙ (first.at k ∙ (ap (λ b. if b then x else object_at old k) apart.0 ∙ sym (ap (λ b. if b then y else object_at old k) apart.0))))
       ];
     }
+
+-- what a pager is told
+begins_at : {h : ℕ} {host : HostId} {size own_size : ℕ} (object : ObjectId) (control : ℕ) (before : List Event) → host ≡ host_id h → size ≡ own_size
+    → event.Sent (Up host object) (message.Init control size) ∷ before ≡ beginning h object control own_size ∷ before
+begins_at {h = h} {size = size} object control before host same =
+    ap (λ z. event.Sent (Up z object) (message.Init control size) ∷ before) host ∙ ap (λ z. beginning h object control z ∷ before) same
 
 pub map_again : (header : Header) (h : ℕ) (task : TaskId) (address bytes : ℕ) (object : ObjectId) (offset : ℕ) (past : List Event) (k k2 k3 : Parts) (ids : Ids)
     (before mid after : List Event) (maps : Mapped) (region : RegionRow)
@@ -433,12 +423,6 @@ map_again header h task address bytes object offset past k k2 k3 ids before mid 
     there : object_at k.memory.objects object.0 ≡ Some refers.row
     there = refers.known
 
-    lives : refers.row.live ≡ true
-    lives = ((m.core.objects.kinds.kinds object.0 refers.row there).declared may.declared).told refers.some
-
-    alive : live_control h object.0 past ≡ Some refers.row.control
-    alive = m.core.controls.live object.0 ∙ (ap live_in there ∙ ap (λ b. if b then Some refers.row.control else None) lives)
-
     inside : IsInside header.size k.chains row
     inside =
         let count : region_pages k.chains object.0 ≡ declared_pages header object.0 = ap pages_in found ∙ whole.pages in
@@ -458,26 +442,34 @@ map_again header h task address bytes object offset past k k2 k3 ids before mid 
     counted : with_entries (region_entries k.chains object.0 + 1) (region_at k.chains object.0) ≡ Some (record region { entries = region.entries + 1 })
     counted = ap (λ z. with_entries (entries_in_row z + 1) z) found
 
-    by : Opens object refers.row (record k2 { maps = maps }) k3 mid after → MapsTo header h task row object past k k3 before after
+    between : Parts
+    between = record k2 { maps = maps }
+
+    shares : Shares task row k between before (got task row ∷ before)
+    shares = record {
+      host = ap (λ (z : Parts). z.host) same;
+      size = ap (λ (z : Parts). z.size) same;
+      declared = ap (λ (z : Parts). z.declared) same;
+      memory = ap (λ (z : Parts). z.memory) same;
+      laundry = ap (λ (z : Parts). z.laundry) same;
+      waits = ap (λ (z : Parts). z.waits) same;
+      maps = subst (λ (z : Mapped). ChangesOnly z maps task.0 (Some (entered row (rows_in task.0 z)))) (ap (λ (z : Parts). z.maps) same) changes;
+      counts = subst (λ (z : Option RegionRow). PutsRegion object.0 z k.chains k2.chains) (sym counted) put;
+      told = refl;
+    }
+
+    by : Opens object refers.row between k3 mid after → MapsTo header h task row object past k k3 before after
     by (IsOpen live is still) =
-        WasThere refers.row.control alive inside
-        (record {
-          host = ap (λ (z : Parts). z.host) is ∙ ap (λ (z : Parts). z.host) same;
-          size = ap (λ (z : Parts). z.size) is ∙ ap (λ (z : Parts). z.size) same;
-          declared = ap (λ (z : Parts). z.declared) is ∙ ap (λ (z : Parts). z.declared) same;
-          memory = ap (λ (z : Parts). z.memory) is ∙ ap (λ (z : Parts). z.memory) same;
-          laundry = ap (λ (z : Parts). z.laundry) is ∙ ap (λ (z : Parts). z.laundry) same;
-          waits = ap (λ (z : Parts). z.waits) is ∙ ap (λ (z : Parts). z.waits) same;
-          maps =
-              subst (λ (z : Mapped). ChangesOnly k.maps z task.0 (Some (entered row (rows_in task.0 k.maps)))) (sym (ap (λ (z : Parts). z.maps) is))
-              (subst (λ (z : Mapped). ChangesOnly z maps task.0 (Some (entered row (rows_in task.0 z)))) (ap (λ (z : Parts). z.maps) same) changes);
-          counts =
-              subst (λ (z : ChainTable). PutsRegion object.0 (with_entries (region_entries k.chains object.0 + 1) (region_at k.chains object.0)) k.chains z)
-              (sym (ap (λ (z : Parts). z.chains) is))
-              (subst (λ (z : Option RegionRow). PutsRegion object.0 z k.chains k2.chains) (sym counted) put);
-          told = still ∙ told;
-        })
-    by (BeginsControl dead second marks few is still) = absurd (let bad : true ≡ false = sym lives ∙ dead in cc)
+        WasThere refers.row.control
+        (m.core.controls.live object.0 ∙ (ap live_in there ∙ ap (λ b. if b then Some refers.row.control else None) live)) inside
+        (subst (λ (z : Parts). Shares task row k z before after) (sym is)
+        (subst (λ (z : List Event). Shares task row k between before z) (sym (still ∙ told)) shares))
+    by (BeginsControl dead second marks few is says) =
+        let host : k2.host ≡ host_id h = ap (λ (z : Parts). z.host) same ∙ named_host k.host h m.core.setting.numbered in
+        let size : k2.size ≡ header.size = ap (λ (z : Parts). z.size) same ∙ m.core.setting.sized in
+        let known = ap (λ (z : Parts). object_at z.memory.objects object.0) same ∙ there in
+        WasEnded refers.row between inside shares (record { found = known; dead = dead; put = second; marks = marks; few = few; same = is })
+        (says ∙ begins_at object (refers.row.control + 1) mid host size ∙ ap (λ z. beginning h object (refers.row.control + 1) header.size ∷ z) told)
 
 pub map_first : (header : Header) (h : ℕ) (task : TaskId) (address bytes : ℕ) (object : ObjectId) (offset : ℕ) (d : Declared) (past : List Event)
     (k k2 k3 : Parts) (ids : Ids) (before mid after : List Event) (maps : Mapped)
@@ -530,9 +522,7 @@ map_first header h task address bytes object offset d past k k2 k3 ids before mi
         (puts_twice object.0 (Some now) (Some new) k.memory.objects k2.memory.objects k3.memory.objects known second)
         (record { at = λ o p. marks2.at o p ∙ marks.at o p })) was.1
         (is ∙ ap (λ (z : Parts). record z { maps = maps; memory = record (z.memory) { objects = k3.memory.objects }; chains = k2.chains }) same)
-        (says
-        ∙ (ap (λ z. event.Sent (Up z object) (message.Init (now.control + 1) k2.size) ∷ mid) host
-        ∙ (ap (λ z. beginning h object (now.control + 1) z ∷ mid) size ∙ ap (λ z. beginning h object (now.control + 1) header.size ∷ z) told)))
+        (says ∙ begins_at object (now.control + 1) mid host size ∙ ap (λ z. beginning h object (now.control + 1) header.size ∷ z) told)
 
 -- the region of the declared object is held
 pub holds_is : (header : Header) (h : ℕ) (task : TaskId) (address bytes : ℕ) (object : ObjectId) (offset : ℕ) (past : List Event) (k k2 : Parts) (ids : Ids)
@@ -599,45 +589,17 @@ ran_entered header h outside task address bytes object offset past k k2 ids befo
     }))
     tt rests)
 
-pub ran_map : (header : Header) (h : ℕ) (outside : Outside) (task : TaskId) (address bytes : ℕ) (object : ObjectId) (offset : ℕ) (past : List Event)
-    (k k2 : Parts) (ids : Ids) (before after : List Event) → Starts header h (command.Map task address bytes object offset) past k ids before
-    → MapsTo header h task (shared_entry address bytes object offset) object past k k2 before after
+-- the entry, and that a control begins
+ran_begun : (header : Header) (h : ℕ) (outside : Outside) (task : TaskId) (address bytes : ℕ) (object : ObjectId) (offset : ℕ) (past : List Event)
+    (k k2 : Parts) (ids : Ids) (before after : List Event) (new : ObjectRow)
+    → Starts header h (command.Map task address bytes object offset) past k ids before → BeginsAnew (object_at k.memory.objects object.0) new
+    → after ≡ beginning h object new.control header.size ∷ got task (shared_entry address bytes object offset) ∷ before
+    → Rests header h k2 ids (beginning h object new.control header.size ∷ got task (shared_entry address bytes object offset) ∷ past)
     → Ran header h outside (command.Map task address bytes object offset) past k2 ids after
-ran_map header h outside task address bytes object offset past k k2 ids before after s (WasThere control alive inside shares) =
-    let m = s.rests.matches in
-    let row = shared_entry address bytes object offset in
-    let may = may_map header h task address bytes object offset past k ids before s in
-    let there = region_row k.chains object.0 inside.region in
-    let counted : 0 < region_entries k.chains object.0 = elim (s.rests.used.regions object.0 there.0 there.1) [
-      | inl some ↦ subst (λ (z : ℕ). 0 < z) (sym (ap entries_in_row there.1)) some
-      | inr filled ↦ let least =
-          filled_temporary object.0 s.rests.used.copies m.core.spaces.homes.1 filled in let less = may.declared in absurd (omega (arith, least, less))
-    ] in
-    let share : MayShare header task.0 row past k = record {
-      counted = counted;
-      lives = may.lives;
-      idle = may.idle;
-      free = may.judged;
-      pages = may.pages;
-      inside = inside;
-      shared = λ less same. let bad : inherit.Share ≡ inherit.Copy = same in cc;
-    } in
-    ran_entered header h outside task address bytes object offset past k k2 ids before after control s alive shares.told
-    (rests_shared header h outside (command.Map task address bytes object offset) task row past k k2 ids before after s.rests share shares)
-ran_map header h outside task address bytes object offset past k k2 ids before after s (WasKept objects chains maps pages new o still same told) =
-    let doing = command.Map task address bytes object offset in
-    let row = shared_entry address bytes object offset in
-    let may = may_map header h task address bytes object offset past k ids before s in
-    let alive : live_control h object.0 past ≡ Some still.row.control = s.rests.matches.core.controls.live object.0
-    ∙ (ap live_in still.found ∙ ap (λ b. if b then Some still.row.control else None) still.lives) in
-    ran_entered header h outside task address bytes object offset past k k2 ids before after still.row.control s alive told
-    (subst (λ (z : Parts). Rests header h z ids (got task row ∷ past)) (sym same)
-    (rests_kept header h outside doing task address bytes object offset pages new past k ids objects chains maps s.rests may o still))
-ran_map header h outside task address bytes object offset past k k2 ids before after s (IsMade objects chains maps pages new o anew same told) =
+ran_begun header h outside task address bytes object offset past k k2 ids before after new s anew told rests =
     let m = s.rests.matches in
     let doing = command.Map task address bytes object offset in
-    let row = shared_entry address bytes object offset in
-    let enters = got task row in
+    let enters = got task (shared_entry address bytes object offset) in
     let begins = beginning h object new.control header.size in
     let may = may_map header h task address bytes object offset past k ids before s in
     let log : after ≡ begins ∷ enters ∷ [] = told ∙ ap (λ z. begins ∷ enters ∷ z) s.nothing in
@@ -647,8 +609,8 @@ ran_map header h outside task address bytes object offset past k k2 ids before a
     ∙ (ap (λ z. Some (enters ∷ opening h object (last_control h object.0 past + 1) header.size z)) (was_dead header h past k ids object.0 new s.rests anew)
     ∙ ap (λ z. Some (enters ∷ beginning h object z header.size ∷ [])) number) in
     let fine = suffices header h k.memory.frames past m.core.pages.counted in
-    let ran : Ran header h outside doing past (with_declared k objects chains maps) ids (begins ∷ enters ∷ []) =
-    ran_head header h outside doing past (with_declared k objects chains maps) ids (begins ∷ enters ∷ []) (enters ∷ begins ∷ []) is refl
+    subst (λ (z : List Event). Ran header h outside doing past k2 ids z) (sym log)
+    (ran_head header h outside doing past k2 ids (begins ∷ enters ∷ []) (enters ∷ begins ∷ []) is refl
     (record {
       licensed = (
         licensed header outside doing begins (enters ∷ past) refl (map_opens header h task address bytes object offset new past k ids s.rests may anew),
@@ -663,15 +625,76 @@ ran_map header h outside task address bytes object offset past k k2 ids before a
         (mine_of header h enters past m.settled.shut (own_task h task.0 past s.acts) tt, tt),
       );
     })
-    tt (rests_opened header h outside doing task address bytes object offset pages new past k ids objects chains maps s.rests may o anew) in
-    subst (λ (z : List Event). Ran header h outside doing past k2 ids z) (sym log)
-    (subst (λ (z : Parts). Ran header h outside doing past z ids (begins ∷ enters ∷ [])) (sym same) ran)
+    tt rests)
+
+-- the region that was there may count one entry more
+may_share : (header : Header) (h : ℕ) (task : TaskId) (address bytes : ℕ) (object : ObjectId) (offset : ℕ) (past : List Event) (k : Parts) (ids : Ids)
+    → Rests header h k ids past → MayMap header h k task.0 address bytes object offset past
+    → IsInside header.size k.chains (shared_entry address bytes object offset)
+    → MayShare header task.0 (shared_entry address bytes object offset) past k
+may_share header h task address bytes object offset past k ids rests may inside =
+    let there = region_row k.chains object.0 inside.region in
+    record {
+      counted = elim (rests.used.regions object.0 there.0 there.1) [
+        | inl some ↦ subst (λ (z : ℕ). 0 < z) (sym (ap entries_in_row there.1)) some
+        | inr filled ↦
+            let least = filled_temporary object.0 rests.used.copies rests.matches.core.spaces.homes.1 filled in
+            let less = may.declared in
+            absurd (omega (arith, least, less))
+      ];
+      lives = may.lives;
+      idle = may.idle;
+      free = may.judged;
+      pages = may.pages;
+      inside = inside;
+      shared = λ less same. let bad : inherit.Share ≡ inherit.Copy = same in cc;
+    }
+
+pub ran_map : (header : Header) (h : ℕ) (outside : Outside) (task : TaskId) (address bytes : ℕ) (object : ObjectId) (offset : ℕ) (past : List Event)
+    (k k2 : Parts) (ids : Ids) (before after : List Event) → Starts header h (command.Map task address bytes object offset) past k ids before
+    → MapsTo header h task (shared_entry address bytes object offset) object past k k2 before after
+    → Ran header h outside (command.Map task address bytes object offset) past k2 ids after
+ran_map header h outside task address bytes object offset past k k2 ids before after s (WasThere control alive inside shares) =
+    let may = may_map header h task address bytes object offset past k ids before s in
+    let share = may_share header h task address bytes object offset past k ids s.rests may inside in
+    ran_entered header h outside task address bytes object offset past k k2 ids before after control s alive shares.told
+    (rests_shared header h outside (command.Map task address bytes object offset) task (shared_entry address bytes object offset) past k k2 ids before after
+    s.rests share shares)
+ran_map header h outside task address bytes object offset past k k2 ids before after s (WasEnded known between inside shares next told) =
+    let row = shared_entry address bytes object offset in
+    let may = may_map header h task address bytes object offset past k ids before s in
+    let share = may_share header h task address bytes object offset past k ids s.rests may inside in
+    let found : object_at k.memory.objects object.0 ≡ Some known = ap (λ z. object_at z.objects object.0) (sym shares.memory) ∙ next.found in
+    let anew = begins_anew header h past k ids object known s.rests may.declared found next.dead next.few in
+    let middle = rests_shared header h outside (command.Map task address bytes object offset) task row past k between ids before (got task row ∷ before) s.rests
+    share shares in
+    ran_begun header h outside task address bytes object offset past k k2 ids before after (controlled (known.control + 1) state.Sent known) s anew told
+    (rests_begun header h object known (got task row ∷ past) between k2 ids middle may.declared
+    (some_refer header h past k ids object.0 known s.rests may.declared inside.region found) next (ap destroy_taken s.begins.is))
+ran_map header h outside task address bytes object offset past k k2 ids before after s (WasKept objects chains maps pages new o still same told) =
+    let doing = command.Map task address bytes object offset in
+    let row = shared_entry address bytes object offset in
+    let may = may_map header h task address bytes object offset past k ids before s in
+    let alive : live_control h object.0 past ≡ Some still.row.control = s.rests.matches.core.controls.live object.0
+    ∙ (ap live_in still.found ∙ ap (λ b. if b then Some still.row.control else None) still.lives) in
+    ran_entered header h outside task address bytes object offset past k k2 ids before after still.row.control s alive told
+    (subst (λ (z : Parts). Rests header h z ids (got task row ∷ past)) (sym same)
+    (rests_kept header h outside doing task address bytes object offset pages new past k ids objects chains maps s.rests may o still))
+ran_map header h outside task address bytes object offset past k k2 ids before after s (IsMade objects chains maps pages new o anew same told) =
+    let doing = command.Map task address bytes object offset in
+    let may = may_map header h task address bytes object offset past k ids before s in
+    ran_begun header h outside task address bytes object offset past k k2 ids before after new s anew told
+    (subst (λ (z : Parts). Rests header h z ids (beginning h object new.control header.size ∷ got task (shared_entry address bytes object offset) ∷ past))
+    (sym same) (rests_opened header h outside doing task address bytes object offset pages new past k ids objects chains maps s.rests s.begins may o anew))
 
 -- it leaves the lists of pages
 pub plays_map : {header : Header} {h : ℕ} {task : TaskId} {row : Entry} {object : ObjectId} {past : List Event} {k k2 : Parts} {before after : List Event}
     → MapsTo header h task row object past k k2 before after → Plays header past before (paging k) after (paging k2)
 plays_map {k = k} {k2 = k2} (WasThere control alive inside shares) =
     plays_told shares.told (lists_same k k2 (ap (λ z. z.resident) shares.memory) (ap (λ z. z.queues) shares.memory))
+plays_map {k = k} {k2 = k2} (WasEnded known between inside shares next told) =
+    plays_both (plays_told shares.told (lists_same k between (ap (λ z. z.resident) shares.memory) (ap (λ z. z.queues) shares.memory)))
+    (plays_told told (lists_same between k2 (ap (λ (z : Parts). z.memory.resident) next.same) (ap (λ (z : Parts). z.memory.queues) next.same)))
 plays_map {k = k} {k2 = k2} (WasKept objects chains maps pages new o still same told) =
     plays_told told (lists_same k k2 (ap (λ (z : Parts). z.memory.resident) same) (ap (λ (z : Parts). z.memory.queues) same))
 plays_map {k = k} {k2 = k2} (IsMade objects chains maps pages new o anew same told) =
@@ -683,6 +706,11 @@ pub quiet_map : {header : Header} {h : ℕ} {task : TaskId} {row : Entry} {objec
     → MapsTo header h task row object past k k2 before after → QueueIsStill k.waits.queue k2.waits.queue before after
 quiet_map (WasThere control alive inside shares) =
     record { queue = ap (λ z. z.queue) shares.waits; none = λ none. subst (EachOf RunsNone) (sym shares.told) (tt, none) }
+quiet_map (WasEnded known between inside shares next told) =
+    record {
+      queue = ap (λ (z : Parts). z.waits.queue) next.same ∙ ap (λ z. z.queue) shares.waits;
+      none = λ none. subst (EachOf RunsNone) (sym told) (tt, (tt, none));
+    }
 quiet_map (WasKept objects chains maps pages new o still same told) =
     record { queue = ap (λ (z : Parts). z.waits.queue) same; none = λ none. subst (EachOf RunsNone) (sym told) (tt, none) }
 quiet_map (IsMade objects chains maps pages new o anew same told) =

@@ -23,7 +23,7 @@ use Rattle.vm_state.proofs.Going.{one_other, one_own}
 use Rattle.vm_state.proofs.Knowing.{counts_still, known_cases, known_put, known_still, put_else, put_here, referred_other, unknown_still}
 use Rattle.vm_state.proofs.Tallies.{tally_none, tally_put, tally_same}
 use Rattle.vm_state.proofs.Told.{told_all, waits_told}
-use Rattle.vm_state.specs.References.{is_backing, is_over, references_to, tally}
+use Rattle.vm_state.specs.References.{is_backing, is_over, is_temporary_in, is_temporary_kind, references_to, tally}
 use Rattle.vm_kernel.specs.Mapping.{Again, Holds, referred, shared_entry}
 use Rattle.vm_kernel.proofs.space.EntriesCounted.{by_none, most_is, none_on, on_entered, one_on}
 use Rattle.vm_kernel.proofs.space.RegionRows.{apart_there, none_leads}
@@ -40,7 +40,7 @@ use Rattle.vm_legal.specs.Licences.{is_paged}
 use Rattle.vm_model.specs.Homes.{first_of}
 use Rattle.vm_objects.specs.declared.row.PagerState.{PagerState}
 use Rattle.vm_state.proofs.Places.{keeps_made}
-use Rattle.vm_state.proofs.Referred.{referred_put}
+use Rattle.vm_state.proofs.Referred.{StaysServed, referred_put}
 use Rattle.vm_kernel.proofs.space.StillThin.{keeps_same, thin_paged}
 use Rattle.vm_state.proofs.Waited.{told_changed, waits_changed}
 use Rattle.vm_kernel.proofs.space.RegionCopied.{file_of, no_row}
@@ -52,7 +52,7 @@ use Rattle.vm_kernel.proofs.space.SharedEntries.{shared_entered}
 use Rattle.vm_kernel.proofs.space.RegionsInUse.{holds_rows, uses_entered}
 use Rattle.vm_kernel.proofs.space.RegionHomes.{homes_caused, homes_put}
 use Rattle.vm_state.specs.Stands.{HasFlags}
-use Rattle.vm_kernel.specs.Matches.{ControlFacts, Core, HasOrder, HasWaits, UsesAll, memory_facts, space_facts}
+use Rattle.vm_kernel.specs.Matches.{ControlFacts, Core, HasOrder, HasWaits, IsCalm, UsesAll, memory_facts, space_facts}
 use Rattle.vm_model.specs.Local.{Local}
 use Rattle.vm_model.specs.Regions.{object_pages as pages_told}
 use Rattle.vm_objects.specs.declared.row.PagerState.TheVariants as state
@@ -232,7 +232,7 @@ kinds_declared header o new pages cs cs2 os os2 declared known put putting marks
       declared = λ less. record {
         kind = known.kind;
         pages = known.pages;
-        told = λ some. known.live;
+        told = λ tame some. known.live;
         number = known.number;
       };
     })
@@ -469,10 +469,11 @@ pub core_declared : (header : Header) (h : ℕ) (outside : Outside) (doing : Com
     (local_at : ℕ → ℕ → Local) → Rests header h k ids past → MayMap header h k task.0 address bytes object offset past
     → OpensDeclared header task (shared_entry address bytes object offset) object pages new k objects chains maps
     → HasControls (named header) h objects c.last c.live c.ready (λ x. object_home x past) → HasFlags (named header) objects c.cached
-    → HasPages k.memory.frames k.memory.resident k.memory.objects local_at
+    → IsCalm (named header) c.live c.destroyed → HasPages k.memory.frames k.memory.resident k.memory.objects local_at
     → Core header h (with_declared k objects chains maps) ids [] (space_facts header (got task (shared_entry address bytes object offset) ∷ past)) c
     (record (memory_facts header h past) { seen = local_at })
-core_declared header h outside doing task address bytes object offset pages new past k ids objects chains maps c local_at rests may o controls flags shown =
+core_declared header h outside doing task address bytes object offset pages new past k ids objects chains maps c local_at rests may o controls flags calm
+    shown =
     let m = rests.matches in
     let size = header.size in
     let row = shared_entry address bytes object offset in
@@ -485,6 +486,7 @@ core_declared header h outside doing task address bytes object offset pages new 
     let used = λ (paged : is_paged header object.0 ≡ true). may.used (file_of header object.0 may.declared paged) in
     record {
       setting = m.core.setting;
+      calm = calm;
       fits = record {
         parts = fit_declared header k.memory objects k.chains object.0 new m.core.fits.parts rests.referred o.known o.put;
         plain = m.core.fits.plain;
@@ -577,19 +579,29 @@ used_mapped header h task address bytes object offset pages new past k ids objec
           (declared_unfilled object.0 rests.used m.core.spaces.homes.1 m.core.objects.kinds may.declared)) (rows_unmade k.chains k.memory.resident);
     }
 
+-- it has a control where it had one, and isn't temporary memory
+serves_declared : {header : Header} {o : ℕ} {new : ObjectRow} {os : ObjectTable} {cs : ChainTable} → o < named header
+    → BecomesKnown header o (object_at os o) new → HasKinds header os cs → StaysServed os o new
+serves_declared {o = o} {new = new} {os = os} less known kinds =
+    record { live = λ lives. known.live; kind = λ temporary. by (object_at os o) refl temporary }
+  where
+    by : (was : Option ObjectRow) → object_at os o ≡ was → is_temporary_in was ≡ true → is_temporary_kind new.kind ≡ true
+    by None found is = absurd (let bad : false ≡ true = is in cc)
+    by (Some row) found is = ap is_temporary_kind (known.kind ∙ sym ((kinds.kinds o row found).declared less).kind) ∙ is
+
 -- something refers to each object in use still, and none can be merged
 pub rests_declared : {header : Header} {h : ℕ} {task : TaskId} {row : Entry} {object : ObjectId} {pages : ℕ} {new : ObjectRow} {past : List Event} {k : Parts}
-    {ids : Ids} {objects : ObjectTable} {chains : ChainTable} {maps : Mapped} (now : List Event) → Rests header h k ids past
+    {ids : Ids} {objects : ObjectTable} {chains : ChainTable} {maps : Mapped} (now : List Event) → Rests header h k ids past → object.0 < named header
     → OpensDeclared header task row object pages new k objects chains maps
     → Matches header h (with_declared k objects chains maps) ids [] now → UsesAll header (with_declared k objects chains maps) now
     → HasWaits header h (with_declared k objects chains maps) woken.Nobody now → HasOrder k now → Rests header h (with_declared k objects chains maps) ids now
-rests_declared {object = object} {pages = pages} {new = new} {k = k} {objects = objects} {chains = chains} now rests o matches used waits order =
+rests_declared {object = object} {pages = pages} {new = new} {k = k} {objects = objects} {chains = chains} now rests declared o matches used waits order =
     record {
       matches = matches;
       used = used;
       referred =
           referred_put object.0 new object.0 (Some (own_region object pages)) k.chains chains k.memory.objects objects k.memory.resident o.region o.put
-          (let some = o.known.references in omega (arith, some)) (λ is. o.known.live) rests.referred;
+          (let some = o.known.references in omega (arith, some)) (serves_declared declared o.known rests.matches.core.objects.kinds) rests.referred;
       thin =
           thin_paged object.0 new k.chains chains k.memory.objects objects (keeps_same k.chains chains (λ x. ap (λ f. f x) o.region.shadows))
           (λ never. let number = o.known.number in omega (arith, number, never)) o.put rests.thin;

@@ -1,8 +1,8 @@
 -- A declared object stays on its host without an entry from now on, or no more: its row has another flag, which counts as a reference.
-use Rattle.vm_kernel.proofs.Common.{Bool, EndsObject, Event, Header, Ids, IsPagerTold, ObjectId, ObjectRow, ObjectTable, Parts, PutsObject, SameMarks, Some}
-use Rattle.vm_kernel.proofs.Common.{Temp, Woken, Works, ap, arith, eqb_tells, false, inl, inr, is_woken, named, object_at, one_case, ready_in, refl, some_is}
-use Rattle.vm_kernel.proofs.Common.{subst, sym, waiting, ℕ, ◌+◌, ◌<◌, ◌∙◌, ◌≡◌, List, ◌⊎◌, ◌-◌, Matches, HasWaits, [], next_region, next_object, Option, not}
-use Rattle.vm_kernel.proofs.Common.{◌^◌, true, IsWhole, shadow_at, ShadowRow, marks_of, region_at}
+use Rattle.vm_kernel.proofs.Common.{Bool, EndsObject, Event, HasWaits, Header, Ids, IsPagerTold, IsWhole, List, Matches, ObjectId, ObjectRow, ObjectTable}
+use Rattle.vm_kernel.proofs.Common.{Option, Parts, PutsObject, SameMarks, ShadowRow, Some, Temp, Woken, Works, [], ap, arith, eqb_tells, false, inl, inr}
+use Rattle.vm_kernel.proofs.Common.{is_woken, marks_of, named, next_object, next_region, not, object_at, one_case, ready_in, refl, region_at, shadow_at}
+use Rattle.vm_kernel.proofs.Common.{some_is, subst, sym, true, waiting, ℕ, ◌+◌, ◌-◌, ◌<◌, ◌^◌, ◌∙◌, ◌≡◌, ◌⊎◌}
 use Rattle.vm_kernel.proofs.controls.DeclaredKinds.{declared_kind}
 use Rattle.vm_kernel.proofs.controls.WordTaken.{works_flagged}
 use Rattle.vm_kernel.proofs.memory.CoreChanges.{pages_known_so}
@@ -20,7 +20,7 @@ use Rattle.vm_state.specs.Pagers.{cached_in}
 use Rattle.vm_state.specs.Stands.{HasFlags}
 use Rattle.vm_state.specs.References.{references_to, is_over}
 use Rattle.vm_state.proofs.Knowing.{known_put}
-use Rattle.vm_kernel.specs.Sweeping.{IsKnownToPager, LeavesLoser}
+use Rattle.vm_kernel.specs.Sweeping.{LeavesLoser}
 use mathlib.Core.Bool.{beq}
 use Rattle.std.specs.Prelude.{IsSome, IfSome, None}
 use Rattle.vm_base.specs.Listing.{Listed}
@@ -116,14 +116,15 @@ module _ {header : Header} {h : ℕ} {k : Parts} {ids : Ids} {who : Woken} {obje
       record {
         core = record {
           setting = core.setting;
+          calm = core.calm;
           fits = fits_known to.found is.put refl core.fits;
           spaces = core.spaces;
           objects = record {
             regions =
                 regions_flagged object.0 left cache to.known k.chains k.memory.objects objects ids _ _ _ _ _ to.found is.put left_is
                 (core.spaces.homes.1.bare object.0 is.declared) core.objects.regions;
-            kinds = kinds_flagged header object.0 left cache to.known k.memory.objects objects k.chains is.declared to.found is.put is.marks (λ some. to.live)
-                core.objects.kinds;
+            kinds = kinds_flagged header object.0 left cache to.known k.memory.objects objects k.chains is.declared to.found is.put is.marks
+                (λ tame some. to.live) core.objects.kinds;
             files = files_put header h object.0 to.known now k.memory.objects objects _ to.found is.put core.objects.files;
             sizes = sizes_put (named header) object.0 to.known now k.memory.objects objects _ to.found refl is.put core.objects.sizes;
           };
@@ -164,15 +165,10 @@ module _ {header : Header} {h : ℕ} {k : Parts} {ids : Ids} {who : Woken} {obje
     referred = but_flagged object.0 left cache to.known k.chains k.memory.objects objects k.memory.resident to.found is.put to.works.referred;
   }
 
-  -- its pager knows it
-  pub knows : IsKnownToPager header objects object.0
-  knows known found declared =
-      ap (λ z. z.live) (some_is known now (sym found ∙ known_put object.0 now k.memory.objects objects is.put)) ∙ to.live
-
 -- what the calls leave of the row
 
 -- a row is put twice
-puts_both : (o : ℕ) (x y : Option ObjectRow) (os mid os2 : ObjectTable) → PutsObject o x os mid → PutsObject o y mid os2 → PutsObject o y os os2
+pub puts_both : (o : ℕ) (x y : Option ObjectRow) (os mid os2 : ObjectTable) → PutsObject o x os mid → PutsObject o y mid os2 → PutsObject o y os os2
 puts_both o x y os mid os2 one two = record {
   at = λ z. two.at z ∙ elim (eqb_tells o z) [
     | inl this ↦ rw this.0 refl
@@ -180,7 +176,7 @@ puts_both o x y os mid os2 one two = record {
   ];
 }
 
-marks_both : (os mid os2 : ObjectTable) → SameMarks os mid → SameMarks mid os2 → SameMarks os os2
+pub marks_both : (os mid os2 : ObjectTable) → SameMarks os mid → SameMarks mid os2 → SameMarks os os2
 marks_both os mid os2 one two = record { at = λ o p. two.at o p ∙ one.at o p }
 
 differ : (a b : Bool) → beq a b ≡ false → a ≡ not b

@@ -1,5 +1,5 @@
 -- A lock request that a host took is done, and paid.
-use Rattle.vm_kernel.proofs.Common.{AllInner, Bool, Command, Event, Fit, FailsNow, Header, HostId, HostParts, Ids, IsAbsencePaid, IsBrought, LaundryList}
+use Rattle.vm_kernel.proofs.Common.{AllInner, Bool, Command, Event, FailsNow, Fit, Header, HostId, HostParts, Ids, IsAbsencePaid, IsBrought, LaundryList}
 use Rattle.vm_kernel.proofs.Common.{LegalEvents, List, Message, None, ObjectId, ObjectRow, Option, Outside, PageNo, Parts, Plays, Rests, RunsNoneYet, Some}
 use Rattle.vm_kernel.proofs.Common.{Still, Works, [], absence_more, ap, append_assoc, arith, eqb_tells, error_more, false, host_id, if◌then◌else◌, inl, inr}
 use Rattle.vm_kernel.proofs.Common.{is_control, live_in, no_request, object_at, paging, refl, returns_out, some_is, subst, sym, true, ℕ, ◌++◌, ◌<◌, ◌∙◌, ◌∷◌}
@@ -118,7 +118,7 @@ heeds_dead header h outside doing k ids past object control page count returns f
     record {
       works =
           works_flagged
-          (heard_works header h k ids woken.Nobody k.memory past now rests (stays_heard header h k ids past object control m rests none)
+          (heard_works header h k ids woken.Nobody k.memory past now rests (stays_heard header h k ids past object control m rests (none, refl))
           rests.matches.core.fits.parts
           refl (changed_none header h k ids past object control m rests (nothing_dead header h object control m past dead_now))) (λ o less. refl);
       fails = refl;

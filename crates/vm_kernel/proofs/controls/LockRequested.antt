@@ -1,10 +1,10 @@
 -- A lock request is taken: what the kernel stands for, once its rows are as they will be, and those are to be run again that wait for unlocks under it.
 use Rattle.vm_kernel.proofs.memory.CoreChanges.{spaces_refilled}
 use Rattle.vm_kernel.proofs.Common.{Bool, Elsewhere, Event, Fit, FrameTable, HasLaundry, HasPages, HasWaiters, Header, Ids, LaundryList, List, Local}
-use Rattle.vm_kernel.proofs.Common.{LocalEffect, Mapped, None, ObjectId, ObjectRow, On, Option, PageKey, PageNo, PageRow, Parts, Reason, ResidentTable}
-use Rattle.vm_kernel.proofs.Common.{Rests, Some, TakesLock, WaitTable, Waiting, Want, absent_at, ap, entry, eqb_tells, false, if◌then◌else◌, inl, inr}
-use Rattle.vm_kernel.proofs.Common.{is_control, is_woken, live_control, local, local_after, local_of_row, map, not, object_at, owner_of, page_key, place_of}
-use Rattle.vm_kernel.proofs.Common.{refl, row_at, subst, sym, true, waiting, ℕ, ◌&&◌, ◌<◌, ◌==◌, ◌||◌, ◌∙◌, ◌∷◌, ◌≡◌, ◌⊎◌}
+use Rattle.vm_kernel.proofs.Common.{LocalEffect, Mapped, None, ObjectId, ObjectRow, On, Option, PageKey, PageNo, PageRow, Parts, Reason, ResidentTable, Rests}
+use Rattle.vm_kernel.proofs.Common.{Some, TakesLock, WaitTable, Waiting, Want, absent_at, ap, entry, eqb_tells, false, if◌then◌else◌, inl, inr, is_control}
+use Rattle.vm_kernel.proofs.Common.{is_woken, live_control, local, local_after, local_of_row, map, not, object_at, owner_of, page_key, place_of, refl, row_at}
+use Rattle.vm_kernel.proofs.Common.{subst, sym, true, waiting, ℕ, ◌&&◌, ◌<◌, ◌==◌, ◌||◌, ◌∙◌, ◌∷◌, ◌≡◌, ◌⊎◌}
 use Rattle.vm_state.proofs.Filling.{KeepsAway, away_back, fills_waked, used_away, used_waked}
 use Rattle.vm_waits.specs.Waits.{Waked}
 use Rattle.std.specs.Prelude.{nat_le, nat_lt, option_map, ◌+◌}
@@ -338,6 +338,7 @@ mid_taken header h k ids past object control page count returns lock flush reply
       runs = record {
         core = record {
           setting = core.setting;
+          calm = λ o is. absurd (let bad : false ≡ true = is in cc);
           fits = record {
             parts = fit_pended a k.memory core.fits.parts;
             plain = λ o p row there away_now. plain o p row (row_back (pended a) k.memory.resident o p row there) away_now;

@@ -1,9 +1,9 @@
 -- What a request for a page leaves of the kernel, and an access that waits for something else.
 use Rattle.vm_kernel.proofs.memory.CoreChanges.{core_rerowed}
 use Rattle.vm_kernel.proofs.Common.{Asks, AsksPage, Bool, Event, FrameNo, HasWaiters, Header, HostParts, Ids, List, Matches, ObjectRow, ObjectTable, On}
-use Rattle.vm_kernel.proofs.Common.{PageKey, PageRow, Parts, Reason, Some, Up, WaitTable, Waiting, Works, [], ap, arith, begun_at, entry, false}
-use Rattle.vm_kernel.proofs.Common.{host_id, inl, is_control, is_ready_state, live_control, local, local_after, object_at, place_of, ready_in}
-use Rattle.vm_kernel.proofs.Common.{refl, some_is, subst, sym, true, waiting, with_on, ℕ, ◌&&◌, ◌==◌, ◌∙◌, ◌∷◌, ◌≡◌}
+use Rattle.vm_kernel.proofs.Common.{PageKey, Parts, Reason, Some, Up, WaitTable, Waiting, Works, [], ap, arith, begun_at, entry, false, has_pager, host_id, inr}
+use Rattle.vm_kernel.proofs.Common.{is_control, is_ready_state, live_control, local, local_after, object_at, place_of, ready_in, refl, some_is, subst, sym}
+use Rattle.vm_kernel.proofs.Common.{true, waiting, with_on, ℕ, ◌&&◌, ◌==◌, ◌∙◌, ◌∷◌, ◌≡◌}
 use Rattle.vm_kernel.proofs.space.RegionsFilled.{place_unfilled}
 use Rattle.vm_state.proofs.Filling.{fills_turned, used_page, used_turned}
 use Rattle.vm_fault.specs.Faults.{KeepsPlan}
@@ -11,6 +11,7 @@ use Rattle.vm_model.specs.declared.event.Event.TheVariants as event
 use Rattle.vm_model.specs.declared.message.Message.TheVariants as message
 use Rattle.vm_objects.specs.declared.row.PagerState.TheVariants as state
 use Rattle.vm_state.proofs.Waiting.{IsAwaitedBy, asked_is, none_unawaited, put_now, waiters_asked, waiters_turned}
+use Rattle.vm_state.specs.References.{is_live_in}
 use Rattle.vm_state.specs.Waiters.{IsPagerTold, is_woken}
 use Rattle.vm_supply.specs.declared.woken.Woken.TheVariants as woken
 use Rattle.vm_terminate.specs.Finishes.{IsReferred}
@@ -91,7 +92,9 @@ works_asked header h past k ids w key object access frame memory waits2 works is
           (used_page key.object.0 key.page.0 _ k.memory.resident memory.resident works.used
           (place_unfilled header.size w.task.0 w.want key k.maps k.chains [] works.matches.core.spaces.entries (behind_place place)) c.row) is put.entry;
       referred =
-          page_referred key frame _ _ _ _ _ k memory c plan referred (λ row same. inl (ap (λ (z : PageRow). z.lock) (sym (some_is _ row same)))) works.referred;
+          page_referred key frame _ _ _ _ _ k memory c plan referred
+          (λ row same. inr (ap is_live_in known ∙ ((works.matches.core.objects.kinds.kinds key.object.0 object known).lives ∙ ap has_pager ready)))
+          works.referred;
       thin = rw plan.objects works.thin;
       waits =
           subst (λ (z : ObjectTable). HasWaiters k.maps k.chains memory.resident z waits2.rows (is_woken woken.Nobody) (λ u. waiting u past)

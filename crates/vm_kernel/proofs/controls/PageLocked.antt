@@ -3,8 +3,8 @@ use Rattle.vm_kernel.proofs.Common.{AllReferred, Bool, ChainTable, Changes, Comm
 use Rattle.vm_kernel.proofs.Common.{IsSettled, LaundryList, List, Local, None, ObjectId, ObjectRow, ObjectTable, Outside, PageKey, PageNo, PageRow, Parts}
 use Rattle.vm_kernel.proofs.Common.{PutsAbsent, Queues, ResidentTable, SameObjects, Some, Up, Works, [], absent_at, ap, arith, false, frame_here, frames_held}
 use Rattle.vm_kernel.proofs.Common.{frames_wired, host_id, if◌then◌else◌, inr, local, local_of_row, nat_tests, not, object_at, page_in, paging, place_of}
-use Rattle.vm_kernel.proofs.Common.{queues_except, refl, returns_out, reverse, slice_get, some_is, subst, sym, true, ℕ, ◌&&◌, ◌++◌, ◌+◌, ◌==◌, ◌||◌}
-use Rattle.vm_kernel.proofs.Common.{◌∙◌, ◌∷◌, ◌≡◌}
+use Rattle.vm_kernel.proofs.Common.{queues_except, refl, returns_out, reverse, slice_get, some_is, subst, sym, true, ℕ, ◌&&◌, ◌++◌, ◌+◌, ◌==◌, ◌||◌, ◌∙◌, ◌∷◌}
+use Rattle.vm_kernel.proofs.Common.{◌≡◌}
 use Rattle.vm_kernel.proofs.controls.AnswerEffects.{hears}
 use Rattle.vm_kernel.proofs.memory.PartsStillFit.{plain_here}
 use Rattle.vm_kernel.proofs.steps.EventsGrow.{Follows}
@@ -22,10 +22,9 @@ use Rattle.vm_state.proofs.Referred.{referred_gone, referred_row}
 use Rattle.vm_state.proofs.Waiting.{here_unawaited}
 use Rattle.vm_state.specs.Places.{known_local}
 use Rattle.vm_kernel.proofs.memory.ComesForAccess.{same_lock}
-use Rattle.vm_kernel.specs.Matches.{IsReplied}
+use Rattle.vm_kernel.specs.Matches.{Amidst, IsReplied}
 use Rattle.vm_kernel.proofs.memory.PageChanges.{Rerows, amidst_given, amidst_gone, amidst_moved, amidst_returned, drop_follows, drops, fit_lost, fit_rerowed}
 use Rattle.vm_kernel.proofs.memory.PageChanges.{gives, leaves_all, live_at, matches_of, moved_of, return_follows, same_objects, seen_of}
-use Rattle.vm_kernel.specs.Matches.{Amidst}
 use Rattle.vm_model.specs.declared.event.Event.TheVariants as event
 use Rattle.vm_model.specs.declared.message.Message.TheVariants as message
 use Rattle.vm_supply.specs.declared.woken.Woken.TheVariants as woken
@@ -38,7 +37,7 @@ pub record Mid (header : Header) (h : ℕ) (k : Parts) (ids : Ids) (past : List 
   pub thin : IsThin k.chains k.memory.objects
 
 -- with the reply it is as it was
-pub works_mid : {header : Header} {h : ℕ} {k : Parts} {ids : Ids} {past : List Event} → Mid header h k ids past → IsReplied past
+pub works_mid : {header : Header} {h : ℕ} {k : Parts} {ids : Ids} {past : List Event} → Mid header h k ids past → IsReplied header past
     → Works header h k ids woken.Nobody past
 works_mid {k = k} m replied =
     record {

@@ -1,10 +1,11 @@
 -- The pages of a lock request's range obey one after another, and the pager is told.
-use Rattle.vm_kernel.proofs.Common.{AllInner, Bool, CausedInTurn, Command, EachOf, Event, FrameTable, Header, HostParts, Ids, IsInner, LegalEvents, List}
-use Rattle.vm_kernel.proofs.Common.{Local, None, ObjectId, ObjectRow, Option, Outside, PageKey, PageNo, PageRow, Parts, Plays, PutsRow, ResidentTable}
-use Rattle.vm_kernel.proofs.Common.{RunsNone, Some, Still, Then, Works, [], absent_at, ap, append-nil, arith, before_more, eqb_tells, false, host_id}
-use Rattle.vm_kernel.proofs.Common.{if◌then◌else◌, inl, inr, live_in, local, local_of_row, nat_le, nat_lt, nat_tests, not, object_at, page_in, page_on, paging}
-use Rattle.vm_kernel.proofs.Common.{place_of, refl, row_at, row_cases, row_put, since, some_is, subst, suc, sym, true, zero, ℕ, ◌&&◌, ◌++◌, ◌+◌, ◌<◌}
-use Rattle.vm_kernel.proofs.Common.{◌==◌, ◌||◌, ◌∙◌, ◌∷◌, ◌≡◌, ◌≤◌, ◌⊎◌}
+use Rattle.vm_kernel.proofs.controls.LockReplied.{replied_lock}
+use Rattle.vm_kernel.proofs.Common.{AllInner, Bool, CausedInTurn, Command, EachOf, Event, FrameTable, Header, HostParts, Ids, IsInner, LegalEvents, List, Local}
+use Rattle.vm_kernel.proofs.Common.{None, ObjectId, ObjectRow, Option, Outside, PageKey, PageNo, PageRow, Parts, Plays, PutsRow, ResidentTable, RunsNone, Some}
+use Rattle.vm_kernel.proofs.Common.{Still, Then, Works, [], absent_at, ap, append-nil, arith, before_more, eqb_tells, false, host_id, if◌then◌else◌, inl, inr}
+use Rattle.vm_kernel.proofs.Common.{live_in, local, local_of_row, nat_le, nat_lt, nat_tests, not, object_at, page_in, page_on, paging, place_of, refl, row_at}
+use Rattle.vm_kernel.proofs.Common.{row_cases, row_put, since, some_is, subst, suc, sym, true, zero, ℕ, ◌&&◌, ◌++◌, ◌+◌, ◌<◌, ◌==◌, ◌||◌, ◌∙◌, ◌∷◌, ◌≡◌, ◌≤◌}
+use Rattle.vm_kernel.proofs.Common.{◌⊎◌}
 use Rattle.std.specs.Prelude.{option_map}
 use Rattle.vm_kernel.proofs.space.ObjectsEnd.{changes_beside}
 use Rattle.vm_kernel.proofs.steps.EventsGrow.{Follows, goes_more, goes_none, suffices}
@@ -23,8 +24,8 @@ use Rattle.vm_legal.specs.Steps.{before_step, completes, drops_page, gives_page,
 use Rattle.vm_locks.specs.Obeys.{GoesBack, IsAsked, IsDropped, IsSaved, IsTold, LockState, Next, NoMore, PageObeys, PagesObey, Replies, Silent, Stays, act_on}
 use Rattle.vm_locks.specs.Obeys.{lock_state}
 use Rattle.vm_base.specs.declared.ids.Lock.{Lock}
-use Rattle.vm_kernel.proofs.controls.LockPending.{Ahead, aimed, changes_pended, frame_pended, is_ahead, owner_repaged, pend, pended, pended_away}
-use Rattle.vm_kernel.proofs.controls.LockPending.{pended_behind, pended_frame, row_repaged}
+use Rattle.vm_kernel.proofs.controls.LockPending.{Ahead, aimed, changes_pended, frame_pended, is_ahead, owner_repaged, pend, pended, pended_away, pended_behind}
+use Rattle.vm_kernel.proofs.controls.LockPending.{pended_frame, row_repaged}
 use Rattle.vm_kernel.proofs.controls.LockRequested.{SameRows, ahead_of, mid_rows}
 use Rattle.vm_locks.specs.Requests.{lock_wanted, returns_numbered}
 use Rattle.vm_locks.specs.declared.request.LockRequest.{LockRequest as Wanted}
@@ -704,10 +705,8 @@ done_silent r s t all silent =
     let o = all.obeyed in
     record {
       works =
-          works_mid (mid_all r s all) (record {
-            at = λ request is own. absurd (let bad : false ≡ true = sym silent
-                ∙ (ap (λ z. z.reply) (some_is (request_at r) request (sym o.taken ∙ is)) ∙ own) in cc);
-          });
+          works_mid (mid_all r s all) (replied_lock o.taken (λ request is own. absurd (let bad : false ≡ true = sym silent
+          ∙ (ap (λ z. z.reply) (some_is (request_at r) request (sym o.taken ∙ is)) ∙ own) in cc)));
       goes = o.goes;
       plays = plays_all r s all;
       quiet = o.quiet;
@@ -788,11 +787,9 @@ done_told r s t all wanted =
     let sent = since_now (completes r.host r.object.0) e moment tt (rw (itself r.host, itself r.object.0) refl) in
     record {
       works = works_mid rests
-          (record {
-            at = λ request is own.
-                let its : request_at r ≡ request = some_is (request_at r) request (sym (lock_more (e ∷ []) moment (tt, tt) ∙ o.taken) ∙ is) in
-                subst (λ (z : LockRequest). since (completes z.host z.object) (e ∷ moment) ≡ true) its sent;
-          });
+          (replied_lock (lock_more (e ∷ []) moment (tt, tt) ∙ o.taken) (λ request is own.
+          let its : request_at r ≡ request = some_is (request_at r) request (sym (lock_more (e ∷ []) moment (tt, tt) ∙ o.taken) ∙ is) in
+          subst (λ (z : LockRequest). since (completes z.host z.object) (e ∷ moment) ≡ true) its sent));
       goes = goes;
       plays = Then e s.events (paging (at_state r.kernel s)) (paging (at_state r.kernel s)) (plays_all r s all) refl;
       quiet = (tt, o.quiet);

@@ -1,11 +1,11 @@
 -- A pager says whether its object stays without an entry: by a first ready, or by a change of attributes, which is told back where it wants that.
-use Rattle.vm_kernel.proofs.Common.{AnswerEffects, Bool, Command, Discarded, Event, Header, HostParts, Ids, LegalEvents, List, Message, None, ObjectId}
-use Rattle.vm_kernel.proofs.Common.{ObjectRow, ObjectTable, Option, Outside, PagerState, Parts, Readied, Rests, Some, Woken, [], ap, eqb_tells, false, host_id}
-use Rattle.vm_kernel.proofs.Common.{inl, inr, is_control, is_ready, live_control, live_in, local, object_at, outcome_of, place_of, ready_in, refl, row_at}
-use Rattle.vm_kernel.proofs.Common.{some_is, subst, sym, true, ℕ, ◌++◌, ◌∙◌, ◌∷◌, ◌≡◌, ◌≢◌, ◌==◌, since, ◌⊎◌, EndsNobody, PageRow, ready_outcome, ◌&&◌}
-use Rattle.vm_kernel.proofs.Common.{append_assoc, error_taken, Waiting, Paging, since_more, FailsNow, HasAsker, if◌then◌else◌, ResidentTable, AnswerBrings}
-use Rattle.vm_kernel.proofs.Common.{Elsewhere, IsAnswered, EachOf, Result, Still, paging, Err, Ok, OnOk, PageKey, Plays, Works, AllInner, ◌<◌, arith}
-use Rattle.vm_kernel.proofs.Common.{frame_count, length, ◌+◌, ◌≤◌, Fit}
+use Rattle.vm_kernel.proofs.Common.{AllInner, AnswerBrings, AnswerEffects, Bool, Command, Discarded, EachOf, Elsewhere, EndsNobody, Err, Event, FailsNow, Fit}
+use Rattle.vm_kernel.proofs.Common.{HasAsker, Header, HostParts, Ids, IsAnswered, LegalEvents, List, Message, None, ObjectId, ObjectRow, ObjectTable, Ok, OnOk}
+use Rattle.vm_kernel.proofs.Common.{Option, Outside, PageKey, PageRow, PagerState, Paging, Parts, Plays, Readied, ResidentTable, Rests, Result, Some, Still}
+use Rattle.vm_kernel.proofs.Common.{Waiting, Woken, Works, [], ap, append_assoc, arith, eqb_tells, error_taken, false, frame_count, host_id, if◌then◌else◌, inl}
+use Rattle.vm_kernel.proofs.Common.{inr, is_control, is_ready, length, live_control, live_in, local, object_at, outcome_of, paging, place_of, ready_in}
+use Rattle.vm_kernel.proofs.Common.{ready_outcome, refl, row_at, since, since_more, some_is, subst, sym, true, ℕ, ◌&&◌, ◌++◌, ◌+◌, ◌<◌, ◌==◌, ◌∙◌, ◌∷◌, ◌≡◌}
+use Rattle.vm_kernel.proofs.Common.{◌≢◌, ◌≤◌, ◌⊎◌}
 use Rattle.vm_kernel.proofs.abroad.OwnEvents.{own_named}
 use Rattle.vm_kernel.proofs.abroad.OwnHost.{own_host, named_host}
 use Rattle.vm_kernel.proofs.controls.AnswerEffects.{IsNothing, hears, lives, same_effect}
@@ -232,7 +232,7 @@ module _ (h : ℕ) (object : ObjectId) (control : ℕ) (cache : Bool) (strategy 
       → WorksBut header h k ids woken.Nobody (λ o. is_cached h o past) changes_now
   change_taken {header = header} {k = k} {ids = ids} rests =
       works_of header h k ids woken.Nobody k.memory past changes_now rests
-      (stays_heard header h k ids past object control (message.Attributes cache strategy reply) rests refl) rests.matches.core.fits.parts refl
+      (stays_heard header h k ids past object control (message.Attributes cache strategy reply) rests (refl, refl)) rests.matches.core.fits.parts refl
       (changed_none header h k ids past object control (message.Attributes cache strategy reply) rests (change_nothing header))
 
 -- that it is done is told
@@ -247,6 +247,7 @@ works_told {header = header} {h = h} {k = k} {past = past} object control cache 
     record {
       core = record {
         setting = c.setting;
+        calm = c.calm;
         fits = c.fits;
         spaces = c.spaces;
         objects = c.objects;

@@ -2,9 +2,8 @@
 use Rattle.vm_kernel.proofs.memory.CoreChanges.{core_rerowed}
 use Rattle.vm_kernel.proofs.Common.{Bool, Command, Elsewhere, Event, HasWaiters, Header, HostParts, Ids, IsAt, List, LocalEffect, Matches, None, ObjectRow}
 use Rattle.vm_kernel.proofs.Common.{ObjectTable, Option, Outside, PageKey, PageRow, Parts, Some, Suffice, Unlocks, Up, WaitTable, Waiting, Want, Works, []}
-use Rattle.vm_kernel.proofs.Common.{absent_at, access_in, ap, arith, begun_at, entry, false, host_id, if◌then◌else◌, inl, inr}
-use Rattle.vm_kernel.proofs.Common.{live_control, live_in, local, local_after, named, nat_tests, object_at, place_of, refl}
-use Rattle.vm_kernel.proofs.Common.{subst, sym, true, waiting, with_on, ℕ, ◌&&◌, ◌==◌, ◌∙◌, ◌∷◌, ◌≡◌}
+use Rattle.vm_kernel.proofs.Common.{absent_at, access_in, ap, arith, begun_at, entry, false, host_id, if◌then◌else◌, inl, inr, live_control, live_in, local}
+use Rattle.vm_kernel.proofs.Common.{local_after, named, nat_tests, object_at, place_of, refl, subst, sym, true, waiting, with_on, ℕ, ◌&&◌, ◌==◌, ◌∙◌, ◌∷◌, ◌≡◌}
 use Rattle.vm_state.proofs.Filling.{away_put, fills_turned, used_away, used_turned}
 use Rattle.vm_fault.specs.Faults.{KeepsPlan}
 use Rattle.vm_fault.specs.Walks.{Finds, is_storing, keeps_out, wanted_number}
@@ -115,7 +114,7 @@ pub equal_of : (m n : ℕ) → (m == n) ≡ true → m ≡ n
 equal_of m n is = grind (arith, nat_tests, is)
 
 -- where the step took a lock request over the page that wants a reply, the reply was sent
-replied_over : (past : List Event) (host object page : ℕ) → IsReplied past → is_answered_over host object page (lock_taken past) ≡ true
+replied_over : {header : Header} (past : List Event) (host object page : ℕ) → IsReplied header past → is_answered_over host object page (lock_taken past) ≡ true
     → since (completes host object) past ≡ true
 replied_over past host object page replied over = by (lock_taken past) refl over
   where
@@ -132,7 +131,7 @@ replied_over past host object page replied over = by (lock_taken past) refl over
 
 pub unlock_follows : (header : Header) (h : ℕ) (outside : Outside) (doing : Command) (past : List Event) (k : Parts) (task : ℕ) (what : Want) (top : PageKey)
     (at : IsAt k.maps k.chains task what top) (steps : ℕ) (key : PageKey) (row : PageRow) (object : ObjectRow)
-    → Leads header h past k task what top at → IsShown header h k.memory k.chains past → IsReplied past
+    → Leads header h past k task what top at → IsShown header h k.memory k.chains past → IsReplied header past
     → AllReferred k.chains k.memory.objects k.memory.resident
     → {last_at : ℕ → ℕ} {ready_at : ℕ → Bool} {home_at : _}
     → HasControls (named header) h k.memory.objects last_at (λ o. live_control h o past) ready_at home_at
@@ -145,7 +144,7 @@ unlock_follows header h outside doing past k task what top at steps key row obje
     let p = key.page.0 in
     let shows = shows_row s o p row finds.found finds.here in
     let lives : object.live ≡ true = elim (referred.locks o p row finds.found) [
-      | inl none ↦ kept_locked row.lock (is_storing what) locked none
+      | inl none ↦ kept_locked row.lock (is_storing what) locked none.0
       | inr is ↦ sym (ap is_live_in known) ∙ is
     ] in
     record {

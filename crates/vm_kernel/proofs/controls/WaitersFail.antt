@@ -2,15 +2,15 @@
 use Rattle.vm_kernel.proofs.Common.{AllInner, AllReferred, Asked, Asker, BeganInOrder, Bool, ChainTable, Command, EachOf, EndsEach, EndsNobody, EndsOnly}
 use Rattle.vm_kernel.proofs.Common.{EndsRegion, Event, Fails, FailsNow, HasCopies, HasEnded, HasFailed, HasSlow, HasUse, HasWaits, Header, Ids, IfSome}
 use Rattle.vm_kernel.proofs.Common.{IsAbsencePaid, IsAmid, IsAnswered, IsEnding, IsErrorPaid, IsFilledIn, IsWhole, LegalEvents, List, Mapped, Matches, None, On}
-use Rattle.vm_kernel.proofs.Common.{OnlyLoses, Option, Outside, PageKey, Parts, PutsEntry, ResidentTable, Some, TaskId, WaitTable, Waiting, Woken, Works, []}
-use Rattle.vm_kernel.proofs.Common.{absence_more, absence_taken, access_in, address_in, ap, append_assoc, begun_at, copies_to, copy_target, entries_in}
-use Rattle.vm_kernel.proofs.Common.{entries_in_row, entries_of, entry, entry_at, eqb_tells, error_more, error_taken, fails_access, fails_task, false, fills_in}
-use Rattle.vm_kernel.proofs.Common.{holds, if◌then◌else◌, in_use, inl, inr, next_page, next_region, oldest_row, or_true, page_key, puts_cases, refl}
-use Rattle.vm_kernel.proofs.Common.{rows_in, since, since_more, some_is, subst, sym, true, waiting, waiting_in, woken_page, ℕ, ◌++◌, ◌<◌, ◌==◌, ◌||◌, ◌∙◌, ◌∷◌}
-use Rattle.vm_kernel.proofs.Common.{◌≡◌, ◌≢◌, ◌⊎◌}
+use Rattle.vm_kernel.proofs.Common.{OnlyLoses, Option, Outside, PageKey, PageRow, Parts, PutsEntry, ResidentTable, Some, TaskId, WaitTable, Waiting, Woken}
+use Rattle.vm_kernel.proofs.Common.{Works, [], absence_more, absence_taken, access_in, address_in, ap, append_assoc, begun_at, copies_to, copy_target}
+use Rattle.vm_kernel.proofs.Common.{entries_in, entries_in_row, entries_of, entry, entry_at, eqb_tells, error_more, error_taken, fails_access, fails_task}
+use Rattle.vm_kernel.proofs.Common.{false, fills_in, holds, if◌then◌else◌, in_use, inl, inr, next_page, next_region, oldest_row, or_true, page_key, puts_cases}
+use Rattle.vm_kernel.proofs.Common.{refl, row_at, rows_in, since, since_more, some_is, subst, sym, true, waiting, waiting_in, woken_page, ℕ, ◌++◌, ◌<◌, ◌==◌}
+use Rattle.vm_kernel.proofs.Common.{◌||◌, ◌∙◌, ◌∷◌, ◌≡◌, ◌≢◌, ◌⊎◌}
 use Rattle.vm_kernel.proofs.space.RegionsInUse.{FillsHere, fills_here, holds_waits, uses_none}
 use Rattle.vm_state.proofs.Filling.{Filled, filled_there, used_over, copies_next}
-use Rattle.vm_legal.specs.Licences.{zeroes}
+use Rattle.vm_legal.specs.Licences.{ByError, zeroes}
 use Rattle.std.proofs.Common.{is_some}
 use Rattle.vm_model.specs.Waiting.{Target}
 use Rattle.vm_model.specs.declared.event.Event.TheVariants as event
@@ -21,7 +21,7 @@ use Rattle.vm_waits.specs.declared.waiting.Destination.{Destination}
 use Rattle.vm_legal.specs.Living.{tasks as made_tasks}
 use Rattle.vm_supply.specs.declared.woken.Woken.TheVariants as who
 use Rattle.vm_waits.specs.declared.waiting.On.TheVariants as on
-use Rattle.vm_kernel.proofs.steps.EventsGrow.{goes_both, goes_more, suffices}
+use Rattle.vm_kernel.proofs.steps.EventsGrow.{Follows, goes_both, goes_more, suffices}
 use Rattle.vm_kernel.proofs.steps.RowsInOrder.{PutsInOrder, oldest_first}
 use Rattle.vm_kernel.proofs.memory.WalksShown.{page_left, place_at, want_address}
 use Rattle.vm_kernel.proofs.abroad.OwnHost.{lives_here, rows_here}
@@ -29,7 +29,7 @@ use Rattle.vm_state.proofs.Waited.{AreTold}
 use Rattle.vm_kernel.proofs.abroad.OwnEvents.{own_lives}
 use Rattle.vm_kernel.proofs.controls.LockReplied.{replied_behind}
 use Rattle.vm_base.specs.Pages.{page_positive}
-use Rattle.vm_legal.specs.InTurn.{FailsInTurn}
+use Rattle.vm_legal.specs.InTurn.{FailureInTurn}
 use Rattle.vm_kernel.proofs.space.RegionHomes.{homes_caused}
 use Rattle.vm_kernel.specs.Sweeping.{IsBareTop}
 use Rattle.vm_merge.specs.Merges.{IsThin}
@@ -40,6 +40,10 @@ use Rattle.vm_state.proofs.Referring.{only_one, row_of}
 use Rattle.vm_state.proofs.Targets.{target_unshadowed}
 use Rattle.vm_kernel.proofs.space.RegionsFilled.{filled_temporary}
 use Rattle.vm_state.proofs.Declared.{uncached_temporary}
+use Rattle.vm_base.specs.declared.entry.Entry.{Entry}
+use Rattle.vm_kernel.specs.Matches.{Core, HasOrder, control_facts, memory_facts, space_facts}
+use Rattle.vm_legal.specs.Accesses.{Waits}
+use Rattle.vm_state.specs.Waiters.{is_awaited}
 
 -- who waits for the page
 pub waits_for : (key : PageKey) (reason : On) → woken_page key reason ≡ true → reason ≡ on.Page key
@@ -63,44 +67,55 @@ itself key = elim (eqb_tells key.object.0 key.object.0) [
   | inr apart ↦ absurd (apart.1 refl)
 ]
 
+-- the tables of a kernel behind a history
+abbrev pub Standing : Header → ℕ → Parts → Ids → List Event → Type 0
+Standing header h k ids past = Core header h k ids [] (space_facts header past) (control_facts h past) (memory_facts header h past)
+
 -- those whom the error has ended began earlier than each who still waits for the page
 abbrev pub EndsBefore : PageKey → List Waiting → List Event → Type 0
 EndsBefore key rows past =
     (u t : ℕ) (w : Waiting) → since (fails_task u key.object.0 key.page.0) past ≡ true → entry rows t ≡ Some w → woken_page key w.on ≡ true
     → begun_at u past < begun_at t past
 
+-- an access that waits is one of the history
+abbrev pub waits_here : (header : Header) (h : ℕ) (k : Parts) (ids : Ids) (past : List Event) (who : Woken) (w : Waiting) (e : Entry)
+    → Standing header h k ids past → HasWaits header h k who past → HasSlow header k past → entry k.waits.rows w.task.0 ≡ Some w
+    → entry_at (address_in k.maps.size w.want) (rows_in w.task.0 k.maps) ≡ Some e
+    → Waits header w.task.0 (access_in k.maps.size (copies_to w.destination) w.want) past
+waits_here header h k ids past who w e core has copies found at =
+    let allowed = has.allowed w.task.0 w found in
+    let agrees = copies_next copies w.task.0 w found in
+    record {
+      waits = has.is w.task.0 (ap is_some allowed.lives) ∙ ap (waiting_in k.maps.size) found;
+      at =
+          record {
+            host = h;
+            entry = e;
+            lives = lives_here core.spaces.tasks allowed.lives;
+            found =
+                ap (λ z. entry_at z (entries_of header.size w.task.0 past))
+                (want_address k.maps.size header.size (next_page w.task.0 past) (copies_to w.destination) w.want core.spaces.tasks.sized agrees)
+                ∙ (ap (entry_at (address_in k.maps.size w.want)) (rows_here core.spaces.tasks allowed.lives) ∙ at);
+          };
+      left =
+          page_left k.maps.size header.size (next_page w.task.0 past) (copies_to w.destination) w.want core.spaces.tasks.sized
+          (page_positive header.size core.setting.ranged.size) (has.sized w.task.0 w found) agrees;
+    }
+
 fails_cause : (header : Header) (h : ℕ) (k : Parts) (ids : Ids) (past : List Event) (key : PageKey) (w : Waiting) → Works header h k ids (who.Fails key) past
     → FailsNow header h (who.Fails key) past
-    → entry k.waits.rows w.task.0 ≡ Some w → w.on ≡ on.Page key → EndsBefore key k.waits.rows past → Fails header w.task.0 key.object.0 key.page.0 past
-    × FailsInTurn w.task.0 key.object.0 key.page.0 past
+    → entry k.waits.rows w.task.0 ≡ Some w → w.on ≡ on.Page key → EndsBefore key k.waits.rows past
+    → (fails : Fails header w.task.0 key.object.0 key.page.0 past) × FailureInTurn header w.task.0 key.object.0 key.page.0 past fails
 fails_cause header h k ids past key w works fails found waits before =
     let was = works.matches in
     let place = works.waits.aims w.task.0 w key found waits in
-    let at = place.at in
-    let allowed = works.waits.allowed w.task.0 w found in
     let agrees = copies_next works.used.copies w.task.0 w found in (
-      record {
+      ByError (record {
         access = access_in k.maps.size (copies_to w.destination) w.want;
-        waits =
-            record {
-              waits = works.waits.is w.task.0 (ap is_some allowed.lives) ∙ ap (waiting_in k.maps.size) found;
-              at =
-                  record {
-                    host = h;
-                    entry = at.entry;
-                    lives = lives_here was.core.spaces.tasks allowed.lives;
-                    found =
-                        ap (λ z. entry_at z (entries_of header.size w.task.0 past))
-                        (want_address k.maps.size header.size (next_page w.task.0 past) (copies_to w.destination) w.want was.core.spaces.tasks.sized agrees)
-                        ∙ (ap (entry_at (address_in k.maps.size w.want)) (rows_here was.core.spaces.tasks allowed.lives) ∙ at.found);
-                  };
-              left =
-                  page_left k.maps.size header.size (next_page w.task.0 past) (copies_to w.destination) w.want was.core.spaces.tasks.sized
-                  (page_positive header.size was.core.setting.ranged.size) (works.waits.sized w.task.0 w found) agrees;
-            };
+        waits = waits_here header h k ids past (who.Fails key) w place.at.entry was.core works.waits works.used.copies found place.at.found;
         error = fails;
         place = place_at was (copies_to w.destination) agrees place;
-      },
+      }),
       λ other ended. before other w.task.0 w ended found (ap (woken_page key) waits ∙ itself key),
     )
 
@@ -117,7 +132,7 @@ stood : (task t : ℕ) (rows rows2 : List Waiting) (w : Waiting) → PutsEntry t
 stood task t rows rows2 w puts found =
     puts_cases task t None rows rows2 w puts found (λ same is. absurd (let bad : None ≡ Some w = is in cc)) (λ apart was. was)
 
-stays : (task t : ℕ) (rows rows2 : List Waiting) (w : Waiting) → PutsEntry task None rows rows2 → (task ≡ t → ⊥) → entry rows t ≡ Some w
+pub stays : (task t : ℕ) (rows rows2 : List Waiting) (w : Waiting) → PutsEntry task None rows rows2 → (task ≡ t → ⊥) → entry rows t ≡ Some w
     → entry rows2 t ≡ Some w
 stays task t rows rows2 w puts apart found = elim (eqb_tells task t) [
   | inl same ↦ absurd (apart same.1)
@@ -145,21 +160,6 @@ ends_before key w rows rows2 past before order first puts u t v ended found pass
 pub before_none : (key : PageKey) (rows : List Waiting) (past : List Event) → EndsNobody (who.Fails key) past → EndsBefore key rows past
 before_none key rows past none u t w ended found passes = absurd (let bad : false ≡ true = sym (none u) ∙ ended in cc)
 
-uses_failed : (header : Header) (h : ℕ) (k : Parts) (ids : Ids) (past : List Event) (key : PageKey) (task : TaskId) (rows : List Waiting)
-    → Works header h k ids (who.Fails key) past
-    → FillsHere k.maps rows (event.Failed task key.object key.page ∷ past) → ((r : ℕ) → IsFilledIn rows r → IsFilledIn k.waits.rows r)
-    → entries_in task.0 k.maps ≡ Some (rows_in task.0 k.maps)
-    → HasUse header k.maps rows (λ r. in_use header h r (event.Failed task key.object key.page ∷ past)) (made_tasks past)
-    (λ t r. holds header.size t r (event.Failed task key.object key.page ∷ past)) (next_region header past)
-uses_failed header h k ids past key task rows works filled back lives =
-    uses_none header k.maps k.waits.rows rows (λ r. in_use header h r past) (λ t r. holds header.size t r past) (next_region header past)
-    (event.Failed task key.object key.page ∷ past) was.core.spaces.uses back
-    (record { rows = λ t here. was.core.spaces.tasks.rows t here; filled = filled }) was.core.spaces.entries.most
-    (λ t r none. holds_waits header.size task.0 t r k.maps (rows_in task.0 k.maps) past None lives none)
-  where
-    was : Matches header h k ids [] past
-    was = works.matches
-
 -- what the others fill
 
 pub fills_apart : (task t r : ℕ) (rows rows2 : List Waiting) → PutsEntry task None rows rows2 → fills_in r (entry rows2 t) ≡ true → (task ≡ t → ⊥)
@@ -176,13 +176,91 @@ fills_still task t r rows rows2 puts apart is = elim (eqb_tells task t) [
   | inr other ↦ ap (fills_in r) (puts.at t ∙ ap (λ b. if b then None else entry rows t) other.0) ∙ is
 ]
 
-copies_without : {header : Header} {maps : Mapped} {cs : ChainTable} {rs : ResidentTable} {next_at : ℕ → ℕ} {target_at : ℕ → Option Target} (task : ℕ)
+pub copies_without : {header : Header} {maps : Mapped} {cs : ChainTable} {rs : ResidentTable} {next_at : ℕ → ℕ} {target_at : ℕ → Option Target} (task : ℕ)
     (rows rows2 : List Waiting) → HasCopies header maps cs rs rows next_at target_at → PutsEntry task None rows rows2
     → HasCopies header maps cs rs rows2 next_at target_at
 copies_without task rows rows2 copies puts =
     record {
       each = λ t w found. copies.each t w (stood task t rows rows2 w puts found);
       apart = λ t u r one two. copies.apart t u r (fills_apart task t r rows rows2 puts one).1 (fills_apart task u r rows rows2 puts two).1;
+    }
+
+-- An access fails: its row goes, and all else stands as it did.
+
+uses_failed : (header : Header) (h : ℕ) (k : Parts) (ids : Ids) (past : List Event) (key : PageKey) (task : TaskId) (rows : List Waiting)
+    → Standing header h k ids past
+    → FillsHere k.maps rows (event.Failed task key.object key.page ∷ past) → ((r : ℕ) → IsFilledIn rows r → IsFilledIn k.waits.rows r)
+    → entries_in task.0 k.maps ≡ Some (rows_in task.0 k.maps)
+    → HasUse header k.maps rows (λ r. in_use header h r (event.Failed task key.object key.page ∷ past)) (made_tasks past)
+    (λ t r. holds header.size t r (event.Failed task key.object key.page ∷ past)) (next_region header past)
+uses_failed header h k ids past key task rows core filled back lives =
+    uses_none header k.maps k.waits.rows rows (λ r. in_use header h r past) (λ t r. holds header.size t r past) (next_region header past)
+    (event.Failed task key.object key.page ∷ past) core.spaces.uses back
+    (record { rows = λ t here. core.spaces.tasks.rows t here; filled = filled }) core.spaces.entries.most
+    (λ t r none. holds_waits header.size task.0 t r k.maps (rows_in task.0 k.maps) past None lives none)
+
+-- what stands then, where each page that is awaited has an asker left
+pub record StandsFailed (header : Header) (h : ℕ) (outside : Outside) (doing : Command) (k : Parts) (ids : Ids) (who : Woken) (e : Event) (table : WaitTable)
+    (past : List Event) : Type 0 where
+  pub core : Standing header h (record k { waits = table }) ids (e ∷ past)
+  pub copies : HasSlow header (record k { waits = table }) (e ∷ past)
+  pub waits : HasWaits header h (record k { waits = table }) who (e ∷ past)
+  pub order : HasOrder (record k { waits = table }) (e ∷ past)
+  pub follows : Follows header h outside doing e past
+
+pub stands_failed : (header : Header) (h : ℕ) (outside : Outside) (doing : Command) (past : List Event) (key : PageKey) (k : Parts) (ids : Ids) (who : Woken)
+    (w : Waiting) (waits : WaitTable) → Standing header h k ids past → HasWaits header h k who past → HasSlow header k past → HasOrder k past
+    → (fails : Fails header w.task.0 key.object.0 key.page.0 past) × FailureInTurn header w.task.0 key.object.0 key.page.0 past fails
+    → entry k.waits.rows w.task.0 ≡ Some w → PutsInOrder w.task.0 None k.waits.rows waits.rows
+    → ((o p : ℕ) (row : PageRow) → row_at k.memory.resident o p ≡ Some row → is_awaited row ≡ true → Asker waits.rows o p)
+    → StandsFailed header h outside doing k ids who (event.Failed w.task key.object key.page) waits past
+stands_failed header h outside doing past key k ids who w waits core has slow order cause found both askers =
+    let puts = both.entry in
+    let e = event.Failed w.task key.object key.page in
+    let rows = k.waits.rows in
+    let copies = copies_without w.task.0 rows waits.rows slow puts in
+    let has2 : HasWaits header h (record k { waits = waits }) who (e ∷ past) = record {
+      is = waits_less k.maps w.task.0 rows waits.rows past has.is puts;
+      allowed = λ t v at. has.allowed t v (stood w.task.0 t rows waits.rows v puts at);
+      sized = λ t v at. has.sized t v (stood w.task.0 t rows waits.rows v puts at);
+      reasons = λ t v at still. has.reasons t v (stood w.task.0 t rows waits.rows v puts at) still;
+      passed = λ t v at still. has.passed t v (stood w.task.0 t rows waits.rows v puts at) still;
+      aims = λ t v other at waits_on. has.aims t v other (stood w.task.0 t rows waits.rows v puts at) waits_on;
+      askers = askers;
+      ready = has.ready;
+    } in
+    record {
+      core = record {
+        setting = core.setting;
+        calm = core.calm;
+        fits = core.fits;
+        spaces = record {
+          tasks = core.spaces.tasks;
+          entries = core.spaces.entries;
+          shared = core.spaces.shared;
+          uses = uses_failed header h k ids past key w.task waits.rows core (fills_here {past = e ∷ past} has2 copies)
+              (λ r filled. record { task = filled.task; fills = (fills_apart w.task.0 filled.task r rows waits.rows puts filled.fills).1 })
+              (has.allowed w.task.0 w found).lives;
+          homes = homes_caused header outside h k.chains e past (doing, cause.0) core.spaces.homes;
+        };
+        objects = core.objects;
+        controls = core.controls;
+        flags = core.flags;
+        pages = core.pages;
+      };
+      copies = copies;
+      waits = has2;
+      order = both.order.keeps (λ t. begun_at t past) 0 order;
+      follows = record {
+        consequence = tt;
+        cause = cause;
+        own_bytes = tt;
+        frames = suffices header h k.memory.frames (e ∷ past) core.pages.counted;
+        inner = tt;
+        said = tt;
+        own = own_lives h w.task.0 past (lives_here core.spaces.tasks (has.allowed w.task.0 w found).lives);
+        creates = tt;
+      };
     }
 
 -- what holds while they are ended
@@ -213,68 +291,30 @@ pub failed_one : (header : Header) (h : ℕ) (outside : Outside) (doing : Comman
     → oldest_row (woken_page key) k.waits.rows ≡ Some w → PutsInOrder w.task.0 None k.waits.rows waits.rows
     → FailedOne header h outside doing past old (event.Failed w.task key.object key.page ∷ events) key (record k { waits = waits }) ids
 failed_one header h outside doing past old events key k ids w waits f found passes first both =
-    let puts = both.entry in
     let was = f.works.matches in
     let moment = events ++ past in
     let e = event.Failed w.task key.object key.page in
-    let rows = k.waits.rows in
     let has = f.works.waits in
-    let is : AreTold k.maps waits.rows (λ t. waiting t (e ∷ moment)) = waits_less k.maps w.task.0 rows waits.rows moment has.is puts in
-    let cause = fails_cause header h k ids moment key w f.works f.fails found (waits_for key w.on passes) f.before in
-    let copies = copies_without w.task.0 rows waits.rows f.works.used.copies puts in
-    let has2 : HasWaits header h (record k { waits = waits }) (who.Fails key) (e ∷ moment) = record {
-      is = is;
-      allowed = λ t v at. has.allowed t v (stood w.task.0 t rows waits.rows v puts at);
-      sized = λ t v at. has.sized t v (stood w.task.0 t rows waits.rows v puts at);
-      reasons = λ t v at still. has.reasons t v (stood w.task.0 t rows waits.rows v puts at) still;
-      passed = λ t v at still. has.passed t v (stood w.task.0 t rows waits.rows v puts at) still;
-      aims = λ t v other at waits_on. has.aims t v other (stood w.task.0 t rows waits.rows v puts at) waits_on;
-      askers = λ o p row at away. asker_stays o p (has.askers o p row at away) (f.answered.at o p row at away);
-      ready = has.ready;
-    } in
+    let stands = stands_failed header h outside doing moment key k ids (who.Fails key) w waits was.core has f.works.used.copies f.works.order
+    (fails_cause header h k ids moment key w f.works f.fails found (waits_for key w.on passes) f.before) found both
+    (λ o p row at away. asker_stays o p (has.askers o p row at away) (f.answered.at o p row at away)) in
     record {
       runs = record {
         matches = record {
-          core = record {
-            setting = was.core.setting;
-            fits = was.core.fits;
-            spaces = record {
-              tasks = was.core.spaces.tasks;
-              entries = was.core.spaces.entries;
-              shared = was.core.spaces.shared;
-              uses = uses_failed header h k ids moment key w.task waits.rows f.works (fills_here {past = e ∷ moment} has2 copies)
-                  (λ r filled. record { task = filled.task; fills = (fills_apart w.task.0 filled.task r rows waits.rows puts filled.fills).1 })
-                  (has.allowed w.task.0 w found).lives;
-              homes = homes_caused header outside h k.chains e moment (doing, cause.0) was.core.spaces.homes;
-            };
-            objects = was.core.objects;
-            controls = was.core.controls;
-            flags = was.core.flags;
-            pages = was.core.pages;
-          };
+          core = stands.core;
           settled = record { none_owed = refl; shut = λ region. refl };
           replied = replied_behind tt was.replied;
         };
-        waits = has2;
-        order = both.order.keeps (λ t. begun_at t moment) 0 f.works.order;
+        waits = stands.waits;
+        order = stands.order;
       };
-      copies = copies;
+      copies = stands.copies;
       referred = f.works.referred;
       thin = f.works.thin;
       fails = f.fails;
       answered = f.answered;
-      before = ends_before key w k.waits.rows waits.rows moment f.before f.works.order first puts;
-      goes = goes_more header h outside doing past old events e f.goes was.settled
-          (record {
-            consequence = tt;
-            cause = cause;
-            own_bytes = tt;
-            frames = suffices header h k.memory.frames (e ∷ moment) was.core.pages.counted;
-            inner = tt;
-            said = tt;
-            own = own_lives h w.task.0 moment (lives_here was.core.spaces.tasks (has.allowed w.task.0 w found).lives);
-            creates = tt;
-          });
+      before = ends_before key w k.waits.rows waits.rows moment f.before f.works.order first both.entry;
+      goes = goes_more header h outside doing past old events e f.goes was.settled stands.follows;
     }
   where
     asker_stays : (o p : ℕ) → Asker k.waits.rows o p → woken_page key (on.Page (page_key o p)) ≡ false → Asker waits.rows o p

@@ -17,11 +17,10 @@ use Rattle.vm_kernel.proofs.controls.DeclaredKinds.{declared_kind}
 use Rattle.vm_model.specs.declared.event.Event.TheVariants as event
 use Rattle.vm_abroad.proofs.Regions.{kind_cases}
 use Rattle.vm_supply.specs.Answers as supply
-use Rattle.vm_kernel.proofs.controls.WordTaken.{Changed, changed_failed, changed_lacked, changed_none, changed_ready, changed_supplied, changed_zeroed, heard}
-use Rattle.vm_kernel.proofs.controls.WordTaken.{lacking, filled_follows, stays_heard, stays_zeroed, works_of, zeros}
+use Rattle.vm_kernel.proofs.controls.WordTaken.{Changed, TakesNoOrder, changed_failed, changed_lacked, changed_none, changed_ready, changed_supplied}
+use Rattle.vm_kernel.proofs.controls.WordTaken.{changed_zeroed, filled_follows, heard, lacking, stays_heard, stays_zeroed, works_of, zeros}
 use Rattle.vm_kernel.specs.Matches.{WorksBut}
 use Rattle.vm_legal.specs.Cached.{is_cached}
-use Rattle.vm_legal.specs.Licences.{lock_taken}
 use Rattle.vm_legal.specs.Steps.{is_ready_message}
 
 -- it is not for the live control
@@ -96,7 +95,7 @@ record Hearing (header : Header) (h : ℕ) (k : Parts) (ids : Ids) (new : HostPa
   buffers : new.buffers ≡ k.memory.buffers
 
 heard_still : (header : Header) (h : ℕ) (outside : Outside) (doing : Command) (k : Parts) (ids : Ids) (who : Woken) (new : HostParts) (after past : List Event)
-    (object : ObjectId) (control : ℕ) (m : Message) → Hearing header h k ids new past → lock_taken (hears h object control m ∷ past) ≡ None → after ≡ []
+    (object : ObjectId) (control : ℕ) (m : Message) → Hearing header h k ids new past → TakesNoOrder (hears h object control m ∷ past) → after ≡ []
     → Changed header h k ids who new past (hears h object control m ∷ past) → IsAbsencePaid header (hears h object control m ∷ past)
     → Heard header h outside doing k ids who new (λ o. is_cached h o past) after (hears h object control m ∷ past)
 heard_still header h outside doing k ids who new after past object control m was unlocked none c paid =
@@ -129,7 +128,7 @@ heard_zeros header h outside doing k ids after past object control page who new 
       works =
           works_of header h k ids who new past (zeros h object page ∷ hears h object control (message.Unavailable page) ∷ past) was.rests
           (stays_zeroed header h k past (hears h object control (message.Unavailable page) ∷ past) object page
-          (stays_heard header h k ids past object control (message.Unavailable page) was.rests refl)) was.fit was.buffers c;
+          (stays_heard header h k ids past object control (message.Unavailable page) was.rests (refl, refl))) was.fit was.buffers c;
       fails = c.fails;
       fresh = c.fresh;
       asker = c.asker;
@@ -142,13 +141,13 @@ heard_zeros header h outside doing k ids after past object control page who new 
       paid = zeroed_absence header h object control page past;
     })
 
--- an answer is no lock request
+-- an answer is neither a lock request nor the end of an object
 answer_unlocked : (h : ℕ) (object : ObjectId) (control size : ℕ) (m : Message) (past : List Event) → IsAnswer size m
-    → lock_taken (hears h object control m ∷ past) ≡ None
-answer_unlocked h object control size (message.Ready cache strategy) past is = refl
-answer_unlocked h object control size (message.Supply page lock precious bytes) past is = refl
-answer_unlocked h object control size (message.Unavailable page) past is = refl
-answer_unlocked h object control size (message.Error page reason) past is = refl
+    → TakesNoOrder (hears h object control m ∷ past)
+answer_unlocked h object control size (message.Ready cache strategy) past is = (refl, refl)
+answer_unlocked h object control size (message.Supply page lock precious bytes) past is = (refl, refl)
+answer_unlocked h object control size (message.Unavailable page) past is = (refl, refl)
+answer_unlocked h object control size (message.Error page reason) past is = (refl, refl)
 answer_unlocked h object control size other past is = absurd is
 
 hears_it : (header : Header) (h : ℕ) (outside : Outside) (doing : Command) (k : Parts) (ids : Ids) (after past : List Event) (object : ObjectId) (control : ℕ)
@@ -168,11 +167,11 @@ hears_it header h outside doing k ids after past object control m who new was te
     Hear : Message → Type 0
     Hear said = Heard header h outside doing k ids who new (λ o. is_cached h o past) after (hears h object control said ∷ past)
 
-    still : (said : Message) → lock_taken (hears h object control said ∷ past) ≡ None → after ≡ []
+    still : (said : Message) → TakesNoOrder (hears h object control said ∷ past) → after ≡ []
         → Changed header h k ids who new past (hears h object control said ∷ past) → IsAbsencePaid header (hears h object control said ∷ past) → Hear said
     still said unlocked none c paid = heard_still header h outside doing k ids who new after past object control said was unlocked none c paid
 
-    discards : (said : Message) → lock_taken (hears h object control said ∷ past) ≡ None → IsNothing header h object control said past → Answers Discarded
+    discards : (said : Message) → TakesNoOrder (hears h object control said ∷ past) → IsNothing header h object control said past → Answers Discarded
         → Hear said
     discards said unlocked nothing done =
         still said unlocked done.2
@@ -188,7 +187,8 @@ hears_it header h outside doing k ids after past object control m who new was te
         → lives h object control past ≡ true → Answers Readied → Hear (message.Ready cache strategy)
     ready_now known cache strategy found live lives_now done =
         let same : known ≡ done.known = some_is known done.known (sym found ∙ done.found) in
-        still (message.Ready cache strategy) refl done.events (changed_ready header h k ids [] after past object control cache strategy who new rests done
+        still (message.Ready cache strategy) (refl, refl) done.events (changed_ready header h k ids [] after past object control cache strategy who new rests
+        done
         (sym (ap (λ z. z.live) same) ∙ live) lives_now)
         (no_absence header (hears h object control (message.Ready cache strategy) ∷ past) refl)
 
@@ -198,12 +198,12 @@ hears_it header h outside doing k ids after past object control m who new was te
     by_state known cache strategy state.Without is found live lives_now number done = ready_now known cache strategy found live lives_now done
     by_state known cache strategy state.Sent is found live lives_now number done = ready_now known cache strategy found live lives_now done
     by_state known cache strategy state.Ready is found live lives_now number done =
-        discards (message.Ready cache strategy) refl
+        discards (message.Ready cache strategy) (refl, refl)
         (ready_again header h object control cache strategy past (rests.matches.core.controls.ready object.0 known.control number
         ∙ (ap ready_in found ∙ ap is_ready_state is))) done
 
     -- a page that is asked, or not
-    by_asked : (page : PageNo) (outcome : AnswerOutcome) (said : Message) (x : Option PageRow) → lock_taken (hears h object control said ∷ past) ≡ None
+    by_asked : (page : PageNo) (outcome : AnswerOutcome) (said : Message) (x : Option PageRow) → TakesNoOrder (hears h object control said ∷ past)
         → asked_row (row_at k.memory.resident object.0 page.0) ≡ x
         → ((local header h (place_of object.0 page.0) past).asked ≡ false → IsNothing header h object control said past)
         → ((row : PageRow) → asked_row (row_at k.memory.resident object.0 page.0) ≡ Some row → Answers outcome → Hear said)
@@ -215,7 +215,8 @@ hears_it header h outside doing k ids after past object control m who new was te
 
     lacked_now : (page : PageNo) → lives h object control past ≡ true → named header ≤ object.0 → Answers (Lacked page) → Hear (message.Unavailable page)
     lacked_now page lives_now temporary lacks =
-        still (message.Unavailable page) refl lacks.events (changed_lacked header h k ids [] after past object control page who new rests lacks lives_now
+        still (message.Unavailable page) (refl, refl) lacks.events (changed_lacked header h k ids [] after past object control page who new rests lacks
+        lives_now
         temporary) (lacked_absence header h object control page past temporary)
 
     zeroed_now : (known : ObjectRow) (page : PageNo) (kind : ObjectKind) → known.kind ≡ kind → kind ≢ Temp → object_at k.memory.objects object.0 ≡ Some known
@@ -246,19 +247,20 @@ hears_it header h outside doing k ids after past object control m who new was te
     by_message known (message.Ready cache strategy) said_is found live lives_now number done =
         by_state known cache strategy known.state refl found live lives_now number done
     by_message known (message.Supply page lock precious bytes) said_is found live lives_now number done =
-        by_asked page (Supplied page lock precious bytes) (message.Supply page lock precious bytes) (asked_row (row_at k.memory.resident object.0 page.0)) refl
-        refl (unsupplied header h object control page lock precious bytes past)
-        (λ row asked supplies. still (message.Supply page lock precious bytes) refl supplies.events
+        by_asked page (Supplied page lock precious bytes) (message.Supply page lock precious bytes) (asked_row (row_at k.memory.resident object.0 page.0))
+        (refl, refl) refl (unsupplied header h object control page lock precious bytes past)
+        (λ row asked supplies. still (message.Supply page lock precious bytes) (refl, refl) supplies.events
         (changed_supplied header h k ids [] after past object control page lock precious bytes who new rests supplies lives_now said_is.0)
         (no_absence header (hears h object control (message.Supply page lock precious bytes) ∷ past) refl)) done
     by_message known (message.Unavailable page) said_is found live lives_now number done =
-        by_asked page (unavailable_outcome known.kind page) (message.Unavailable page) (asked_row (row_at k.memory.resident object.0 page.0)) refl refl
+        by_asked page (unavailable_outcome known.kind page) (message.Unavailable page) (asked_row (row_at k.memory.resident object.0 page.0)) (refl, refl) refl
         (unlacked header h object control page past)
         (λ row asked none. by_kind known page known.kind refl found lives_now none) done
     by_message known (message.Error page reason) said_is found live lives_now number done =
-        by_asked page (Failed page) (message.Error page reason) (asked_row (row_at k.memory.resident object.0 page.0)) refl refl
+        by_asked page (Failed page) (message.Error page reason) (asked_row (row_at k.memory.resident object.0 page.0)) (refl, refl) refl
         (unfailed header h object control page reason past)
-        (λ row asked fails. still (message.Error page reason) refl fails.events (changed_failed header h k ids [] after past object control page reason who new
+        (λ row asked fails. still (message.Error page reason) (refl, refl) fails.events
+        (changed_failed header h k ids [] after past object control page reason who new
         rests fails lives_now)
         (no_absence header (hears h object control (message.Error page reason) ∷ past) refl)) done
     by_message known other said_is found live lives_now number done = absurd said_is

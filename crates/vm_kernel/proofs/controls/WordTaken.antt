@@ -4,15 +4,15 @@ use Rattle.vm_model.specs.Regions.{object_pages as pages_made}
 use Rattle.vm_kernel.proofs.Common.{Access, AllReferred, ArePlain, Backing, Bool, Cancels, ChainTable, Changes, Command, Elsewhere, EndsNobody, Event, FailsNow}
 use Rattle.vm_kernel.proofs.Common.{FailsPage, FillsPage, Fit, FrameTable, HasAsker, HasControls, HasFrames, HasKinds, HasLaundry, HasOrder, HasPages}
 use Rattle.vm_kernel.proofs.Common.{HasRegions, HasTasks, HasUse, HasWaiters, Header, HostId, HostParts, Ids, IsAnswered, IsOfKind, IsPagerTold, IsReferred}
-use Rattle.vm_kernel.proofs.Common.{IsSettled, Lacks, List, Local, LocalEffect, Mapped, Message, None, ObjectId, ObjectRow, ObjectTable, On, Option, Outside}
-use Rattle.vm_kernel.proofs.Common.{PageNo, PageRow, Parts, PutsObject, PutsRow, Readies, Reason, Region, ResidentTable, Rests, SameMarks, SameObjects, Some}
-use Rattle.vm_kernel.proofs.Common.{Supplies, TakesError, TakesNothing, TakesPage, Waiting, Want, Woken, Works, Zeroes, [], absent_at, added, ap, arith}
+use Rattle.vm_kernel.proofs.Common.{IsSettled, KnowsHomes, Lacks, List, Local, LocalEffect, Mapped, Message, None, ObjectId, ObjectRow, ObjectTable, On, Option}
+use Rattle.vm_kernel.proofs.Common.{Outside, PageNo, PageRow, Parts, PutsObject, PutsRow, Readies, Reason, Region, ResidentTable, Rests, SameMarks, SameObjects}
+use Rattle.vm_kernel.proofs.Common.{Some, Supplies, TakesError, TakesNothing, TakesPage, Waiting, Want, Woken, Works, Zeroes, [], absent_at, added, ap, arith}
 use Rattle.vm_kernel.proofs.Common.{asked_is, asked_row, away, backing_of, clean_row, count_released, entries_of, eqb_tells, false, frames_held, frames_wired}
 use Rattle.vm_kernel.proofs.Common.{holds, home_of, host_id, host_of, if◌then◌else◌, in_use, inl, inr, is_control, is_on, is_ready, is_some, is_woken, key_of}
 use Rattle.vm_kernel.proofs.Common.{last_control, last_in, live_control, live_in, local, local_after, local_of_row, lock_numbered, marks_of, named, nat_lt}
 use Rattle.vm_kernel.proofs.Common.{nat_tests, next_object, next_page, next_region, not, object_at, object_home, one_case, page_in, page_key, place_of}
 use Rattle.vm_kernel.proofs.Common.{ready_in, refl, region_of, replicate, returns_out, reverse, row_at, row_cases, slice_get, some_is, subst, sym, true}
-use Rattle.vm_kernel.proofs.Common.{unlocked, waiting, ℕ, ◌&&◌, ◌+◌, ◌-◌, ◌<◌, ◌==◌, ◌^◌, ◌∙◌, ◌∷◌, ◌≡◌, ◌≤◌, ◌⊎◌, KnowsHomes}
+use Rattle.vm_kernel.proofs.Common.{unlocked, waiting, ℕ, ◌&&◌, ◌+◌, ◌-◌, ◌<◌, ◌==◌, ◌^◌, ◌∙◌, ◌∷◌, ◌≡◌, ◌≤◌, ◌⊎◌}
 use Rattle.vm_model.specs.declared.message.Message.TheVariants as message
 use Rattle.vm_objects.specs.declared.row.PagerState.TheVariants as state
 use Rattle.vm_supply.specs.declared.woken.Woken.TheVariants as woken
@@ -32,7 +32,7 @@ use Rattle.vm_kernel.proofs.steps.EventsGrow.{Follows, suffices}
 use Rattle.vm_kernel.proofs.memory.WhatIsKnown.{known_at, known_on, nothing_known}
 use Rattle.vm_kernel.proofs.abroad.OwnEvents.{own_named}
 use Rattle.vm_kernel.proofs.controls.LockReplied.{replied_behind, replied_none}
-use Rattle.vm_kernel.specs.Matches.{IsReplied, WorksBut}
+use Rattle.vm_kernel.specs.Matches.{IsCalm, IsReplied, WorksBut}
 use Rattle.vm_kernel.proofs.controls.FlagsKept.{flags_put, flags_same}
 use Rattle.vm_legal.specs.Cached.{is_cached}
 use Rattle.vm_state.specs.Pagers.{cached_in, is_ready_state}
@@ -48,12 +48,13 @@ use Rattle.vm_state.specs.Places.{known_local}
 use Rattle.vm_supply.specs.Answers as supply
 use Rattle.vm_legal.specs.Living.{tasks as made_tasks}
 use Rattle.vm_state.proofs.Filling.{KeepsAway, away_put, used_away, used_told}
-use Rattle.vm_state.specs.References.{MayLock, is_live_in}
+use Rattle.vm_state.specs.References.{MayLock, is_live_in, is_temporary_in}
 use Rattle.vm_state.specs.Passed.{IsUnmet, StaysAway}
 use Rattle.vm_base.specs.declared.ids.PageKey.{PageKey}
 use Rattle.vm_kernel.proofs.memory.PlacesPassed.{quiet_place, waits_come, waits_retold}
 use Rattle.vm_state.proofs.Bypassing.{waits_taken}
 use Rattle.vm_state.proofs.Passing.{same_of}
+use Rattle.vm_legal.specs.Destroyed.{destroy_taken, is_destroyed}
 
 -- who waits, where rows of pages and objects are others
 
@@ -151,13 +152,23 @@ pub record Stays (header : Header) (h : ℕ) (k : Parts) (past now : List Event)
       → HasControls (named header) h os (λ o. last_control h o now) (λ o. live_control h o now) (λ o. is_ready h o now) (λ o. object_home o now)
   pub homes : KnowsHomes header h k.chains now
   pub order : HasOrder k now
+  pub calm : IsCalm (named header) (λ o. live_control h o now) (λ o. is_destroyed h o (destroy_taken now))
   pub settled : IsSettled now
-  pub replied : IsReplied now
+  pub replied : IsReplied header now
   pub returned : returns_out h now ≡ returns_out h past
   pub wired : frames_wired h now ≡ frames_wired h past
 
+-- the step took no lock request, and no end of an object
+abbrev pub TakesNoOrder : List Event → Type 0
+TakesNoOrder past = (lock_taken past ≡ None) × (destroy_taken past ≡ None)
+
+-- a step that ends no object
+pub calm_none : (h count : ℕ) (live : ℕ → Option ℕ) (past : List Event) → destroy_taken past ≡ None
+    → IsCalm count live (λ o. is_destroyed h o (destroy_taken past))
+calm_none h count live past kept = λ o is. absurd (let bad : false ≡ true = sym (ap (is_destroyed h o) kept) ∙ is in cc)
+
 pub stays_heard : (header : Header) (h : ℕ) (k : Parts) (ids : Ids) (past : List Event) (object : ObjectId) (control : ℕ) (m : Message)
-    → Rests header h k ids past → lock_taken (hears h object control m ∷ past) ≡ None → Stays header h k past (hears h object control m ∷ past)
+    → Rests header h k ids past → TakesNoOrder (hears h object control m ∷ past) → Stays header h k past (hears h object control m ∷ past)
 stays_heard header h k ids past object control m rests none =
     let was = rests.matches in
     record {
@@ -172,8 +183,9 @@ stays_heard header h k ids past object control m rests none =
       controls = λ has. has;
       homes = was.core.spaces.homes;
       order = rests.order;
+      calm = calm_none h (named header) (λ o. live_control h o (hears h object control m ∷ past)) (hears h object control m ∷ past) none.1;
       settled = record { none_owed = refl; shut = λ region. refl };
-      replied = replied_none none;
+      replied = replied_none none.0 none.1;
       returned = refl;
       wired = refl;
     }
@@ -194,6 +206,7 @@ stays_zeroed header h k past now object page stays =
       controls = stays.controls;
       homes = stays.homes;
       order = stays.order;
+      calm = stays.calm;
       settled = record { none_owed = refl; shut = λ region. refl };
       replied = replied_behind tt stays.replied;
       returned = stays.returned;
@@ -208,6 +221,7 @@ works_of header h k ids who new past now rests stays fit same c =
     record {
       core = record {
         setting = was.core.setting;
+        calm = stays.calm;
         fits = record { parts = fit; plain = c.plain; buffers = ap (λ z. z.size) same ∙ was.core.fits.buffers };
         spaces = record {
           tasks = stays.tasks;
@@ -247,6 +261,7 @@ works_flagged but same = record {
   matches = record {
     core = record {
       setting = but.core.setting;
+      calm = but.core.calm;
       fits = but.core.fits;
       spaces = but.core.spaces;
       objects = but.core.objects;
@@ -314,7 +329,10 @@ controls_of os os2 last_at live_at ready_at ready_at2 has same ready =
     }
 
 pub may_lock : (os os2 : ObjectTable) (o : ℕ) (row : PageRow) → SameObjects os os2 → MayLock os o row → MayLock os2 o row
-may_lock os os2 o row same may = elim may [ inl open_now ↦ inl open_now | inr lives ↦ inr (ap is_live_in (same.at o) ∙ lives) ]
+may_lock os os2 o row same may = elim may [
+  | inl free ↦ inl (free.0, ap is_temporary_in (same.at o) ∙ free.1)
+  | inr lives ↦ inr (ap is_live_in (same.at o) ∙ lives)
+]
 
 -- the control that is named lives
 pub live_is : (control : ℕ) (known : Option ObjectRow) → is_control control (live_in known) ≡ true → is_live_in known ≡ true
@@ -394,7 +412,7 @@ kind_ready header o known was live =
             number = λ some. its.number some
                 ∙ ap (λ b. if b then 1 else 0) (sym was.lives ∙ live);
           };
-      declared = λ less. let its = was.declared less in record { kind = its.kind; pages = its.pages; told = λ some. live; number = its.number };
+      declared = λ less. let its = was.declared less in record { kind = its.kind; pages = its.pages; told = λ tame some. live; number = its.number };
     }
 
 controls_ready : {d h : ℕ} {home_at : ℕ → Option ℕ} (os os2 : ObjectTable) (last_at : ℕ → ℕ) (live_at : ℕ → Option ℕ) (ready_at : ℕ → Bool) (o control : ℕ)
@@ -510,7 +528,7 @@ changed_ready header h k ids events after past object control cache strategy who
       frames = was.core.pages.counted;
       referred =
           referred_controlled object.0 known (record known { state = state.Ready }) k.chains k.memory.objects new.objects k.memory.resident readies.found
-          readies.ready refl (λ lives. rests.referred.live object.0 known readies.found live) (λ is. is) rests.referred;
+          readies.ready refl (λ lives. rests.referred.live object.0 known readies.found live) (λ is. is) refl rests.referred;
       thin =
           thin_objects k.chains k.memory.objects new.objects
           (references_put object.0 known (record known { state = state.Ready }) k.memory.objects new.objects readies.found refl (λ none. none) readies.ready)
@@ -887,8 +905,11 @@ changed_zeroed header h k ids host after past object control page who new rests 
           (λ held. let kept = comes.claims in omega (arith, held, kept, some)));
       referred =
           referred_of k.chains k.memory.objects new.objects new.resident (referred_row object.0 page.0 (Some now) k.chains k.memory.objects k.memory.resident
-          new.resident comes.row (λ r is. (rests.referred.pages object.0 page.0 row asked.0, inl (ap (λ (z : PageRow). z.lock) (sym (some_is now r is)))))
-          rests.referred) same;
+          new.resident comes.row (λ r is. (
+            rests.referred.pages object.0 page.0 row asked.0,
+            inr (live_is control (object_at k.memory.objects object.0) (subst (λ (z : Option ℕ). is_control control z ≡ true) (was.core.controls.live object.0)
+                lives_now)),
+          )) rests.referred) same;
       thin = thin_same k.chains k.memory.objects new.objects same rests.thin;
       waits = waits_blank header h k.chains new.objects (hears h object control (message.Unavailable page) ∷ past) object page declared
           (λ told. told_unready new.objects object.0 told (ap ready_in (same.at object.0) ∙ rests.waits.ready object.0 page.0 row asked.0 asked.1))

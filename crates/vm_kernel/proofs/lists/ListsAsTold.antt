@@ -22,8 +22,8 @@ use Rattle.vm_queues.specs.Queues.{added, marked}
 use Rattle.vm_shadow.specs.declared.region_row.RegionRow.{RegionRow}
 use Rattle.vm_waits.specs.declared.waiting.Want.TheVariants as want
 use Rattle.vm_legal.specs.Licences.{ReturnOn}
-use Rattle.vm_kernel.specs.Plays.{AreSpared, Arrives, AsLocked, AsUnheld, AsUnreached, AsVictim, Departs, DepartsFrom, DoesBy, Looks, PlaysBy, Reclaims}
-use Rattle.vm_kernel.specs.Plays.{ReclaimsNone, Sparing, uncreated}
+use Rattle.vm_kernel.specs.Plays.{AreSpared, Arrives, AsDestroyed, AsLocked, AsUnheld, AsUnreached, AsVictim, Departs, DepartsFrom, DoesBy, Looks, PlaysBy}
+use Rattle.vm_kernel.specs.Plays.{Reclaims, ReclaimsNone, Sparing, uncreated}
 use Rattle.vm_kernel.proofs.memory.PagesShown.{itself}
 
 -- first some events, and then some more
@@ -44,6 +44,7 @@ departs_any by (AsVictim victim) = absurd victim.may
 departs_any by (AsUnreached none departs) = AsUnreached none departs
 departs_any by (AsUnheld unheld) = AsUnheld unheld
 departs_any by (AsLocked locked) = AsLocked locked
+departs_any by (AsDestroyed destroyed) = AsDestroyed destroyed
 
 does_any : (header : Header) (by : Sparing) (past : List Event) (e : Event) (old new : Paging) → Does header past e old new → DoesBy header by past e old new
 does_any header by past (event.Dropped host object page) old new does = departs_any by does

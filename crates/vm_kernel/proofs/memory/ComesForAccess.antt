@@ -2,13 +2,14 @@
 use Rattle.vm_kernel.proofs.memory.CoreChanges.{core_holds, core_rerowed}
 use Rattle.vm_kernel.proofs.Common.{Access, AllReferred, Bool, Brings, Changes, Event, FrameNo, HasPages, HasWaiters, Header, HostParts, Ids, List, Local}
 use Rattle.vm_kernel.proofs.Common.{Matches, None, ObjectTable, On, Option, PageKey, PageRow, Parts, Queues, Raises, Some, Stores, WaitTable, Waiting, Woken}
-use Rattle.vm_kernel.proofs.Common.{Works, Zeroes, [], absent_at, ap, arith, begun_at, clean_row, copy_target, entry, false, fit_touched}
-use Rattle.vm_kernel.proofs.Common.{host_id, host_of, inl, inr, is_again, is_frame, little_endian_bytes, local, local_after, local_of_row}
-use Rattle.vm_kernel.proofs.Common.{next_page, page_in, place_of, refl, replicate, row_at, rows_in, some_is, subst, suc, sym}
-use Rattle.vm_kernel.proofs.Common.{true, unlocked, waiting, with_bytes, ℕ, ◌&&◌, ◌==◌, ◌||◌, ◌∙◌, ◌∷◌, ◌≡◌}
+use Rattle.vm_kernel.proofs.Common.{Works, Zeroes, [], absent_at, ap, arith, begun_at, clean_row, copy_target, entry, false, fit_touched, host_id, host_of, inl}
+use Rattle.vm_kernel.proofs.Common.{inr, is_again, is_frame, little_endian_bytes, local, local_after, local_of_row, named, next_page, page_in, place_of, refl}
+use Rattle.vm_kernel.proofs.Common.{replicate, row_at, rows_in, some_is, subst, suc, sym, true, unlocked, waiting, with_bytes, ℕ, ◌&&◌, ◌==◌, ◌||◌, ◌∙◌, ◌∷◌}
+use Rattle.vm_kernel.proofs.Common.{◌≡◌, ◌≤◌}
+use Rattle.vm_state.proofs.Declared.{shadow_temporary}
 use Rattle.vm_state.proofs.Filling.{IsUnfilled, away_put, fills_over, number_fills, used_away, used_over, used_page, uses_refilled}
 use Rattle.vm_fault.specs.Faults.{KeepsPlan, References, WritesPage}
-use Rattle.vm_fault.specs.Walks.{keeps_out}
+use Rattle.vm_fault.specs.Walks.{IsUnder, Sinks, WalksTo, keeps_out}
 use Rattle.vm_model.specs.declared.event.Event.TheVariants as event
 use Rattle.vm_parts.specs.Changes.{RaisesPage}
 use Rattle.vm_state.proofs.Referred.{referred_row}
@@ -26,10 +27,10 @@ use Rattle.vm_kernel.proofs.abroad.OwnHost.{lives_here, own_host}
 use Rattle.vm_kernel.proofs.memory.PagesShown.{bytes_now, pages_moved, shown_as, shown_here}
 use Rattle.vm_kernel.proofs.space.RegionsInUse.{holds_waits, uses_still}
 use Rattle.vm_kernel.proofs.abroad.OtherLists.{matches_with}
+use Rattle.vm_kernel.proofs.controls.DeclaredKinds.{temporary_free}
 use Rattle.vm_kernel.proofs.controls.LockReplied.{replied_behind}
 use Rattle.vm_state.specs.References.{MayLock}
 use Rattle.vm_waits.specs.Wants.{IsOfNumber}
-use Rattle.vm_fault.specs.Walks.{Sinks, WalksTo}
 use Rattle.vm_kernel.proofs.memory.PlacesPassed.{waits_raised, waits_zeroed}
 use Rattle.vm_model.specs.Local.{Elsewhere, is_on}
 use Rattle.vm_state.proofs.Bypassing.{waits_quiet}
@@ -67,7 +68,7 @@ page_waits {stays = stays} {unmet = unmet} key frame was now held bytes lists k 
 pub same_lock : (os : ObjectTable) (o : ℕ) (was now row : PageRow) → now.lock ≡ was.lock → Some now ≡ Some row → MayLock os o was → MayLock os o row
 same_lock os o was now row same is may =
     let its : row.lock ≡ was.lock = ap (λ (z : PageRow). z.lock) (sym (some_is now row is)) ∙ same in
-    elim may [ inl open_now ↦ inl (its ∙ open_now) | inr lives ↦ inr lives ]
+    elim may [ inl free ↦ inl (its ∙ free.0, free.1) | inr lives ↦ inr lives ]
 
 -- a page of zeros comes
 
@@ -89,15 +90,17 @@ matches_zeroed header h k ids past key frame memory m c plan =
     }
 
 pub works_zeroed : (header : Header) (h : ℕ) (past : List Event) (k : Parts) (ids : Ids) (key : PageKey) (frame : FrameNo) (memory : HostParts)
-    → Works header h k ids woken.Nobody past → Sinks k.memory k.chains key → IsUnfilled k.chains key.object.0 → IsReferred k.memory.objects key.object.0
+    → Works header h k ids woken.Nobody past → Sinks k.memory k.chains key → named header ≤ key.object.0 → IsUnfilled k.chains key.object.0
+    → IsReferred k.memory.objects key.object.0
     → Brings key frame k.memory memory → KeepsPlan k.memory memory
     → Works header h (record k { memory = memory }) ids woken.Nobody (event.Zeroed (host_id h) key.object key.page ∷ past)
-works_zeroed header h past k ids key frame memory works sinks apart is c plan =
+works_zeroed header h past k ids key frame memory works sinks temporary apart is c plan =
     record {
       matches = matches_zeroed header h k ids past key frame memory works.matches c plan;
       used = used_page key.object.0 key.page.0 _ k.memory.resident memory.resident works.used apart c.row;
       referred =
-          page_referred key frame _ _ _ _ _ k memory c plan is (λ row same. inl (ap (λ (z : PageRow). z.lock) (sym (some_is _ row same)))) works.referred;
+          page_referred key frame _ _ _ _ _ k memory c plan is
+          (λ row same. temporary_free key.object.0 _ row works.matches.core.objects.kinds temporary is refl same) works.referred;
       thin = rw plan.objects works.thin;
       waits =
           page_waits key frame _ _ _ _ _ k memory (is_woken woken.Nobody) (λ u. waiting u past) c plan (none_unawaited None refl)
@@ -138,11 +141,14 @@ pub works_raised : (header : Header) (h : ℕ) (past : List Event) (k : Parts) (
     → KeepsPlan k.memory memory
     → Works header h (record k { memory = memory }) ids woken.Nobody (event.Raised (host_id h) low.object low.page top.object top.page ∷ past)
 works_raised header h past k ids steps low top row frame memory works walks apart is found here c plan =
+    let above : IsUnder k.chains top walks.1.0 = walks.1.1 in
+    let temporary = shadow_temporary works.matches.core.objects.regions works.matches.core.spaces.homes.1 top.object.0 above.row above.found in
     record {
       matches = matches_raised header h k ids past low top row frame memory works.matches found here c plan;
       used = used_page top.object.0 top.page.0 _ k.memory.resident memory.resident works.used apart c.row;
       referred =
-          page_referred top frame _ _ _ _ _ k memory c plan is (λ row same. inl (ap (λ (z : PageRow). z.lock) (sym (some_is _ row same)))) works.referred;
+          page_referred top frame _ _ _ _ _ k memory c plan is
+          (λ row same. temporary_free top.object.0 _ row works.matches.core.objects.kinds temporary is refl same) works.referred;
       thin = rw plan.objects works.thin;
       waits =
           page_waits top frame _ _ _ _ _ k memory (is_woken woken.Nobody) (λ u. waiting u past) c plan (none_unawaited None refl)

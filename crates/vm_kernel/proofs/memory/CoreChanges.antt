@@ -1,7 +1,7 @@
 -- What a kernel's core says once some of its tables have changed, whatever the reason, and the others not.
-use Rattle.vm_kernel.proofs.Common.{ChainTable, Mapped, Waiting, Bool, Changes, Entry, Event, FrameNo, Rests, HasPages, HasUse, Header, IfSome, Ids, List}
-use Rattle.vm_kernel.proofs.Common.{Local, ObjectTable, Option, PageKey, PageRow, Parts, HostParts, Queues, SameMarks, WaitTable, claimed, reverse, slice_get}
-use Rattle.vm_kernel.proofs.Common.{ℕ, ◌≡◌}
+use Rattle.vm_kernel.proofs.Common.{Bool, ChainTable, Changes, Entry, Event, FrameNo, HasPages, HasUse, Header, HostParts, Ids, IfSome, List, Local, Mapped}
+use Rattle.vm_kernel.proofs.Common.{ObjectTable, Option, PageKey, PageRow, Parts, Queues, Rests, SameMarks, WaitTable, Waiting, claimed, reverse, slice_get, ℕ}
+use Rattle.vm_kernel.proofs.Common.{◌≡◌}
 use Rattle.vm_state.proofs.Filling.{SameFills, uses_refilled}
 use Rattle.vm_fault.specs.Faults.{KeepsPlan}
 use Rattle.vm_frames.specs.Frames.{FrameTable}
@@ -31,6 +31,7 @@ pub core_within : {header : Header} {h : ℕ} {k : Parts} {ids : Ids} {gone : Li
 core_within other core =
     record {
       setting = core.setting;
+      calm = core.calm;
       fits = core.fits;
       spaces = core.spaces;
       objects = core.objects;
@@ -62,6 +63,7 @@ pub core_rerowed : {header : Header} {h : ℕ} {k : Parts} {ids : Ids} {gone : L
 core_rerowed {header = header} {h = h} {k = k} {m = m} {held_now = held_now} {memory = memory} key frame core changes plan plain pages claims =
     record {
       setting = core.setting;
+      calm = core.calm;
       fits = fits_changed key frame _ _ _ _ _ k memory core.fits plan.fit plan.buffers changes plain;
       spaces = core.spaces;
       objects = rw plan.objects core.objects;
@@ -96,6 +98,7 @@ pub core_holds : {header : Header} {h : ℕ} {k : Parts} {ids : Ids} {gone : Lis
 core_holds core uses =
     record {
       setting = core.setting;
+      calm = core.calm;
       fits = core.fits;
       spaces = record {
         tasks = core.spaces.tasks;

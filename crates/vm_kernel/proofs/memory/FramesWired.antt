@@ -80,6 +80,7 @@ ran_wired header h outside doing past k ids wired rests few first done =
           record {
             core = record {
               setting = m.core.setting;
+              calm = m.core.calm;
               fits = record { parts = fit_wired k.memory wired m.core.fits.parts; plain = m.core.fits.plain; buffers = m.core.fits.buffers };
               spaces = m.core.spaces;
               objects = m.core.objects;

@@ -1,7 +1,7 @@
 -- What is left of the kernel where a store's region loses its mark.
-use Rattle.vm_kernel.proofs.Common.{ChainTable, Event, Header, HostParts, Ids, List, Matches, ObjectTable, Parts, Region, RegionRow, Some, Works, ap, arith}
-use Rattle.vm_kernel.proofs.Common.{false, inl, inr, is_woken, marks_of, next_object, next_region, refl, region_at, subst, sym, true, waiting, ℕ, ◌+◌, ◌-◌, ◌<◌}
-use Rattle.vm_kernel.proofs.Common.{◌∙◌, ◌∷◌, ◌≡◌, Command, Outside, []}
+use Rattle.vm_kernel.proofs.Common.{ChainTable, Command, Event, Header, HostParts, Ids, List, Matches, ObjectTable, Outside, Parts, Region, RegionRow, Some}
+use Rattle.vm_kernel.proofs.Common.{Works, [], ap, arith, false, inl, inr, is_woken, marks_of, next_object, next_region, refl, region_at, subst, sym, true}
+use Rattle.vm_kernel.proofs.Common.{waiting, ℕ, ◌+◌, ◌-◌, ◌<◌, ◌∙◌, ◌∷◌, ◌≡◌}
 use Rattle.vm_kernel.proofs.controls.LockReplied.{replied_behind}
 use Rattle.vm_kernel.proofs.memory.ShadowMade.{KeepsRegions, entries_kept, keeps_put}
 use Rattle.vm_kernel.proofs.space.RegionsFilled.{unmarked_filled}
@@ -34,6 +34,7 @@ unmarked_with header h outside doing past k ids region row chains works there co
       matches = record {
         core = record {
           setting = m.core.setting;
+          calm = m.core.calm;
           fits = m.core.fits;
           spaces = record {
             tasks = m.core.spaces.tasks;

@@ -1,11 +1,11 @@
 -- What a kernel stands for once one of its pages has changed, whatever the reason: a page goes, goes back to its pager, or stays with another row.
 use Rattle.vm_state.proofs.KnownPages.{sizes_put, sizes_same}
-use Rattle.vm_kernel.specs.Matches.{AccessFacts, Amidst, ControlFacts, Core, ObjectFacts, Objects, Pages, SpaceFacts, access_facts, control_facts, memory_facts}
-use Rattle.vm_kernel.specs.Matches.{space_facts, IsReplied}
+use Rattle.vm_kernel.specs.Matches.{AccessFacts, Amidst, ControlFacts, Core, IsReplied, ObjectFacts, Objects, Pages, SpaceFacts, access_facts, control_facts}
+use Rattle.vm_kernel.specs.Matches.{memory_facts, space_facts}
 use Rattle.vm_kernel.proofs.memory.CoreChanges.{core_within, with_tables}
 use Rattle.vm_state.proofs.Passing.{quiet_if}
-use Rattle.vm_kernel.proofs.Common.{AllUsed, BeganInOrder, Bool, ChainTable, Changes, Command, Discards, Drops, Elsewhere, Entry, Event, Fit, FrameNo}
-use Rattle.vm_kernel.proofs.Common.{HasKinds, HasLaundry, HasOrder, HasPages, HasWaits, Header, HostParts, Ids, IfSome, IsOfKind, IsSettled, LaundryList, List}
+use Rattle.vm_kernel.proofs.Common.{AllUsed, BeganInOrder, Bool, ChainTable, Changes, Command, Discards, Drops, Elsewhere, Entry, Event, Fit, FrameNo, HasKinds}
+use Rattle.vm_kernel.proofs.Common.{HasLaundry, HasOrder, HasPages, HasWaits, Header, HostParts, Ids, IfSome, IsOfKind, IsSettled, LaundryList, List}
 use Rattle.vm_kernel.proofs.Common.{LocalEffect, Matches, None, ObjectRow, ObjectTable, Option, Outside, PageKey, PageRow, Parts, PartsFit, PutsAbsent}
 use Rattle.vm_kernel.proofs.Common.{PutsObject, Queues, ReturnCause, Returns, SameMarks, SameObjects, Some, Up, UsesAll, Woken, [], absent_at, ap, arith, away}
 use Rattle.vm_kernel.proofs.Common.{false, fit_objects, frames_held, frames_wired, host_id, if◌then◌else◌, inl, is_some, is_woken, live_in, local, local_after}
@@ -45,7 +45,7 @@ pub amidst_of : {header : Header} {h : ℕ} {k : Parts} {ids : Ids} {gone : List
 amidst_of m used waits order = record { core = m.core; used = used; waits = waits; order = order }
 
 pub matches_of : {header : Header} {h : ℕ} {k : Parts} {ids : Ids} {gone : List Entry} {who : Woken} {past : List Event} (other : Parts)
-    → Amidst header h k ids gone who past → IsSettled past → IsReplied past → Matches header h (with_tables k other) ids gone past
+    → Amidst header h k ids gone who past → IsSettled past → IsReplied header past → Matches header h (with_tables k other) ids gone past
 matches_of other a settled replied = record { core = core_within other a.core; settled = settled; replied = replied }
 
 -- what events leave
@@ -106,6 +106,7 @@ amidst_moved {header = header} {h = h} {k = k} {ids = ids} {gone = gone} {who = 
     core : Core header h new ids gone (space_facts header past) (control_facts h past) (memory_facts header h now)
     core = record {
       setting = a.core.setting;
+      calm = a.core.calm;
       fits = moved.fits;
       spaces = a.core.spaces;
       objects = record {

@@ -5,17 +5,18 @@ use Rattle.vm_kernel.proofs.Common.{IsReferred, IsReturned, IsSettled, KeepsPage
 use Rattle.vm_kernel.proofs.Common.{Option, Outside, PageKey, PageRow, PagerState, PagesOut, Parts, PutsObject, PutsRow, Queues, Reclaim, ReclaimEffects}
 use Rattle.vm_kernel.proofs.Common.{ResidentTable, Rests, ReturnCause, SameMarks, SameObjects, Some, Starves, Up, [], absent_at, ap, arith, claimed, controlled}
 use Rattle.vm_kernel.proofs.Common.{count_again, departures, false, fit_touched, free, has_pager, host_id, if◌then◌else◌, inl, inr, is_claimed, is_queued}
-use Rattle.vm_kernel.proofs.Common.{is_ready, is_skipped, is_woken, last_control, last_in, live_control, live_in, local, local_of_row, looked, named, object_at}
-use Rattle.vm_kernel.proofs.Common.{object_home, owner_of, page_in, page_key, place_of, queues_after_search, refl, returns_out, row_at, row_cases}
-use Rattle.vm_kernel.proofs.Common.{row_with_control, sends, some_is, subst, sym, told_from, true, ℕ, ◌&&◌, ◌++◌, ◌+◌, ◌<◌, ◌==◌, ◌∙◌, ◌∷◌, ◌≡◌, ◌⊎◌}
+use Rattle.vm_kernel.proofs.Common.{is_ready, is_skipped, is_woken, last_control, last_in, live_control, live_in, local, local_of_row, looked, named, nat_tests}
+use Rattle.vm_kernel.proofs.Common.{object_at, object_home, owner_of, page_in, page_key, place_of, queues_after_search, refl, returns_out, row_at, row_cases}
+use Rattle.vm_kernel.proofs.Common.{row_with_control, sends, some_is, subst, sym, told_from, true, ℕ, ◌&&◌, ◌++◌, ◌+◌, ◌<◌, ◌==◌, ◌∙◌, ◌∷◌, ◌≡◌, ◌≤◌, ◌⊎◌}
 use Rattle.vm_legal.specs.Licences.{Reclaimed as ForFrames}
 use Rattle.vm_legal.specs.Reclaims.{Reclaims as May}
 use Rattle.vm_model.specs.Local.{Place}
 use Rattle.vm_kernel.proofs.steps.EventsGrow.{Follows, free_is, goes_none, goes_one, suffices}
 use Rattle.vm_kernel.proofs.memory.WhatIsKnown.{other_if, pages_known}
 use Rattle.vm_legal.proofs.Owing.{behind_none}
-use Rattle.vm_kernel.proofs.memory.PageReturned.{controls_begun, controls_told, counts_controlled, first_of_object, kind_controlled, pages_created}
-use Rattle.vm_kernel.proofs.memory.PageReturned.{never_controlled, ready_controlled, told_controlled, unasked, untold_temporary}
+use Rattle.vm_kernel.proofs.controls.DeclaredKinds.{untold_temporary}
+use Rattle.vm_kernel.proofs.memory.PageReturned.{controls_begun, controls_told, counts_controlled, first_of_object, kind_controlled, never_controlled}
+use Rattle.vm_kernel.proofs.memory.PageReturned.{pages_created, ready_controlled, told_controlled, unasked}
 use Rattle.vm_legal.specs.Prompt.{IsSource}
 use Rattle.vm_kernel.proofs.space.StillThin.{references_put, thin_objects}
 use Rattle.vm_merge.specs.Merges.{IsThin}
@@ -90,13 +91,13 @@ inside : {header : Header} {h : ℕ} {k : Parts} {ids : Ids} {past : List Event}
 inside rests = amidst_of rests.matches rests.used rests.waits rests.order
 
 rests_of : {header : Header} {h : ℕ} {k : Parts} {ids : Ids} {past : List Event} (other : Parts) → Amidst header h k ids [] woken.Nobody past
-    → IsSettled past → IsReplied past → AllReferred k.chains k.memory.objects k.memory.resident → IsThin k.chains k.memory.objects
+    → IsSettled past → IsReplied header past → AllReferred k.chains k.memory.objects k.memory.resident → IsThin k.chains k.memory.objects
     → count_again k.waits.rows ≡ 0 → Rests header h (with_tables k other) ids past
 rests_of other a settled replied referred thin idle =
     record { matches = matches_of other a settled replied; used = a.used; referred = referred; thin = thin; waits = a.waits; order = a.order; idle = idle }
 
 rests_beside : {header : Header} {h : ℕ} {k k2 : Parts} {ids : Ids} {past : List Event} → Beside k k2
-    → Amidst header h (record k { memory = k2.memory; laundry = k2.laundry }) ids [] woken.Nobody past → IsSettled past → IsReplied past
+    → Amidst header h (record k { memory = k2.memory; laundry = k2.laundry }) ids [] woken.Nobody past → IsSettled past → IsReplied header past
     → AllReferred k.chains k2.memory.objects k2.memory.resident → IsThin k.chains k2.memory.objects → count_again k.waits.rows ≡ 0
     → Rests header h k2 ids past
 rests_beside {header = header} {h = h} {k = k} {k2 = k2} {ids = ids} {past = past} beside a settled replied referred thin idle =
@@ -242,6 +243,9 @@ on_its_way h skip k k2 before after beside claims left less out stay =
 abbrev pub creating : ℕ → PageKey → ℕ → ℕ → Event
 creating h key control size = event.Sent (Up (host_id h) key.object) (message.Create control size)
 
+earlier : (o o2 count : ℕ) → count ≤ o → o2 < count → (o == o2) ≡ false
+earlier o o2 count later less = grind (arith, nat_tests)
+
 -- its first control is made, of an object that had none
 inside_created : {header : Header} {h : ℕ} {k : Parts} {ids : Ids} {past : List Event} {row : ObjectRow} (key : PageKey) (os : ObjectTable)
     → Amidst header h k ids [] woken.Nobody past → object_at k.memory.objects key.object.0 ≡ Some row → row.state ≡ state.Without → row.control ≡ 0
@@ -260,9 +264,15 @@ inside_created {header = header} {h = h} {k = k} {past = past} {row = row} key o
       | inl declared ↦ let number = (kind.declared declared).number in absurd (omega (arith, number, none))
       | inr temporary ↦ (kind.temporary temporary).uncached
     ] in
+    let later : named header ≤ o = elim (kind_cases header o) [
+      | inl declared ↦ let number = (kind.declared declared).number in absurd (omega (arith, number, none))
+      | inr temporary ↦ temporary
+    ] in
     record {
       core = record {
         setting = core.setting;
+        calm = rw (own_host h) (λ o2 is. let was = core.calm o2 is in
+            (was.0, ap (λ b. if b then Some (row.control + 1) else live_control h o2 past) (earlier o o2 (named header) later was.0) ∙ was.1));
         fits = fits_known found put refl core.fits;
         spaces = core.spaces;
         objects =
@@ -302,7 +312,7 @@ referred_returned {o = o} {p = p} {object = object} k k2 all known put live is r
     subst (λ (z : ℕ). 0 < z) (ap (λ (z : ObjectRow). z.references) (some_is is.row object (sym is.known ∙ known)) ∙ sym counts.references) is.some in
     referred_gone o p k.chains k2.memory.objects k.memory.resident k2.memory.resident row
     (referred_controlled o object (controlled object) k.chains k.memory.objects k2.memory.objects k.memory.resident known put counts.references
-    (λ lives. some) (λ lives. live) all)
+    (λ lives. some) (λ lives. live) counts.kind all)
 
 -- so nothing can be merged still
 thin_returned : {o : ℕ} {object : ObjectRow} (k k2 : Parts) → IsThin k.chains k.memory.objects → object_at k.memory.objects o ≡ Some object
@@ -381,7 +391,8 @@ took_first header h outside doing past ids skip k k2 before after rests beside l
     let moment = e1 ∷ h0 in
     let referred = rests.referred.pages o p row page.found in
     let kind = m.core.objects.kinds.kinds o is.object is.known in
-    let temporary = untold_temporary header k.memory.objects o is.object referred is.known kind without in
+    let temporary = untold_temporary header k.memory.objects o is.object row m.core.setting.ranged is.known kind
+    (rests.referred.locks o p row page.found) without in
     let first = first_of_object header k.memory.objects o is.object referred is.known kind temporary in
     let none : is.object.control ≡ 0 = first.number ∙ ap (λ z. if has_pager z then 1 else 0) without in
     let dead : live_control h o h0 ≡ None = m.core.controls.live o

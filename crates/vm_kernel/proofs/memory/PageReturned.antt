@@ -14,7 +14,6 @@ use Rattle.vm_model.specs.declared.event.Event.TheVariants as event
 use Rattle.vm_model.specs.declared.message.Message.TheVariants as message
 use Rattle.vm_objects.specs.declared.row.PagerState.TheVariants as state
 use Rattle.vm_terminate.specs.Finishes.{IsReferred}
-use Rattle.vm_abroad.proofs.Regions.{kind_cases}
 use Rattle.vm_state.proofs.Knowing.{put_else, put_here}
 
 -- nothing is asked of an object without a live control
@@ -154,7 +153,7 @@ kind_controlled header o state.Without row is has =
             uncached = its.uncached;
             number = λ some. ap (λ z. z + 1) (its.number some ∙ ap (λ z. if has_pager z then 1 else 0) is);
           };
-      declared = λ less. let its = has.declared less in record { kind = its.kind; pages = its.pages; told = λ some. refl; number = omega arith };
+      declared = λ less. let its = has.declared less in record { kind = its.kind; pages = its.pages; told = λ tame some. refl; number = omega arith };
     }
 
 -- the kinds of objects, where one has a pager now, and a page of it isn't known to be missing
@@ -172,27 +171,16 @@ kinds_controlled header o p new os os2 cs put present its has =
       unders = has.unders;
     }
 
--- an object to which something refers and of which no pager was told is temporary
-pub untold_temporary : (header : Header) (os : ObjectTable) (o : ℕ) (row : ObjectRow) → IsReferred os o → object_at os o ≡ Some row → IsOfKind header o row
-    → row.state ≡ state.Without → named header ≤ o
-untold_temporary header os o row referred found is without = elim (kind_cases header o) [
-  | inl declared ↦
-      let same : referred.row ≡ row = some_is referred.row row (sym referred.known ∙ found) in
-      let bad : true ≡ false = sym ((is.declared declared).told (subst (λ (z : ObjectRow). 0 < z.references) same referred.some))
-      ∙ (is.lives ∙ ap has_pager without) in
-      absurd (cc)
-  | inr temporary ↦ temporary
-]
-
--- it has the references and the pages that it had
+-- it has the references, the pages and the kind that it had
 pub record KeepsCounts (old new : ObjectRow) : Type 0 where
   pub references : new.references ≡ old.references
   pub pages : new.pages ≡ old.pages
+  pub kind : new.kind ≡ old.kind
 
 pub counts_controlled : (pager : PagerState) (row : ObjectRow) → KeepsCounts row (row_with_control pager row)
-counts_controlled state.Sent row = record { references = refl; pages = refl }
-counts_controlled state.Ready row = record { references = refl; pages = refl }
-counts_controlled state.Without row = record { references = refl; pages = refl }
+counts_controlled state.Sent row = record { references = refl; pages = refl; kind = refl }
+counts_controlled state.Ready row = record { references = refl; pages = refl; kind = refl }
+counts_controlled state.Without row = record { references = refl; pages = refl; kind = refl }
 
 -- where it has no control now, it had none
 pub never_controlled : (pager : PagerState) (row : ObjectRow) → (row_with_control pager row).control ≡ 0 → row.control ≡ 0

@@ -91,6 +91,7 @@ rests_taken header h k ids past object control page dirty bytes f fs laundry res
           record {
             core = record {
               setting = was.core.setting;
+              calm = λ o is. absurd (let bad : false ≡ true = is in cc);
               fits = record {
                 parts = fit_released k.memory fs f.0 was.core.fits.parts washed.claimed washed.unowned releases;
                 plain = was.core.fits.plain;
@@ -113,7 +114,7 @@ rests_taken header h k ids past object control page dirty bytes f fs laundry res
               };
             };
             settled = record { none_owed = refl; shut = λ region. refl };
-            replied = replied_none refl;
+            replied = replied_none refl refl;
           };
       used = rests.used;
       referred = rests.referred;

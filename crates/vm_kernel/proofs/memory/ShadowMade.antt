@@ -1,11 +1,11 @@
 -- What a shadow leaves of the kernel, which a store's region gets first where that is marked.
 use Rattle.vm_kernel.proofs.memory.CoreChanges.{pages_known_so}
 use Rattle.vm_state.proofs.KnownPages.{object_few, sizes_shadowed}
-use Rattle.vm_kernel.proofs.Common.{ChainTable, Event, HasEntries, Header, HostParts, Ids, Inside, IsInside, List, Matches, None, ObjectId, ObjectTable, Parts}
-use Rattle.vm_kernel.proofs.Common.{PutsObject, Region, RegionRow, SameMarks, Some, Works, [], ap, arith, false, has_region, home_of, inl, inr, is_some}
-use Rattle.vm_kernel.proofs.Common.{is_woken, marks_of, next_object, next_region, object_at, one_case, pages_in, refl, region_at, region_pages, rows_in}
-use Rattle.vm_kernel.proofs.Common.{rows_map, some_is, subst, sym, true, waiting, ℕ, ◌+◌, ◌-◌, ◌<◌, ◌∙◌, ◌∷◌, ◌≡◌, ◌≤◌, ◌⊎◌, if◌then◌else◌, ◌==◌, Command}
-use Rattle.vm_kernel.proofs.Common.{Outside}
+use Rattle.vm_kernel.proofs.Common.{ChainTable, Command, Event, HasEntries, Header, HostParts, Ids, Inside, IsInside, List, Matches, None, ObjectId}
+use Rattle.vm_kernel.proofs.Common.{ObjectTable, Outside, Parts, PutsObject, Region, RegionRow, SameMarks, Some, Works, [], ap, arith, false, has_region}
+use Rattle.vm_kernel.proofs.Common.{home_of, if◌then◌else◌, inl, inr, is_some, is_woken, marks_of, next_object, next_region, object_at, one_case, pages_in}
+use Rattle.vm_kernel.proofs.Common.{refl, region_at, region_pages, rows_in, rows_map, some_is, subst, sym, true, waiting, ℕ, ◌+◌, ◌-◌, ◌<◌, ◌==◌, ◌∙◌, ◌∷◌, ◌≡◌}
+use Rattle.vm_kernel.proofs.Common.{◌≤◌, ◌⊎◌}
 use Rattle.vm_kernel.proofs.space.RegionsFilled.{shadowed_filled, unknown_unfilled}
 use Rattle.vm_kernel.proofs.space.StillThin.{thin_shadowed}
 use Rattle.vm_state.proofs.Filling.{copies_kept, rows_unmade}
@@ -23,14 +23,13 @@ use Rattle.vm_state.proofs.Declared.{kind_new, kinds_put, kinds_shadowed, marked
 use Rattle.vm_state.proofs.Files.{files_temporary}
 use Rattle.vm_state.proofs.Marks.{marked_shadowed}
 use Rattle.vm_state.proofs.Places.{waits_shadowed}
-use Rattle.vm_state.proofs.Referred.{referred_shadowed}
+use Rattle.vm_state.proofs.Referred.{comes_served, referred_shadowed}
 use Rattle.vm_state.proofs.Referring.{objects_below, small_region}
 use Rattle.vm_state.proofs.Shadowing.{regions_shadowed}
 use Rattle.vm_state.proofs.Told.{knows_made}
 use Rattle.vm_supply.specs.declared.woken.Woken.TheVariants as woken
 use Rattle.vm_kernel.proofs.space.TaskMade.{controls_made, new_object}
 use Rattle.vm_kernel.proofs.controls.LockReplied.{replied_behind}
-use Rattle.vm_state.specs.References.{is_live_in}
 use Rattle.vm_kernel.proofs.memory.PlacesPassed.{fresh_away}
 use Rattle.vm_kernel.proofs.space.RegionHomes.{homes_caused, homes_put}
 use Rattle.vm_legal.specs.Licences.{Shadows}
@@ -106,6 +105,7 @@ shadowed_with header h outside doing past k ids region object row chains objects
       matches = record {
         core = record {
           setting = m.core.setting;
+          calm = m.core.calm;
           fits = record { parts = fit; plain = m.core.fits.plain; buffers = m.core.fits.buffers };
           spaces = record {
             tasks = m.core.spaces.tasks;
@@ -151,7 +151,7 @@ shadowed_with header h outside doing past k ids region object row chains objects
       };
       referred =
           referred_shadowed region.0 object row (new_object row.pages) k.chains chains k.memory.objects objects k.memory.resident made put (omega arith)
-          (λ is. absurd (let bad : false ≡ true = sym (ap is_live_in unknown) ∙ is in cc)) works.referred;
+          (comes_served unknown) works.referred;
       thin =
           thin_shadowed region.0 object row (new_object row.pages) k.chains chains k.memory.objects objects there below shared made put works.thin;
       waits =

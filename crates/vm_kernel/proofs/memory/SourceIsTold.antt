@@ -2,7 +2,7 @@
 use Rattle.vm_kernel.proofs.Common.{Access, Bool, Comes, Entry, Event, HasSlow, HasWaits, Header, Ids, IfSome, IsAt, IsTop, List, Loading, Matches, None}
 use Rattle.vm_kernel.proofs.Common.{Option, PageKey, Parts, Passes, Some, Storing, TaskId, Waiting, Waits, Walks, Want, WantsFrame, Woken, [], access_in, ap}
 use Rattle.vm_kernel.proofs.Common.{arith, entry, false, first_in_queue, has_pager, if◌then◌else◌, is_store, nat_lt, nat_tests, page_key, page_of, page_on}
-use Rattle.vm_kernel.proofs.Common.{refl, region_of, sight, some_is, subst, suc, sym, true, waiting, ℕ, ◌&&◌, ◌∙◌, ◌≡◌, ◌≢◌, ◌||◌}
+use Rattle.vm_kernel.proofs.Common.{refl, region_of, sight, some_is, subst, suc, sym, true, waiting, ℕ, ◌&&◌, ◌||◌, ◌∙◌, ◌≡◌, ◌≢◌}
 use Rattle.std.proofs.lemmas.Bool.{or_right}
 use Rattle.vm_fault.specs.Faults.{Needs, Nowhere, ToAsk, ToCopy, ToRaise}
 use Rattle.vm_fault.specs.Sources.{Reads, source_at}
@@ -63,7 +63,7 @@ same_end {header = header} {h = h} {past = past} {top = top} at m l lp walks sto
 wants_to_copy : {header : Header} {h : ℕ} {past : List Event} {top : PageKey} (size to task region page : ℕ) (what : Want) → (at : EndsHere header h past top)
     → IsTop (region_of header region past) page top.object.0 top.page.0
     → WantsFrame header h task (access_in size to what) region page past → copies_at what at.steps ≡ true
-wants_to_copy {header = header} {h = h} {past = past} {top = top} size to task region page what at is_top (legal.Nowhere o p steps its_top sinks) =
+wants_to_copy {header = header} {h = h} {past = past} {top = top} size to task region page what at is_top (legal.Nowhere served o p steps its_top sinks) =
     absurd (let there = subst (λ (z : ℕ). Sinks (λ k q. sight header h k q past) (λ k. backing_of header k past) steps z top.page.0)
     (sym its_top.object ∙ is_top.object) (subst (λ (z : ℕ). Sinks (λ k q. sight header h k q past) (λ k. backing_of header k past) steps o z)
     (sym its_top.page ∙ is_top.page) sinks) in

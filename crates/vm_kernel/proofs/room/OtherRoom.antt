@@ -235,6 +235,7 @@ matches_roomier : (header : Header) (h : ℕ) (rooms : Rooms) (k : Parts) (ids :
 matches_roomier header h rooms k ids gone past was = record {
   core = record {
     setting = was.core.setting;
+    calm = was.core.calm;
     fits = record { parts = fit_roomier rooms k.memory was.core.fits.parts; plain = was.core.fits.plain; buffers = was.core.fits.buffers };
     spaces = record {
       tasks = was.core.spaces.tasks;

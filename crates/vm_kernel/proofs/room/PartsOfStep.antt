@@ -1,7 +1,7 @@
 -- What the parts of a step spend in front of the accesses that are run, and what they leave for those.
-use Rattle.vm_kernel.proofs.Common.{Bool, Command, Err, Event, Header, Ids, List, Matches, ObjectTable, Ok, OnOk, On, PageKey, Parts, Result, TaskId, WaitTable}
+use Rattle.vm_kernel.proofs.Common.{Bool, Command, Err, Event, Header, Ids, List, Matches, ObjectTable, Ok, On, OnOk, PageKey, Parts, Result, TaskId, WaitTable}
 use Rattle.vm_kernel.proofs.Common.{Waiting, [], ap, arith, false, frame_count, length, length-append, one_again, one_frame, refl, returns_out, rows_in, subst}
-use Rattle.vm_kernel.proofs.Common.{sym, true, ℕ, ◌++◌, ◌+◌, ◌*◌, ◌<◌, ◌∙◌, ◌∷◌, ◌≡◌, ◌≤◌}
+use Rattle.vm_kernel.proofs.Common.{sym, true, ℕ, ◌*◌, ◌++◌, ◌+◌, ◌<◌, ◌∙◌, ◌∷◌, ◌≡◌, ◌≤◌}
 use Rattle.std.specs.Prelude.{IsOk, OnErr, vec_capacity}
 use Rattle.vm_base.specs.Listing.{Listed}
 use Rattle.vm_kernel.proofs.room.EndsSpend.{roomy_fewer}
@@ -9,7 +9,7 @@ use Rattle.vm_kernel.proofs.memory.FramesHeld.{room_once}
 use Rattle.vm_kernel.proofs.controls.LiveControls.{live_known}
 use Rattle.vm_kernel.proofs.room.RunPays.{copies_more}
 use Rattle.vm_kernel.specs.Rooms.{Dies, HasBuffers, HasMore, HasRoom, IsSkipRoom, KeepsSkip, KeepsSpare, Spends, breadth_of, dues, front, full_dues, heeding}
-use Rattle.vm_kernel.specs.Rooms.{if_copies, leaving, loose_frames, making, one_if_full, to_run, waking, word_breadth, may_end}
+use Rattle.vm_kernel.specs.Rooms.{if_copies, leaving, loose_frames, making, may_end, one_if_full, to_run, waking, word_breadth}
 use Rattle.vm_kernel.specs.declared.breadth.Breadth.{Breadth}
 use Rattle.vm_kernel.specs.declared.breadth.Breadth.TheVariants as wide
 use Rattle.vm_model.specs.declared.message.Message.{Message}
@@ -255,16 +255,19 @@ out_few k few = by (listed_pages k.memory.queues) (frame_count k.memory.frames) 
     by : (listed frames known : ℕ) → listed ≤ frames → 2 * listed ≤ 2 * frames + known + 1
     by listed frames known few = omega (arith, few)
 
--- what a word tells is below that in front
-pub word_few : (m : Message) (k : Parts) (ids : Ids) → listed_pages k.memory.queues ≤ frame_count k.memory.frames
-    → heeding m k ids ≤ front (word_breadth m) k
-word_few (message.Lock page count returns flush lock reply) k ids few =
-    by (listed_pages k.memory.queues) (frame_count k.memory.frames) (length k.memory.objects.entries) few
+listed_below : (k : Parts) → listed_pages k.memory.queues ≤ frame_count k.memory.frames → listed_pages k.memory.queues + 1 ≤ front wide.Pages k
+listed_below k few = by (listed_pages k.memory.queues) (frame_count k.memory.frames) (length k.memory.objects.entries) few
   where
     by : (listed frames known : ℕ) → listed ≤ frames → listed + 1 ≤ 2 * frames + known + 1
     by listed frames known few = omega (arith, few)
+
+-- what a word tells is below that in front
+pub word_few : (m : Message) (k : Parts) (ids : Ids) → listed_pages k.memory.queues ≤ frame_count k.memory.frames
+    → heeding m k ids ≤ front (word_breadth m) k
+word_few (message.Lock page count returns flush lock reply) k ids few = listed_below k few
 word_few (message.Ready cache strategy) k ids few = end_few k ids few
 word_few (message.Attributes cache strategy reply) k ids few = end_few k ids few
+word_few (message.Destroy reason) k ids few = listed_below k few
 word_few (message.Error page reason) k ids few = omega arith
 word_few other k ids few = omega arith
 

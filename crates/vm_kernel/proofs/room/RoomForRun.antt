@@ -1,7 +1,7 @@
 -- What there is room for suffices for a run of an access, and behind it there is room for what is then still to be told.
 use Rattle.vm_kernel.proofs.Common.{ChainTable, Event, Fit, HostParts, Ids, List, None, On, Option, PageKey, Parts, Reclaim, Some, WaitTable, Waiting, Want, ap}
 use Rattle.vm_kernel.proofs.Common.{arith, count_again, entry, false, free, is_again, is_frame, length, map, none_again, none_queued, one_again, one_frame}
-use Rattle.vm_kernel.proofs.Common.{queued, refl, subst, suc, sym, true, zero, ℕ, ◌+◌, ◌-◌, ◌*◌, ◌<◌, ◌==◌, ◌||◌, ◌∙◌, ◌≡◌, ◌≤◌}
+use Rattle.vm_kernel.proofs.Common.{queued, refl, subst, suc, sym, true, zero, ℕ, ◌*◌, ◌+◌, ◌-◌, ◌<◌, ◌==◌, ◌||◌, ◌∙◌, ◌≡◌, ◌≤◌}
 use Rattle.std.proofs.Common.{Bool, vec_capacity}
 use Rattle.std.proofs.lemmas.List.{length-map}
 use Rattle.std.specs.Prelude.{min}
@@ -159,6 +159,30 @@ room_left {more} {k} {k2} {ids} {room} {room2} {before} answer w new room1 extra
     let few : k2.memory.objects.rows ≡ new.parts.objects.rows = ap (λ (z : HostParts). z.objects.rows) memory in
     room_after (length before) (length after) has (few_left k k2 answer w new extra after pays costs runs again frames copies memory marks told)
     (omega (arith, log, last)) (omega (arith, rows, spare, told)) (omega (arith, shadows, under, marks)) (omega (arith, objects, few, marks))
+
+-- an access that fails tells one event, and takes nothing but its row away
+
+pub room_to_fail : {more : ℕ} {k : Parts} {room : ℕ} → HasRoom more k room → 0 < to_run k.waits.rows → 0 < room
+room_to_fail {k = k} has some = let all = has.log in let due = dues_are k in omega (arith, all, some, due)
+
+pub few_failed : (k : Parts) (w : Waiting) (waits : WaitTable) (before after : ℕ) → runs_now w.on ≡ true
+    → count_again waits.rows + one_again w.on ≡ count_again k.waits.rows → queued waits.rows + one_frame w.on ≡ queued k.waits.rows
+    → waits.rows ≡ rows_without w.task.0 k.waits.rows → after ≡ suc before → after + dues (record k { waits = waits }) ≤ before + dues k
+few_failed k w waits before after runs again frames goes told =
+    let one = runs_one w runs in
+    let fewer : count_copies waits.rows ≤ count_copies k.waits.rows = subst (λ (z : List Waiting). count_copies z ≤ count_copies k.waits.rows) (sym goes)
+    (copies_less w.task.0 k.waits.rows) in
+    let less = due_fewer (count_copies waits.rows) (count_copies k.waits.rows) k.memory fewer in
+    let more_dues = dues_are (record k { waits = waits }) in
+    let had_dues = dues_are k in
+    omega (arith, one, again, frames, less, more_dues, had_dues, told)
+
+pub room_failed : {more : ℕ} (k : Parts) (w : Waiting) (waits : WaitTable) (before after room room2 : ℕ) → HasRoom more k room → runs_now w.on ≡ true
+    → count_again waits.rows + one_again w.on ≡ count_again k.waits.rows → queued waits.rows + one_frame w.on ≡ queued k.waits.rows
+    → waits.rows ≡ rows_without w.task.0 k.waits.rows → after ≡ suc before → room ≤ room2 + 1 → HasRoom more (record k { waits = waits }) room2
+room_failed k w waits before after room room2 has runs again frames goes told last =
+    room_after before after has (few_failed k w waits before after runs again frames goes told) (omega (arith, told, last)) (omega (arith, told))
+    (omega arith) (omega arith)
 
 -- what the end of an access tells besides: two events where it is a slow copy
 pub record TellsEnd (w : Waiting) (old new : Parts) (before after : List Event) : Type 0 where

@@ -1,12 +1,12 @@
 -- Commands that change a task's entries, from their beginning to their end.
 use Rattle.vm_kernel.proofs.Common.{Access, AllReferred, AllRows, AllUsed, ChainTable, ChangesOnly, Code, Entry, Event, HasEntries, HasUse, HasWaiters, Header}
-use Rattle.vm_kernel.proofs.Common.{Ids, Inherit, IsInside, List, MapChange, Mapped, None, Option, Outside, Parts, Prot, Raised, Ran, RegionRow, Rests, Some}
-use Rattle.vm_kernel.proofs.Common.{Starts, TaskId, Waiting, [], acting, all_tasks, ap, arith, code_where, copy_target, count_by, count_on, cut_at_ends}
-use Rattle.vm_kernel.proofs.Common.{entries_in, entries_in_row, entries_of, entry, eqb_tells, false, fills, has_entry, has_region, holds, host_of}
-use Rattle.vm_kernel.proofs.Common.{if◌then◌else◌, in_use, inheritance, inherited, inl, inr, is_copied, is_none, is_range, is_some, is_woken, meets_declared}
-use Rattle.vm_kernel.proofs.Common.{most_entries, named, next_page, next_region, not-false, protected, protection, refl, region_at, region_entries, removed}
-use Rattle.vm_kernel.proofs.Common.{rows_in, rows_map, subst, suc, sym, tasks, true, unwrap_or, waiting, waiting_in, zero, ℕ, ◌&&◌, ◌*◌, ◌+◌, ◌-◌, ◌<◌, ◌==◌}
-use Rattle.vm_kernel.proofs.Common.{◌^◌, ◌||◌, ◌∙◌, ◌∷◌, ◌≡◌, ◌≤◌, IsShared, KnowsHomes}
+use Rattle.vm_kernel.proofs.Common.{Ids, Inherit, IsInside, IsShared, KnowsHomes, List, MapChange, Mapped, None, Option, Outside, Parts, Prot, Raised, Ran}
+use Rattle.vm_kernel.proofs.Common.{RegionRow, Rests, Some, Starts, TaskId, Waiting, [], acting, all_tasks, ap, arith, code_where, copy_target, count_by}
+use Rattle.vm_kernel.proofs.Common.{count_on, cut_at_ends, entries_in, entries_in_row, entries_of, entry, eqb_tells, false, fills, has_entry, has_region, holds}
+use Rattle.vm_kernel.proofs.Common.{host_of, if◌then◌else◌, in_use, inheritance, inherited, inl, inr, is_copied, is_none, is_range, is_some, is_woken}
+use Rattle.vm_kernel.proofs.Common.{meets_declared, most_entries, named, next_page, next_region, not-false, protected, protection, refl, region_at}
+use Rattle.vm_kernel.proofs.Common.{region_entries, removed, rows_in, rows_map, subst, suc, sym, tasks, true, unwrap_or, waiting, waiting_in, zero, ℕ, ◌&&◌}
+use Rattle.vm_kernel.proofs.Common.{◌*◌, ◌+◌, ◌-◌, ◌<◌, ◌==◌, ◌^◌, ◌||◌, ◌∙◌, ◌∷◌, ◌≡◌, ◌≤◌}
 use Rattle.vm_kernel.proofs.space.RegionsFilled.{recount_filled, same_waiting}
 use Rattle.vm_state.proofs.Filling.{copies_kept, rows_unmade}
 use Rattle.std.proofs.Common.{not}
@@ -200,6 +200,7 @@ core_rewritten {header = header} {h = h} {past = past} {k = k} {ids = ids} {maps
     let made = f (rows_in task k.maps) in
     record {
       setting = core.setting;
+      calm = core.calm;
       fits = core.fits;
       spaces = record {
         tasks = tasks_changed h header.size task k.maps maps (λ t. host_of t past) (λ t. entries_of header.size t past) f core.spaces.tasks changes lives;

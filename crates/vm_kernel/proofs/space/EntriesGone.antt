@@ -72,6 +72,7 @@ runs_less header h outside doing past k ids entry rest events chains s put =
       matches = record {
         core = record {
           setting = m.core.setting;
+          calm = m.core.calm;
           fits = m.core.fits;
           spaces = record {
             tasks = m.core.spaces.tasks;

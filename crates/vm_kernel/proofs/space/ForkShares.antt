@@ -206,6 +206,7 @@ rests_shared header h outside doing task row past k k2 ids before after rests ma
           record {
             core = record {
               setting = rw (s.size, s.host, s.declared) m.core.setting;
+              calm = m.core.calm;
               fits = rw (s.memory, s.size) m.core.fits;
               spaces = record {
                 tasks = tasks_entered h size k.maps k2.maps past task row m.core.spaces.tasks s.maps lives;

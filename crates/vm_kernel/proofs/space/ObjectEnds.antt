@@ -2,16 +2,17 @@
 use Rattle.vm_kernel.proofs.memory.CoreChanges.{pages_known_so}
 use Rattle.vm_state.proofs.KnownPages.{sizes_put}
 use Rattle.vm_kernel.proofs.Common.{AllEntriesInside, Below, Bool, CausedInTurn, ChainTable, Changes, Command, Does, Elsewhere, EndsObject, Entry, Event}
-use Rattle.vm_kernel.proofs.Common.{FrameTable, HasControls, HasEntries, HasPages, HasSlow, HaveHomes, Header, HostParts, Ids, Inside, IsAmid, IsInside}
-use Rattle.vm_kernel.proofs.Common.{IsOfKind, IsSettled, IsWhole, LaundryList, LegalEvents, List, Local, Mapped, Matches, None, ObjectId, ObjectRow}
+use Rattle.vm_kernel.proofs.Common.{FrameTable, HasControls, HasEntries, HasFrames, HasPages, HasSlow, HaveHomes, Header, HostParts, Ids, Inside, IsAmid}
+use Rattle.vm_kernel.proofs.Common.{IsInside, IsOfKind, IsSettled, IsWhole, LaundryList, LegalEvents, List, Local, Mapped, Matches, None, ObjectId, ObjectRow}
 use Rattle.vm_kernel.proofs.Common.{ObjectTable, Option, Outside, PageKey, PageRow, Parts, PutsAbsent, PutsObject, Reach, RegionRow, ResidentTable, SameMarks}
 use Rattle.vm_kernel.proofs.Common.{SameObjects, Some, Unreached, Up, Woken, [], absent_at, all_tasks, ap, arith, away, backing_of, entries_in, entries_of}
 use Rattle.vm_kernel.proofs.Common.{eqb_tells, false, has_entry, has_region, host_id, if◌then◌else◌, in_use, inl, inr, is_control, is_ready, is_some, is_woken}
 use Rattle.vm_kernel.proofs.Common.{last_control, last_in, live_control, live_in, local, local_after, local_of_row, named, object_at, object_home, one_case}
-use Rattle.vm_kernel.proofs.Common.{page_in, pages_in, paging, place_of, queues_except, ready_in, refl, region_at, region_of, row_at, rows_in, rows_map}
-use Rattle.vm_kernel.proofs.Common.{some_is, subst, sym, true, waiting, without_control, ℕ, ◌&&◌, ◌++◌, ◌+◌, ◌-◌, ◌<◌, ◌==◌, ◌^◌, ◌||◌, ◌∙◌, ◌∷◌, ◌≡◌, ◌≤◌, ◌⊎◌}
+use Rattle.vm_kernel.proofs.Common.{page_in, pages_in, paging, place_of, queues_except, ready_in, refl, region_at, region_of, reverse, row_at, rows_in}
+use Rattle.vm_kernel.proofs.Common.{rows_map, slice_get, some_is, subst, sym, true, waiting, without_control, ℕ, ◌&&◌, ◌++◌, ◌+◌, ◌-◌, ◌<◌, ◌==◌, ◌^◌, ◌||◌}
+use Rattle.vm_kernel.proofs.Common.{◌∙◌, ◌∷◌, ◌≡◌, ◌≤◌, ◌⊎◌}
 use Rattle.std.proofs.lemmas.Bool.{or_parts}
-use Rattle.vm_legal.specs.Licences.{DropCause, Ended}
+use Rattle.vm_legal.specs.Licences.{DropCause, Ended, Unheld, Unreachable}
 use Rattle.vm_legal.specs.Swept.{IsUnheld}
 use Rattle.vm_kernel.specs.Plays.{AsUnheld, AsUnreached, Departs, DepartsUnheld}
 use Rattle.vm_model.specs.Local.{Ends as EndsControl}
@@ -36,26 +37,27 @@ use Rattle.vm_state.proofs.Going.{regions_dropped}
 use Rattle.vm_state.proofs.Knowing.{known_put}
 use Rattle.vm_state.proofs.Places.{told_apart, unsent_apart, waits_dropped}
 use Rattle.vm_state.proofs.Reaching.{chain_declared, temporary_down}
-use Rattle.vm_state.proofs.Referred.{but_dropped, but_gone, but_known, referred_dropped}
+use Rattle.vm_state.proofs.Referred.{but_dropped, but_gone, but_known, referred_dropped, stays_served}
 use Rattle.vm_state.proofs.Referring.{unreferred_region, unreferred_shadow, uncached_unreferred}
 use Rattle.vm_state.proofs.Filling.{copies_kept, filled_there, rows_unmade}
 use Rattle.vm_state.proofs.Told.{waits_told}
 use Rattle.vm_state.specs.Filling.{filled_row}
 use Rattle.vm_kernel.proofs.space.RegionsFilled.{dropped_filled}
 use Rattle.vm_state.specs.Places.{known_local}
-use Rattle.vm_state.specs.References.{is_live_in}
 use Rattle.vm_legal.specs.InTurn.{DropsInTurn}
 use Rattle.vm_legal.specs.Walks.{page_on}
 use Rattle.vm_state.proofs.Bypassing.{waits_quiet}
 use Rattle.vm_state.proofs.Passing.{quiet_if}
-use Rattle.vm_kernel.proofs.memory.PageChanges.{amidst_gone, amidst_of, amidst_returned, drop_follows, drops, fit_lost, fits_known, live_at}
-use Rattle.vm_kernel.proofs.memory.PageChanges.{gives, matches_of, objects_known, return_follows, same_objects, seen_of}
-use Rattle.vm_kernel.specs.Matches.{Amidst, IsReplied}
+use Rattle.vm_kernel.proofs.memory.PageChanges.{amidst_gone, amidst_of, amidst_returned, drop_follows, drops, fit_lost, fits_known, gives, live_at, matches_of}
+use Rattle.vm_kernel.proofs.memory.PageChanges.{objects_known, return_follows, same_objects, seen_of}
+use Rattle.vm_kernel.specs.Matches.{Amidst, IsCalm, IsReplied}
 use Rattle.vm_model.specs.declared.event.Event.TheVariants as event
 use Rattle.vm_model.specs.declared.message.Message.TheVariants as message
 use Rattle.vm_objects.specs.declared.row.PagerState.TheVariants as state
 use Rattle.vm_state.specs.Pagers.{cached_in}
 use Rattle.vm_kernel.proofs.controls.FlagsKept.{flags_put, flags_set}
+use Rattle.vm_legal.specs.Destroyed.{destroy_taken, is_destroyed}
+use Rattle.vm_legal.specs.Frames.{frames_held, frames_wired}
 
 -- no region that is in use leads to it
 
@@ -114,7 +116,7 @@ inside : {header : Header} {h : ℕ} {who : Woken} {k : Parts} {ids : Ids} {rest
 inside e = amidst_of e.runs.matches e.used e.runs.waits e.runs.order
 
 amid_of : {header : Header} {h : ℕ} {who : Woken} {k : Parts} {ids : Ids} {rest : List Entry} {past : List Event} → Amidst header h k ids rest who past
-    → IsSettled past → IsReplied past → IsAmid header h who k ids rest past
+    → IsSettled past → IsReplied header past → IsAmid header h who k ids rest past
 amid_of {k = k} a settled replied = record { matches = matches_of k a settled replied; waits = a.waits; order = a.order }
 
 -- nobody waits for the unlock of a page of it
@@ -227,7 +229,7 @@ abbrev pub going_back : ℕ → PageKey → ObjectRow → PageRow → List ℕ �
 going_back h key known row bytes = gives h key known.control row.dirty false bytes
 
 -- an object is put where it is
-put_same : (o : ℕ) (row : ObjectRow) (os os2 : ObjectTable) → SameObjects os os2 → object_at os o ≡ Some row → PutsObject o (Some row) os os2
+pub put_same : (o : ℕ) (row : ObjectRow) (os os2 : ObjectTable) → SameObjects os os2 → object_at os o ≡ Some row → PutsObject o (Some row) os os2
 put_same o row os os2 same found = record {
   at = λ x. elim (eqb_tells o x) [
     | inl is ↦ same.at x ∙ (sym (ap (object_at os) is.1) ∙ (found ∙ sym (ap (λ b. if b then Some row else object_at os x) is.0)))
@@ -266,7 +268,7 @@ ends_returned header h outside doing past who k ids rest key known row memory la
     none = e.none;
     referred =
         but_known o known k.chains k.memory.objects memory.objects memory.resident (put_same o known k.memory.objects memory.objects goes.objects goes.found)
-        (λ p2 row2 found is. sym (ap is_live_in goes.found) ∙ is)
+        (λ p2 row2 found. stays_served goes.found refl refl)
         (but_gone o o key.page.0 k.chains k.memory.objects k.memory.resident memory.resident c.row e.referred);
   },
   goes_one header h outside doing past events (going_back h key known row (page_in k.memory.frames row.frame.0)) m.settled
@@ -296,7 +298,7 @@ ends_returned header h outside doing past who k ids rest key known row memory la
 abbrev pub quiet_row : ObjectRow → ObjectRow
 quiet_row row = record row { live = false; state = state.Without }
 
-pages_quiet : (size control o : ℕ) (fs : FrameTable) (rs : ResidentTable) (os os2 : ObjectTable) (local_at : ℕ → ℕ → Local) (live_at : ℕ → Option ℕ)
+pub pages_quiet : (size control o : ℕ) (fs : FrameTable) (rs : ResidentTable) (os os2 : ObjectTable) (local_at : ℕ → ℕ → Local) (live_at : ℕ → Option ℕ)
     → HasPages fs rs os local_at → live_at o ≡ Some control → ((p : ℕ) → row_at rs o p ≡ None) → SameMarks os os2
     → HasPages fs rs os2 (λ o2 p. local_after size (if o == o2 then (if is_control control (live_at o2) then EndsControl else Elsewhere) else Elsewhere)
     (local_at o2 p))
@@ -318,7 +320,7 @@ pages_quiet size control o fs rs os os2 local_at live_at has live bare marks =
       ];
     }
 
-controls_quiet : {d h : ℕ} {home_at : ℕ → Option ℕ} (control o : ℕ) (row : ObjectRow) (os os2 : ObjectTable) (last_at : ℕ → ℕ) (live_at : ℕ → Option ℕ)
+pub controls_quiet : {d h : ℕ} {home_at : ℕ → Option ℕ} (control o : ℕ) (row : ObjectRow) (os os2 : ObjectTable) (last_at : ℕ → ℕ) (live_at : ℕ → Option ℕ)
     (ready_at : ℕ → Bool) → HasControls d h os last_at live_at ready_at home_at → object_at os o ≡ Some row → live_at o ≡ Some control
     → PutsObject o (Some (quiet_row row)) os os2 → HasControls d h os2 last_at (λ o2. if o == o2 then without_control control (live_at o2) else live_at o2)
     ready_at home_at
@@ -384,6 +386,13 @@ controls_quiet {h = h} {home_at = home_at} control o row os os2 last_at live_at 
     ended : without_control control (Some control) ≡ None
     ended = ap (λ b. if b then None else Some control) (itself control)
 
+no_less : (n : ℕ) → n ≡ n - 0
+no_less n = omega arith
+
+none_without : (b : Bool) (control : ℕ) → (if b then without_control control None else None) ≡ None
+none_without true control = refl
+none_without false control = refl
+
 -- the control ends, and its pager is told
 pub ends_told : (header : Header) (h : ℕ) (outside : Outside) (doing : Command) (past : List Event) (who : Woken) (k : Parts) (ids : Ids) (rest : List Entry)
     (object : ObjectId) (events : List Event) (row : ObjectRow) (objects : ObjectTable)
@@ -402,13 +411,13 @@ ends_told header h outside doing past who k ids rest object events row objects s
     none = unreferred;
     referred =
         but_known o (quiet_row row) k.chains k.memory.objects objects k.memory.resident put
-        (λ p row2 there is. absurd (let bad : None ≡ Some row2 = sym (none p) ∙ there in cc)) s.referred;
+        (λ p row2 there. absurd (let bad : None ≡ Some row2 = sym (none p) ∙ there in cc)) s.referred;
   },
   goes_one header h outside doing past events ending m.settled (record {
     consequence = tt;
     cause = cause;
     own_bytes = tt;
-    frames = suffices header h k.memory.frames (ending ∷ moment) m.core.pages.counted;
+    frames = suffices header h k.memory.frames (ending ∷ moment) counted;
     inner = tt;
     said = refl;
     own = own_named h;
@@ -448,7 +457,7 @@ ends_told header h outside doing past who k ids rest object events row objects s
               λ less. record {
                 kind = (its.declared less).kind;
                 pages = (its.declared less).pages;
-                told = λ some. absurd (omega (arith, some, unreferred));
+                told = λ tame some. absurd (omega (arith, some, unreferred));
                 number = (its.declared less).number;
               };
         }
@@ -476,6 +485,23 @@ ends_told header h outside doing past who k ids rest object events row objects s
         rw (own_host h) (controls_quiet row.control o row k.memory.objects objects (λ o2. last_control h o2 moment)
         (λ o2. live_control h o2 moment) (λ o2. is_ready h o2 moment) m.core.controls found alive put)
 
+    -- its pager didn't destroy it in this step: then it had no control
+    kept : is_destroyed h o (destroy_taken moment) ≡ false
+    kept = by (is_destroyed h o (destroy_taken moment)) refl
+      where
+        by : (b : Bool) → is_destroyed h o (destroy_taken moment) ≡ b → is_destroyed h o (destroy_taken moment) ≡ false
+        by true is = absurd (let bad : None ≡ Some row.control = sym (m.core.calm o is).1 ∙ alive in cc)
+        by false is = is
+
+    calm_end : IsCalm (named header) (λ o2. live_control h o2 (ending ∷ moment)) (λ o2. is_destroyed h o2 (destroy_taken (ending ∷ moment)))
+    calm_end o2 is =
+        let was = m.core.calm o2 is in
+        (was.0, ap (λ z. if h == h && o == o2 then without_control row.control z else z) was.1 ∙ none_without (h == h && o == o2) row.control)
+
+    counted : HasFrames (slice_get (reverse header.frames.items) h) k.memory.frames (frames_held header h (ending ∷ moment)) (frames_wired h (ending ∷ moment))
+    counted = rw (own_host h, kept) (subst (λ (n : ℕ). HasFrames (slice_get (reverse header.frames.items) h) k.memory.frames n (frames_wired h moment))
+        (no_less (frames_held header h moment)) m.core.pages.counted)
+
     after : Amidst header h (record k { memory = record k.memory { objects = objects } }) ids rest who
         (event.Sent (Up (host_id h) object) (message.Terminate row.control) ∷ (events ++ past))
     after =
@@ -483,12 +509,13 @@ ends_told header h outside doing past who k ids rest object events row objects s
         record {
           core = record {
             setting = core.setting;
+            calm = calm_end;
             fits = fits_known found put refl core.fits;
             spaces = core.spaces;
             objects = objects_known found put marks refl refl refl quiet core.objects;
             controls = controls;
             flags = rw (own_host h) (flags_set o (quiet_row row) false put uncached core.flags);
-            pages = record { shown = pages; washed = m.core.pages.washed; counted = m.core.pages.counted };
+            pages = record { shown = pages; washed = m.core.pages.washed; counted = counted };
           };
           used = s.used;
           waits = waits_quiet header h ending moment
@@ -509,10 +536,13 @@ ends_told header h outside doing past who k ids rest object events row objects s
     cause : CausedInTurn header outside doing (event.Sent (Up (host_id h) object) (message.Terminate row.control)) (events ++ past)
     cause = record {
       live = alive;
-      unreached = unreached header h k ids rest (events ++ past) object.0 row m s.used.copies found unreferred;
-      unheld = unheld header h k ids rest (events ++ past) object.0 row m found unreferred;
       away = λ p. ap (λ z. z.here) (bare p);
-      unasked = λ p. ap (λ z. z.asked) (bare p);
+      why = elim (kind_cases header object.0) [
+        | inl declared ↦ Unheld declared (unheld header h k ids rest (events ++ past) object.0 row m found unreferred declared)
+            (λ p. ap (λ z. z.asked) (bare p))
+        | inr temporary ↦ Unreachable temporary (unreached header h k ids rest (events ++ past) object.0 row m s.used.copies found unreferred temporary)
+            (λ p. ap (λ z. z.asked) (bare p))
+      ];
     }
 
 -- what stood under it goes
@@ -560,6 +590,7 @@ inside_dropped header h past who k ids rest o left row known chains objects e le
     record {
       core = record {
         setting = core.setting;
+        calm = core.calm;
         fits = fits_known leaves.under leaves.put refl core.fits;
         spaces = record {
           tasks = core.spaces.tasks;
@@ -607,7 +638,7 @@ whole_dropped header h past who k ids rest o left row known events chains object
       used = after.used;
       referred =
           referred_dropped o row.under.0 (record known { references = left }) k.chains chains k.memory.objects objects k.memory.resident leaves.drops leaves.put
-          some (λ is. sym (ap is_live_in leaves.under) ∙ is) leaves.quiet leaves.bare e.referred;
+          some (stays_served leaves.under refl refl) leaves.quiet leaves.bare e.referred;
     }
 
 -- or nothing does, and it ends too
@@ -625,5 +656,5 @@ ends_dropped header h past who k ids rest o row known events chains objects e le
       none = refl;
       referred =
           but_dropped o row.under.0 (record known { references = 0 }) k.chains chains k.memory.objects objects k.memory.resident leaves.drops leaves.put
-          (λ is. sym (ap is_live_in leaves.under) ∙ is) leaves.quiet leaves.bare e.referred;
+          (stays_served leaves.under refl refl) leaves.quiet leaves.bare e.referred;
     }

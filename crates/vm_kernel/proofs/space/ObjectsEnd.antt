@@ -1,17 +1,15 @@
 -- An object to which nothing refers can end, and what its end leaves: its pages, its control and what stood under it are gone, and so on down.
-use Rattle.vm_kernel.proofs.Common.{Bool, ChainTable, Changes, Command, EndsObject, EndsOnly, EndsRegion, Entry, Event, Fit, FrameNo, HasRegions, Header}
-use Rattle.vm_kernel.proofs.Common.{HostId, HostParts, Ids, IsEnding, IsPlaceOf, IsUnder, IsWhole, LaundryList, LeadsTo, LegalEvents, List, Mapped, Matches}
-use Rattle.vm_kernel.proofs.Common.{None, ObjectId, ObjectRow, ObjectTable, OnlyLoses, Option, Outside, PageKey, PageNo, PageRow, Parts, Plays, PutsRow, Queues}
-use Rattle.vm_kernel.proofs.Common.{ResidentTable, ShadowRow, Some, Still, Want, Woken, [], ap, append_assoc, arith, eqb_tells, false, host_id, inl, inr, named}
-use Rattle.vm_kernel.proofs.Common.{nat_lt, nat_tests, object_at, of_both, page_in, page_key, paging, refl, returns_out, row_at, row_cases, row_put, some_is}
-use Rattle.vm_kernel.proofs.Common.{subst, suc, sym, true, zero, ℕ, ◌++◌, ◌<◌, ◌||◌, ◌∙◌, ◌∷◌, ◌≡◌}
+use Rattle.vm_kernel.proofs.Common.{Bool, ChainTable, Changes, Command, EndsObject, EndsOnly, Entry, Event, Fit, FrameNo, HasRegions, Header, HostId, HostParts}
+use Rattle.vm_kernel.proofs.Common.{Ids, IsEnding, IsPlaceOf, IsUnder, IsWhole, LaundryList, LeadsTo, LegalEvents, List, Mapped, Matches, None, ObjectId}
+use Rattle.vm_kernel.proofs.Common.{ObjectRow, ObjectTable, OnlyLoses, Option, Outside, PageKey, PageNo, PageRow, Parts, Plays, PutsRow, Queues, ResidentTable}
+use Rattle.vm_kernel.proofs.Common.{ShadowRow, Some, Still, Want, Woken, [], ap, append_assoc, arith, eqb_tells, false, host_id, inl, inr, named, nat_lt}
+use Rattle.vm_kernel.proofs.Common.{nat_tests, object_at, of_both, page_in, page_key, paging, refl, returns_out, row_at, row_cases, row_put, some_is, subst}
+use Rattle.vm_kernel.proofs.Common.{suc, sym, true, zero, ℕ, ◌++◌, ◌<◌, ◌||◌, ◌∙◌, ◌∷◌, ◌≡◌}
 use Rattle.vm_kernel.proofs.steps.EventsGrow.{goes_both, goes_none}
 use Rattle.vm_kernel.proofs.abroad.OwnHost.{named_host}
 use Rattle.vm_kernel.proofs.lists.ListsAsTold.{plays_both, plays_told}
 use Rattle.vm_kernel.proofs.memory.FramesHeld.{room_once}
 use Rattle.vm_queues.specs.Queues.{EachOnce}
-use Rattle.vm_kernel.specs.Sweeping.{IsKnownToPager}
-use Rattle.vm_kernel.proofs.space.RegionEnds.{LosesRegion}
 use Rattle.vm_kernel.proofs.space.ObjectEnds.{GoesToPager, LeavesOne, departs_unheld, ends_dropped, ends_lost, ends_returned, ends_told, going_back, lost_plays}
 use Rattle.vm_kernel.proofs.space.ObjectEnds.{quiet_row, whole_dropped}
 use Rattle.vm_abroad.proofs.Regions.{kind_cases}
@@ -25,17 +23,17 @@ use Rattle.vm_state.proofs.Places.{place_apart}
 use Rattle.vm_state.proofs.Referred.{all_ended}
 use Rattle.vm_state.proofs.Referring.{refers_shadow, sole_region, sole_shadow, unreferred_region, unreferred_shadow}
 use Rattle.vm_state.specs.Waiters.{Asker}
-use Rattle.vm_terminate.specs.Finishes.{Alone, CanFinish, ControlEnds, Downward, EndsWith, Finishes, FinishState, Further, GoesBack, IsDropped, IsTold, Itself}
+use Rattle.vm_terminate.specs.Finishes.{Alone, CanFinish, ControlEnds, Downward, EndsWith, FinishState, Finishes, Further, GoesBack, IsDropped, IsTold, Itself}
 use Rattle.vm_terminate.specs.Finishes.{LosesUnder, Next, NoControl, NoMore, OverOne, PageLeaves, PagesLeave}
 use Rattle.vm_kernel.proofs.abroad.OtherLists.{matches_with}
 use Rattle.vm_state.proofs.Waiting.{away_awaited}
-use Rattle.vm_kernel.proofs.controls.DeclaredKinds.{declared_kind}
+use Rattle.vm_kernel.proofs.controls.DeclaredKinds.{declared_kind, declared_serves}
 use Rattle.vm_kernel.proofs.memory.PageChanges.{changes_among}
 
 -- no place of an access is in an object that ends with one to which nothing refers
 
 -- the place in front of the last one down a chain
-last_step : (cs : ChainTable) (n : ℕ) (from to : PageKey) → LeadsTo cs (suc n) from to → (mid : PageKey) × LeadsTo cs n from mid × IsUnder cs mid to
+pub last_step : (cs : ChainTable) (n : ℕ) (from to : PageKey) → LeadsTo cs (suc n) from to → (mid : PageKey) × LeadsTo cs n from mid × IsUnder cs mid to
 last_step cs zero from to leads = (from, refl, subst (λ (z : PageKey). IsUnder cs from z) leads.2 leads.1)
 last_step cs (suc n) from to leads = let last = last_step cs n leads.0 to leads.2 in (last.0, (leads.0, leads.1, last.1), last.2)
 
@@ -106,12 +104,12 @@ pub record Led (header : Header) (h : ℕ) (outside : Outside) (doing : Command)
   pub only : EndsOnly old.events new.events
   pub pages : OnlyLoses old.parts.resident new.parts.resident
 
-led_none : (header : Header) (h : ℕ) (outside : Outside) (doing : Command) (past : List Event) (k : Parts) (s : FinishState)
+pub led_none : (header : Header) (h : ℕ) (outside : Outside) (doing : Command) (past : List Event) (k : Parts) (s : FinishState)
     → Led header h outside doing past k s s
 led_none header h outside doing past k s =
     record { goes = goes_none header h outside doing past s.events; plays = Still; only = only_none s.events; pages = λ o p row found. found }
 
-led_both : (header : Header) (h : ℕ) (outside : Outside) (doing : Command) (past : List Event) (k : Parts) (old mid new : FinishState)
+pub led_both : (header : Header) (h : ℕ) (outside : Outside) (doing : Command) (past : List Event) (k : Parts) (old mid new : FinishState)
     → Led header h outside doing past k old mid → Led header h outside doing past k mid new → Led header h outside doing past k old new
 led_both header h outside doing past k old mid new one two =
     record {
@@ -126,11 +124,11 @@ led_both header h outside doing past k old mid new one two =
     }
 
 -- one event ends something
-only_one : (e : Event) (before after : List Event) → after ≡ e ∷ before → IsEnding e → EndsOnly before after
+pub only_one : (e : Event) (before after : List Event) → after ≡ e ∷ before → IsEnding e → EndsOnly before after
 only_one e before after told ends = record { more = e ∷ []; is = told; each = (ends, tt) }
 
 -- a page has gone, and each other is where it was
-lost_one : (o p : ℕ) (old new : ResidentTable) → PutsRow o p None old new → OnlyLoses old new
+pub lost_one : (o p : ℕ) (old new : ResidentTable) → PutsRow o p None old new → OnlyLoses old new
 lost_one o p old new put o2 p2 row found = elim (row_cases o p None old new put o2 p2) [
   | inl this ↦ absurd (let bad : None ≡ Some row = sym this.is ∙ found in cc)
   | inr other ↦ sym other.is ∙ found
@@ -154,10 +152,10 @@ record IsLess (header : Header) (h : ℕ) (outside : Outside) (doing : Command) 
 page_leaves : (header : Header) (h : ℕ) (outside : Outside) (doing : Command) (past : List Event) (who : Woken) (k : Parts) (ids : Ids) (rest : List Entry)
     (object : ObjectId) (known : ObjectRow) (page : PageNo) (row : PageRow) (old new : FinishState)
     → EndsObject header h who (of_state k old) ids rest object.0 (old.events ++ past) → object_at old.parts.objects object.0 ≡ Some known
-    → (object.0 < named header → known.live ≡ true) → ((q : ℕ) → q < page.0 → row_at old.parts.resident object.0 q ≡ None) → row.here ≡ true
-    → new.chains ≡ old.chains → PageLeaves (host_id h) (record { object = object; page = page }) known row old new
+    → ((q : ℕ) → q < page.0 → row_at old.parts.resident object.0 q ≡ None) → row.here ≡ true → new.chains ≡ old.chains
+    → PageLeaves (host_id h) (record { object = object; page = page }) known row old new
     → IsLess header h outside doing past who k ids rest object page.0 old new
-page_leaves header h outside doing past who k ids rest object known page row old new e found live first here chains
+page_leaves header h outside doing past who k ids rest object known page row old new e found first here chains
     (GoesBack other wanted c objects absent held room events) =
     record {
       ends = subst (λ (z : List Event). EndsObject header h who (of_state k new) ids rest object.0 (z ++ past)) (sym events)
@@ -197,12 +195,16 @@ page_leaves header h outside doing past who k ids rest object known page row old
       | inr temporary ↦ absurd (other ((e.runs.matches.core.objects.kinds.kinds object.0 known found).temporary temporary).kind)
     ]
 
+    m : Matches header h base ids rest (old.events ++ past)
+    m = e.runs.matches
+
     goes : GoesToPager header base key known row memory laundry
     goes = record {
       declared = declared;
       first = first;
       found = found;
-      live = live declared;
+      live = declared_serves header old.parts.objects object.0 known row m.core.setting.ranged found (m.core.objects.kinds.kinds object.0 known found) declared
+          (e.referred.locks object.0 page.0 row c.found);
       here = here;
       wanted = wanted;
       removes = changes_beside old.parts new.parts k c;
@@ -220,7 +222,7 @@ page_leaves header h outside doing past who k ids rest object known page row old
 
     same : of_state k new ≡ record base { memory = memory; laundry = laundry }
     same = λ i. record k { memory = memory; chains = chains i; laundry = laundry }
-page_leaves header h outside doing past who k ids rest object known page row old new e found live first here chains (IsDropped why c objects held room events) =
+page_leaves header h outside doing past who k ids rest object known page row old new e found first here chains (IsDropped why c objects held room events) =
     record {
       ends = subst (λ (z : List Event). EndsObject header h who (of_state k new) ids rest object.0 (z ++ past)) (sym events)
           (subst (λ (z : Parts). EndsObject header h who z ids rest object.0 ((event.Dropped (host_id h) object page ∷ old.events) ++ past)) (sym same)
@@ -278,20 +280,19 @@ record IsBare (header : Header) (h : ℕ) (outside : Outside) (doing : Command) 
 pages_leave : (header : Header) (h : ℕ) (outside : Outside) (doing : Command) (past : List Event) (who : Woken) (k : Parts) (ids : Ids) (rest : List Entry)
     (object : ObjectId) (known : ObjectRow) (from : ℕ) (old new : FinishState)
     → EndsObject header h who (of_state k old) ids rest object.0 (old.events ++ past) → object_at old.parts.objects object.0 ≡ Some known
-    → (object.0 < named header → known.live ≡ true) → ((q : ℕ) → q < from → row_at old.parts.resident object.0 q ≡ None)
-    → PagesLeave (host_id h) object known from old new
+    → ((q : ℕ) → q < from → row_at old.parts.resident object.0 q ≡ None) → PagesLeave (host_id h) object known from old new
     → IsBare header h outside doing past who k ids rest object known old new
-pages_leave header h outside doing past who k ids rest object known _ _ _ e found live low (NoMore from s none) =
+pages_leave header h outside doing past who k ids rest object known _ _ _ e found low (NoMore from s none) =
     record { ends = e; led = led_none header h outside doing past k s; found = found; none = λ p. by_test p (nat_lt p from) refl }
   where
     by_test : (p : ℕ) (b : Bool) → nat_lt p from ≡ b → row_at s.parts.resident object.0 p ≡ None
     by_test p true less = low p (grind (arith, nat_tests))
     by_test p false less = none p (grind (arith, nat_tests))
-pages_leave header h outside doing past who k ids rest object known _ _ _ e found live low
+pages_leave header h outside doing past who k ids rest object known _ _ _ e found low
     (Next from page row old mid new le none there here chains leaves more) =
-    let less = page_leaves header h outside doing past who k ids rest object known page row old mid e found live (λ q below. first q below (nat_lt q from) refl)
+    let less = page_leaves header h outside doing past who k ids rest object known page row old mid e found (λ q below. first q below (nat_lt q from) refl)
     here chains leaves in
-    let all = pages_leave header h outside doing past who k ids rest object known (suc page.0) mid new less.ends (less.found ∙ found) live
+    let all = pages_leave header h outside doing past who k ids rest object known (suc page.0) mid new less.ends (less.found ∙ found)
     (λ q below. next less q below) more in
     record { ends = all.ends; led = led_both header h outside doing past k old mid new less.led all.led; found = all.found; none = all.none }
   where
@@ -351,11 +352,11 @@ control_ends header h outside doing past who k ids rest object known start old n
 ends_above : (header : Header) (h : ℕ) (outside : Outside) (doing : Command) (past : List Event) (who : Woken) (k : Parts) (ids : Ids) (rest : List Entry)
     (object : ObjectId) (known : ObjectRow) (old bare quiet : FinishState) → EndsObject header h who (of_state k old) ids rest object.0 (old.events ++ past)
     → object_at old.parts.objects object.0 ≡ Some known
-    → (object.0 < named header → known.live ≡ true) → PagesLeave (host_id h) object known 0 old bare → ControlEnds (host_id h) object known bare quiet
+    → PagesLeave (host_id h) object known 0 old bare → ControlEnds (host_id h) object known bare quiet
     → IsQuiet header h outside doing past who k ids rest object old quiet
-ends_above header h outside doing past who k ids rest object known old bare quiet e found live pages control =
+ends_above header h outside doing past who k ids rest object known old bare quiet e found pages control =
     control_ends header h outside doing past who k ids rest object known old bare quiet
-    (pages_leave header h outside doing past who k ids rest object known 0 old bare e found live (λ q below. absurd (omega arith)) pages) control
+    (pages_leave header h outside doing past who k ids rest object known 0 old bare e found (λ q below. absurd (omega arith)) pages) control
 
 leaves_one : (header : Header) (h : ℕ) (outside : Outside) (doing : Command) (past : List Event) (who : Woken) (k : Parts) (ids : Ids) (rest : List Entry)
     (object : ObjectId) (row : ShadowRow) (known : ObjectRow) (left : ℕ) (start old new : FinishState)
@@ -385,25 +386,11 @@ pub record Swept (header : Header) (h : ℕ) (outside : Outside) (doing : Comman
   pub whole : IsWhole header h who (of_state k new) ids rest (new.events ++ past)
   pub led : Led header h outside doing past k old new
 
--- the pager of a declared object knows it still, as it did while the region that goes was over it
-pub pager_knows : (header : Header) (h : ℕ) (past : List Event) (who : Woken) (k : Parts) (ids : Ids) (rest : List Entry) (r left : ℕ) (events : List Event)
-    (object : ObjectId) (chains : ChainTable) (objects : ObjectTable) → EndsRegion header h who k ids rest r (events ++ past)
-    → LosesRegion k r left object chains objects → IsKnownToPager header objects object.0
-pager_knows header h past who k ids rest r left events object chains objects e loses known found less =
-    let top = loses.row.top.0 in
-    let same : object.0 ≡ top = ap (λ (z : ObjectId). z.0) loses.top in
-    let one = loses.less in
-    let its = (e.runs.matches.core.objects.kinds.kinds top loses.was loses.known).declared (omega (arith, same, less)) in
-    let now = known_put top (record (loses.was) { references = left }) k.memory.objects objects loses.put in
-    ap (λ z. z.live) (some_is known (record (loses.was) { references = left }) (sym found ∙ (ap (object_at objects) same ∙ now)))
-    ∙ its.told (omega (arith, one))
-
 pub finished : (header : Header) (h : ℕ) (outside : Outside) (doing : Command) (past : List Event) (who : Woken) (k : Parts) (ids : Ids) (rest : List Entry)
     (object : ObjectId) (old new : FinishState) → EndsObject header h who (of_state k old) ids rest object.0 (old.events ++ past)
-    → IsKnownToPager header old.parts.objects object.0
     → Finishes (host_id h) object old new → Swept header h outside doing past who k ids rest old new
-finished header h outside doing past who k ids rest _ _ _ e told (Alone object known old bare new found pages control alone) =
-    let quiet = ends_above header h outside doing past who k ids rest object known old bare new e found (told known found) pages control in
+finished header h outside doing past who k ids rest _ _ _ e (Alone object known old bare new found pages control alone) =
+    let quiet = ends_above header h outside doing past who k ids rest object known old bare new e found pages control in
     record {
       whole =
           record {
@@ -413,8 +400,8 @@ finished header h outside doing past who k ids rest _ _ _ e told (Alone object k
           };
       led = quiet.led;
     }
-finished header h outside doing past who k ids rest _ _ _ e told (OverOne object known under row left old bare quiet new found pages control loses some) =
-    let above = ends_above header h outside doing past who k ids rest object known old bare quiet e found (told known found) pages control in
+finished header h outside doing past who k ids rest _ _ _ e (OverOne object known under row left old bare quiet new found pages control loses some) =
+    let above = ends_above header h outside doing past who k ids rest object known old bare quiet e found pages control in
     let leaves = leaves_one header h outside doing past who k ids rest object row under left old quiet new above loses in
     subst (λ (z : FinishState). Swept header h outside doing past who k ids rest old z) (sym loses.rest)
     (record {
@@ -422,8 +409,8 @@ finished header h outside doing past who k ids rest _ _ _ e told (OverOne object
           leaves some;
       led = record { goes = above.led.goes; plays = above.led.plays; only = above.led.only; pages = above.led.pages };
     })
-finished header h outside doing past who k ids rest _ _ _ e told (Downward object known under row old bare quiet next new found pages control loses more) =
-    let above = ends_above header h outside doing past who k ids rest object known old bare quiet e found (told known found) pages control in
+finished header h outside doing past who k ids rest _ _ _ e (Downward object known under row old bare quiet next new found pages control loses more) =
+    let above = ends_above header h outside doing past who k ids rest object known old bare quiet e found pages control in
     let leaves = leaves_one header h outside doing past who k ids rest object row under 0 old quiet next above loses in
     let down : IsNext header h outside doing past who k ids rest row.under.0 old next =
     subst (λ (z : FinishState). IsNext header h outside doing past who k ids rest row.under.0 old z) (sym loses.rest)
@@ -432,8 +419,7 @@ finished header h outside doing past who k ids rest _ _ _ e told (Downward objec
           leaves;
       led = record { goes = above.led.goes; plays = above.led.plays; only = above.led.only; pages = above.led.pages };
     }) in
-    let all = finished header h outside doing past who k ids rest row.under next new down.ends
-    (λ its found less. let least = above.ends.runs.matches.core.objects.kinds.unders object.0 row loses.found in absurd (omega (arith, less, least))) more in
+    let all = finished header h outside doing past who k ids rest row.under next new down.ends more in
     record { whole = all.whole; led = led_both header h outside doing past k old next new down.led all.led }
 
 -- buffers of the same size do as well
@@ -459,11 +445,11 @@ state_of memory chains laundry events = record { parts = memory; chains = chains
 swept_led : (header : Header) (h : ℕ) (outside : Outside) (doing : Command) (past : List Event) (who : Woken) (k : Parts) (ids : Ids) (rest : List Entry)
     (object : ObjectId) (events after : List Event) (memory : HostParts) (chains : ChainTable) (laundry : LaundryList)
     → EndsObject header h who k ids rest object.0 (events ++ past)
-    → IsKnownToPager header k.memory.objects object.0 → Finishes k.host object (state_of k.memory k.chains k.laundry events)
+    → Finishes k.host object (state_of k.memory k.chains k.laundry events)
     (state_of memory chains laundry after) → Swept header h outside doing past who k ids rest (state_of k.memory k.chains k.laundry events)
     (state_of memory chains laundry after)
-swept_led header h outside doing past who k ids rest object events after memory chains laundry e told is =
-    finished header h outside doing past who k ids rest object (state_of k.memory k.chains k.laundry events) (state_of memory chains laundry after) e told
+swept_led header h outside doing past who k ids rest object events after memory chains laundry e is =
+    finished header h outside doing past who k ids rest object (state_of k.memory k.chains k.laundry events) (state_of memory chains laundry after) e
     (subst (λ (z : HostId). Finishes z object (state_of k.memory k.chains k.laundry events) (state_of memory chains laundry after))
     (named_host k.host h e.runs.matches.core.setting.numbered) is)
 
@@ -480,10 +466,10 @@ pub record ObjectEnded (header : Header) (h : ℕ) (outside : Outside) (doing : 
 pub object_ended : (header : Header) (h : ℕ) (outside : Outside) (doing : Command) (past : List Event) (who : Woken) (k : Parts) (ids : Ids) (rest : List Entry)
     (object : ObjectId) (events after : List Event) (memory : HostParts) (chains : ChainTable) (laundry : LaundryList)
     → EndsObject header h who k ids rest object.0 (events ++ past)
-    → IsKnownToPager header k.memory.objects object.0 → Finishes k.host object (state_of k.memory k.chains k.laundry events)
+    → Finishes k.host object (state_of k.memory k.chains k.laundry events)
     (state_of memory chains laundry after) → ObjectEnded header h outside doing past who k ids rest memory chains laundry events after
-object_ended header h outside doing past who k ids rest object events after memory chains laundry e told is =
-    let swept = swept_led header h outside doing past who k ids rest object events after memory chains laundry e told is in
+object_ended header h outside doing past who k ids rest object events after memory chains laundry e is =
+    let swept = swept_led header h outside doing past who k ids rest object events after memory chains laundry e is in
     let led = swept.led in
     record {
       whole = λ fit size. whole_beside header h past who (record k { chains = chains; laundry = laundry }) ids rest memory after swept.whole fit size;

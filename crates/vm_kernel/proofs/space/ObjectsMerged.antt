@@ -132,6 +132,7 @@ module _ {header : Header} {h : ℕ} {outside : Outside} {doing : Command} {past
   matches_now why = record {
     core = record {
       setting = m.core.setting;
+      calm = m.core.calm;
       fits = record {
         parts = fit;
         plain = λ o p row found away. plain_row o p row (row_was apart tables.rows o p row found) away;

@@ -2,16 +2,16 @@
 use Rattle.vm_kernel.proofs.memory.CoreChanges.{pages_known_so}
 use Rattle.vm_state.proofs.KnownPages.{sizes_made}
 use Rattle.vm_kernel.proofs.Common.{AllInTurn, AllReferred, Bool, ChainTable, ChangesOnly, EachIn, Enters, Entry, Event, Fit, HasCause, HasEntries, HasRegions}
-use Rattle.vm_kernel.proofs.Common.{HasSlow, HasUse, HasWaits, Header, HostParts, Ids, IfSome, IsFilledIn, IsInside, IsLined, IsMine, IsUsed, List, MadeRange}
-use Rattle.vm_kernel.proofs.Common.{MapChange, Mapped, None, ObjectId, ObjectRow, ObjectTable, Outside, Parts, PutsObject, PutsRegion, Ran, Region, RegionId}
-use Rattle.vm_kernel.proofs.Common.{RegionRow, Rests, Some, Starts, TaskId, Waiting, [], all_tasks, ap, arith, backing_of, begins_copy, begins_here, both_left}
-use Rattle.vm_kernel.proofs.Common.{code_where, copy_target, count_by, entered, entering, entries_in, entries_of, entry, eqb_tells, false, fills, fit_within}
-use Rattle.vm_kernel.proofs.Common.{got, has_entry, head, holds, home_entered, home_of, host_of, if◌then◌else◌, in_use, inl, inr, is_none, is_on, is_range}
-use Rattle.vm_kernel.proofs.Common.{is_ready, is_some, last_control, length, length_entered, live_control, lives_on, local, made_here, marked_regions}
+use Rattle.vm_kernel.proofs.Common.{HasSlow, HasUse, HasWaits, Header, HostParts, Ids, IfSome, IsFilledIn, IsInside, IsLined, IsMine, IsUsed, KnowsHomes, List}
+use Rattle.vm_kernel.proofs.Common.{MadeRange, MapChange, Mapped, None, ObjectId, ObjectRow, ObjectTable, Outside, Parts, PutsObject, PutsRegion, Ran, Region}
+use Rattle.vm_kernel.proofs.Common.{RegionId, RegionRow, Rests, Some, Starts, TaskId, Waiting, [], all_tasks, ap, arith, backing_of, begins_copy, begins_here}
+use Rattle.vm_kernel.proofs.Common.{both_left, code_where, copy_target, count_by, entered, entering, entries_in, entries_of, entry, eqb_tells, false, fills}
+use Rattle.vm_kernel.proofs.Common.{fit_within, got, has_entry, head, holds, home_entered, home_of, host_of, if◌then◌else◌, in_use, inl, inr, is_none, is_on}
+use Rattle.vm_kernel.proofs.Common.{is_range, is_ready, is_some, last_control, length, length_entered, live_control, lives_on, local, made_here, marked_regions}
 use Rattle.vm_kernel.proofs.Common.{meets_range, most_entries, nat_le, nat_tests, next_object, next_region, object_at, object_home, one_case, page_below}
 use Rattle.vm_kernel.proofs.Common.{pages_in, pages_of_row, place_of, refl, region_at, region_of, region_pages, rows_entered, rows_in, rows_map, some_is}
 use Rattle.vm_kernel.proofs.Common.{starts_copy, subst, sym, tasks, true, waiting, waiting_in, whole_entry, ℕ, ◌%◌, ◌++◌, ◌+◌, ◌-◌, ◌/◌, ◌<◌, ◌==◌, ◌^◌, ◌||◌}
-use Rattle.vm_kernel.proofs.Common.{◌∙◌, ◌∷◌, ◌≡◌, ◌≢◌, ◌≤◌, ◌⊎◌, KnowsHomes}
+use Rattle.vm_kernel.proofs.Common.{◌∙◌, ◌∷◌, ◌≡◌, ◌≢◌, ◌≤◌, ◌⊎◌}
 use Rattle.vm_supply.specs.declared.woken.Woken.TheVariants as woken
 use Rattle.vm_kernel.proofs.space.RegionsFilled.{free_unfilled, put_filled, same_waiting, unknown_unfilled}
 use Rattle.vm_kernel.proofs.space.RegionsInUse.{ApartFrom, fills_here, holds_rows, unfilled, uses_entered}
@@ -42,14 +42,13 @@ use Rattle.vm_state.proofs.Files.{files_entered, files_temporary, no_file}
 use Rattle.vm_state.proofs.Making.{regions_made}
 use Rattle.vm_state.proofs.Marks.{marked_made, regions_marked}
 use Rattle.vm_state.proofs.Places.{keeps_made}
-use Rattle.vm_state.proofs.Referred.{referred_put}
+use Rattle.vm_state.proofs.Referred.{comes_served, referred_put}
 use Rattle.vm_state.proofs.Told.{knows_made, waits_known}
 use Rattle.vm_state.proofs.Waited.{told_changed, waits_changed}
 use Rattle.vm_kernel.proofs.abroad.OwnHost.{lives_here, lives_in, rows_here}
 use Rattle.vm_kernel.proofs.space.RegionRows.{apart_there, none_leads}
 use Rattle.vm_kernel.proofs.controls.LockReplied.{replied_behind}
 use Rattle.std.proofs.lemmas.Bool.{not-false, or_parts}
-use Rattle.vm_state.specs.References.{is_live_in}
 use Rattle.vm_state.specs.Counts.{marks_of}
 use Rattle.vm_kernel.proofs.space.RegionHomes.{homes_caused, homes_put}
 use Rattle.vm_kernel.proofs.space.StillThin.{thin_made}
@@ -488,6 +487,7 @@ rests_range header h outside task address bytes past k k2 ids maps lined rests m
           record {
             core = record {
               setting = m.core.setting;
+              calm = m.core.calm;
               fits = record {
                 parts = fit_range k.memory k2.memory.objects k.chains ids.next_object (new_object pages) m.core.fits.parts rests.referred unknown
                     made.object_row;
@@ -541,7 +541,7 @@ rests_range header h outside task address bytes past k k2 ids maps lined rests m
       };
       referred =
           referred_put ids.next_object (new_object pages) n (Some (new_region object pages)) k.chains k2.chains k.memory.objects k2.memory.objects
-          k.memory.resident made.region_row made.object_row (omega arith) (λ is. absurd (let bad : false ≡ true = sym (ap is_live_in unknown) ∙ is in cc))
+          k.memory.resident made.region_row made.object_row (omega arith) (comes_served unknown)
           rests.referred;
       thin =
           thin_made ids.next_object (new_object pages) k.chains k2.chains k.memory.objects k2.memory.objects m.core.objects.regions.unders

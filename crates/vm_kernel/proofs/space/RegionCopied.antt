@@ -4,15 +4,15 @@ use Rattle.vm_state.proofs.KnownPages.{sizes_put}
 use Rattle.vm_kernel.specs.Changes.{CanEnter}
 use Rattle.vm_kernel.proofs.Common.{Access, AllReferred, AllRows, ArePlain, Backing, Bool, ChainTable, ChangesOnly, Command, Enters, Entry, Event, Fit}
 use Rattle.vm_kernel.proofs.Common.{HasEntries, HasKinds, HasRegions, HasSlow, HasWaiters, HasWaits, Header, HostParts, Ids, Inside, IsAllowed, IsFilledIn}
-use Rattle.vm_kernel.proofs.Common.{IsInside, IsUsed, List, Mapped, None, ObjectRow, ObjectTable, Option, Outside, Parts, Place, PutsEntries, PutsObject, Ran}
-use Rattle.vm_kernel.proofs.Common.{Region, RegionRow, ResidentTable, Rests, SameMarks, Some, Starts, TaskId, Waiting, [], all_tasks, allows, ap, arith}
-use Rattle.vm_kernel.proofs.Common.{code_where, count_again, count_by, count_on, entered, entering, entries_in, entries_of, entry, entry_at, eqb_tells, false}
-use Rattle.vm_kernel.proofs.Common.{fit_objects, found_row, got, has_entry, head, holds, home_entered, home_of, host_of, if◌then◌else◌, in_use, inl, inr}
-use Rattle.vm_kernel.proofs.Common.{is_none, is_on, is_range, is_ready, is_some, is_woken, last_control, length, length_entered, live_control, lives_on}
-use Rattle.vm_kernel.proofs.Common.{marks_of, meets_range, most_entries, named, nat_le, nat_tests, next_object, next_region, object_at, one_case, page_at}
-use Rattle.vm_kernel.proofs.Common.{page_below, pages_in, pages_of_row, place_at, refl, region_at, region_entries, region_of, region_pages, rows_entered}
-use Rattle.vm_kernel.proofs.Common.{rows_in, rows_map, same_pages, some_is, subst, suc, sym, tasks, true, waiting, waiting_in, whole_entry, zero, ℕ, ◌%◌, ◌&&◌}
-use Rattle.vm_kernel.proofs.Common.{◌++◌, ◌+◌, ◌-◌, ◌/◌, ◌<◌, ◌==◌, ◌^◌, ◌||◌, ◌∙◌, ◌∷◌, ◌≡◌, ◌≤◌, ◌⊎◌, KnowsHomes}
+use Rattle.vm_kernel.proofs.Common.{IsInside, IsUsed, KnowsHomes, List, Mapped, None, ObjectRow, ObjectTable, Option, Outside, Parts, Place, PutsEntries}
+use Rattle.vm_kernel.proofs.Common.{PutsObject, Ran, Region, RegionRow, ResidentTable, Rests, SameMarks, Some, Starts, TaskId, Waiting, [], all_tasks, allows}
+use Rattle.vm_kernel.proofs.Common.{ap, arith, code_where, count_again, count_by, count_on, entered, entering, entries_in, entries_of, entry, entry_at}
+use Rattle.vm_kernel.proofs.Common.{eqb_tells, false, fit_objects, found_row, got, has_entry, head, holds, home_entered, home_of, host_of, if◌then◌else◌}
+use Rattle.vm_kernel.proofs.Common.{in_use, inl, inr, is_none, is_on, is_range, is_ready, is_some, is_woken, last_control, length, length_entered, live_control}
+use Rattle.vm_kernel.proofs.Common.{lives_on, marks_of, meets_range, most_entries, named, nat_le, nat_tests, next_object, next_region, object_at, one_case}
+use Rattle.vm_kernel.proofs.Common.{page_at, page_below, pages_in, pages_of_row, place_at, refl, region_at, region_entries, region_of, region_pages}
+use Rattle.vm_kernel.proofs.Common.{rows_entered, rows_in, rows_map, same_pages, some_is, subst, suc, sym, tasks, true, waiting, waiting_in, whole_entry, zero}
+use Rattle.vm_kernel.proofs.Common.{ℕ, ◌%◌, ◌&&◌, ◌++◌, ◌+◌, ◌-◌, ◌/◌, ◌<◌, ◌==◌, ◌^◌, ◌||◌, ◌∙◌, ◌∷◌, ◌≡◌, ◌≤◌, ◌⊎◌}
 use Rattle.vm_kernel.proofs.space.RegionsFilled.{entry_some, filled_temporary, free_unfilled, row_use, same_waiting}
 use Rattle.vm_legal.proofs.Served.{later_paged as paged_temporary}
 use Rattle.vm_kernel.proofs.space.RegionsInUse.{fills_here, holds_rows, unfilled, uses_entered}
@@ -37,10 +37,10 @@ use Rattle.vm_state.proofs.Copying.{regions_copied}
 use Rattle.vm_state.proofs.Counting.{elsewhere}
 use Rattle.vm_state.proofs.Files.{files_entered, files_put, no_file}
 use Rattle.vm_state.proofs.Marks.{marked_copied, regions_marked}
-use Rattle.vm_state.proofs.Referred.{referred_copied, referred_recounted}
+use Rattle.vm_state.proofs.Referred.{referred_copied, referred_recounted, stays_served}
 use Rattle.vm_state.proofs.Waited.{KeepsPlaces, told_changed, waits_changed}
 use Rattle.vm_state.specs.Places.{with_entries}
-use Rattle.vm_state.specs.References.{is_backing, is_live_in, is_over, tally}
+use Rattle.vm_state.specs.References.{is_backing, is_over, tally}
 use Rattle.vm_kernel.specs.Forking.{CanCopy, EntersCopy, entry_on}
 use Rattle.vm_abroad.proofs.Home.{named_regions, object_stays}
 use Rattle.vm_legal.specs.Accesses.{At}
@@ -531,12 +531,13 @@ rests_copied header h outside doing task source offset row past k k2 ids ids2 be
     let referred : AllReferred k2.chains k2.memory.objects k.memory.resident =
     referred_recounted s.mid k2.chains k2.memory.objects k.memory.resident recount
     (referred_copied top (record s.known { references = s.known.references + 1 }) source.0 s.copy.0 offset pages s.region k.chains s.mid k.memory.objects
-    k2.memory.objects k.memory.resident copies s.refers (omega arith) (λ is. sym (ap is_live_in s.object) ∙ is) rests.referred) in
+    k2.memory.objects k.memory.resident copies s.refers (omega arith) (stays_served s.object refl refl) rests.referred) in
     record {
       matches =
           record {
             core = record {
               setting = rw (s.size, s.host, s.declared) m.core.setting;
+              calm = m.core.calm;
               fits = record {
                 parts =
                     subst Fit (sym s.memory) (fit_objects k.memory k2.memory.objects m.core.fits.parts

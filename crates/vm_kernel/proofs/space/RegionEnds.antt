@@ -7,10 +7,10 @@ use Rattle.vm_state.proofs.KnownPages.{sizes_put}
 use Rattle.vm_kernel.proofs.Common.{AllEntriesInside, AllRows, Bool, ChainTable, EndsObject, EndsRegion, Entry, Event, HasControls, HasEntries, Header, Ids}
 use Rattle.vm_kernel.proofs.Common.{IfSome, Inside, IsAmid, IsReferred, IsWhole, List, Mapped, Matches, None, ObjectId, ObjectRow, ObjectTable, Option, Parts}
 use Rattle.vm_kernel.proofs.Common.{PutsObject, PutsRegion, RegionRow, SameMarks, Some, UsesAll, Woken, [], all_tasks, ap, arith, backing_of, count_by}
-use Rattle.vm_kernel.proofs.Common.{count_on, entries_in_row, eqb_tells, false, has_entry, has_region, home_of, inl, inr, is_some, is_woken, last_in, live_in}
-use Rattle.vm_kernel.proofs.Common.{marks_of, nat_lt, nat_tests, next_object, next_region, object_at, one_case, pages_in, ready_in, refl, region_at}
-use Rattle.vm_kernel.proofs.Common.{region_entries, region_of, rows_in, some_is, subst, sym, true, unwrap_or, waiting, ℕ, ◌++◌, ◌+◌, ◌-◌, ◌<◌, ◌^◌, ◌∙◌, ◌∷◌}
-use Rattle.vm_kernel.proofs.Common.{◌≡◌, ◌≢◌, ◌≤◌, if◌then◌else◌}
+use Rattle.vm_kernel.proofs.Common.{count_on, entries_in_row, eqb_tells, false, has_entry, has_region, home_of, if◌then◌else◌, inl, inr, is_some, is_woken}
+use Rattle.vm_kernel.proofs.Common.{last_in, live_in, marks_of, nat_lt, nat_tests, next_object, next_region, object_at, one_case, pages_in, ready_in, refl}
+use Rattle.vm_kernel.proofs.Common.{region_at, region_entries, region_of, rows_in, some_is, subst, sym, true, unwrap_or, waiting, ℕ, ◌++◌, ◌+◌, ◌-◌, ◌<◌, ◌^◌}
+use Rattle.vm_kernel.proofs.Common.{◌∙◌, ◌∷◌, ◌≡◌, ◌≢◌, ◌≤◌}
 use Rattle.vm_kernel.proofs.space.RegionsFilled.{copies_gone}
 use Rattle.vm_kernel.proofs.space.EntriesCounted.{by_zero, on_zero}
 use Rattle.vm_kernel.proofs.space.RegionRows.{region_row}
@@ -20,10 +20,9 @@ use Rattle.vm_state.proofs.Files.{files_put}
 use Rattle.vm_state.proofs.Going.{regions_gone}
 use Rattle.vm_state.proofs.Knowing.{known_put}
 use Rattle.vm_state.proofs.Places.{waits_without}
-use Rattle.vm_state.proofs.Referred.{all_with, but_ended}
+use Rattle.vm_state.proofs.Referred.{all_with, but_ended, stays_served}
 use Rattle.vm_state.proofs.Referring.{refers_region}
 use Rattle.vm_state.proofs.Told.{waits_referred}
-use Rattle.vm_state.specs.References.{is_live_in}
 use Rattle.vm_kernel.proofs.controls.FlagsKept.{flags_put}
 use Rattle.vm_state.specs.Pagers.{is_ready_state, cached_in}
 
@@ -215,6 +214,7 @@ runs_gone header h past who k ids rest r left events object chains objects e los
       matches = record {
         core = record {
           setting = m.core.setting;
+          calm = m.core.calm;
           fits = fits_known loses.known loses.put refl m.core.fits;
           spaces = record {
             tasks = m.core.spaces.tasks;
@@ -278,7 +278,7 @@ whole_region header h past who k ids rest r left events object chains objects e 
       used = used_gone header h past who k ids rest r events chains e loses.region;
       referred =
           all_with top chains objects k.memory.resident (but_ended r None top now k.chains chains k.memory.objects objects k.memory.resident loses.region
-          loses.put (λ is. sym (ap is_live_in loses.known) ∙ is) e.referred)
+          loses.put (stays_served loses.known refl refl) e.referred)
           (record { row = now; known = known_put top now k.memory.objects objects loses.put; some = some });
     }
 
@@ -300,5 +300,5 @@ ends_top header h past who k ids rest r left events object chains objects e lose
       none = none;
       referred =
           but_ended r None top now k.chains chains k.memory.objects objects k.memory.resident loses.region loses.put
-          (λ is. sym (ap is_live_in loses.known) ∙ is) e.referred;
+          (stays_served loses.known refl refl) e.referred;
     })

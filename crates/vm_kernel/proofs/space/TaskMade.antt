@@ -77,6 +77,7 @@ rests_made header h task past k ids maps rests changes free below =
           record {
             core = record {
               setting = m.core.setting;
+              calm = m.core.calm;
               fits = m.core.fits;
               spaces = record {
                 tasks = tasks_made h header.size k.maps maps past task m.core.spaces.tasks changes;

@@ -94,6 +94,7 @@ sweeps_exit header h outside task past events k ids maps gone s value changes =
         matches = record {
           core = record {
             setting = m.core.setting;
+            calm = m.core.calm;
             fits = m.core.fits;
             spaces = record {
               tasks = shown_tasks;
@@ -180,6 +181,7 @@ sweeps_removed header h outside task address bytes past events k ids maps chains
         matches = record {
           core = record {
             setting = m.core.setting;
+            calm = m.core.calm;
             fits = m.core.fits;
             spaces = record {
               tasks = shown_tasks;

@@ -1,15 +1,15 @@
 -- An access is run: what holds after each thing that it may come to.
 use Rattle.vm_kernel.proofs.Common.{Bool, Command, Event, Header, HostId, HostParts, Ids, IfSome, IsAt, IsOfNumber, LegalEvents, List, Matches, None, ObjectId}
 use Rattle.vm_kernel.proofs.Common.{Option, Outside, PageKey, PageRow, Parts, RegionRow, Some, Up, WaitTable, Waiting, Want, Wants, WantsFrame, Works, []}
-use Rattle.vm_kernel.proofs.Common.{access_in, address_in, ap, clean_row, entry, entry_at, false, free, host_id, if◌then◌else◌, inl, inr, named, page_at}
-use Rattle.vm_kernel.proofs.Common.{page_of, refl, region_at, row_put, rows_in, some_is, subst, suc, sym, true, unlocked, with_on, zero, ℕ, ◌%◌, ◌&&◌, ◌++◌}
-use Rattle.vm_kernel.proofs.Common.{◌∙◌, ◌∷◌, ◌≡◌, ◌≤◌, ◌⊎◌}
+use Rattle.vm_kernel.proofs.Common.{access_in, address_in, ap, clean_row, entry, entry_at, false, free, has_pager, host_id, if◌then◌else◌, inl, inr}
+use Rattle.vm_kernel.proofs.Common.{live_control, live_in, named, page_at, page_of, refl, region_at, row_put, rows_in, some_is, subst, suc, sym, true, unlocked}
+use Rattle.vm_kernel.proofs.Common.{with_on, zero, ℕ, ◌%◌, ◌&&◌, ◌++◌, ◌∙◌, ◌∷◌, ◌≡◌, ◌≤◌, ◌⊎◌}
 use Rattle.vm_kernel.proofs.space.RegionsFilled.{at_unfilled, entry_some}
 use Rattle.vm_state.proofs.Places.{on_its_region}
 use Rattle.vm_base.specs.declared.entry.Entry.{Entry}
 use Rattle.vm_fault.specs.Faults.{AfterZeros, AsksUnlock, AtOnce, Copied, Ended, FaultState, Faulted, Hits, Needs, NothingChanges, Nowhere, Prepares, Raised}
 use Rattle.vm_fault.specs.Faults.{RequestsPage, ToAsk, ToCopy, ToRaise}
-use Rattle.vm_fault.specs.Walks.{Finds, PassesOver, Sinks, StopsAsked, WalksTo, is_storing, keeps_out, top_place, wanted_number, writes_at}
+use Rattle.vm_fault.specs.Walks.{Finds, PassesOver, Sinks, StopsAsked, WalksTo, is_copying, is_storing, keeps_out, top_place, wanted_number, writes_at}
 use Rattle.vm_fault.specs.declared.step.FaultStep.{FaultStep}
 use Rattle.vm_fault.specs.declared.step.FaultStep.TheVariants as step
 use Rattle.vm_kernel.proofs.memory.ComesForAccess.{works_loaded, works_raised, works_stored, works_touched, works_zeroed}
@@ -17,7 +17,7 @@ use Rattle.vm_kernel.proofs.controls.PageAsked.{works_asked, works_joined, works
 use Rattle.vm_kernel.proofs.steps.AccessCauses.{comes_at, loaded_follows, raised_follows, request_follows, shadow_caused, shadowed_follows, stored_follows}
 use Rattle.vm_kernel.proofs.steps.AccessCauses.{unmark_caused, unmarked_follows, zeroed_follows}
 use Rattle.vm_kernel.proofs.steps.EventsGrow.{goes_both, goes_none, goes_one, suffices}
-use Rattle.vm_kernel.proofs.steps.WhereAccessLeads.{Leads, it_waits, leads_of, top_at}
+use Rattle.vm_kernel.proofs.steps.WhereAccessLeads.{IsServed, Leads, it_waits, leads_of, top_at}
 use Rattle.vm_kernel.proofs.steps.RowsInOrder.{PutsInOrder}
 use Rattle.vm_kernel.proofs.abroad.OwnHost.{named_host, own_host}
 use Rattle.vm_kernel.proofs.memory.MarkGone.{works_unmarked}
@@ -42,14 +42,14 @@ use Rattle.vm_waits.specs.declared.waiting.Want.TheVariants as want
 use Rattle.vm_kernel.proofs.memory.WalksShown.{shown_at}
 use Rattle.vm_state.proofs.Locks.{kept_anywhere, plain_open, storing_is}
 use Rattle.vm_kernel.proofs.controls.UnlockAsked.{unlock_follows, unlocking, works_unlocked}
-use Rattle.std.proofs.lemmas.Bool.{and_parts}
-use Rattle.vm_kernel.proofs.memory.PageReturned.{untold_temporary}
+use Rattle.std.proofs.lemmas.Bool.{and_parts, or_right}
+use Rattle.vm_objects.specs.declared.row.PagerState.TheVariants as state
+use Rattle.vm_state.proofs.Declared.{over_declared}
+use Rattle.std.proofs.Common.{arith}
 use Rattle.vm_abroad.proofs.Regions.{kind_cases}
-use Rattle.std.specs.Prelude.{◌==◌}
+use Rattle.std.specs.Prelude.{nat_lt, ◌<◌, ◌==◌}
 use Rattle.vm_kernel.proofs.memory.SourceOfCopy.{copies_source, only_copies, wants_copy}
-use Rattle.std.proofs.lemmas.Bool.{or_right}
-use Rattle.std.specs.Prelude.{nat_lt}
-use Rattle.vm_fault.specs.Walks.{is_copying}
+use Rattle.vm_base.specs.declared.ids.RegionId.{RegionId}
 
 -- the kernel behind some more events, which follow from what stood there
 pub record Reaches (header : Header) (h : ℕ) (outside : Outside) (doing : Command) (past events : List Event) (k : Parts) (ids : Ids) (after : List Event) :
@@ -164,16 +164,17 @@ passes_top parts chains top sinks = by sinks.steps sinks.walks
     by zero walks = subst (PassesOver parts) (sym walks) sinks.passes
     by (suc steps) walks = walks.0
 
--- so that is a place of a temporary object: a declared one that is referred to has a pager, which may have each of its pages
+-- so that is a place of a temporary object: a declared one has a pager here, which may have each of its pages
 top_temporary : (header : Header) (h : ℕ) (past : List Event) (k : Parts) (ids : Ids) (w : Waiting) (top : PageKey) → Tries header h past k ids w top
-    → Sinks k.memory k.chains top → named header ≤ top.object.0
-top_temporary header h past k ids w top t sinks = elim (over.none) [
-  | inl without ↦ untold_temporary header k.memory.objects top.object.0 over.row (leads_there header h past k ids w top t).referred over.known
-      (m.core.objects.kinds.kinds top.object.0 over.row over.known) without
-  | inr lacked ↦ elim (kind_cases header top.object.0) [
-    | inl declared ↦ absurd (let bad : false ≡ true = sym (m.core.objects.kinds.present top.object.0 top.page.0 declared) ∙ lacked in cc)
-    | inr temporary ↦ temporary
+    → IsServed header h k w.task.0 w.want past → Sinks k.memory k.chains top → named header ≤ top.object.0
+top_temporary header h past k ids w top t served sinks = elim (kind_cases header top.object.0) [
+  | inl declared ↦ elim (over.none) [
+    | inl without ↦
+        let own = same declared in
+        absurd (served t.at.entry t.at.found (omega (arith, declared, own)) (ended own without))
+    | inr lacked ↦ absurd (let bad : false ≡ true = sym (m.core.objects.kinds.present top.object.0 top.page.0 declared) ∙ lacked in cc)
   ]
+  | inr temporary ↦ temporary
 ]
   where
     m : Matches header h k ids [] past
@@ -182,16 +183,30 @@ top_temporary header h past k ids w top t sinks = elim (over.none) [
     over : PassesOver k.memory top
     over = passes_top k.memory k.chains top sinks
 
+    at_top : top.object.0 ≡ t.at.row.top.0
+    at_top = ap (λ (z : PageKey). z.object.0) t.at.is
+
+    same : top.object.0 < named header → t.at.entry.region.0 ≡ top.object.0
+    same declared =
+        over_declared m.core.objects.regions m.core.objects.kinds m.core.spaces.homes.1 t.at.entry.region.0 t.at.row t.at.region
+        (omega (arith, declared, at_top)) ∙ sym at_top
+
+    ended : t.at.entry.region.0 ≡ top.object.0 → over.row.state ≡ state.Without → live_control h t.at.entry.region.0 past ≡ None
+    ended own without =
+        let none : over.row.live ≡ false = (m.core.objects.kinds.kinds top.object.0 over.row over.known).lives ∙ ap has_pager without in
+        ap (λ z. live_control h z past) own
+        ∙ (m.core.controls.live top.object.0 ∙ (ap live_in over.known ∙ ap (λ b. if b then Some over.row.control else None) none))
+
 -- it ends with its page, after a copy or zeros came, or at once
 ended : (header : Header) (h : ℕ) (outside : Outside) (doing : Command) (past : List Event) (k : Parts) (ids : Ids) (w : Waiting) (top : PageKey)
     (events : List Event) (value : ℕ) (m2 : HostParts) (after : List Event) (waits2 : WaitTable)
-    → IsOfNumber w.want → Tries header h (events ++ past) k ids w top
+    → IsOfNumber w.want → Tries header h (events ++ past) k ids w top → IsServed header h k w.task.0 w.want (events ++ past)
     → Ended (host_id h) w.task w.want top (address_in k.maps.size w.want % header.size) value k.memory m2 k.chains events after
     → PutsInOrder w.task.0 None k.waits.rows waits2.rows → Reaches header h outside doing past events (record k { memory = m2; waits = waits2 }) ids after
-ended header h outside doing past k ids w top events value m2 after waits2 number t (AtOnce steps key row finds none out e hits told) put =
+ended header h outside doing past k ids w top events value m2 after waits2 number t served (AtOnce steps key row finds none out e hits told) put =
     subst (λ (z : List Event). Reaches header h outside doing past events (record k { memory = m2; waits = waits2 }) ids z) (sym told)
     (hit header h outside doing past k ids w top events steps key row value e m2 waits2 t finds none out hits put)
-ended header h outside doing past k ids w top events value m2 after waits2 number t
+ended header h outside doing past k ids w top events value m2 after waits2 number t served
     (Raised steps key row finds stores out frame copied with_hit raises keeps e hits touched told) put =
     let moment = events ++ past in
     let raised : Event = event.Raised (host_id h) key.object key.page top.object top.page in
@@ -218,16 +233,17 @@ ended header h outside doing past k ids w top events value m2 after waits2 numbe
       works = works_touched header h (e ∷ raised ∷ moment) (record k { memory = with_hit; waits = waits2 }) ids woken.Nobody row.frame m2 touched two.works;
       goes = goes_both header h outside doing past events (raised ∷ events) (e ∷ raised ∷ events) one two.goes;
     })
-ended header h outside doing past k ids w top events value m2 after waits2 number t (AfterZeros sinks frame brought brings keeps e hits told) put =
+ended header h outside doing past k ids w top events value m2 after waits2 number t served (AfterZeros sinks frame brought brings keeps e hits told) put =
     let moment = events ++ past in
     let zeros : Event = event.Zeroed (host_id h) top.object top.page in
     let to = leads_there header h moment k ids w top t in
     let s = shown_at t.works.matches in
-    let works1 = works_zeroed header h moment k ids top frame brought t.works sinks
+    let temporary = top_temporary header h moment k ids w top t served sinks in
+    let works1 = works_zeroed header h moment k ids top frame brought t.works sinks temporary
     (at_unfilled header.size w.task.0 w.want top k.maps k.chains [] t.works.matches.core.spaces.entries t.at) to.referred brings keeps in
     let t1 = tries_on header h moment (zeros ∷ moment) k ids w top brought t works1 in
     let one = goes_one header h outside doing past events zeros t.works.matches.settled
-    (zeroed_follows header h outside doing moment k w.task.0 w.want top t.at (top_temporary header h moment k ids w top t sinks) to s t.clear sinks
+    (zeroed_follows header h outside doing moment k w.task.0 w.want top t.at temporary to s t.clear sinks
     (suffices header h brought.frames (zeros ∷ moment) works1.matches.core.pages.counted)) in
     let row2 : PageRow = clean_row frame unlocked false in
     let there : Finds brought k.chains 0 top top row2 = record {
@@ -239,8 +255,8 @@ ended header h outside doing past k ids w top events value m2 after waits2 numbe
     (plain_open row2.lock (writes_at w.want 0) refl) hits put in
     subst (λ (z : List Event). Reaches header h outside doing past events (record k { memory = m2; waits = waits2 }) ids z) (sym told)
     (record { works = two.works; goes = goes_both header h outside doing past events (zeros ∷ events) (e ∷ zeros ∷ events) one two.goes })
-ended header h outside doing past k ids w top events value m2 after waits2 number t (Copied address pages next target is steps key row finds out is_none copies)
-    put =
+ended header h outside doing past k ids w top events value m2 after waits2 number t served
+    (Copied address pages next target is steps key row finds out is_none copies) put =
     absurd (subst IsOfNumber is number)
 
 -- a place to which its walk leads is one of its places, and it has passed over those above
@@ -304,6 +320,19 @@ unlocked_by header h outside doing past k ids w top key events m2 after waits2 t
           t.works.matches.core.controls a.finds a.known (kept_anywhere a.row.lock w.want a.steps a.locked) a.none
           (suffices header h m2.frames (unlock ∷ moment) works.matches.core.pages.counted));
     })
+
+-- making ready ends no control
+prepared_served : (header : Header) (h : ℕ) (past : List Event) (b : Bool) (region : RegionId) (row : RegionRow) (k : Parts) (ids : Ids) (events : List Event)
+    (mid : FaultState) (task : ℕ) (what : Want) → Prepares b region row (state_of k ids events) mid → IsServed header h k task what (events ++ past)
+    → IsServed header h (with_state k mid) task what (mid.events ++ past)
+prepared_served header h past b region row k ids events mid task what ready served e found declared none =
+    served e found declared (sym (by b ready) ∙ none)
+  where
+    by : (b : Bool) → Prepares b region row (state_of k ids events) mid
+        → live_control h e.region.0 (mid.events ++ past) ≡ live_control h e.region.0 (events ++ past)
+    by false same = ap (λ (z : FaultState). live_control h e.region.0 (z.events ++ past)) same
+    by true (inl made) = ap (λ z. live_control h e.region.0 (z ++ past)) made.told
+    by true (inr loses) = ap (λ z. live_control h e.region.0 (z ++ past)) loses.told
 
 -- the region of a store has an object of its own first, or loses its mark
 
@@ -446,10 +475,10 @@ stays header h outside doing past k mid new waits2 same works =
 pub done_reaches : (header : Header) (h : ℕ) (outside : Outside) (doing : Command) (past : List Event) (k : Parts) (ids : Ids) (w : Waiting) (may : Bool)
     (value : ℕ) (events : List Event) (new : FaultState) (waits2 : WaitTable)
     → IsOfNumber w.want → Works header h k ids woken.Nobody (events ++ past) → entry k.waits.rows w.task.0 ≡ Some w → runs_now w.on ≡ true
-    → Faulted k.maps k.host w.task w.want may (step.Done value) (state_of k ids events) new
+    → IsServed header h k w.task.0 w.want (events ++ past) → Faulted k.maps k.host w.task w.want may (step.Done value) (state_of k ids events) new
     → PutsInOrder w.task.0 None k.waits.rows waits2.rows
     → Reaches header h outside doing past events (record (with_state k new) { waits = waits2 }) new.ids new.events
-done_reaches header h outside doing past k ids w may value events new waits2 number works is now f put =
+done_reaches header h outside doing past k ids w may value events new waits2 number works is now served f put =
     let p = prepared header h outside doing past k ids w may (step.Done value) events new works is now f in
     let address = address_in k.maps.size w.want in
     let named = subst (λ (z : HostId). Ended z w.task w.want f.top (address % k.memory.buffers.size) value f.mid.parts new.parts f.mid.chains f.mid.events
@@ -457,7 +486,9 @@ done_reaches header h outside doing past k ids w may value events new waits2 num
     let sized = subst (λ (z : ℕ). Ended (host_id h) w.task w.want f.top (address % z) value f.mid.parts new.parts f.mid.chains f.mid.events new.events)
     (works.matches.core.fits.buffers ∙ works.matches.core.setting.sized) named in
     settle header h outside doing past k events f.mid new waits2 p.goes (ended header h outside doing past (with_state k f.mid) f.mid.ids w f.top f.mid.events
-    value new.parts new.events waits2 number p.tries sized put) f.chains f.ids
+    value new.parts new.events waits2 number p.tries
+    (prepared_served header h past (is_storing w.want && f.row.marked) f.entry.region f.row k ids events f.mid w.task.0 w.want f.prepares served)
+    sized put) f.chains f.ids
 
 -- it waits for its object's pager
 pub ready_reaches : (header : Header) (h : ℕ) (outside : Outside) (doing : Command) (past : List Event) (k : Parts) (ids : Ids) (w : Waiting) (may : Bool)
@@ -562,24 +593,25 @@ still_reaches header h outside doing past k ids w may source events new works is
 
 -- why
 frame_why : (header : Header) (h : ℕ) (past : List Event) (k : Parts) (ids : Ids) (w : Waiting) (top : PageKey) {source : Option PageKey}
-    → (t : Tries header h past k ids w top) → (to : Leads header h past k w.task.0 w.want top t.at) → Needs w.want top k.memory k.chains source
+    → (t : Tries header h past k ids w top) → IsServed header h k w.task.0 w.want past → (to : Leads header h past k w.task.0 w.want top t.at)
+    → Needs w.want top k.memory k.chains source
     → WantsFrame header h w.task.0 (access_in k.maps.size to.destination w.want) t.at.entry.region.0
     (page_of header w.task.0 (access_in k.maps.size to.destination w.want) past t.at.entry) past
-frame_why header h past k ids w top t to (Nowhere sinks) =
-    legal.Nowhere top.object.0 top.page.0 sinks.steps (top_at header h past k w.task.0 w.want top t.at to)
+frame_why header h past k ids w top t served to (Nowhere sinks) =
+    legal.Nowhere (served t.at.entry t.at.found) top.object.0 top.page.0 sinks.steps (top_at header h past k w.task.0 w.want top t.at to)
     (sinks_of (shown_at t.works.matches) top to.referred sinks)
-frame_why header h past k ids w top t to (ToCopy steps key row finds copying out) =
+frame_why header h past k ids w top t served to (ToCopy steps key row finds copying out) =
     let s = shown_at t.works.matches in
     wants_copy header h k.maps.size w.task.0 to.destination t.at.entry.region.0 (page_of header w.task.0 (access_in k.maps.size to.destination w.want) past
     t.at.entry) past w.want steps top.object.0 top.page.0 key.object.0 key.page.0
     (or_right (is_storing w.want && nat_lt 0 steps) (is_copying w.want) copying) (top_at header h past k w.task.0 w.want top t.at to)
     (walks_of s steps top key finds.walks) (shows_row s key.object.0 key.page.0 row finds.found finds.here).here
-frame_why header h past k ids w top t to (ToAsk steps key object comes ready) =
+frame_why header h past k ids w top t served to (ToAsk steps key object comes ready) =
     let s = shown_at t.works.matches in
     let may = may_ask s steps top key object comes ready in
     legal.Elsewhere key.object.0 key.page.0 (comes_at header h past k w.task.0 w.want top t.at to s steps key comes.walks) may.away may.unasked may.may_have
     may.ready
-frame_why header h past k ids w top t to (ToRaise steps key row finds stores out) =
+frame_why header h past k ids w top t served to (ToRaise steps key row finds stores out) =
     let s = shown_at t.works.matches in
     legal.Raises top.object.0 top.page.0 steps key.object.0 key.page.0 (top_at header h past k w.task.0 w.want top t.at to)
     (walks_of s (suc steps) top key finds.walks) (shows_row s key.object.0 key.page.0 row finds.found finds.here).here
@@ -588,9 +620,10 @@ frame_why header h past k ids w top t to (ToRaise steps key row finds stores out
 -- and what it is to copy
 
 found_source : (header : Header) (h : ℕ) (past : List Event) (k : Parts) (ids : Ids) (w : Waiting) (top : PageKey) → Tries header h past k ids w top
-    → (steps : ℕ) (key : PageKey) (row : PageRow) → Finds k.memory k.chains steps top key row → Needs w.want top k.memory k.chains (Some key)
+    → IsServed header h k w.task.0 w.want past → (steps : ℕ) (key : PageKey) (row : PageRow) → Finds k.memory k.chains steps top key row
+    → Needs w.want top k.memory k.chains (Some key)
     → IsToCopyPage header h w.task key.object.0 key.page.0 past × IsHere k key
-found_source header h past k ids w top t steps key row finds needs =
+found_source header h past k ids w top t served steps key row finds needs =
     let to = leads_there header h past k ids w top t in
     let s = shown_at t.works.matches in (
       record {
@@ -600,7 +633,7 @@ found_source header h past k ids w top t steps key row finds needs =
           waits = it_waits header h past k w.task.0 w.want top t.at to;
           on_host = refl;
           comes = comes_at header h past k w.task.0 w.want top t.at to s steps key finds.walks;
-          wants = frame_why header h past k ids w top t to needs;
+          wants = frame_why header h past k ids w top t served to needs;
         };
         of = refl;
         here = (shows_row s key.object.0 key.page.0 row finds.found finds.here).here;
@@ -609,14 +642,14 @@ found_source header h past k ids w top t steps key row finds needs =
     )
 
 frame_source : (header : Header) (h : ℕ) (past : List Event) (k : Parts) (ids : Ids) (w : Waiting) (top : PageKey) {source : Option PageKey}
-    → Tries header h past k ids w top → Needs w.want top k.memory k.chains source
+    → Tries header h past k ids w top → IsServed header h k w.task.0 w.want past → Needs w.want top k.memory k.chains source
     → IfSome source (λ key. IsToCopyPage header h w.task key.object.0 key.page.0 past × IsHere k key)
-frame_source header h past k ids w top t (Nowhere sinks) = tt
-frame_source header h past k ids w top t (ToAsk steps key object comes ready) = tt
-frame_source header h past k ids w top t (ToCopy steps key row finds copying out) =
-    found_source header h past k ids w top t steps key row finds (ToCopy steps key row finds copying out)
-frame_source header h past k ids w top t (ToRaise steps key row finds stores out) =
-    found_source header h past k ids w top t (suc steps) key row finds (ToRaise steps key row finds stores out)
+frame_source header h past k ids w top t served (Nowhere sinks) = tt
+frame_source header h past k ids w top t served (ToAsk steps key object comes ready) = tt
+frame_source header h past k ids w top t served (ToCopy steps key row finds copying out) =
+    found_source header h past k ids w top t served steps key row finds (ToCopy steps key row finds copying out)
+frame_source header h past k ids w top t served (ToRaise steps key row finds stores out) =
+    found_source header h past k ids w top t served (suc steps) key row finds (ToRaise steps key row finds stores out)
 
 -- and so it wants one
 pub record Wanting (header : Header) (h : ℕ) (w : Waiting) (may : Bool) (source : Option PageKey) (k : Parts) (after : List Event) : Type 0 where
@@ -629,14 +662,17 @@ pub record Wanting (header : Header) (h : ℕ) (w : Waiting) (may : Bool) (sourc
 pub wanting_of : (header : Header) (h : ℕ) (outside : Outside) (doing : Command) (past : List Event) (k : Parts) (ids : Ids) (w : Waiting) (may : Bool)
     (source : Option PageKey) (events : List Event) (new : FaultState) (waits2 : WaitTable)
     → Works header h k ids woken.Nobody (events ++ past) → entry k.waits.rows w.task.0 ≡ Some w → runs_now w.on ≡ true
+    → IsServed header h k w.task.0 w.want (events ++ past)
     → Faulted k.maps k.host w.task w.want may (step.NeedFrame source) (state_of k ids events) new
     → Wanting header h w may source (record (with_state k new) { waits = waits2 }) (new.events ++ past)
-wanting_of header h outside doing past k ids w may source events new waits2 works is now f =
+wanting_of header h outside doing past k ids w may source events new waits2 works is now served f =
     let p = prepared header h outside doing past k ids w may (step.NeedFrame source) events new works is now f in
     let moment = f.mid.events ++ past in
     let mid = with_state k f.mid in
     let t = p.tries in
     let same = f.comes.2 in
+    let still : IsServed header h mid w.task.0 w.want moment = prepared_served header h past (is_storing w.want && f.row.marked) f.entry.region f.row k ids
+    events f.mid w.task.0 w.want f.prepares served in
     let to = leads_there header h moment mid f.mid.ids w f.top t in
     let wants : (wants : Wants header h moment) × (wants.task ≡ w.task.0) = (
       record {
@@ -644,12 +680,12 @@ wanting_of header h outside doing past k ids w may source events new waits2 work
         access = access_in k.maps.size to.destination w.want;
         waits = it_waits header h moment mid w.task.0 w.want f.top t.at to;
         on_host = refl;
-        frame = frame_why header h moment mid f.mid.ids w f.top t to f.comes.0;
+        frame = frame_why header h moment mid f.mid.ids w f.top t still to f.comes.0;
       },
       refl,
     ) in
     let later = subst (λ (z : List Event). (wants : Wants header h (z ++ past)) × (wants.task ≡ w.task.0)) (sym same.told) wants in
-    let found = frame_source header h moment mid f.mid.ids w f.top t f.comes.0 in
+    let found = frame_source header h moment mid f.mid.ids w f.top t still f.comes.0 in
     let copies = copies_source header h moment mid w.task source found in
     let told : IsTheSource header h (SparesSource (Some w.task)) source moment =
     record {

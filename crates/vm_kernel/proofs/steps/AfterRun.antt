@@ -1,42 +1,37 @@
 -- What holds where an access was run, a slow copy page by page: it waits, wants a frame, or has ended.
-use Rattle.vm_kernel.proofs.Common.{Bool, ChainTable, Command, Event, Header, Ids, LegalEvents, List, None, ObjectId, Option, Outside, PageKey, Parts, Some}
-use Rattle.vm_kernel.proofs.Common.{TaskId, WaitTable, Waiting, Want, Works, ap, arith, entry, false, inl, inr, nat_lt, nat_tests, refl, subst, sym, true}
-use Rattle.vm_kernel.proofs.Common.{with_on, ℕ, ◌++◌, ◌+◌, ◌<◌, ◌∙◌, ◌∷◌, ◌≡◌, ◌⊎◌}
+use Rattle.vm_kernel.proofs.Common.{Bool, ChainTable, Command, EndsNext, Event, FindsPage, Header, HostParts, Ids, IfSome, JoinsQueue, LegalEvents, List, None}
+use Rattle.vm_kernel.proofs.Common.{ObjectId, On, Option, Outside, PageKey, Paging, Parts, Plays, PutsEntry, RunsOnce, Some, TaskId, Then, WaitTable, Waiting}
+use Rattle.vm_kernel.proofs.Common.{Want, Works, ap, append_assoc, arith, count_again, entry, false, free, inl, inr, map, nat_lt, nat_tests, one_again}
+use Rattle.vm_kernel.proofs.Common.{one_frame, paging, queue_without, queued, refl, rows_without, subst, sym, true, turned, with_on, ℕ, ◌*◌, ◌++◌, ◌+◌, ◌-◌}
+use Rattle.vm_kernel.proofs.Common.{◌<◌, ◌∙◌, ◌∷◌, ◌≡◌, ◌⊎◌}
 use Rattle.vm_fault.specs.Faults.{FaultState, Faulted, Runs, has_more, want_after}
 use Rattle.vm_fault.specs.declared.step.FaultStep.{FaultStep}
 use Rattle.vm_fault.specs.declared.step.FaultStep.TheVariants as step
 use Rattle.vm_kernel.proofs.steps.AccessRun.{Reaches, Wanting, done_reaches, page_reaches, queued_reaches, ready_reaches, wanting_of}
-use Rattle.vm_kernel.proofs.steps.CopyEnds.{can_end_copy, copy_ended}
-use Rattle.vm_kernel.proofs.steps.CopyGoesOn.{Copying, copy_follows, page_copied, sized_of}
+use Rattle.vm_kernel.proofs.steps.CopyEnds.{can_end_copy, copy_ended, maps_filled}
+use Rattle.vm_kernel.proofs.steps.CopyGoesOn.{Copying, copy_follows, page_copied, sized_of, slow_of}
 use Rattle.vm_kernel.proofs.steps.EventsGrow.{goes_both, goes_one}
 use Rattle.vm_kernel.proofs.steps.LoadsAndStores.{stops_once}
-use Rattle.vm_kernel.proofs.steps.RowsInOrder.{PutsInOrder, puts_over}
-use Rattle.vm_kernel.proofs.steps.CopyMakesPages.{RunsTo, after_pages, makes_page, runs_to}
+use Rattle.vm_kernel.proofs.steps.RowsInOrder.{PutsInOrder, puts_over, puts_twice, rewanted_keeps, turned_keeps, without_keeps}
+use Rattle.vm_kernel.proofs.steps.CopyMakesPages.{RunsTo, after_pages, makes_page, puts_itself, runs_to}
 use Rattle.vm_kernel.proofs.steps.FaultStates.{state_of, with_state}
-use Rattle.vm_kernel.specs.Serving.{runs_now}
-use Rattle.vm_kernel.specs.Slow.{CanEndCopy, CanEndWant, DidNothing, EndsCopyIn, EndsWant}
+use Rattle.vm_kernel.specs.Serving.{pages_to_copy, runs_now}
+use Rattle.vm_kernel.specs.Slow.{CanEndCopy, CanEndWant, DidNothing, EndsCopyIn, EndsWant, filled_entry}
 use Rattle.vm_model.specs.declared.event.Event.TheVariants as event
 use Rattle.vm_supply.specs.declared.woken.Woken.TheVariants as woken
-use Rattle.vm_waits.specs.Waits.{with_want}
+use Rattle.vm_waits.specs.Waits.{rewanted, with_want}
 use Rattle.vm_waits.specs.Wants.{IsOfNumber}
 use Rattle.vm_waits.specs.declared.waiting.Destination.{Destination}
 use Rattle.vm_waits.specs.declared.waiting.On.TheVariants as on
 use Rattle.vm_waits.specs.declared.waiting.Want.TheVariants as want
-use Rattle.vm_kernel.proofs.Common.{EndsNext, FindsPage, HostParts, IfSome, JoinsQueue, On, Paging, Plays, PutsEntry, RunsOnce, Then, append_assoc, count_again}
-use Rattle.vm_kernel.proofs.Common.{free, map, one_again, one_frame, paging, queue_without, queued, rows_without, turned, ◌*◌, ◌-◌}
 use Rattle.vm_fault.specs.Rooms.{pages_left}
 use Rattle.vm_fault.specs.Walks.{is_copying}
 use Rattle.vm_kernel.proofs.steps.FramesClaimed.{once_done, once_filled}
-use Rattle.vm_kernel.proofs.steps.CopyEnds.{maps_filled}
-use Rattle.vm_kernel.proofs.steps.CopyGoesOn.{slow_of}
 use Rattle.vm_kernel.proofs.steps.FoundPageEnds.{ends_next, number_of_found}
-use Rattle.vm_kernel.proofs.steps.RowsInOrder.{puts_twice, rewanted_keeps, turned_keeps, without_keeps}
-use Rattle.vm_kernel.proofs.steps.CopyMakesPages.{puts_itself}
 use Rattle.vm_kernel.proofs.steps.PagesLeft.{joins_claimed}
 use Rattle.vm_kernel.specs.Forking.{got}
-use Rattle.vm_kernel.specs.Serving.{pages_to_copy}
-use Rattle.vm_kernel.specs.Slow.{filled_entry}
-use Rattle.vm_waits.specs.Waits.{rewanted}
+use Rattle.vm_kernel.proofs.steps.WhereAccessLeads.{access_served, copy_served}
+use Rattle.vm_kernel.specs.Destroying.{unserved}
 
 -- the kernel of the last run
 abbrev pub kernel_there : (k : Parts) {header : Header} {h : ℕ} {outside : Outside} {doing : Command} {past events : List Event} {w : Waiting} {may : Bool}
@@ -104,14 +99,24 @@ queued_runs header h outside doing past k ids w may source last events new waits
 
 pub wants_there : (header : Header) (h : ℕ) (outside : Outside) (doing : Command) (past : List Event) (k : Parts) (ids : Ids) (w : Waiting) (may : Bool)
     (source : Option PageKey) (last : Want) (events : List Event) (new : FaultState) (waits2 : WaitTable)
-    → Works header h k ids woken.Nobody (events ++ past) → entry k.waits.rows w.task.0 ≡ Some w → runs_now w.on ≡ true
+    → Works header h k ids woken.Nobody (events ++ past) → entry k.waits.rows w.task.0 ≡ Some w → runs_now w.on ≡ true → unserved k w ≡ None
     → Runs k.maps k.host w.task may (step.NeedFrame source) w.want last (state_of k ids events) new
     → Wanting header h w may source (record (with_state k new) { waits = waits2 }) (new.events ++ past)
-wants_there header h outside doing past k ids w may source last events new waits2 works is now runs =
-    let r = runs_to header h outside doing past events k ids w may (step.NeedFrame source) last new works is now runs in
-    let there = wanting_of header h outside doing past (kernel_there k r) r.mid.ids (with_want w r.what) may source r.mid.events new waits2 r.works r.is now
-    r.ran in
-    record { wants = there.wants; mine = there.mine; to_copy = there.to_copy; exact = there.exact; none = there.none }
+wants_there header h outside doing past k ids w may source last events new waits2 works is now served runs = by w.want refl
+  where
+    plain : IsOfNumber w.want → Wanting header h w may source (record (with_state k new) { waits = waits2 }) (new.events ++ past)
+    plain number =
+        wanting_of header h outside doing past k ids w may source events new waits2 works is now (access_served w works is served) (stops_once number runs)
+
+    by : (what : Want) → w.want ≡ what → Wanting header h w may source (record (with_state k new) { waits = waits2 }) (new.events ++ past)
+    by (want.Load address size) same = plain (subst IsOfNumber (sym same) tt)
+    by (want.Store address size value) same = plain (subst IsOfNumber (sym same) tt)
+    by (want.CopyTo address pages target next) same =
+        let r = runs_to header h outside doing past events k ids w may (step.NeedFrame source) last new works is now runs in
+        let copying : is_copying r.what ≡ true = ap is_copying (r.is_what ∙ ap (after_pages r.made) same) in
+        let there = wanting_of header h outside doing past (kernel_there k r) r.mid.ids (with_want w r.what) may source r.mid.events new waits2 r.works r.is now
+        (copy_served (with_want w r.what) r.works r.is copying) r.ran in
+        record { wants = there.wants; mine = there.mine; to_copy = there.to_copy; exact = there.exact; none = there.none }
 
 -- it has ended
 
@@ -206,17 +211,18 @@ can_end header h outside doing past k ids w may value last events new waits2 wor
 pub done_runs : (header : Header) (h : ℕ) (outside : Outside) (doing : Command) (past : List Event) (k k2 : Parts) (ids : Ids) (w : Waiting) (may : Bool)
     (value : ℕ) (last : Want) (events : List Event) (new : FaultState) (waits2 : WaitTable) (after : List Event)
     → Works header h k ids woken.Nobody (events ++ past) → entry k.waits.rows w.task.0 ≡ Some w → runs_now w.on ≡ true
-    → Runs k.maps k.host w.task may (step.Done value) w.want last (state_of k ids events) new
+    → unserved k w ≡ None → Runs k.maps k.host w.task may (step.Done value) w.want last (state_of k ids events) new
     → PutsInOrder w.task.0 None k.waits.rows waits2.rows → EndsCopyIn w (record (with_state k new) { waits = waits2 }) k2 new.events after
     → Reaches header h outside doing past events k2 new.ids after
-done_runs header h outside doing past k k2 ids w may value last events new waits2 after works is now runs put did = by w.want refl did
+done_runs header h outside doing past k k2 ids w may value last events new waits2 after works is now served runs put did = by w.want refl did
   where
     plain : IsOfNumber w.want → DidNothing (record (with_state k new) { waits = waits2 }) k2 new.events after
         → Reaches header h outside doing past events k2 new.ids after
     plain number nothing =
         subst (λ (z : Parts). Reaches header h outside doing past events z new.ids after) (sym nothing.same)
         (subst (λ (z : List Event). Reaches header h outside doing past events (record (with_state k new) { waits = waits2 }) new.ids z) (sym nothing.told)
-        (done_reaches header h outside doing past k ids w may value events new waits2 number works is now (stops_once number runs) put))
+        (done_reaches header h outside doing past k ids w may value events new waits2 number works is now (access_served w works is served)
+        (stops_once number runs) put))
 
     by : (what : Want) → w.want ≡ what → EndsWant w.task what w.destination (record (with_state k new) { waits = waits2 }) k2 new.events after
         → Reaches header h outside doing past events k2 new.ids after
@@ -319,12 +325,13 @@ once_ended header h past k k2 ids w may value last events after new waits2 works
 pub joins_queue : (header : Header) (h : ℕ) (outside : Outside) (doing : Command) (past : List Event) (k : Parts) (ids : Ids) (w : Waiting) (may : Bool)
     (source : Option PageKey) (last : Want) (events : List Event) (new : FaultState) (waits2 : WaitTable)
     → Works header h k ids woken.Nobody (events ++ past) → entry k.waits.rows w.task.0 ≡ Some w → runs_now w.on ≡ true
-    → Runs k.maps k.host w.task may (step.NeedFrame source) w.want last (state_of k ids events) new → RunsOnce w may true k.waits waits2 events new.events
+    → unserved k w ≡ None → Runs k.maps k.host w.task may (step.NeedFrame source) w.want last (state_of k ids events) new
+    → RunsOnce w may true k.waits waits2 events new.events
     → count_again waits2.rows + one_again w.on ≡ count_again k.waits.rows → queued waits2.rows ≡ queued k.waits.rows + (1 - one_frame w.on)
     → pages_to_copy waits2.rows + pages_left w.want ≡ pages_to_copy k.waits.rows + pages_left last
     → JoinsQueue header h w may source k (record (with_state k new) { waits = waits2 }) (events ++ past) (new.events ++ past)
-joins_queue header h outside doing past k ids w may source last events new waits2 works is now runs once agains queues left =
-    let there = wants_there header h outside doing past k ids w may source last events new waits2 works is now runs in
+joins_queue header h outside doing past k ids w may source last events new waits2 works is now served runs once agains queues left =
+    let there = wants_there header h outside doing past k ids w may source last events new waits2 works is now served runs in
     record {
       claims = once.claims;
       front = once.more;

@@ -2,9 +2,9 @@
 use Rattle.vm_kernel.proofs.Common.{All, BeganInOrder, Declared, EachApart, Event, Header, Ids, IsRanged, IsStart, IsUsed, IsWashed, List, None, Parts, Rests}
 use Rattle.vm_kernel.proofs.Common.{Some, Starts, TaskId, Waiting, [], absent_among, absent_at, all_tasks, ap, arith, away, begun_at, claimed, count_again}
 use Rattle.vm_kernel.proofs.Common.{count_by, count_claims, entry, false, fills_in, first_ids, frame_count, host_id, in_use, inl, inr, is_some, last_in, length}
-use Rattle.vm_kernel.proofs.Common.{length-replicate, live_in, named, nat_lt, nat_tests, none_of, not, object_among, object_at}
-use Rattle.vm_kernel.proofs.Common.{refl, region_at, replicate, reverse, reverse-append, row_at, shadow_at, slice_get, subst, suc, sym, take, true, waiting_in}
-use Rattle.vm_kernel.proofs.Common.{zero, ℕ, ◌+◌, ◌<◌, ◌∙◌, ◌∷◌, ◌≡◌, ◌≤◌}
+use Rattle.vm_kernel.proofs.Common.{length-replicate, live_in, named, nat_lt, nat_tests, none_of, not, object_among, object_at, refl, region_at, replicate}
+use Rattle.vm_kernel.proofs.Common.{reverse, reverse-append, row_at, shadow_at, slice_get, subst, suc, sym, take, true, waiting_in, zero, ℕ, ◌+◌, ◌<◌, ◌∙◌, ◌∷◌}
+use Rattle.vm_kernel.proofs.Common.{◌≡◌, ◌≤◌}
 use Rattle.std.proofs.Math.Bool.{and-false}
 use Rattle.vm_abroad.proofs.Home.{homes_start}
 use Rattle.vm_model.specs.declared.command.Command.TheVariants as command
@@ -79,6 +79,7 @@ first_rests header h k count ranged known size host declared hosts start maps re
                 numbered = host;
                 objects = declared;
               };
+              calm = λ o is. absurd (let bad : false ≡ true = is in cc);
               fits = record {
                 parts = start.fit;
                 plain = λ o p row is. none_of (row_at k.memory.resident o p) row (rows o p) is;
@@ -162,7 +163,7 @@ first_rests header h k count ranged known size host declared hosts start maps re
               };
             };
             settled = record { none_owed = refl; shut = λ region. refl };
-            replied = replied_none refl;
+            replied = replied_none refl refl;
           };
       used = record {
         regions = λ r row is. none_of (region_at k.chains r) row (regions r) is;
@@ -201,9 +202,18 @@ rests_line header h k ids line past rests =
     record {
       matches =
           record {
-            core = m.core;
+            core = record {
+              setting = m.core.setting;
+              calm = λ o is. absurd (let bad : false ≡ true = is in cc);
+              fits = m.core.fits;
+              spaces = m.core.spaces;
+              objects = m.core.objects;
+              controls = m.core.controls;
+              flags = m.core.flags;
+              pages = m.core.pages;
+            };
             settled = record { none_owed = refl; shut = λ region. refl };
-            replied = replied_none refl;
+            replied = replied_none refl refl;
           };
       used = rests.used;
       referred = rests.referred;

@@ -2,15 +2,15 @@
 use Rattle.vm_kernel.proofs.memory.CoreChanges.{pages_known_so}
 use Rattle.vm_state.proofs.KnownPages.{sizes_made}
 use Rattle.vm_kernel.proofs.Common.{AllUsed, BeganInOrder, Bool, ChainTable, Command, EachOf, Entry, Event, Grows, HasEntries, HasRegions, HasUse, HasWaiters}
-use Rattle.vm_kernel.proofs.Common.{Header, Ids, InOrder, IsAllowed, IsDoneInTurn, IsFilledIn, IsInUse, IsInside, IsLined, LegalEvents, List, MadeRange, Mapped}
-use Rattle.vm_kernel.proofs.Common.{Matches, None, ObjectId, ObjectRow, Option, Outside, PageRow, Parts, Place, PutsEntry, PutsRegion, QueueIsStill, Ran}
-use Rattle.vm_kernel.proofs.Common.{RegionId, RegionRow, Rests, RunsNone, Some, Starts, TaskId, WaitTable, Waiting, Works, [], all_tasks, ap, arith, backing_of}
-use Rattle.vm_kernel.proofs.Common.{begun_at, copy_target, count_by, entries_in, entries_of, entry, entry_at, eqb_tells, false, fills, fills_in, has_entry}
-use Rattle.vm_kernel.proofs.Common.{head, holds, home_of, host_of, if◌then◌else◌, in_use, inl, inr, is_on, is_range, is_ready, is_some, is_woken, last_control}
-use Rattle.vm_kernel.proofs.Common.{length, live_control, lives_on, made_here, marked_regions, named, nat_le, nat_lt, nat_tests, next_object, next_page}
-use Rattle.vm_kernel.proofs.Common.{next_region, object_at, object_home, page_at, place_at, puts_cases, refl, region_at, region_of, row_at, rows_in, rows_map}
-use Rattle.vm_kernel.proofs.Common.{some_is, subst, suc, sym, tasks, true, waiting, with_entries, zero, ℕ, ◌%◌, ◌&&◌, ◌*◌, ◌++◌, ◌+◌, ◌/◌, ◌<◌, ◌==◌, ◌^◌, ◌||◌}
-use Rattle.vm_kernel.proofs.Common.{◌∙◌, ◌∷◌, ◌≡◌, ◌≤◌, ◌⊎◌, KnowsHomes}
+use Rattle.vm_kernel.proofs.Common.{Header, Ids, InOrder, IsAllowed, IsDoneInTurn, IsFilledIn, IsInUse, IsInside, IsLined, KnowsHomes, LegalEvents, List}
+use Rattle.vm_kernel.proofs.Common.{MadeRange, Mapped, Matches, None, ObjectId, ObjectRow, Option, Outside, PageRow, Parts, Place, PutsEntry, PutsRegion}
+use Rattle.vm_kernel.proofs.Common.{QueueIsStill, Ran, RegionId, RegionRow, Rests, RunsNone, Some, Starts, TaskId, WaitTable, Waiting, Works, [], all_tasks, ap}
+use Rattle.vm_kernel.proofs.Common.{arith, backing_of, begun_at, copy_target, count_by, entries_in, entries_of, entry, entry_at, eqb_tells, false, fills}
+use Rattle.vm_kernel.proofs.Common.{fills_in, has_entry, head, holds, home_of, host_of, if◌then◌else◌, in_use, inl, inr, is_on, is_range, is_ready, is_some}
+use Rattle.vm_kernel.proofs.Common.{is_woken, last_control, length, live_control, lives_on, made_here, marked_regions, named, nat_le, nat_lt, nat_tests}
+use Rattle.vm_kernel.proofs.Common.{next_object, next_page, next_region, object_at, object_home, page_at, place_at, puts_cases, refl, region_at, region_of}
+use Rattle.vm_kernel.proofs.Common.{row_at, rows_in, rows_map, some_is, subst, suc, sym, tasks, true, waiting, with_entries, zero, ℕ, ◌%◌, ◌&&◌, ◌*◌, ◌++◌, ◌+◌}
+use Rattle.vm_kernel.proofs.Common.{◌/◌, ◌<◌, ◌==◌, ◌^◌, ◌||◌, ◌∙◌, ◌∷◌, ◌≡◌, ◌≤◌, ◌⊎◌}
 use Rattle.std.proofs.Math.Nat.{mul-lt-mul_of_pos_right}
 use Rattle.std.proofs.lemmas.Bool.{or_parts}
 use Rattle.std.specs.Prelude.{IsSome}
@@ -54,11 +54,10 @@ use Rattle.vm_state.proofs.Filling.{copies_kept, copies_told, rows_unmade}
 use Rattle.vm_state.proofs.Making.{regions_made}
 use Rattle.vm_state.proofs.Marks.{marked_made, regions_marked}
 use Rattle.vm_state.proofs.Places.{keeps_made}
-use Rattle.vm_state.proofs.Referred.{referred_put}
+use Rattle.vm_state.proofs.Referred.{comes_served, referred_put}
 use Rattle.vm_state.proofs.Told.{knows_made, waits_known}
 use Rattle.vm_state.proofs.Waited.{waits_kept}
 use Rattle.vm_state.specs.Filling.{FitsCopy, IsAlone, IsCopied, IsFreeFor, IsSlow, filled_row}
-use Rattle.vm_state.specs.References.{is_live_in}
 use Rattle.vm_supply.specs.declared.woken.Woken.TheVariants as woken
 use Rattle.vm_waits.specs.declared.waiting.On.TheVariants as on
 use Rattle.vm_waits.specs.declared.waiting.Want.TheVariants as want
@@ -571,6 +570,7 @@ module _ (header : Header) (h : ℕ) (outside : Outside) (task : TaskId) (addres
       record {
         core = record {
           setting = m.core.setting;
+          calm = m.core.calm;
           fits = record {
             parts = fit_range k.memory k2.memory.objects k.chains ids.next_object (new_object pages) m.core.fits.parts rests.referred unknown
                 made.object_row;
@@ -617,7 +617,7 @@ module _ (header : Header) (h : ℕ) (outside : Outside) (task : TaskId) (addres
         used = used_now;
         referred =
             referred_put ids.next_object (new_object pages) n (Some (filled_row target pages)) k.chains k2.chains k.memory.objects k2.memory.objects
-            k.memory.resident made.region_row made.object_row (omega arith) (λ is. absurd (let bad : false ≡ true = sym (ap is_live_in unknown) ∙ is in cc))
+            k.memory.resident made.region_row made.object_row (omega arith) (comes_served unknown)
             rests.referred;
         thin =
             thin_made ids.next_object (new_object pages) k.chains k2.chains k.memory.objects k2.memory.objects rests.matches.core.objects.regions.unders

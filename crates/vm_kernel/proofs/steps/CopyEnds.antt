@@ -384,6 +384,7 @@ matches_ended header h outside doing k ids past w address pages target next c la
     record {
       core = record {
         setting = m.core.setting;
+        calm = m.core.calm;
         fits = m.core.fits;
         spaces = record {
           tasks = tasks_entered h size k.maps k2.maps (first ∷ past) w.task row m.core.spaces.tasks changes e.lives;

@@ -4,14 +4,14 @@ use Rattle.vm_kernel.proofs.Common.{AllReferred, ChainTable, Command, Event, Fra
 use Rattle.vm_kernel.proofs.Common.{IsSizedWant, List, Local, Mapped, Matches, None, ObjectId, On, Option, Outside, PageKey, PageRow, Parts, PutsRow, Raises}
 use Rattle.vm_kernel.proofs.Common.{Reason, Region, RegionRow, ResidentTable, Some, Suffice, Target, TaskId, WaitTable, Waiting, Want, Works, [], absent_at}
 use Rattle.vm_kernel.proofs.Common.{access_in, address_in, ap, arith, begun_at, clean_row, copies_to, copy_target, entries_of, entry, entry_at, eqb_tells}
-use Rattle.vm_kernel.proofs.Common.{false, fills_in, host_of, inl, inr, local, local_of_row, named, need_in, next_page, page_at}
-use Rattle.vm_kernel.proofs.Common.{page_in, page_on, place_of, puts_cases, refl, region_at, region_of, row_at, row_cases, rows_in}
-use Rattle.vm_kernel.proofs.Common.{shadow_at, some_is, subst, suc, sym, true, unlocked, waiting, waiting_in, zero, ℕ, ◌*◌, ◌+◌, ◌<◌, ◌==◌, ◌∙◌, ◌∷◌}
-use Rattle.vm_kernel.proofs.Common.{◌≡◌, ◌≤◌, ◌⊎◌, if◌then◌else◌}
+use Rattle.vm_kernel.proofs.Common.{false, fills_in, host_of, if◌then◌else◌, inl, inr, local, local_of_row, named, need_in, next_page, page_at, page_in}
+use Rattle.vm_kernel.proofs.Common.{page_on, place_of, puts_cases, refl, region_at, region_of, row_at, row_cases, rows_in, shadow_at, some_is, subst, suc, sym}
+use Rattle.vm_kernel.proofs.Common.{true, unlocked, waiting, waiting_in, zero, ℕ, ◌*◌, ◌+◌, ◌<◌, ◌==◌, ◌∙◌, ◌∷◌, ◌≡◌, ◌≤◌, ◌⊎◌}
 use Rattle.vm_base.specs.declared.entry.Entry.{Entry}
 use Rattle.vm_base.specs.declared.ids.Access.TheVariants as need
 use Rattle.vm_fault.specs.Faults.{CopiesPage, KeepsPlan, References, copied_key}
 use Rattle.vm_fault.specs.Walks.{Finds, WalksTo, keeps_out}
+use Rattle.vm_kernel.proofs.controls.DeclaredKinds.{temporary_free}
 use Rattle.vm_kernel.proofs.memory.ComesForAccess.{asks_none_now, page_referred, page_waits}
 use Rattle.vm_kernel.proofs.steps.AccessCauses.{read_at}
 use Rattle.vm_kernel.proofs.steps.EventsGrow.{Follows, suffices}
@@ -166,6 +166,9 @@ page_made header h past k ids w address pages target next key row frame memory w
     (copy_target w.task.0 past) = slow_of works is what in
     let to = slow.to.region.0 in
     let fills_it : fills_in to (entry k.waits.rows w.task.0) ≡ true = ap (fills_in to) is ∙ (ap (is_destination to) slow.goes ∙ itself to) in
+    let refers = refers_region m.core.objects.regions to (filled_row target pages) slow.region in
+    let temporary = m.core.objects.kinds.tops to (filled_row target pages)
+    (m.core.spaces.homes.1.fills w.task.0 (record { region = to; object = target.0 }) slow.made) slow.region in
     record {
       matches =
           matches_copied header h k ids past w.task key target next row frame memory m
@@ -197,8 +200,8 @@ page_made header h past k ids w address pages target next key row frame memory w
           (works.used.copies.each t v there));
       apart = works.used.copies.apart;
       referred =
-          page_referred top frame _ _ _ _ _ k memory c plan (refers_region m.core.objects.regions to (filled_row target pages) slow.region)
-          (λ row2 same. inl (ap (λ (z : PageRow). z.lock) (sym (some_is _ row2 same)))) works.referred;
+          page_referred top frame _ _ _ _ _ k memory c plan refers
+          (λ row2 same. temporary_free target.0 _ row2 m.core.objects.kinds temporary refers refl same) works.referred;
       thin = rw plan.objects works.thin;
       waits =
           page_waits top frame _ _ _ _ _ k memory (is_woken woken.Nobody) (λ u. waiting u past) c plan (none_unawaited None refl)

@@ -1,5 +1,5 @@
 -- A command's events grow by one that has its cause, carries the right bytes and finds its frame.
-use Rattle.vm_kernel.proofs.Common.{AllInner, AllInTurn, CausedInTurn, Command, CreatesHere, EachIn, Err, Event, FrameTable, Grows, HasFrames, Header, IfSome}
+use Rattle.vm_kernel.proofs.Common.{AllInTurn, AllInner, CausedInTurn, Command, CreatesHere, EachIn, Err, Event, FrameTable, Grows, HasFrames, Header, IfSome}
 use Rattle.vm_kernel.proofs.Common.{IsConsequence, IsInner, IsLined, IsMine, IsOnlyOfHost, IsPaid, IsSettled, KernelSays, LegalEvents, LicensedInTurn, List}
 use Rattle.vm_kernel.proofs.Common.{MomentsIn, None, Ok, OnOk, Option, Outside, OwnBytes, Result, Suffice, [], absence_more, absence_taken, ap, append_assoc}
 use Rattle.vm_kernel.proofs.Common.{arith, each_both, error_more, error_taken, frames_free, frames_held, frames_used, frames_wired, free, inner_both}
@@ -8,7 +8,7 @@ use Rattle.vm_kernel.proofs.Common.{taken_letter, taken_more, unwrap_or, ℕ, �
 use Rattle.std.specs.Prelude.{IfOk}
 use Rattle.vm_legal.proofs.Owing.{behind_none}
 use Rattle.vm_kernel.proofs.abroad.OwnEvents.{mine_of}
-use Rattle.vm_legal.proofs.Locks.{no_change, none_changed}
+use Rattle.vm_legal.proofs.Locks.{no_change, none_changed, none_destroyed}
 
 pub suffices : (header : Header) (h : ℕ) (fs : FrameTable) (past : List Event)
     → HasFrames (slice_get (reverse header.frames.items) h) fs (frames_held header h past) (frames_wired h past) → Suffice header h past
@@ -161,6 +161,7 @@ paid_of header past events lined inner none =
       absence = λ host object page declared is. none_of _ _ plain.absence is;
       lock = λ request is. no_request request (events ++ past) (none_locked (events ++ past) plain.taken) is;
       change = λ request is wanted. no_change request (events ++ past) (none_changed (events ++ past) plain.taken) is;
+      destroy = λ host object wild is. none_of _ _ (none_destroyed (events ++ past) plain.taken) is;
       slot = λ host object control page dirty keep bytes temporary is lacks. none_of _ _ plain.taken is;
     }
 

@@ -2,10 +2,10 @@
 use Rattle.vm_kernel.proofs.Common.{Backing, Bool, Comes, Command, EndsNext, Event, FindsPage, FrameNo, Header, HostId, HostParts, Ids, IsAt, IsNextAccess}
 use Rattle.vm_kernel.proofs.Common.{IsOfNumber, IsTop, LegalEvents, List, Loading, Option, Outside, PageKey, PageRow, Parts, RegionRow, Sight, Some, Storing}
 use Rattle.vm_kernel.proofs.Common.{TaskId, ToRead, ToWrite, Waiting, Waits, Walks, Want, Works, [], access_in, address_in, ap, append_assoc, backing_of}
-use Rattle.vm_kernel.proofs.Common.{count_again, entries_of, entry, entry_at, false, has_pager, inl, inr, is_again, is_some, page_at, page_on, refl, region_of}
-use Rattle.vm_kernel.proofs.Common.{sight, some_is, subst, suc, sym, true, zero, ℕ, ◌%◌, ◌&&◌, ◌++◌, ◌∙◌, ◌∷◌, ◌≡◌, ◌⊎◌}
+use Rattle.vm_kernel.proofs.Common.{copies_to, count_again, entries_of, entry, entry_at, false, has_pager, inl, inr, is_again, is_some, page_at, page_on, refl}
+use Rattle.vm_kernel.proofs.Common.{region_of, sight, some_is, subst, suc, sym, true, waiting, waiting_in, zero, ℕ, ◌%◌, ◌&&◌, ◌++◌, ◌∙◌, ◌∷◌, ◌≡◌, ◌⊎◌}
 use Rattle.vm_base.specs.declared.entry.Entry.{Entry}
-use Rattle.vm_fault.specs.Faults.{AfterZeros, AtOnce, Copied, Ended, FaultState, Faulted, Hits, Needs, Nowhere, Prepares, Raised, ToAsk, ToCopy, ToRaise}
+use Rattle.vm_fault.specs.Faults.{AfterZeros, AtOnce, Copied, Ended, FaultState, Faulted, Hits, Needs, Nowhere, Prepares, Raised, Runs, ToAsk, ToCopy, ToRaise}
 use Rattle.vm_fault.specs.Faults as fault
 use Rattle.vm_fault.specs.Walks.{Finds, StopsAsked, is_storing, keeps_out, top_place, writes_at}
 use Rattle.vm_fault.specs.declared.step.FaultStep.{FaultStep}
@@ -13,7 +13,7 @@ use Rattle.vm_fault.specs.declared.step.FaultStep.TheVariants as step
 use Rattle.vm_kernel.proofs.steps.AccessRun.{state_of}
 use Rattle.vm_kernel.proofs.memory.WalkLands.{Lands, never_asked, never_comes, never_sinks, not_passed, stop_same}
 use Rattle.vm_kernel.proofs.steps.WhereAccessLeads.{Leads, leads_of}
-use Rattle.vm_kernel.proofs.steps.LoadsAndStores.{no_copy}
+use Rattle.vm_kernel.proofs.steps.LoadsAndStores.{no_copy, stops_once}
 use Rattle.vm_model.specs.declared.event.Event.TheVariants as event
 use Rattle.vm_shadow.specs.Chains.{ChainTable}
 use Rattle.vm_state.proofs.Shown.{IsShown, shows_row}
@@ -27,9 +27,6 @@ use Rattle.vm_legal.specs.Accesses.{names}
 use Rattle.std.proofs.lemmas.Bool.{and_left, and_right}
 use Rattle.vm_model.specs.Waiting.{Copying}
 use Rattle.std.specs.Prelude.{◌*◌}
-use Rattle.vm_kernel.proofs.steps.LoadsAndStores.{stops_once}
-use Rattle.vm_fault.specs.Faults.{Runs}
-use Rattle.vm_kernel.proofs.Common.{copies_to, waiting, waiting_in}
 
 pub some_same : {A : Type 0} (x y : A) → Some x ≡ Some y → x ≡ y
 some_same x y e = cc
@@ -41,7 +38,7 @@ walk_ends sights backings zero o p l lp bare walks = walks
 walk_ends sights backings (suc n) o p l lp bare walks = absurd (let bad : true ≡ false = sym walks.1 ∙ bare in cc)
 
 -- where a waiting access finds its page: its walk ends there, that of a store at the top place
-record FindsAt (header : Header) (h : ℕ) (past : List Event) (what : Want) (top : PageKey) : Type 0 where
+pub record FindsAt (header : Header) (h : ℕ) (past : List Event) (what : Want) (top : PageKey) : Type 0 where
   pub number : IsOfNumber what
   pub steps : ℕ
   pub object : ℕ
@@ -152,11 +149,11 @@ write_at header h past k task address bytes value object page what top at to wai
         }
 
 -- where it finds its page, the region of a store has no mark
-record FindsFirst (header : Header) (h : ℕ) (past : List Event) (what : Want) (top : PageKey) (row : RegionRow) : Type 0 where
+pub record FindsFirst (header : Header) (h : ℕ) (past : List Event) (what : Want) (top : PageKey) (row : RegionRow) : Type 0 where
   pub finds : FindsAt header h past what top
   pub bare : (is_storing what && row.marked) ≡ false
 
-finds_first : (header : Header) (h : ℕ) (past : List Event) (k : Parts) (task : ℕ) (what : Want) (top : PageKey) (at : IsAt k.maps k.chains task what top)
+pub finds_first : (header : Header) (h : ℕ) (past : List Event) (k : Parts) (task : ℕ) (what : Want) (top : PageKey) (at : IsAt k.maps k.chains task what top)
     → Leads header h past k task what top at → FindsPage header task past
     → FindsFirst header h past what top at.row
 finds_first header h past k task what top at to (ToRead address bytes object page waits comes here open_it) =

@@ -39,7 +39,7 @@ use Rattle.vm_waits.specs.declared.waiting.Waiting.{Waiting}
 use Rattle.vm_waits.specs.declared.waiting.Want.{Want}
 use Rattle.vm_waits.specs.declared.waiting.Want.TheVariants as want
 use Rattle.vm_kernel.specs.Turns.{AreCopied, Did, Filled, ForAsked, ForCopy, ForUnlock, ForZeros, Found, IsFront, NoPage, Nothing, OnePage, Pages, QueueAfter}
-use Rattle.vm_kernel.specs.Turns.{RunsOnce, Shadow, Unmark}
+use Rattle.vm_kernel.specs.Turns.{RunsOnce, Shadow, Unmark, Unserved}
 use Rattle.vm_kernel.proofs.steps.PageByPage.{PageDone, Pagewise, page_done, pagewise}
 
 -- what stands first: a shadow claims no frame, and each page of a slow copy one; and no row of a page has gone
@@ -233,6 +233,23 @@ once_done w may value {host = host} {s = s} {new = new} waits waits2 other runs 
       claims = r.claims;
       did = r.did;
       none = r.none;
+      nothing = λ bad. absurd (let clash : false ≡ true = bad in cc);
+      done = done_by w.task.0 None waits.rows waits2.rows put (λ v bad. absurd (let clash : None ≡ Some v = bad in cc));
+      rest = puts_rest w.task None waits.rows waits2.rows put;
+      queue = queue;
+    }
+
+-- an access that met an object without a control has failed
+pub once_unserved : (w : Waiting) (may : Bool) (key : PageKey) (waits waits2 : WaitTable) (before after : List Event)
+    → after ≡ event.Failed w.task key.object key.page ∷ before → PutsEntry w.task.0 None waits.rows waits2.rows
+    → waits2.queue ≡ queue_without w.task.0 waits.queue → RunsOnce w may false waits waits2 before after
+once_unserved w may key waits waits2 before after told put queue =
+    record {
+      more = event.Failed w.task key.object key.page ∷ [];
+      told = told;
+      claims = false;
+      did = Unserved key.object key.page;
+      none = λ bar. refl;
       nothing = λ bad. absurd (let clash : false ≡ true = bad in cc);
       done = done_by w.task.0 None waits.rows waits2.rows put (λ v bad. absurd (let clash : None ≡ Some v = bad in cc));
       rest = puts_rest w.task None waits.rows waits2.rows put;

@@ -12,7 +12,7 @@ use Rattle.vm_model.specs.declared.message.Message.TheVariants as message
 use Rattle.vm_waits.specs.declared.waiting.On.TheVariants as on
 use Rattle.vm_supply.specs.declared.woken.Woken.TheVariants as woken
 use Rattle.vm_kernel.specs.Serving.{wants_frame}
-use Rattle.vm_kernel.specs.Turns.{AreCopied, Filled, ForCopy, ForUnlock, IsFront, NoPage, OnePage, Pages, RunsFront, Shadow, Unmark}
+use Rattle.vm_kernel.specs.Turns.{AreCopied, Filled, ForCopy, ForUnlock, IsFront, Leaves, NoPage, OnePage, Pages, RunsFront, Shadow, Stays, Unmark, Unserved}
 use Rattle.vm_kernel.specs.declared.attempt.Attempt.{Attempt}
 use Rattle.vm_kernel.specs.declared.attempt.Attempt.TheVariants as attempt
 use Rattle.vm_kernel.proofs.steps.EventsGrow.{free_is}
@@ -21,7 +21,6 @@ use Rattle.std.proofs.lemmas.Bool.{or_left, or_right}
 use Rattle.vm_kernel.proofs.memory.PagesShown.{itself}
 use Rattle.vm_kernel.proofs.lists.ListsAsTold.{or_turned, plays_any, plays_both}
 use Rattle.vm_kernel.specs.Plays.{Paging, Plays, PlaysBy, Sparing, SparesSource, Still, paging}
-use Rattle.vm_kernel.specs.Turns.{Leaves, Stays}
 
 -- the queue
 
@@ -72,6 +71,7 @@ pub did_kept : {rows rows2 : List Waiting} {earlier earlier2 : ℕ → Type 0} {
     → Did rows2 earlier2 task claims own
 did_kept mine others (Nothing claims front is) = Nothing claims front is
 did_kept mine others (Found front is end ends) = Found front is end ends
+did_kept mine others (Unserved object page) = Unserved object page
 did_kept mine others (Filled front copied address bytes region) = Filled front copied address bytes region
 did_kept mine others (ForUnlock claims front is host key control access) = ForUnlock claims front is host key control access
 did_kept mine others (ForZeros front is end host key ends) = ForZeros front is end host key ends
@@ -228,6 +228,7 @@ did_begun : {rows : List Waiting} {earlier : ℕ → Type 0} {task : TaskId} {cl
     → Did rows earlier task claims own → begun_at t ((own ++ events) ++ past) ≡ begun_at t (events ++ past)
 did_begun t events past (Nothing claims front is) = front_begun t events past is
 did_begun {task = task} t events past (Found front is end ends) = end_begun t task.0 end ((front ++ events) ++ past) ends ∙ front_begun t events past is
+did_begun t events past (Unserved object page) = refl
 did_begun t events past (Filled front copied address bytes region) = copied_begun t events past copied
 did_begun t events past (ForUnlock claims front is host key control access) = front_begun t events past is
 did_begun {task = task} t events past (ForZeros front is end host key ends) =
@@ -280,7 +281,7 @@ pub restarts_none : (header : Header) (h : ℕ) (past : List Event) (now : WaitT
     → Restarting header h past now.queue now events
 restarts_none header h past now events none = record { from = 0; runs = Start events none; later = λ t v is again. omega arith }
 
-again_other : (reason : On) → is_again reason ≡ true → is_frame reason ≡ false
+pub again_other : (reason : On) → is_again reason ≡ true → is_frame reason ≡ false
 again_other on.Again is = refl
 again_other (on.Ready object) is = refl
 again_other (on.Page key) is = refl

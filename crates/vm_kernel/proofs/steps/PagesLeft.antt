@@ -80,7 +80,7 @@ left_rewanted t what (w ∷ ws) was once is = elim (eqb_tells w.task.0 t) [
 
 -- it goes
 
-without_less : (t : ℕ) (rows : List Waiting) → pages_to_copy (rows_without t rows) ≤ pages_to_copy rows
+pub without_less : (t : ℕ) (rows : List Waiting) → pages_to_copy (rows_without t rows) ≤ pages_to_copy rows
 without_less t [] = omega arith
 without_less t (w ∷ ws) =
     let later = without_less t ws in

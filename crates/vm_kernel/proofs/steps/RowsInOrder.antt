@@ -3,10 +3,9 @@ use Rattle.vm_kernel.proofs.Common.{BeganInOrder, Bool, Event, List, None, On, O
 use Rattle.vm_kernel.proofs.Common.{false, if◌then◌else◌, inl, inr, length, map, oldest_row, refl, rows_without, some_is, subst, suc, sym, true, turned}
 use Rattle.vm_kernel.proofs.Common.{with_on, ℕ, ◌++◌, ◌<◌, ◌==◌, ◌∙◌, ◌∷◌, ◌≡◌, ◌≤◌}
 use Rattle.vm_model.specs.declared.event.Event.TheVariants as event
-use Rattle.vm_waits.specs.Waits.{woken}
+use Rattle.vm_waits.specs.Waits.{rewanted, with_want, woken}
 use Rattle.vm_waits.specs.declared.waiting.On.TheVariants as on
 use Rattle.vm_base.specs.declared.ids.TaskId.{TaskId}
-use Rattle.vm_waits.specs.Waits.{rewanted, with_want}
 use Rattle.vm_waits.specs.declared.waiting.Want.{Want}
 
 -- whatever order the rows had, they have it still
@@ -38,7 +37,7 @@ without_keeps t rows new is =
 
 -- an access waits for something else
 
-map_order : (f : Waiting → Waiting) (begun : ℕ → ℕ) (from : ℕ) (rows : List Waiting) → ((w : Waiting) → (f w).task ≡ w.task) → BeganInOrder begun from rows
+pub map_order : (f : Waiting → Waiting) (begun : ℕ → ℕ) (from : ℕ) (rows : List Waiting) → ((w : Waiting) → (f w).task ≡ w.task) → BeganInOrder begun from rows
     → BeganInOrder begun from (map f rows)
 map_order f begun from [] same is = tt
 map_order f begun from (w ∷ ws) same is = rw (same w) (is.0, map_order f begun (suc (begun w.task.0)) ws same is.1)

@@ -1,15 +1,17 @@
 -- Where a waiting access leads: its entry, its region, and the top place of its page; and that it can be run.
-use Rattle.vm_kernel.proofs.Common.{ChainTable, Entry, Event, HasWaits, Header, Ids, IsAt, IsTop, List, Matches, PageKey, Parts, RegionRow, Some, Waiting}
-use Rattle.vm_kernel.proofs.Common.{Waits, Want, Woken, Works, [], access_in, address_in, ap, arith, copies_to, entries_of, entry, entry_at, has_region}
-use Rattle.vm_kernel.proofs.Common.{host_of, is_some, next_page, page_at, page_of, region_at, region_of, rows_in, subst, sym, true, waiting, waiting_in, ℕ, ◌<◌}
-use Rattle.vm_kernel.proofs.Common.{◌^◌, ◌∙◌, ◌≡◌, ◌≤◌}
+use Rattle.vm_kernel.proofs.Common.{Bool, ChainTable, Entry, Event, HasWaits, Header, Ids, IsAt, IsInside, IsTop, List, Matches, None, ObjectRow, Option}
+use Rattle.vm_kernel.proofs.Common.{PageKey, Parts, RegionRow, Some, Waiting, Waits, Want, Woken, Works, [], absent_at, access_in, address_in, ap, arith}
+use Rattle.vm_kernel.proofs.Common.{copies_to, copy_target, entries_of, entry, entry_at, false, found_row, has_pager, has_region, host_of, if◌then◌else◌}
+use Rattle.vm_kernel.proofs.Common.{is_some, length, live_control, live_in, named, nat_lt, nat_tests, next_page, not, object_at, page_at, page_of, pages_in}
+use Rattle.vm_kernel.proofs.Common.{refl, region_at, region_of, region_pages, rows_in, some_is, subst, sym, true, waiting, waiting_in, ℕ, ◌&&◌, ◌*◌, ◌+◌, ◌<◌}
+use Rattle.vm_kernel.proofs.Common.{◌^◌, ◌∙◌, ◌≡◌, ◌≢◌, ◌≤◌}
 use Rattle.std.specs.Prelude.{◌-◌}
 use Rattle.vm_fault.specs.Faults.{CanCopy, CanFault, LiesWithin}
-use Rattle.vm_fault.specs.Walks.{top_place}
+use Rattle.vm_fault.specs.Walks.{is_copying, top_place}
 use Rattle.vm_kernel.proofs.abroad.OwnHost.{lives_here, rows_here}
 use Rattle.vm_kernel.proofs.memory.SourceOfCopy.{walks_down}
-use Rattle.vm_model.specs.Regions.{Region}
-use Rattle.vm_shadow.specs.Chains.{ObjectsBelow}
+use Rattle.vm_model.specs.Regions.{Backing, Region}
+use Rattle.vm_shadow.specs.Chains.{ObjectsBelow, shadow_at}
 use Rattle.vm_state.proofs.Marks.{marked_some}
 use Rattle.vm_state.proofs.Referring.{objects_below, refers_region, small_region, top_counted}
 use Rattle.vm_state.proofs.Walks.{top_of}
@@ -18,36 +20,41 @@ use Rattle.vm_kernel.proofs.memory.WalksShown.{page_left, shown_at, want_address
 use Rattle.vm_waits.specs.declared.waiting.Want.TheVariants as want
 use Rattle.vm_state.proofs.Filling.{AgreesNext, copies_next}
 use Rattle.vm_base.specs.Pages.{page_positive}
-use Rattle.vm_kernel.specs.Matches.{HasSlow}
+use Rattle.vm_kernel.specs.Matches.{Core, HasSlow, control_facts, memory_facts, space_facts}
 use Rattle.vm_waits.specs.Wants.{IsSizedWant}
-use Rattle.vm_kernel.proofs.Common.{None, Option, IsInside, ObjectRow, absent_at, copy_target, false, found_row, named, object_at, pages_in, refl, region_pages}
-use Rattle.vm_kernel.proofs.Common.{some_is, ◌*◌, ◌+◌, ◌≢◌}
-use Rattle.vm_kernel.proofs.memory.PageReturned.{untold_temporary}
-use Rattle.vm_model.specs.Regions.{Backing}
+use Rattle.vm_legal.specs.Outside.{is_wild}
 use Rattle.vm_objects.specs.declared.row.PagerState.TheVariants as state
-use Rattle.vm_shadow.specs.Chains.{shadow_at}
 use Rattle.vm_shadow.specs.declared.shadow_row.ShadowRow.{ShadowRow}
 use Rattle.vm_state.specs.Filling.{FitsCopy, filled_row}
+use Rattle.vm_state.proofs.Declared.{whole_row}
+use Rattle.std.specs.Option.{option_map}
+use Rattle.vm_kernel.proofs.space.RegionRows.{region_row}
+use Rattle.vm_kernel.specs.Destroying.{place_led, unserved, unserved_at}
+use Rattle.vm_maps.specs.Judge.{place_at}
+use Rattle.vm_maps.specs.declared.place.Place.{Place}
+use Rattle.vm_state.specs.References.{is_live_in}
 
 pub region_is : (cs : ChainTable) (r : ℕ) (row : RegionRow) → region_at cs r ≡ Some row → has_region cs r ≡ true
 region_is cs r row is = ap is_some is
 
--- a declared object is over no other, and its region is over it; its pager was told of it where something refers to it
-pub record IsBottom (k : Parts) (row : RegionRow) : Type 0 where
+-- a declared object is over no other, and its region is over it; its pager was told of it where something refers to it, but that one may have ended it whose
+-- pager the script drives
+pub record IsBottom (header : Header) (r : ℕ) (k : Parts) (row : RegionRow) : Type 0 where
   pub bottom : shadow_at k.chains row.top.0 ≡ None
-  pub told : (known : ObjectRow) → object_at k.memory.objects row.top.0 ≡ Some known → known.state ≢ state.Without
+  pub told : is_wild header r ≡ false → (known : ObjectRow) → object_at k.memory.objects row.top.0 ≡ Some known → known.state ≢ state.Without
   pub present : (p : ℕ) → absent_at k.memory.objects row.top.0 p ≡ false
 
 pub declared_bottom : {header : Header} {h : ℕ} {k : Parts} {ids : Ids} {lost : List Entry} {past : List Event} (r : ℕ) (row : RegionRow)
-    → Matches header h k ids lost past → r < named header → region_at k.chains r ≡ Some row → IsBottom k row
+    → Matches header h k ids lost past → r < named header → region_at k.chains r ≡ Some row → IsBottom header r k row
 declared_bottom {header = header} {k = k} {past = past} r row m declared found =
     record {
       bottom = by (shadow_at k.chains row.top.0) refl;
       told =
-          λ known there without. let temporary =
-          untold_temporary header k.memory.objects row.top.0 known (refers_region m.core.objects.regions r row found) there
-          (m.core.objects.kinds.kinds row.top.0 known there) without in
-          absurd (omega (arith, temporary, low));
+          λ tame known there without. let is = m.core.objects.kinds.kinds row.top.0 known there in
+          let refers = refers_region m.core.objects.regions r row found in
+          let some = subst (λ (z : ObjectRow). 0 < z.references) (some_is refers.row known (sym refers.known ∙ there)) refers.some in
+          let bad : true ≡ false = sym ((is.declared low).told (ap (is_wild header) top ∙ tame) some) ∙ (is.lives ∙ ap has_pager without) in
+          absurd (cc);
       present = λ p. m.core.objects.kinds.present row.top.0 p low;
     }
   where
@@ -102,7 +109,7 @@ can_copy {header = header} {k = k} w (want.CopyTo address pages target next) e r
     let is = declared_bottom e.region.0 row m declared region in
     record {
       bottom = is.bottom;
-      told = is.told;
+      told = is.told (ap (λ (z : Entry). is_wild header z.region.0) (sym same) ∙ fits.range.supplied);
       present = is.present;
       inside = (let within = m.core.objects.regions.fits.tops fits.to.region.0 (filled_row target pages) fits.region in omega (arith, within));
       unmade = fits.unmade;
@@ -209,3 +216,76 @@ pub top_at : (header : Header) (h : ℕ) (past : List Event) (k : Parts) (task :
 top_at header h past k task what top at to =
     subst (λ (z : ℕ). IsTop (region_of header at.entry.region.0 past) (page_at header.size z at.entry) top.object.0 top.page.0)
     (sym (want_address k.maps.size header.size (next_page task past) to.destination what to.sized to.agrees)) to.is_top
+
+-- while a region of a declared object is here that isn't wild, its control lives
+pub declared_lives : (header : Header) (h : ℕ) (past : List Event) (k : Parts) (ids : Ids)
+    → Core header h k ids [] (space_facts header past) (control_facts h past) (memory_facts header h past) → (r : ℕ) (row : RegionRow)
+    → region_at k.chains r ≡ Some row → r < named header → is_wild header r ≡ false → live_control h r past ≡ None → ⊥
+declared_lives header h past k ids core r row found declared tame none =
+    let whole = whole_row core.objects.regions core.spaces.homes.1 r row declared found in
+    let refers : IsReferred k.memory.objects r = subst (λ (z : ℕ). IsReferred k.memory.objects z) whole.top
+    (refers_region core.objects.regions r row found) in
+    let lives : refers.row.live ≡ true = ((core.objects.kinds.kinds r refers.row refers.known).declared declared).told tame refers.some in
+    let alive : live_control h r past ≡ Some refers.row.control = core.controls.live r
+    ∙ (ap live_in refers.known ∙ ap (λ b. if b then Some refers.row.control else None) lives) in
+    absurd (let bad : None ≡ Some refers.row.control = sym none ∙ alive in cc)
+
+live_none : (known : Option ObjectRow) → live_in known ≡ None → is_live_in known ≡ false
+live_none None none = refl
+live_none (Some row) none = by row.live refl
+  where
+    by : (b : Bool) → row.live ≡ b → row.live ≡ false
+    by true lives = let bad : Some row.control ≡ None = sym (ap (λ b. if b then Some row.control else None) lives) ∙ none in absurd (cc)
+    by false ended = ended
+
+-- the object of an access is no declared one without a control
+abbrev pub IsServed : Header → ℕ → Parts → ℕ → Want → List Event → Type 0
+IsServed header h k task what past =
+    (e : Entry) → entry_at (address_in k.maps.size what) (rows_in task k.maps) ≡ Some e → e.region.0 < named header → live_control h e.region.0 past ≡ None → ⊥
+
+-- that of a slow copy never is one
+pub copy_served : {header : Header} {h : ℕ} {k : Parts} {ids : Ids} {past : List Event} {who : Woken} (w : Waiting) → Works header h k ids who past
+    → entry k.waits.rows w.task.0 ≡ Some w → is_copying w.want ≡ true → IsServed header h k w.task.0 w.want past
+copy_served {header = header} {h = h} {k = k} {past = past} w works is copying =
+    by w.want (works.used.copies.each w.task.0 w is) (works.waits.sized w.task.0 w is) copying
+  where
+    by : (what : Want) → FitsCopy header k.maps k.chains k.memory.resident w.task.0 what w.destination (next_page w.task.0 past) (copy_target w.task.0 past)
+        → IsSizedWant k.maps.size what → is_copying what ≡ true → IsServed header h k w.task.0 what past
+    by (want.Load address n) fits sized none e found declared = absurd (let bad : false ≡ true = none in cc)
+    by (want.Store address n value) fits sized none e found declared = absurd (let bad : false ≡ true = none in cc)
+    by (want.CopyTo address pages target next) fits sized copying2 e found declared =
+        let same : fits.range.entry ≡ e = some_is fits.range.entry e (sym (fits.range.whole next sized.1) ∙ found) in
+        let there = found_row (IsInside header.size k.chains) (address + next * k.maps.size) (rows_in w.task.0 k.maps) e
+        (works.matches.core.spaces.entries.inside w.task.0) found in
+        let region = region_row k.chains e.region.0 there.is.region in
+        declared_lives header h past k _ works.matches.core e.region.0 region.0 region.1 declared
+        (ap (λ (z : Entry). is_wild header z.region.0) (sym same) ∙ fits.range.supplied)
+
+-- nor is that of a load or a store where the kernel says so
+pub access_served : {header : Header} {h : ℕ} {k : Parts} {ids : Ids} {past : List Event} {who : Woken} (w : Waiting) → Works header h k ids who past
+    → entry k.waits.rows w.task.0 ≡ Some w → unserved k w ≡ None → IsServed header h k w.task.0 w.want past
+access_served {header = header} {h = h} {k = k} {past = past} w works is none = by w.want refl none
+  where
+    dead : (e : Entry) → live_control h e.region.0 past ≡ None → is_live_in (object_at k.memory.objects e.region.0) ≡ false
+    dead e ended = live_none (object_at k.memory.objects e.region.0) (sym (works.matches.core.controls.live e.region.0) ∙ ended)
+
+    all : length k.declared.items ≡ named header
+    all = ap length works.matches.core.setting.objects
+
+    plain : (place : Option Place) (address : ℕ) (e : Entry) → place ≡ option_map (place_at k.maps.size address) (entry_at address (rows_in w.task.0 k.maps))
+        → unserved_at k place ≡ None → entry_at address (rows_in w.task.0 k.maps) ≡ Some e → e.region.0 < named header
+        → live_control h e.region.0 past ≡ None → ⊥
+    plain place address e led out found declared ended =
+        let low : nat_lt e.region.0 (length k.declared.items) ≡ true = grind (arith, nat_tests, all, declared) in
+        let key : PageKey = record { object = record { 0 = e.region.0 }; page = (place_at k.maps.size address e).page } in
+        let there : unserved_at k place ≡ Some key =
+        ap (unserved_at k) (led ∙ ap (option_map (place_at k.maps.size address)) found)
+        ∙ (ap (λ b. if b && not (is_live_in (object_at k.memory.objects e.region.0)) then Some key else None) low
+        ∙ ap (λ b. if not b then Some key else None) (dead e ended)) in
+        absurd (let bad : None ≡ Some key = sym out ∙ there in cc)
+
+    by : (what : Want) → w.want ≡ what → unserved_at k (place_led k.maps w.task.0 what) ≡ None → IsServed header h k w.task.0 what past
+    by (want.Load address n) same out = λ e. plain (place_led k.maps w.task.0 (want.Load address n)) address e refl out
+    by (want.Store address n value) same out = λ e. plain (place_led k.maps w.task.0 (want.Store address n value)) address e refl out
+    by (want.CopyTo address pages target next) same out =
+        subst (λ (z : Want). IsServed header h k w.task.0 z past) same (copy_served w works is (ap is_copying same))

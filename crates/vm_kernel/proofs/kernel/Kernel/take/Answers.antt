@@ -4,6 +4,7 @@ use Rattle.vm_kernel.proofs.room.KernelReady.{always, front_buffers, most_buffer
 use Rattle.vm_kernel.proofs.steps.QueueServed.{both_ok}
 use Rattle.vm_kernel.proofs.room.CallsSpend.{never_err}
 use Rattle.vm_kernel.proofs.steps.WhyWaiting.{ends_waiters}
+use Rattle.vm_kernel.specs.Destroying.{queue_behind}
 use Rattle.vm_kernel.specs.Plays.{PlaysAnswer}
 use Rattle.vm_kernel.specs.Rooms.{HasMore, IsReady, dues, front, full_dues, making, most, with_buffers, word_breadth}
 use Rattle.vm_kernel.specs.Taking.{IsWord}
@@ -46,12 +47,13 @@ returns-clause-plays g c =
 
 pub returns-clause-restarts : goal.returns-clause-restarts
 returns-clause-restarts g c =
-    of_old g c (λ z. OnOk c.take.result (Restarted g.given.header g.given.host c.take.new.self.waits.rows (g.given.front ++ g.given.past) z.waits.queue
-    c.take.new.self.waits.queue c.take.new.log.items)) c.take.ensures.restarts (λ z was. was)
+    of_old g c (λ z. OnOk c.take.result (Restarted g.given.header g.given.host c.take.new.self.waits.rows (g.given.front ++ g.given.past)
+    (queue_behind c.args.object.0 c.args.control c.args.message.now z) c.take.new.self.waits.queue c.take.new.log.items)) c.take.ensures.restarts
+    (λ z was. was)
 
 pub returns-clause-few : goal.returns-clause-few
 returns-clause-few g c =
-    let told = ap length c.requires.1.1.1 in
+    let told = ap length c.requires.1.1.1.1 in
     on_ok c.take.result _ _ (λ few. omega (arith, few, told))
     (of_old g c (λ z. OnOk c.take.result (length c.take.new.log.items + dues c.take.new.self ≤ length
     c.args.log.now.items + (full_dues z + front (word_breadth c.args.message.now) z))) c.take.ensures.few

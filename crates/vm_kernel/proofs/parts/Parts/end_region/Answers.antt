@@ -1,6 +1,6 @@
 use Rattle.vm_kernel.proofs.Common.{Still, arith, refl}
 use Rattle.vm_kernel.proofs.space.LosersMerge.{bare_behind, last_reference, thin_region}
-use Rattle.vm_kernel.proofs.space.ObjectsEnd.{only_none, pager_knows}
+use Rattle.vm_kernel.proofs.space.ObjectsEnd.{only_none}
 use Rattle.vm_kernel.proofs.steps.EventsGrow.{goes_none, if_ok, on_ok}
 use Rattle.vm_kernel.proofs.space.RegionEnds.{LosesRegion, ends_top, loses_region, top_referred, whole_region}
 use Rattle.vm_terminate.proofs.Under.{referred_some, referred_there}
@@ -42,12 +42,9 @@ end_object-requires g c =
     let loses = loses_region g.given.header g.given.host g.given.past g.given.who c.args.self.now c.args.ids.now g.given.rest c.args.region.0 c.unrefer.result
     c.args.log.now.items object c.drop_region-object.new.self c.unrefer.new.self c.requires c.drop_region-object.ensures.top
     c.drop_region-object.ensures.dropped c.unrefer.ensures.left c.unrefer.ensures.object c.unrefer.ensures.marks in
-    let none = c.if-unrefer-gt0.false in (
-      ends_top g.given.header g.given.host g.given.past g.given.who c.args.self.now c.args.ids.now g.given.rest c.args.region.0 c.unrefer.result
-          c.args.log.now.items object c.drop_region-object.new.self c.unrefer.new.self c.requires loses (omega (arith, none)),
-      pager_knows g.given.header g.given.host g.given.past g.given.who c.args.self.now c.args.ids.now g.given.rest c.args.region.0 c.unrefer.result
-          c.args.log.now.items object c.drop_region-object.new.self c.unrefer.new.self c.requires loses,
-    )
+    let none = c.if-unrefer-gt0.false in
+    ends_top g.given.header g.given.host g.given.past g.given.who c.args.self.now c.args.ids.now g.given.rest c.args.region.0 c.unrefer.result
+    c.args.log.now.items object c.drop_region-object.new.self c.unrefer.new.self c.requires loses (omega (arith, none))
 
 pub returns-then-unrefer-gt0-clause-goes : goal.returns-then-unrefer-gt0-clause-goes
 returns-then-unrefer-gt0-clause-goes g c = goes_none g.given.header g.given.host g.given.outside g.given.command g.given.past c.args.log.now.items

@@ -1,19 +1,21 @@
+use Rattle.std.proofs.Common.{OnOk, ap, arith, false, subst, sym, true, ℕ, ◌++◌, ◌∙◌, ◌≡◌}
 use Rattle.std.specs.Prelude.{refl}
-use Rattle.vm_objects.specs.Objects.{object_at}
-use Rattle.vm_resident.specs.Resident.{row_at}
-use Rattle.vm_kernel.specs.Rooms.{Spends, may_end, IsRoomy}
-use Rattle.vm_kernel.specs.Plays.{paging}
-use Rattle.vm_kernel.proofs.steps.FramesInTurn.{unrun}
-use Rattle.vm_supply.specs.declared.woken.Woken.TheVariants as who
-use Rattle.vm_kernel.proofs.steps.EventsGrow.{each_ok, if_ok, on_ok}
+use Rattle.vm_kernel.proofs.controls.DestroyTaken.{end_unfailed, none_ended, other_end, queue_other}
 use Rattle.vm_kernel.proofs.controls.LockHeeded.{askers_kept, early_answer, none_locked, other_word}
-use Rattle.std.proofs.Common.{ap, arith, false, ◌++◌, ◌≡◌, true, subst, ℕ, sym, OnOk}
-use Rattle.vm_kernel.proofs.room.PartsOfStep.{heeds_one}
 use Rattle.vm_kernel.proofs.controls.StaySaid.{brings_none, heeds_all, none_changed, none_taken, ok_if, other_change, some_buffers, stay_fails, stay_wakes}
 use Rattle.vm_kernel.proofs.room.EndsSpend.{roomy_fewer, spends_hand}
+use Rattle.vm_kernel.proofs.room.PartsOfStep.{heeds_one}
+use Rattle.vm_kernel.proofs.steps.EventsGrow.{each_ok, if_ok, on_ok}
+use Rattle.vm_kernel.proofs.steps.FramesInTurn.{unrun}
+use Rattle.vm_kernel.specs.Destroying.{is_destroy}
+use Rattle.vm_kernel.specs.Plays.{paging}
+use Rattle.vm_kernel.specs.Rooms.{IsRoomy, Spends, may_end}
+use Rattle.vm_kernel.specs.Taking.{is_attributes, is_lock_request}
+use Rattle.vm_objects.specs.Objects.{object_at}
+use Rattle.vm_resident.specs.Resident.{row_at}
+use Rattle.vm_supply.specs.declared.woken.Woken.TheVariants as who
 use Rattle.vm_waits.specs.Waits.{WaitTable}
 use Rattle.vm_kernel.proofs.parts.Parts.heed.Goals as goal
-use Rattle.vm_kernel.specs.Taking.{is_attributes}
 
 pub returns-in_default : goal.returns-in_default
 returns-in_default g c =
@@ -24,7 +26,10 @@ returns-in_default g c =
       asker = c.hear.ensures.asker;
       answered = c.hear.ensures.answered;
       askers = each_ok c.hear.result _ _ (λ same woken. askers_kept woken c.args.self.now.waits c.hear.new.self.waits same) c.hear.ensures.waits;
-      queue = on_ok c.hear.result _ _ (λ same. ap (λ (z : WaitTable). z.queue) same) c.hear.ensures.waits;
+      queue =
+          on_ok c.hear.result _ _ (λ same. ap (λ (z : WaitTable). z.queue) same
+          ∙ sym (queue_other c.args.object.0 c.args.control c.args.message.now c.args.self.now (other_end c.args.message.now c.in_default.not-Destroy)))
+          c.hear.ensures.waits;
       goes = c.hear.ensures.goes;
       early = on_ok c.hear.result _ _ (λ brought. early_answer c.hear.new.log.items brought) c.hear.ensures.brought;
       zeroed = c.hear.ensures.zeroed;
@@ -36,6 +41,10 @@ returns-in_default g c =
           (λ goes. none_changed g.given.header g.given.host g.given.outside g.given.command g.given.past g.given.front c.hear.new.log.items
           (none_taken g.given.host g.given.past g.given.front c.args.object c.args.control c.args.message.now c.requires.1.0
           (other_change c.args.message.now c.in_default.not-Attributes)) goes)
+          c.hear.ensures.goes;
+      destroyed = on_ok c.hear.result _ _
+          (λ goes. none_ended g.given.header g.given.host g.given.outside g.given.command g.given.past g.given.front c.hear.new.log.items c.args.object
+          c.args.control c.args.message.now c.requires.1.0 (other_end c.args.message.now c.in_default.not-Destroy) goes)
           c.hear.ensures.goes;
       plays = c.hear.ensures.plays;
       spends =
@@ -57,6 +66,33 @@ returns-in_ok-obey-in-Lock-clause-changed g c =
     (none_taken g.given.host g.given.past g.given.front c.args.object c.args.control c.args.message.now c.requires.1.0 (ap is_attributes c.in-Lock.is))
     c.in_ok-obey-in-Lock.ensures.goes
 
+-- nor ends it an object
+pub returns-in_ok-obey-in-Lock-clause-destroyed : goal.returns-in_ok-obey-in-Lock-clause-destroyed
+returns-in_ok-obey-in-Lock-clause-destroyed g c =
+    none_ended g.given.header g.given.host g.given.outside g.given.command g.given.past g.given.front c.obey.new.log.items c.args.object c.args.control
+    c.args.message.now c.requires.1.0 (ap is_destroy c.in-Lock.is) c.in_ok-obey-in-Lock.ensures.goes
+
+pub returns-in_ok-destroy-in-Destroy-clause-fails : goal.returns-in_ok-destroy-in-Destroy-clause-fails
+returns-in_ok-destroy-in-Destroy-clause-fails g c =
+    (end_unfailed g.given.header g.given.host g.given.outside g.given.command g.given.past g.given.front c.destroy.new.log.items c.args.object c.args.control
+    c.in-Destroy.reason c.args.message.now c.requires.1.0 c.in-Destroy.is c.in_ok-destroy-in-Destroy.ensures.goes).0
+
+pub returns-in_ok-destroy-in-Destroy-clause-zeroed : goal.returns-in_ok-destroy-in-Destroy-clause-zeroed
+returns-in_ok-destroy-in-Destroy-clause-zeroed g c =
+    (end_unfailed g.given.header g.given.host g.given.outside g.given.command g.given.past g.given.front c.destroy.new.log.items c.args.object c.args.control
+    c.in-Destroy.reason c.args.message.now c.requires.1.0 c.in-Destroy.is c.in_ok-destroy-in-Destroy.ensures.goes).1
+
+pub returns-in_ok-destroy-in-Destroy-clause-locked : goal.returns-in_ok-destroy-in-Destroy-clause-locked
+returns-in_ok-destroy-in-Destroy-clause-locked g c =
+    none_locked g.given.header g.given.host g.given.outside g.given.command g.given.past g.given.front c.destroy.new.log.items c.args.object c.args.control
+    c.args.message.now c.requires.1.0 (ap is_lock_request c.in-Destroy.is) c.in_ok-destroy-in-Destroy.ensures.goes
+
+pub returns-in_ok-destroy-in-Destroy-clause-changed : goal.returns-in_ok-destroy-in-Destroy-clause-changed
+returns-in_ok-destroy-in-Destroy-clause-changed g c =
+    none_changed g.given.header g.given.host g.given.outside g.given.command g.given.past g.given.front c.destroy.new.log.items
+    (none_taken g.given.host g.given.past g.given.front c.args.object c.args.control c.args.message.now c.requires.1.0 (ap is_attributes c.in-Destroy.is))
+    c.in_ok-destroy-in-Destroy.ensures.goes
+
 pub returns-in_ok-change-in-Attributes : goal.returns-in_ok-change-in-Attributes
 returns-in_ok-change-in-Attributes g c =
     let says = c.in_ok-change-in-Attributes.ensures.says in
@@ -69,12 +105,16 @@ returns-in_ok-change-in-Attributes g c =
       asker = tt;
       answered = record { at = λ o p row found awaits. refl };
       askers = tt;
-      queue = ap (λ (z : WaitTable). z.queue) says.waits;
+      queue =
+          ap (λ (z : WaitTable). z.queue) says.waits
+          ∙ sym (queue_other c.args.object.0 c.args.control c.args.message.now c.args.self.now (ap is_destroy c.in-Attributes.is));
       goes = says.goes;
       early = unrun c.change.new.log.items says.quiet;
       zeroed = says.zeroed;
       locked = says.locked;
       changed = says.changed;
+      destroyed = none_ended g.given.header g.given.host g.given.outside g.given.command g.given.past g.given.front c.change.new.log.items c.args.object
+          c.args.control c.args.message.now c.requires.1.0 (ap is_destroy c.in-Attributes.is) says.goes;
       plays = record {
         heard = paging c.args.self.now;
         brings = brings_none c.args.object (object_at c.args.self.now.memory.objects c.args.object.0) c.args.control
@@ -111,12 +151,17 @@ returns-in-Ready g c =
       answered = if_ok c.ready.result (λ woken says. (stay_wakes woken says.wakes).answered c.ready.new.self.memory.resident) c.ready.ensures.says;
       askers = if_ok c.ready.result (λ woken says. (stay_wakes woken says.wakes).askers c.args.self.now.waits.rows c.ready.new.self.waits.rows)
           c.ready.ensures.says;
-      queue = ok_if c.ready.result (λ woken says. ap (λ (z : WaitTable). z.queue) says.waits) c.ready.ensures.says;
+      queue =
+          ok_if c.ready.result (λ woken says. ap (λ (z : WaitTable). z.queue) says.waits
+          ∙ sym (queue_other c.args.object.0 c.args.control c.args.message.now c.args.self.now (ap is_destroy c.in-Ready.is))) c.ready.ensures.says;
       goes = ok_if c.ready.result (λ woken says. says.goes) c.ready.ensures.says;
       early = ok_if c.ready.result (λ woken says. unrun c.ready.new.log.items says.quiet) c.ready.ensures.says;
       zeroed = ok_if c.ready.result (λ woken says. says.zeroed) c.ready.ensures.says;
       locked = ok_if c.ready.result (λ woken says. says.locked) c.ready.ensures.says;
       changed = ok_if c.ready.result (λ woken says. says.changed) c.ready.ensures.says;
+      destroyed = ok_if c.ready.result
+          (λ woken says. none_ended g.given.header g.given.host g.given.outside g.given.command g.given.past g.given.front c.ready.new.log.items
+          c.args.object c.args.control c.args.message.now c.requires.1.0 (ap is_destroy c.in-Ready.is) says.goes) c.ready.ensures.says;
       plays = ok_if c.ready.result (λ woken says. record {
         heard = paging c.args.self.now;
         brings = brings_none c.args.object (object_at c.args.self.now.memory.objects c.args.object.0) c.args.control

@@ -11,3 +11,6 @@ ghost-change g a = g.given
 
 abbrev pub ghost-ready : goal.ghost-ready
 ghost-ready g a = g.given
+
+abbrev pub ghost-destroy : goal.ghost-destroy
+ghost-destroy g a = g.given

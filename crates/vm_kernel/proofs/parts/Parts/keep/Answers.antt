@@ -1,5 +1,5 @@
 use Rattle.vm_kernel.proofs.Common.{Still, arith, inl, inr, refl, subst, sym, ◌∙◌, ◌≡◌, ℕ, false, true}
-use Rattle.vm_kernel.proofs.controls.FlagSet.{FlagPut, Moves, ended, ends, flag_down, flag_spends, flag_up, kept, knows, may_refer, may_unrefer, moves, stays}
+use Rattle.vm_kernel.proofs.controls.FlagSet.{FlagPut, Moves, ended, ends, flag_down, flag_spends, flag_up, kept, may_refer, may_unrefer, moves, stays}
 use Rattle.vm_kernel.proofs.room.CallsSpend.{spends_both}
 use Rattle.vm_kernel.proofs.room.EndsSpend.{roomy_on}
 use Rattle.vm_kernel.proofs.space.ObjectsEnd.{only_none}
@@ -93,7 +93,7 @@ pub end_object-requires : goal.end_object-requires
 end_object-requires g c =
     let none = c.if-unrefer-gt0.false in
     let is = last g (goal.at.end_object-requires g c).After-unrefer (omega (arith, none)) in
-    (ends c.requires is refl, knows c.requires is)
+    ends c.requires is refl
 
 pub returns-in_err-_left-clause-succeeds : goal.returns-in_err-_left-clause-succeeds
 returns-in_err-_left-clause-succeeds g c = λ room buffers.

@@ -1,3 +1,4 @@
+use Rattle.vm_kernel.proofs.controls.DestroyTaken.{destroyed_goes}
 use Rattle.vm_kernel.proofs.Common.{Event, HasEnded, List, Restarted, TaskId, [], ap, arith, false, subst, true, ◌++◌, ◌+◌, ◌∙◌, ◌≡◌, ◌≤◌, ℕ}
 use Rattle.std.specs.Prelude.{vec_capacity}
 use Rattle.vm_kernel.proofs.lists.ListsAsTold.{plays_both}
@@ -51,6 +52,13 @@ returns-clause-changed g c =
     let paid = change_goes g.given.header g.given.host g.given.outside g.given.command (taken g) c.heed.new.log.items c.wake.new.log.items
     c.in_ok-wake.ensures.goes c.in_ok-woken.ensures.changed in
     on_ok c.restart.result _ _ (λ goes. change_goes g.given.header g.given.host g.given.outside g.given.command (taken g) c.wake.new.log.items
+    c.restart.new.log.items goes paid) c.restart.ensures.goes
+
+pub returns-clause-destroyed : goal.returns-clause-destroyed
+returns-clause-destroyed g c =
+    let paid = destroyed_goes g.given.header g.given.host g.given.outside g.given.command (taken g) c.heed.new.log.items c.wake.new.log.items
+    c.in_ok-wake.ensures.goes c.in_ok-woken.ensures.destroyed in
+    on_ok c.restart.result _ _ (λ goes. destroyed_goes g.given.header g.given.host g.given.outside g.given.command (taken g) c.wake.new.log.items
     c.restart.new.log.items goes paid) c.restart.ensures.goes
 
 pub returns-clause-ended : goal.returns-clause-ended
