@@ -116,8 +116,20 @@ fn no_message(rt: HostRuntime) {
             ScriptFault::BadNumber,
         ),
         (
-            "hosts 1 4\nwild w 8\nsay 0 w destroy 5\n",
-            ScriptFault::UnknownWord,
+            "hosts 1 4\nwild w 8\nsay 0 w destroy\n",
+            ScriptFault::WrongCount,
+        ),
+        (
+            "hosts 1 4\nwild w 8\nsay 0 w destroy 5 6\n",
+            ScriptFault::WrongCount,
+        ),
+        (
+            "hosts 1 4\nwild w 8\nsay 0 w destroy x\n",
+            ScriptFault::BadNumber,
+        ),
+        (
+            "hosts 1 4\nwild w 8\nsay 0 w destroy 4294967296\n",
+            ScriptFault::OutOfRange,
         ),
     ];
     assert_faults(&rt, rt.alloc(), &table);

@@ -1,15 +1,16 @@
 -- A step that began with a taking.
 use Rattle.vm_hosts.proofs.Common.{AllInner, AllRest, Command, Down, EndsAll, EndsInTurn, Event, EventsFollow, Header, HostId, HostTable, Ids, IsAbsencePaid}
 use Rattle.vm_hosts.proofs.Common.{IsChangePaid, IsErrorPaid, IsLockPaid, LegalEvents, LicensedInTurn, List, Message, MomentsIn, ObjectId, Outside, PartInTurn}
-use Rattle.vm_hosts.proofs.Common.{Parts, Passed, Rests, ServeInTurn, Suffice, Went, [], absence_more, ap, append-nil, append_assoc, frames_abroad, length}
-use Rattle.vm_hosts.proofs.Common.{lock_more, locked_more, paid_more, since_more, subst, sym, zeroes, ℕ, ◌++◌, ◌<◌, ◌∙◌, ◌∷◌, ◌≡◌, ◌≢◌, attributes_more}
+use Rattle.vm_hosts.proofs.Common.{Parts, Passed, Rests, ServeInTurn, Suffice, Went, [], absence_more, ap, append-nil, append_assoc, attributes_more}
+use Rattle.vm_hosts.proofs.Common.{frames_abroad, length, lock_more, locked_more, paid_more, since_more, subst, sym, zeroes, ℕ, ◌++◌, ◌<◌, ◌∙◌, ◌∷◌, ◌≡◌, ◌≢◌}
 use Rattle.vm_model.specs.declared.event.Event.TheVariants as event
 use Rattle.vm_hosts.specs.Steps as steps
 use Rattle.vm_hosts.proofs.Acting.{Acts, acting_rests, acts_both, acts_one, only_of, others}
 use Rattle.vm_hosts.proofs.Serving.{acts_goes, follows_goes, turns_part, turns_went}
 use Rattle.vm_hosts.proofs.Stretches.{follows_both, follows_none}
 use Rattle.vm_hosts.proofs.Tables.{all_suffice, put, same_number}
-use Rattle.vm_legal.proofs.Paying.{ends_more}
+use Rattle.vm_kernel.specs.Destroying.{IsDestroyPaid}
+use Rattle.vm_legal.proofs.Paying.{destroy_more, destroyed_more, ends_more}
 use Rattle.vm_legal.specs.Steps.{changes}
 
 -- the events of a kernel alone, behind nothing
@@ -101,7 +102,7 @@ pub ends_went : (header : Header) (outside : Outside) (doing : Command) (past ol
 ends_went header outside doing past old new hosts went ends =
     goes_behind (EndsAll header) past old new went.more went.is (ends_more header went.more (old ++ past) went.follows.stretch.inner ends)
 
--- so are zeros, where there is no page, what a lock request owes, and what a change of attributes owes
+-- so are zeros, where there is no page, what a lock request owes, what a change of attributes owes, and what the end of an object owes
 
 absence_paid : (header : Header) (more past : List Event) → AllInner more → IsAbsencePaid header past → IsAbsencePaid header (more ++ past)
 absence_paid header more past inner paid =
@@ -114,6 +115,10 @@ lock_paid header more past inner paid = λ request is. locked_more header reques
 change_paid : (more past : List Event) → AllInner more → IsChangePaid past → IsChangePaid (more ++ past)
 change_paid more past inner paid = λ request is wanted.
     since_more (changes request.host request.object) more past inner (paid request (sym (attributes_more more past inner) ∙ is) wanted)
+
+destroy_paid : (header : Header) (more past : List Event) → AllInner more → IsDestroyPaid header past → IsDestroyPaid header (more ++ past)
+destroy_paid header more past inner paid =
+    λ host object wild is. destroyed_more header host object more past inner (paid host object wild (sym (destroy_more more past inner) ∙ is))
 
 pub zeroed_went : (header : Header) (outside : Outside) (doing : Command) (past old new : List Event) (hosts : HostTable)
     → Went header outside doing past old hosts new → IsAbsencePaid header (old ++ past) → IsAbsencePaid header (new ++ past)
@@ -129,3 +134,8 @@ pub changed_went : (header : Header) (outside : Outside) (doing : Command) (past
     → Went header outside doing past old hosts new → IsChangePaid (old ++ past) → IsChangePaid (new ++ past)
 changed_went header outside doing past old new hosts went paid =
     goes_behind IsChangePaid past old new went.more went.is (change_paid went.more (old ++ past) went.follows.stretch.inner paid)
+
+pub destroyed_went : (header : Header) (outside : Outside) (doing : Command) (past old new : List Event) (hosts : HostTable)
+    → Went header outside doing past old hosts new → IsDestroyPaid header (old ++ past) → IsDestroyPaid header (new ++ past)
+destroyed_went header outside doing past old new hosts went paid =
+    goes_behind (IsDestroyPaid header) past old new went.more went.is (destroy_paid header went.more (old ++ past) went.follows.stretch.inner paid)

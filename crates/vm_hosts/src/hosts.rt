@@ -14,6 +14,7 @@ ghost use Rattle.vm_legal.specs.Refusal.{is_elsewhere, refusal};
 ghost use Rattle.vm_kernel.specs.Begun.{IsLined, targets_here};
 ghost use Rattle.vm_kernel.specs.Built.{kernel_runs};
 ghost use Rattle.vm_kernel.specs.Matches.{IsRanged};
+ghost use Rattle.vm_kernel.specs.Destroying.{IsDestroyPaid, MayDestroy, is_destroy};
 ghost use Rattle.vm_kernel.specs.Taking.{IsAbsencePaid, IsChangePaid, IsErrorPaid, IsLockPaid, IsWord};
 ghost use Rattle.vm_legal.specs.InTurn.{EndsAll};
 ghost use Rattle.vm_kernel.specs.Refusing.{maps_elsewhere, takes_name};
@@ -167,12 +168,15 @@ impl Hosts {
         requires licensed { LicensedInTurn given.header given.outside given.command (event.Taken (channels.Down host object control) message.now) given.past }
         requires empty { log.old.items ≡ [] }
         requires ready { (events : ℕ) × IsReady (Some host) (word_breadth message.now) events self.old log.old.room }
+        requires destroy { is_destroy message.now ≡ true → MayDestroy given.header host.0 object.0 given.past }
         ensures passed { OnOk result (HostsPart given.header given.outside given.command
             (event.Taken (channels.Down host object control) message.now ∷ given.past) self.new log.new.items) }
         ensures failed { OnOk result (IsErrorPaid given.header (log.new.items ++ event.Taken (channels.Down host object control) message.now ∷ given.past)) }
         ensures zeroed { OnOk result (IsAbsencePaid given.header (log.new.items ++ event.Taken (channels.Down host object control) message.now ∷ given.past)) }
         ensures locked { OnOk result (IsLockPaid given.header (log.new.items ++ event.Taken (channels.Down host object control) message.now ∷ given.past)) }
         ensures changed { OnOk result (IsChangePaid (log.new.items ++ event.Taken (channels.Down host object control) message.now ∷ given.past)) }
+        ensures destroyed { OnOk result (IsDestroyPaid given.header
+            (log.new.items ++ event.Taken (channels.Down host object control) message.now ∷ given.past)) }
         ensures ended { OnOk result (EndsAll given.header (log.new.items ++ event.Taken (channels.Down host object control) message.now ∷ given.past)) }
         ensures few { OnOk result ((events : ℕ) → IsReady (Some host) (word_breadth message.now) events self.old log.old.room → length log.new.items ≤ events) }
         ensures err { OnErr result (AllRest given.header self.new given.past × (AllQueued given.header self.new given.past × (log.new.items ≡ []))) }
@@ -214,11 +218,13 @@ impl Hosts {
         requires licensed { LicensedInTurn given.header given.outside given.command (event.Taken (channels.Down host object control) message.now) given.past }
         requires empty { log.old.items ≡ [] }
         requires ready { (events : ℕ) × IsReady (Some host) (word_breadth message.now) events self.old log.old.room }
+        requires destroy { is_destroy message.now ≡ true → MayDestroy given.header host.0 object.0 given.past }
         ensures passed { OnOk result (HostsPart given.header given.outside given.command (given.front ++ given.past) self.new log.new.items) }
         ensures failed { OnOk result (IsErrorPaid given.header (log.new.items ++ (given.front ++ given.past))) }
         ensures zeroed { OnOk result (IsAbsencePaid given.header (log.new.items ++ (given.front ++ given.past))) }
         ensures locked { OnOk result (IsLockPaid given.header (log.new.items ++ (given.front ++ given.past))) }
         ensures changed { OnOk result (IsChangePaid (log.new.items ++ (given.front ++ given.past))) }
+        ensures destroyed { OnOk result (IsDestroyPaid given.header (log.new.items ++ (given.front ++ given.past))) }
         ensures ended { OnOk result (EndsAll given.header (log.new.items ++ (given.front ++ given.past))) }
         ensures few { OnOk result ((events : ℕ) → IsReady (Some host) (word_breadth message.now) events self.old log.old.room → length log.new.items ≤ events) }
         ensures err { OnErr result (AllRest given.header self.new given.past × (AllQueued given.header self.new given.past × (log.new.items ≡ []))) }

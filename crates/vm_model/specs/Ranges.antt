@@ -57,6 +57,7 @@ IsSaid size (messages.Error page reason) = (page.0 ≤ last_page) × (reason < 2
 IsSaid size (messages.Lock page count returns flush lock reply) =
     (page.0 ≤ last_page) × (count ≤ most_pages) × (returns ≤ 2) × ((lock ≤ 3) ⊎ (lock ≡ 8))
 IsSaid size (messages.Attributes cache strategy reply) = strategy ≤ 3
+IsSaid size (messages.Destroy reason) = reason < 2 ^ 32
 IsSaid size message = ⊥
 
 -- a command, where so many hosts and objects are declared and a page has so many bytes

@@ -94,7 +94,7 @@ pub enum Message {
         strategy: u32,
         reply: bool,
     },
-    /// memory_object_destroy, to the kernel. Nothing makes one yet.
+    /// memory_object_destroy, to the kernel; the reason has no effect (this profile).
     Destroy {
         reason: u32,
     },

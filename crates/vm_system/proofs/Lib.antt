@@ -43,3 +43,4 @@ pub mod TakenUp
 pub mod TakenWild
 pub mod Untouched
 pub mod Washings
+pub mod WildEnds

@@ -1,22 +1,19 @@
 -- A step takes its memory in front: nothing but room changes, and where memory is wanting nothing is done.
-use Rattle.vm_system.proofs.Common.{AllQueued, AllRest, ArmedLater, Arming, Breadth, Channel, ChannelId, Event, HasRoom, Header, HostId, HostTable}
-use Rattle.vm_system.proofs.Common.{IsReady}
+use Rattle.vm_system.proofs.Common.{AllQueued, AllRest, ArmedLater, Arming, Breadth, Channel, ChannelId, Event, HasRoom, Header, HostId, HostTable, IsReady}
 use Rattle.vm_system.proofs.Common.{IsSent, List, Listed, Makes, MayTakeFrom, Message, None, Numbered, ObjectId, OnErr, OnlyRoom, Option, Outside, Result}
-use Rattle.vm_system.proofs.Common.{SameHosts, ServerStands, ServerTable, Some, Spares, StandsStill, State, Step, SystemStands, [], ap, arith}
-use Rattle.vm_system.proofs.Common.{lined, refl, slice_get}
-use Rattle.vm_system.proofs.Common.{subst, sym, ℕ, ◌++◌, ◌+◌, ◌∙◌, ◌∷◌, ◌≡◌, ◌≤◌}
+use Rattle.vm_system.proofs.Common.{SameHosts, ServerStands, ServerTable, Some, Spares, StandsStill, State, Step, SystemStands, [], ap, arith, lined, refl}
+use Rattle.vm_system.proofs.Common.{slice_get, subst, sym, ℕ, ◌++◌, ◌+◌, ◌∙◌, ◌∷◌, ◌≡◌, ◌≤◌}
 use Rattle.sms_server.specs.Answers.{most_told}
 use Rattle.sms_server.specs.Table.{IsSameTable}
-use Rattle.vm_ports.specs.Ports.{queue as queue_on}
+use Rattle.vm_ports.specs.Ports.{queue as queue_on, spare_channels}
 use Rattle.vm_ports.specs.declared.letter.Letter.{Letter as Posted}
-use Rattle.vm_hosts.proofs.Tables.{common_all}
+use Rattle.vm_hosts.proofs.Tables.{common_all, kernel_of}
 use Rattle.vm_kernel.specs.Matches.{Matches, Rests}
 use Rattle.vm_kernel.specs.declared.parts.Parts.{Parts}
 use Rattle.vm_model.specs.declared.event.Event.TheVariants as event
 use Rattle.sms_server.proofs.Serving.{same_stands}
 use Rattle.std.specs.Prelude.{Err, Ok, ◌*◌}
 use Rattle.vm_outside.specs.Arming.{KeepsArming}
-use Rattle.vm_ports.specs.Ports.{spare_channels}
 use Rattle.vm_system.proofs.Following.{same_all}
 
 -- a system that has more room stands for what it stood for
@@ -154,8 +151,18 @@ module _ (header : Header) (hosts new : HostTable) (line : ℕ) (past : List Eve
   matches_unlined : (h : ℕ) (k : Parts) → Matches header h k new.ids [] (event.Line line ∷ past) → Matches header h k new.ids [] past
   matches_unlined h k m =
       let common = common_all header hosts past all in
+      let old = kernel_of header hosts past all h m.core.setting.known in
       record {
-        core = m.core;
+        core = record {
+          setting = m.core.setting;
+          fits = m.core.fits;
+          spaces = m.core.spaces;
+          objects = m.core.objects;
+          controls = m.core.controls;
+          flags = m.core.flags;
+          calm = (all.rests h old.0 old.1).matches.core.calm;
+          pages = m.core.pages;
+        };
         settled = common.settled;
         replied = common.replied;
       }

@@ -1,8 +1,8 @@
 -- What holds at the end of a step doesn't change with a line, or with the code of a refusal.
 use Rattle.vm_system.proofs.Common.{AReady, Access, AllInner, AllRest, AnAnswer, AnUnlock, Awaits, Bool, Code, Comes, Copies, Elsewhere, Event, HasPlace}
-use Rattle.vm_system.proofs.Common.{Header, HostIsFull, HostTable, IsExhausted, IsPaid, IsSource, List, None, NoneInVain, Nowhere, Prompt, Raises, Waits}
-use Rattle.vm_system.proofs.Common.{WaitsForPager, WaitsUnlocked, WantsFrame, common_all, inl, inr, is_store, owed, page_of, paid_of, refl, ℕ, ◌++◌, ◌∷◌, ◌≡◌}
-use Rattle.vm_system.proofs.Common.{[], Some, false, true, ap, is_some}
+use Rattle.vm_system.proofs.Common.{Header, HostIsFull, HostTable, IsExhausted, IsPaid, IsSource, List, None, NoneInVain, Nowhere, Prompt, Raises, Some, Waits}
+use Rattle.vm_system.proofs.Common.{WaitsForPager, WaitsUnlocked, WantsFrame, [], ap, common_all, false, inl, inr, is_some, is_store, owed, page_of, paid_of}
+use Rattle.vm_system.proofs.Common.{refl, true, ℕ, ◌++◌, ◌∷◌, ◌≡◌}
 use Rattle.vm_legal.proofs.Exhausted.{exhausted_still}
 use Rattle.vm_model.specs.declared.event.Event.TheVariants as event
 use Rattle.vm_base.specs.declared.ids.HostId.{HostId}
@@ -38,7 +38,8 @@ comes_line header host region page object object_page line h is =
 
 wants_line : (header : Header) (host task : ℕ) (access : Access) (region page : ℕ) (line : ℕ) (h : List Event)
     → WantsFrame header host task access region page h → WantsFrame header host task access region page (event.Line line ∷ h)
-wants_line header host task access region page line h (Nowhere top top_page steps is sinks) = Nowhere top top_page steps is sinks
+wants_line header host task access region page line h (Nowhere served top top_page steps is sinks) =
+    Nowhere served top top_page steps is sinks
 wants_line header host task access region page line h (Elsewhere object object_page comes away unasked may ready) =
     Elsewhere object object_page (comes_line header host region page object object_page line h comes) away unasked may ready
 wants_line header host task access region page line h (Copies object object_page comes here address bytes to is) =
@@ -173,7 +174,8 @@ comes_code header host region page object object_page why h is =
 
 wants_code : (header : Header) (host task : ℕ) (access : Access) (region page : ℕ) (why : Code) (h : List Event)
     → WantsFrame header host task access region page h → WantsFrame header host task access region page (event.Refused why ∷ h)
-wants_code header host task access region page why h (Nowhere top top_page steps is sinks) = Nowhere top top_page steps is sinks
+wants_code header host task access region page why h (Nowhere served top top_page steps is sinks) =
+    Nowhere served top top_page steps is sinks
 wants_code header host task access region page why h (Elsewhere object object_page comes away unasked may ready) =
     Elsewhere object object_page (comes_code header host region page object object_page why h comes) away unasked may ready
 wants_code header host task access region page why h (Copies object object_page comes here address bytes to is) =
@@ -321,5 +323,6 @@ paid_start header = record {
   absence = λ host object page declared is. nothing_taken is;
   lock = λ request is. nothing_taken is;
   change = λ request is wanted. nothing_taken is;
+  destroy = λ host object wild is. nothing_taken is;
   slot = λ host object control page dirty keep bytes temporary is lacks. nothing_taken is;
 }

@@ -1,7 +1,7 @@
 -- What a command that is no host's asks: what a file's pager says for a clean, and what a script says for a wild object.
-use Rattle.vm_system.proofs.Common.{Bool, Command, Event, clean_head, inl, inr, ◌≤◌, ◌⊎◌, HasPageOf, Header, HostId, IsWord, List, MakesNoControl, Message}
-use Rattle.vm_system.proofs.Common.{None, ObjectId, Option, Outside, Some, arith, code_where, false, head, is_idle, is_none, is_wild, kind_of, known_below}
-use Rattle.vm_system.proofs.Common.{length, live_control, never, not, refl, refusal, same_Some, subst, true, ℕ, [], ◌<◌, ◌∷◌, ◌≡◌}
+use Rattle.vm_system.proofs.Common.{Bool, Command, Event, HasPageOf, Header, HostId, IsWord, List, MakesNoControl, Message, None, ObjectId, Option, Outside}
+use Rattle.vm_system.proofs.Common.{Some, [], arith, clean_head, code_where, false, head, inl, inr, is_idle, is_none, is_wild, kind_of, known_below, length}
+use Rattle.vm_system.proofs.Common.{live_control, never, not, refl, refusal, same_Some, subst, true, ℕ, ◌<◌, ◌∷◌, ◌≡◌, ◌≤◌, ◌⊎◌}
 use Rattle.vm_base.specs.declared.code.Code.TheVariants as code
 use Rattle.vm_base.specs.declared.ids.ObjectKind.{ObjectKind}
 use Rattle.vm_base.specs.declared.ids.ObjectKind.TheVariants as kinds
@@ -24,6 +24,7 @@ said_word size (message.Supply page lock precious bytes) is = let few = is.1 in 
 said_word size (message.Unavailable page) is = tt
 said_word size (message.Error page reason) is = tt
 said_word size (message.Attributes cache strategy reply) is = tt
+said_word size (message.Destroy reason) is = tt
 said_word size (message.Lock page count returns flush lock reply) is = let few = is.2 in (omega (arith, few), locks is.3)
   where
     locks : (lock ≤ 3) ⊎ (lock ≡ 8) → (lock < 4) ⊎ (lock ≡ 8)
@@ -37,6 +38,7 @@ said_page size (message.Ready cache strategy) is = tt
 said_page size (message.Unavailable page) is = tt
 said_page size (message.Error page reason) is = tt
 said_page size (message.Attributes cache strategy reply) is = tt
+said_page size (message.Destroy reason) is = tt
 said_page size (message.Lock page count returns flush lock reply) is = tt
 said_page size m is = absurd is
 
@@ -48,6 +50,7 @@ said_quiet size host object control (message.Ready cache strategy) is = tt
 said_quiet size host object control (message.Unavailable page) is = tt
 said_quiet size host object control (message.Error page reason) is = tt
 said_quiet size host object control (message.Attributes cache strategy reply) is = tt
+said_quiet size host object control (message.Destroy reason) is = tt
 said_quiet size host object control (message.Lock page count returns flush lock reply) is = tt
 said_quiet size host object control m is = absurd is
 

@@ -1,9 +1,11 @@
 -- An answer of a pager is taken by its host.
-use Rattle.vm_system.proofs.Common.{[], AllFilesServe, AllInner, AllServe, Bool, CanTellAll, Channel, ChannelId, Device, Down, EndsAll, Event, Header, HostId}
-use Rattle.vm_system.proofs.Common.{HostTable, HostsPart, IsAbsencePaid, IsErrorPaid, IsLockPaid, IsPaid, IsWord, Letter, LicensedInTurn, List, MayTakeFrom}
-use Rattle.vm_system.proofs.Common.{Message, None, ObjectId, Option, Posts, ServerStands, Some, Spares, State, Step, Took, Up, ap, devices, false, first}
-use Rattle.vm_system.proofs.Common.{length, owed, queue, sym, taken_letter, taken_more, true, up, ℕ, ◌++◌, ◌<◌, ◌∙◌, ◌∷◌, ◌≡◌, ServerTable, subst, IsChangePaid}
+use Rattle.vm_system.proofs.Common.{AllFilesServe, AllInner, AllServe, Bool, CanTellAll, Channel, ChannelId, Device, Down, EndsAll, Event, Header, HostId}
+use Rattle.vm_system.proofs.Common.{HostTable, HostsPart, IsAbsencePaid, IsChangePaid, IsErrorPaid, IsLockPaid, IsPaid, IsWord, Letter, LicensedInTurn, List}
+use Rattle.vm_system.proofs.Common.{MayTakeFrom, Message, None, ObjectId, Option, Posts, ServerStands, ServerTable, Some, Spares, State, Step, Took, Up, [], ap}
+use Rattle.vm_system.proofs.Common.{devices, false, first, length, owed, queue, subst, sym, taken_letter, taken_more, true, up, ℕ, ◌++◌, ◌<◌, ◌∙◌, ◌∷◌, ◌≡◌}
 use Rattle.vm_system.proofs.Served.{served_down}
+use Rattle.vm_kernel.specs.Destroying.{IsDestroyPaid, MayDestroy, is_destroy}
+use Rattle.vm_system.proofs.WildEnds.{may_destroy}
 use Rattle.vm_model.specs.declared.event.Device.TheVariants.{Files, Paging}
 use Rattle.vm_model.specs.declared.event.Event.TheVariants as event
 use Rattle.vm_system.proofs.Agreeing.{carry_other, carry_spared, devices_said, files_other, files_spared, serve_other, spared_said}
@@ -30,6 +32,13 @@ pub down_licensed : (given : Step) (line : Option ℕ) (number : ChannelId) (hos
 down_licensed given line number host object control m s may head =
     let front = front_of given line number (Down host object control) s may in
     taken_licensed given.header given.outside given.command (Down host object control) m given.past head may.may (front_settled given s front)
+
+pub down_destroys : (given : Step) (line : Option ℕ) (number : ChannelId) (host : HostId) (object : ObjectId) (control : ℕ) (m : Message) (s : State)
+    → MayTakeFrom given line number (Down host object control) s
+    → first (queue (Down host object control) given.past) ≡ Some m → is_destroy m ≡ true → MayDestroy given.header host.0 object.0 given.past
+down_destroys given line number host object control m s may head is =
+    let front = front_of given line number (Down host object control) s may in
+    may_destroy given.header given.outside host object control m given.past front.lawful.causes head is
 
 pub can_down : (given : Step) (host : HostId) (object : ObjectId) (control : ℕ) (m : Message) (s : State) (hosts : HostTable) (events : List Event)
     → Front given s → first (queue (Down host object control) given.past) ≡ Some m
@@ -65,8 +74,8 @@ down_paid : (header : Header) (at : HostId) (object : ObjectId) (control : ℕ) 
     → IsErrorPaid header (events ++ event.Taken (Down at object control) m ∷ past)
     → IsAbsencePaid header (events ++ event.Taken (Down at object control) m ∷ past)
     → IsLockPaid header (events ++ event.Taken (Down at object control) m ∷ past) → IsChangePaid (events ++ event.Taken (Down at object control) m ∷ past)
-    → IsPaid header (events ++ event.Taken (Down at object control) m ∷ past)
-down_paid header at object control m events past inner none failed zeroed locked changed = record {
+    → IsDestroyPaid header (events ++ event.Taken (Down at object control) m ∷ past) → IsPaid header (events ++ event.Taken (Down at object control) m ∷ past)
+down_paid header at object control m events past inner none failed zeroed locked changed destroyed = record {
   none_owed = none;
   init = λ host o k size paged is. absurd (not_up at object control m events past o host _ inner is);
   create = λ host o k size paged is. absurd (not_up at object control m events past o host _ inner is);
@@ -75,6 +84,7 @@ down_paid header at object control m events past inner none failed zeroed locked
   absence = zeroed;
   lock = locked;
   change = changed;
+  destroy = destroyed;
   slot = λ host o k page dirty keep bytes temporary is lacks. absurd (not_up at object control m events past o host _ inner is);
 }
 
@@ -97,12 +107,13 @@ pub took_down : (given : Step) (line : Option ℕ) (number : ChannelId) (host : 
     → IsAbsencePaid given.header (events ++ event.Taken (Down host object control) m ∷ given.past)
     → IsLockPaid given.header (events ++ event.Taken (Down host object control) m ∷ given.past)
     → IsChangePaid (events ++ event.Taken (Down host object control) m ∷ given.past)
+    → IsDestroyPaid given.header (events ++ event.Taken (Down host object control) m ∷ given.past)
     → EndsAll given.header (events ++ event.Taken (Down host object control) m ∷ given.past) → new.size ≡ s.size
     → new.pagers.items ≡ s.pagers.items → new.files.items ≡ s.files.items → new.declared.items ≡ s.declared.items → new.server ≡ s.server
     → new.history.items ≡ events ++ event.Taken (Down host object control) m ∷ given.past → Posts new new.history.items → new.log.items ≡ []
     → Took given new
-took_down given line number host object control m s new events may head passed failed zeroed locked changed ended size pagers files declared server items posts
-    none =
+took_down given line number host object control m s new events may head passed failed zeroed locked changed destroyed ended size pagers files declared server
+    items posts none =
     let header = given.header in
     let outside = given.outside in
     let doing = given.command in
@@ -117,7 +128,7 @@ took_down given line number host object control m s new events may head passed f
     (server_other header s.server (event.Taken channel m) given.past tt front.server) in
     let licence = taken_licensed header outside doing channel m given.past head may.may (front_settled given s front) in
     let owed : IsPaid header new.history.items = rw items (down_paid header host object control m events given.past stretch.inner
-    (all_settled header new.hosts (events ++ past) passed.ended.rests) failed zeroed locked changed) in
+    (all_settled header new.hosts (events ++ past) passed.ended.rests) failed zeroed locked changed destroyed) in
     record {
       stands = record {
         built = front.built;

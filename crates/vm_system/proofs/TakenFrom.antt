@@ -1,8 +1,8 @@
 -- A `take` is run.
-use Rattle.vm_system.proofs.Common.{Channel, EachIn, Event, FollowsInTurn, FollowsSoFarInTurn, FramesSuffice, Header, Holds, IsAtRest, IsConsequence}
-use Rattle.vm_system.proofs.Common.{IsGroupInTurn, IsPaid, IsRunInTurn, IsWholeInTurn, KeepsCanonical, CanonicalFor, List, None, Numbered, Outside, Some, State}
-use Rattle.vm_system.proofs.Common.{Step, SystemStands, TakesStep, Took, [], ap, false, first, head, inr, is_some, licensed_front, moment_last, no_request}
-use Rattle.vm_system.proofs.Common.{queue, refl, refusal, so_far, subst, sym, take_head, true, ℕ, ◌++◌, ◌∷◌, ◌≡◌}
+use Rattle.vm_system.proofs.Common.{CanonicalFor, Channel, EachIn, Event, FollowsInTurn, FollowsSoFarInTurn, FramesSuffice, Header, Holds, IsAtRest}
+use Rattle.vm_system.proofs.Common.{IsConsequence, IsGroupInTurn, IsPaid, IsRunInTurn, IsWholeInTurn, KeepsCanonical, List, None, Numbered, Outside, Some}
+use Rattle.vm_system.proofs.Common.{State, Step, SystemStands, TakesStep, Took, [], ap, false, first, head, inr, is_some, licensed_front, moment_last}
+use Rattle.vm_system.proofs.Common.{no_request, queue, refl, refusal, so_far, subst, sym, take_head, true, ℕ, ◌++◌, ◌∷◌, ◌≡◌}
 use Rattle.vm_model.specs.declared.command.Command.TheVariants as command
 use Rattle.vm_model.specs.declared.event.Event.TheVariants as event
 use Rattle.vm_system.proofs.Opening.{HoldsUpTo, holds_taken, step_is, steps_taken}
@@ -57,6 +57,7 @@ paid_line header line past = record {
   absence = λ host object page declared is. absurd (some_none (sym is));
   lock = λ request is. no_request request (event.Line line ∷ past) refl is;
   change = λ request is wanted. no_change request (event.Line line ∷ past) refl is;
+  destroy = λ host object wild is. absurd (some_none (sym is));
   slot = λ host object control page dirty keep bytes temporary is lacks. absurd (some_none (sym is));
 }
 

@@ -1,8 +1,8 @@
 -- A message about a wild object is taken, and nobody answers: what its pager says is the script's.
-use Rattle.vm_system.proofs.Common.{Bool, Channel, Down, ChannelId, Followed, Header, HostId, IsPaid, Letter, MayTakeFrom, Message, None, ObjectId, Option}
+use Rattle.vm_system.proofs.Common.{Bool, Channel, ChannelId, Down, Followed, Header, HostId, IsPaid, Letter, MayTakeFrom, Message, None, ObjectId, Option}
 use Rattle.vm_system.proofs.Common.{PagerHasAnswered, Some, Spares, State, Step, Took, Up, [], ap, arith, false, first, gives_frame, if◌then◌else◌, is_file}
 use Rattle.vm_system.proofs.Common.{is_paged, is_shared, is_wild, named, nat_lt, nat_tests, never, no_request, none-some, not, queue, refl, subst, sym, true, ℕ}
-use Rattle.vm_system.proofs.Common.{◌&&◌, ◌∙◌, ◌∷◌, ◌≡◌, ◌||◌}
+use Rattle.vm_system.proofs.Common.{◌&&◌, ◌||◌, ◌∙◌, ◌∷◌, ◌≡◌}
 use Rattle.vm_base.specs.declared.ids.ObjectKind.{ObjectKind}
 use Rattle.vm_base.specs.declared.ids.ObjectKind.TheVariants as kinds
 use Rattle.vm_legal.specs.Outside.{is_file_kept, is_file_kind, is_shared_kind, is_wild_kind, kind_in}
@@ -87,6 +87,7 @@ paid_wild given host object m s heard = record {
   absence = λ at o page low is. absurd (none-some _ is);
   lock = λ request is. no_request request (event.Taken (Up host object) m ∷ given.past) refl is;
   change = λ request is wanted. no_change request (event.Taken (Up host object) m ∷ given.past) refl is;
+  destroy = λ at o tame is. absurd (none-some _ is);
   slot =
       λ at o control page dirty keep bytes high is lacks. let low = wild_declared given.header o (its o (ap object_up is)) in absurd (omega (arith, low, high));
 }

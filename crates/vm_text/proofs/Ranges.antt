@@ -1,6 +1,6 @@
 -- What the fields and the commands of a line keep, once they are read.
-use Rattle.std.proofs.Common.{◌≡◌, ℕ, suc, ◌-◌, ◌<◌, ◌≤◌, ◌^◌, ◌==◌, ◌&&◌, ◌⊎◌, inl, inr, Bool, true, false, cond, nat_le, nat_lt, List, [], ◌∷◌, length}
-use Rattle.std.proofs.Common.{replicate, length-append, Option, Some, None, IfSome, Result, Ok, Err, refl, subst, arith}
+use Rattle.std.proofs.Common.{Bool, Err, IfSome, List, None, Ok, Option, Result, Some, [], arith, cond, false, inl, inr, length, length-append, nat_le, nat_lt}
+use Rattle.std.proofs.Common.{refl, replicate, subst, suc, true, ℕ, ◌&&◌, ◌-◌, ◌<◌, ◌==◌, ◌^◌, ◌∷◌, ◌≡◌, ◌≤◌, ◌⊎◌}
 use Rattle.std.proofs.lemmas.Bool.{and_parts}
 use Rattle.std.proofs.lemmas.Bool.Decides.{nat_tests}
 use Rattle.std.proofs.lemmas.List.{length-replicate}
@@ -19,12 +19,12 @@ use Rattle.vm_text.specs.declared.meaning.CommandWord.TheVariants as says
 use Rattle.vm_text.specs.declared.meaning.MessageWord.{MessageWord}
 use Rattle.vm_text.specs.declared.meaning.MessageWord.TheVariants as sends
 use Rattle.vm_text.specs.Words
-use Rattle.vm_text.specs.Words.{◌>>=◌, pieces, is_dot, number_of, within, number_between, number_below, page_with, pair_bytes, are_pairs, page_bytes_of}
-use Rattle.vm_text.specs.Words.{word_in}
+use Rattle.vm_text.specs.Words.{are_pairs, is_dot, number_below, number_between, number_of, page_bytes_of, page_with, pair_bytes, pieces, within, word_in}
+use Rattle.vm_text.specs.Words.{◌>>=◌}
 use Rattle.vm_text.specs.Forms
-use Rattle.vm_text.specs.Forms.{Heading, size_of, declared_at, object_of, host_in_word, task_of, new_name, one_of, page_size, access_size, lock_in_words}
-use Rattle.vm_text.specs.Forms.{range_of, page_number, two_parts, three_parts, up_of, down_of, channel_of, receiver_of, message_words, message_form}
-use Rattle.vm_text.specs.Forms.{nothing_said, command_form, host_count}
+use Rattle.vm_text.specs.Forms.{Heading, access_size, channel_of, command_form, declared_at, down_of, host_count, host_in_word, lock_in_words, message_form}
+use Rattle.vm_text.specs.Forms.{message_words, new_name, nothing_said, object_of, one_of, page_number, page_size, range_of, receiver_of, size_of, task_of}
+use Rattle.vm_text.specs.Forms.{three_parts, two_parts, up_of}
 
 -- what is read, if anything is, is so
 pub data Reads {A E : Type 0} (P : A → Type 0) : Result A E → Type 0 where
@@ -213,6 +213,10 @@ attributes_kept heading host name line =
     any (Words.three_words line) andthen λ w _. received heading host name andthen λ to is. any (Words.flag_of w.0) andthen λ cache _.
     upto 3 w.1 andthen λ strategy one. any (Words.flag_of w.2) andthen λ reply _. read (is.0, is.1, one)
 
+destroy_kept : (heading : Heading) (host name : List ℕ) (line : List (List ℕ)) → Reads (InReach heading) (Forms.destroy_said heading host name line)
+destroy_kept heading host name line =
+    any (Words.one_word line) andthen λ w _. received heading host name andthen λ to is. below (2 ^ 32) w andthen λ reason one. read (is.0, is.1, one)
+
 message_kept : (heading : Heading) (word : MessageWord) (host name : List ℕ) (line : List (List ℕ))
     → Reads (InReach heading) (message_form heading word host name line)
 message_kept heading sends.Ready host name line = ready_kept heading host name line
@@ -221,6 +225,7 @@ message_kept heading sends.Unavailable host name line = unavailable_kept heading
 message_kept heading sends.Error host name line = error_kept heading host name line
 message_kept heading sends.Lock host name line = lock_kept heading host name line
 message_kept heading sends.Attributes host name line = attributes_kept heading host name line
+message_kept heading sends.Destroy host name line = destroy_kept heading host name line
 
 say_kept : (heading : Heading) (line : List (List ℕ)) → Reads (InReach heading) (Forms.say_line heading line)
 say_kept heading [] = stopped

@@ -1,6 +1,6 @@
 -- The form of each line of a script: its words, from left to right.
-use Rattle.std.specs.Prelude.{ℕ, ◌≡◌, ◌-◌, ◌^◌, ◌%◌, ◌==◌, ◌||◌, Bool, true, false, nat_le, nat_lt, List, [], ◌∷◌, length, replicate, reverse, slice_set, codes}
-use Rattle.std.specs.Prelude.{Option, Some, None, is_some, Result, Ok, Err, if◌then◌else◌}
+use Rattle.std.specs.Prelude.{Bool, Err, List, None, Ok, Option, Result, Some, [], codes, false, if◌then◌else◌, is_some, length, nat_le, nat_lt, replicate}
+use Rattle.std.specs.Prelude.{reverse, slice_set, true, ℕ, ◌%◌, ◌-◌, ◌==◌, ◌^◌, ◌||◌, ◌∷◌, ◌≡◌}
 use Rattle.std.specs.Option.{unwrap_or}
 use Rattle.std.specs.Str.{bytes_eq}
 use Rattle.vm_base.specs.Limits.{address_end, last_page, least_frames, most_frames, most_hosts, most_objects, most_pages, most_slots, most_tasks}
@@ -30,8 +30,8 @@ use Rattle.vm_text.specs.declared.meaning.HeaderWord.{HeaderWord}
 use Rattle.vm_text.specs.declared.meaning.HeaderWord.TheVariants as heads
 use Rattle.vm_text.specs.declared.meaning.MessageWord.{MessageWord}
 use Rattle.vm_text.specs.declared.meaning.MessageWord.TheVariants as sends
-use Rattle.vm_text.specs.Words.{◌>>=◌, pieces, is_dot, one_word, two_words, three_words, four_words, five_words, six_words, number_of, number_between}
-use Rattle.vm_text.specs.Words.{number_below, flag_of, page_bytes_of, word_in}
+use Rattle.vm_text.specs.Words.{five_words, flag_of, four_words, is_dot, number_below, number_between, number_of, one_word, page_bytes_of, pieces, six_words}
+use Rattle.vm_text.specs.Words.{three_words, two_words, word_in, ◌>>=◌}
 
 -- What the header lines have said so far. The frames are those of each host, from host 0 on, and none
 -- before the line with the hosts. The objects have the newest first.
@@ -387,7 +387,8 @@ fail_line line = do
 abbrev pub message_words : List (List ℕ × MessageWord)
 message_words =
     (codes "ready", sends.Ready) ∷ (codes "supply", sends.Supply) ∷ (codes "unavailable", sends.Unavailable)
-    ∷ (codes "error", sends.Error) ∷ (codes "lock", sends.Lock) ∷ (codes "attributes", sends.Attributes) ∷ []
+    ∷ (codes "error", sends.Error) ∷ (codes "lock", sends.Lock) ∷ (codes "attributes", sends.Attributes)
+    ∷ (codes "destroy", sends.Destroy) ∷ []
 
 -- the host and the object that a message goes to
 abbrev pub receiver_of : Heading → List ℕ → List ℕ → Result (HostId × ObjectId) ScriptFault
@@ -450,6 +451,13 @@ attributes_said heading host name line = do
   reply ← flag_of w.2
   Ok (commands.Say to.0 to.1 (messages.Attributes cache strategy reply))
 
+abbrev pub destroy_said : Heading → List ℕ → List ℕ → List (List ℕ) → Result Command ScriptFault
+destroy_said heading host name line = do
+  w ← one_word line
+  to ← receiver_of heading host name
+  reason ← number_below (2 ^ 32) w
+  Ok (commands.Say to.0 to.1 (messages.Destroy reason))
+
 -- where the message's word is unknown, the fields in front of it are read first
 abbrev pub nothing_said : Heading → List ℕ → List ℕ → Result Command ScriptFault
 nothing_said heading host name = receiver_of heading host name >>= λ to. Err UnknownWord
@@ -461,6 +469,7 @@ message_form heading sends.Unavailable host name line = unavailable_said heading
 message_form heading sends.Error host name line = error_said heading host name line
 message_form heading sends.Lock host name line = lock_said heading host name line
 message_form heading sends.Attributes host name line = attributes_said heading host name line
+message_form heading sends.Destroy host name line = destroy_said heading host name line
 
 abbrev pub say_line : Heading → List (List ℕ) → Result Command ScriptFault
 say_line heading (host ∷ name ∷ word ∷ line) = elim (word_in message_words word) [

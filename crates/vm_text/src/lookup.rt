@@ -27,6 +27,9 @@ pub fn message_word(word: &[u8]) -> Option<MessageWord>
     if word == b"attributes".as_slice() {
         return Some(MessageWord::Attributes);
     }
+    if word == b"destroy".as_slice() {
+        return Some(MessageWord::Destroy);
+    }
     None
 }
 

@@ -46,4 +46,5 @@ pub enum MessageWord {
     Error,
     Lock,
     Attributes,
+    Destroy,
 }

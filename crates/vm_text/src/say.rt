@@ -1,7 +1,7 @@
 // The message that a line says.
 ghost use Rattle.std.specs.Prelude.{◌≡◌};
-ghost use Rattle.vm_text.specs.Forms.{receiver_of, ready_said, supply_said, unavailable_said, error_said, lock_said, attributes_said, nothing_said};
-ghost use Rattle.vm_text.specs.Forms.{message_form, say_line};
+ghost use Rattle.vm_text.specs.Forms.{receiver_of, ready_said, supply_said, unavailable_said, error_said, lock_said, attributes_said, destroy_said};
+ghost use Rattle.vm_text.specs.Forms.{message_form, nothing_said, say_line};
 ghost use Rattle.vm_text.specs.Stops.{Gives};
 ghost use Rattle.vm_text.specs.Words.{words_of};
 
@@ -179,6 +179,27 @@ fn attributes_said(
     })
 }
 
+fn destroy_said(
+    heading: &Heading,
+    host: &[u8],
+    name: &[u8],
+    line: &[u8],
+) -> Result<Command, ScriptFault>
+    ensures { result ≡ destroy_said heading.now host.now name.now (words_of line.now) }
+{
+    let reason = one_word(line)?;
+    let (host, object) = receiver_of(heading, host, name)?;
+    let reason = number_below(reason, 0x1_0000_0000)?;
+    let message = Message::Destroy {
+        reason: reason as u32,
+    };
+    Ok(Command::Say {
+        host,
+        object,
+        message,
+    })
+}
+
 fn nothing_said(heading: &Heading, host: &[u8], name: &[u8]) -> Result<Command, ScriptFault>
     ensures { result ≡ nothing_said heading.now host.now name.now }
 {
@@ -203,6 +224,7 @@ fn message_form(
         MessageWord::Error => Ok(error_said(heading, host, name, line)?),
         MessageWord::Lock => Ok(lock_said(heading, host, name, line)?),
         MessageWord::Attributes => Ok(attributes_said(heading, host, name, line)?),
+        MessageWord::Destroy => Ok(destroy_said(heading, host, name, line)?),
     }
 }
 

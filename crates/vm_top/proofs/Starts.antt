@@ -1,6 +1,6 @@
 -- A run begins with nothing, is given the commands one after another, and stays legal as far as it goes.
-use Rattle.std.proofs.Common.{false, true, ◌≡◌, ℕ, ◌+◌, ◌-◌, ◌<◌, ◌≤◌, List, [], ◌∷◌, ◌++◌, length, drop, take, get_or, reverse, refl, ap, sym, ◌∙◌, subst}
-use Rattle.std.proofs.Common.{arith, slice_get, None, Some, Option, append_assoc}
+use Rattle.std.proofs.Common.{List, None, Option, Some, [], ap, append_assoc, arith, drop, false, get_or, length, refl, reverse, slice_get, subst, sym, take}
+use Rattle.std.proofs.Common.{true, ℕ, ◌++◌, ◌+◌, ◌-◌, ◌<◌, ◌∙◌, ◌∷◌, ◌≡◌, ◌≤◌}
 use Rattle.std.specs.Prelude.{IfSome}
 use Rattle.std.proofs.lemmas.List.Elements.{All-get_or}
 use Rattle.std.proofs.lemmas.List.{take-append-drop, get_or-reverse, length-reverse}
@@ -45,6 +45,7 @@ start_paid header = record {
   absence = λ host object page declared is. absurd (nothing is);
   lock = λ request is. absurd (nothing is);
   change = λ request is wanted. absurd (nothing is);
+  destroy = λ host object wild is. absurd (nothing is);
   slot = λ host object control page dirty keep bytes temporary is lacks. absurd (nothing is);
 }
   where

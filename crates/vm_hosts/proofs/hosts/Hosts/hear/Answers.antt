@@ -4,7 +4,10 @@ use Rattle.vm_kernel.specs.Begun as begun
 use Rattle.vm_hosts.proofs.Dues.{acted_few, acted_room, acting_ready, front_fits, front_room, other_dues}
 use Rattle.vm_hosts.proofs.Rooms.{all_rooms, on_err, queued_rooms}
 use Rattle.vm_hosts.proofs.Tables.{found}
-use Rattle.vm_hosts.proofs.Taking.{changed_went, ends_went, locked_went, paid_went, passed_on, taken_follows, taken_rests, taken_turns, zeroed_went}
+use Rattle.vm_hosts.proofs.Taking.{changed_went, destroyed_went, ends_went, locked_went, paid_went, passed_on, taken_follows, taken_rests, taken_turns}
+use Rattle.vm_hosts.proofs.Taking.{zeroed_went}
+use Rattle.std.specs.Prelude.{true, ℕ, ◌≡◌}
+use Rattle.vm_kernel.specs.Destroying.{MayDestroy, is_destroy}
 use Rattle.vm_kernel.specs.Rooms.{word_breadth}
 use Rattle.vm_hosts.proofs.hosts.Hosts.hear.Goals as goal
 
@@ -19,7 +22,14 @@ take-requires g c =
       at.rests,
       (
         c.requires.1.1.1.0 ∙ ap (λ z. event.Taken (Down (host_id z) c.args.object c.args.control) c.args.message.now ∷ []) (sym at.number),
-        (c.requires.1.1.1.1.0, c.requires.1.1.1.1.1.1.0),
+        (
+          c.requires.1.1.1.1.0,
+          (
+            subst (λ (z : ℕ). is_destroy c.args.message.now ≡ true → MayDestroy given.header z c.args.object.0 given.past) (sym at.number)
+                c.requires.1.1.1.1.1.1.1.1,
+            c.requires.1.1.1.1.1.1.0,
+          ),
+        ),
       ),
     )
 
@@ -31,7 +41,7 @@ serve_all-requires g c =
     let h = c.args.host.0 in
     let k = c.index_mut.result.now in
     let at = found given.header hosts given.past h k all c.requires.1.1.0 c.index_mut.ensures.value in
-    let some = c.requires.1.1.1.1.1.1.1 in
+    let some = c.requires.1.1.1.1.1.1.1.0 in
     let ready : IsReady (Some c.args.host) (word_breadth c.args.message.now) some.0 hosts c.args.log.now.room = subst
     (λ (z : HostTable). IsReady (Some c.args.host) (word_breadth c.args.message.now) some.0 z c.args.log.now.room) (sym c.self.view_is) some.1 in
     let passed = subst (λ z. begun.Passed given.header z given.outside given.command (given.front ++ given.past) c.take.new.self c.take.new.ids
@@ -83,6 +93,11 @@ returns-clause-changed g c =
     changed_went g.given.header g.given.outside g.given.command (g.given.front ++ g.given.past) c.take.new.log.items c.serve_all.new.log.items
     c.serve_all.new.self c.serve_all.ensures.went c.in_ok-take.ensures.changed
 
+pub returns-clause-destroyed : goal.returns-clause-destroyed
+returns-clause-destroyed g c =
+    destroyed_went g.given.header g.given.outside g.given.command (g.given.front ++ g.given.past) c.take.new.log.items c.serve_all.new.log.items
+    c.serve_all.new.self c.serve_all.ensures.went c.in_ok-take.ensures.destroyed
+
 pub returns-clause-ended : goal.returns-clause-ended
 returns-clause-ended g c =
     let given = g.given in
@@ -119,7 +134,7 @@ returns-in_err-take-clause-err g c =
     let h = c.args.host.0 in
     let k = c.index_mut.result.now in
     let at = found given.header hosts given.past h k all c.requires.1.1.0 c.index_mut.ensures.value in
-    let some = c.requires.1.1.1.1.1.1.1 in
+    let some = c.requires.1.1.1.1.1.1.1.0 in
     let ready : IsReady (Some c.args.host) (word_breadth c.args.message.now) some.0 hosts c.args.log.now.room = subst
     (λ (z : HostTable). IsReady (Some c.args.host) (word_breadth c.args.message.now) some.0 z c.args.log.now.room) (sym c.self.view_is) some.1 in
     let failed = c.in_err-take.ensures.err (acting_ready c.args.host hosts c.take.new.self k c.take.new.ids at.at (word_breadth c.args.message.now) some.0

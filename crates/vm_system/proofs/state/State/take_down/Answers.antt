@@ -9,7 +9,7 @@ use Rattle.vm_system.proofs.Following.{both_spares, same_all}
 use Rattle.vm_system.proofs.Roomed.{behind_all, fewer_room, may_roomed, on_err, room_for, roomed_files, roomed_pagers, spares_roomed, still_of, still_roomed}
 use Rattle.vm_system.proofs.Roomed.{still_taken}
 use Rattle.vm_system.proofs.Taken.{first_told, front_of, may_head, may_only, may_port, may_read, may_some, may_there}
-use Rattle.vm_system.proofs.TakenDown.{can_down, down_letter, down_licensed, spares_down, took_down}
+use Rattle.vm_system.proofs.TakenDown.{can_down, down_destroys, down_letter, down_licensed, spares_down, took_down}
 use Rattle.vm_system.proofs.state.State.take_down.Goals as goal
 
 pub head-requires : goal.head-requires
@@ -60,7 +60,10 @@ take-requires g c =
           letter.0,
           (
             letter.1,
-            (down_licensed given c.args.line c.args.number c.args.host c.args.object c.args.control m t may head, (may.stands.log, (ready.0, able))),
+            (
+              down_licensed given c.args.line c.args.number c.args.host c.args.object c.args.control m t may head,
+              (may.stands.log, ((ready.0, able), down_destroys given c.args.line c.args.number c.args.host c.args.object c.args.control m t may head)),
+            ),
           ),
         ),
       ),
@@ -153,7 +156,7 @@ returns-clause-took g c =
     let passed : HostsPart given.header given.outside given.command (event.Taken channel m ∷ given.past) new.hosts events = rw (two.hosts, one.hosts)
     e.passed in
     took_down given c.args.line c.args.number c.args.host c.args.object c.args.control m t new events may head passed e.failed e.zeroed e.locked e.changed
-    e.ended
+    e.destroyed e.ended
     (two.size ∙ one.size) (rw (two.pagers, one.pagers) refl) (rw (two.files, one.files) refl)
     (rw (two.declared, one.declared) refl) (two.server ∙ one.server) items c.commit_log.ensures.posts c.commit_log.ensures.log
 
