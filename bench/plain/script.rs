@@ -207,7 +207,7 @@ fn words_behind(words: &Words) -> Option<usize> {
 // How many words stand behind a message's word; as many as there are, where it is no message.
 fn words_said(words: &Words) -> usize {
     match words.words[3] {
-        b"unavailable" => 1,
+        b"unavailable" | b"destroy" => 1,
         b"ready" | b"error" => 2,
         b"attributes" => 3,
         b"supply" => 4,
@@ -397,6 +397,9 @@ impl<'a> Reader<'a> {
                 for most in [1, 3, 1] {
                     it.count(most)?;
                 }
+            }
+            b"destroy" => {
+                it.address()?;
             }
             _ => return Err(Fault::UnknownWord),
         }
