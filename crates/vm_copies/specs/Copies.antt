@@ -1,0 +1,64 @@
+-- The copy objects of a host, as contracts see them.
+use Rattle.std.specs.Prelude.{ℕ, ◌≡◌, ◌==◌, ◌&&◌, Bool, false, List, [], ◌∷◌, Option, Some, None, if◌then◌else◌, slice_index_or, IfSome, IsSomeAnd}
+use Rattle.vm_base.specs.declared.ids.ObjectId.{ObjectId}
+
+-- a copy object: whose copy it is, of how many pages, and which of them it has had of its own
+pub record CopyRow : Type 0 where
+  pub source : ObjectId
+  pub pages : ℕ
+  pub had : List Bool
+
+-- the newest copy object of each source, and the copy objects that live
+pub record CopyTable : Type 0 where
+  pub newest : List (ObjectId × ObjectId)
+  pub copies : List (ObjectId × CopyRow)
+
+-- what is kept of an object, None where nothing is
+abbrev pub among : {X : Type 0} → ℕ → List (ObjectId × X) → Option X
+among o [] = None
+among o (entry ∷ entries) = if entry.0.0 == o then Some entry.1 else among o entries
+
+-- the newest copy object of a source, None where none lives
+abbrev pub newest_at : CopyTable → ℕ → Option ObjectId
+newest_at table s = among s table.newest
+
+-- the row of a copy object, None where it doesn't live
+abbrev pub copy_at : CopyTable → ℕ → Option CopyRow
+copy_at table c = among c table.copies
+
+abbrev pub had_in : Option CopyRow → ℕ → Bool
+had_in None p = false
+had_in (Some row) p = slice_index_or row.had p false
+
+-- a copy object has had a page; false where there is no such copy object or page
+abbrev pub had_at : CopyTable → ℕ → ℕ → Bool
+had_at table c p = had_in (copy_at table c) p
+
+-- the same, but none where it is this copy object
+abbrev pub other_than : ℕ → Option ObjectId → Option ObjectId
+other_than c None = None
+other_than c (Some newest) = if newest.0 == c then None else Some newest
+
+-- it lives, and is a copy of this source
+abbrev pub IsCopyOf : ℕ → Option CopyRow → Type 0
+IsCopyOf s row = IsSomeAnd row (λ row. row.source.0 ≡ s)
+
+-- each source's newest lives, and is a copy of that source
+pub record AreNewest (table : CopyTable) : Type 0 where
+  pub at : (s : ℕ) → IfSome (newest_at table s) (λ c. IsCopyOf s (copy_at table c.0))
+
+-- this is the row of one copy object now, or it doesn't live, and each other is as it was
+pub record PutsCopy (copy : ℕ) (row : Option CopyRow) (old new : CopyTable) : Type 0 where
+  pub at : (c : ℕ) → copy_at new c ≡ (if copy == c then row else copy_at old c)
+
+-- this is the newest of one source now, or it has none, and each other source has what it had
+pub record PutsNewest (source : ℕ) (newest : Option ObjectId) (old new : CopyTable) : Type 0 where
+  pub at : (s : ℕ) → newest_at new s ≡ (if source == s then newest else newest_at old s)
+
+-- one copy object has had one page or not now, and all else is as it was
+pub record PutsHad (copy page : ℕ) (b : Bool) (old new : CopyTable) : Type 0 where
+  pub at : (c p : ℕ) → had_at new c p ≡ (if (copy == c) && (page == p) then b else had_at old c p)
+
+-- one copy object has had no page, and each other those that it had
+pub record ClearsHad (copy : ℕ) (old new : CopyTable) : Type 0 where
+  pub at : (c p : ℕ) → had_at new c p ≡ (if copy == c then false else had_at old c p)
