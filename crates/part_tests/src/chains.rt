@@ -199,3 +199,92 @@ fn merged(rt: HostRuntime) -> Result<(), Fail> {
     shows(&rt, depth(&chains, FIRST) == 1);
     Ok(())
 }
+
+// An object to which nothing refers stands on another.
+fn stand(chains: &mut Chains, object: ObjectId, under: ObjectId) -> Result<(), Fail> {
+    if object == under || object.0 > 100 || under.0 > 100 {
+        return Err(Fail::from("other objects"));
+    }
+    if chains.backing(object).is_some() || chains.references(object) != 0 {
+        return Err(Fail::from("no new object"));
+    }
+    chains.stand(object, under)?;
+    Ok(())
+}
+
+// An object stands on a newer one, to which nothing refers, over the same file.
+fn rebase(chains: &mut Chains, older: ObjectId, newer: ObjectId) -> Result<(), Fail> {
+    let Some(row) = chains.backing(newer) else {
+        return Err(Fail::from("no copy object"));
+    };
+    if row.shift != 0 || chains.backing(older) != Some(row) {
+        return Err(Fail::from("over another object"));
+    }
+    if older == newer || chains.references(newer) != 0 {
+        return Err(Fail::from("no newer object"));
+    }
+    chains.rebase(older, newer);
+    Ok(())
+}
+
+const FILE: ObjectId = ObjectId(9);
+
+const OLDER: ObjectId = ObjectId(10);
+
+const NEWER: ObjectId = ObjectId(11);
+
+const NEWEST: ObjectId = ObjectId(12);
+
+// Two copy objects stand on the file.
+fn two_copies(alloc: Global) -> Result<Chains, Fail> {
+    let ids = Ids {
+        next_object: 10,
+        next_region: 6,
+        marks: 0,
+    };
+    let mut chains = first(alloc, ids)?;
+    stand(&mut chains, OLDER, FILE)?;
+    stand(&mut chains, NEWER, FILE)?;
+    Ok(chains)
+}
+
+#[test]
+fn stood(rt: HostRuntime) -> Result<(), Fail> {
+    let chains = two_copies(rt.alloc())?;
+    let row = ShadowRow {
+        under: FILE,
+        shift: 0,
+    };
+    shows(&rt, chains.backing(NEWER) == Some(row));
+    shows(&rt, chains.sole_shadow(FILE).is_none());
+    shows(&rt, chains.references(FILE) == 3);
+    Ok(())
+}
+
+#[test]
+fn rebased(rt: HostRuntime) -> Result<(), Fail> {
+    let mut chains = two_copies(rt.alloc())?;
+    rebase(&mut chains, OLDER, NEWER)?;
+    let row = ShadowRow {
+        under: NEWER,
+        shift: 0,
+    };
+    shows(&rt, chains.backing(OLDER) == Some(row));
+    shows(&rt, chains.sole_shadow(NEWER) == Some(OLDER));
+    shows(&rt, chains.sole_shadow(FILE) == Some(NEWER));
+    shows(&rt, chains.references(FILE) == 2);
+    Ok(())
+}
+
+#[test]
+fn rebased_again(rt: HostRuntime) -> Result<(), Fail> {
+    let mut chains = two_copies(rt.alloc())?;
+    rebase(&mut chains, OLDER, NEWER)?;
+    // A third one comes under both.
+    stand(&mut chains, NEWEST, FILE)?;
+    rebase(&mut chains, NEWER, NEWEST)?;
+    shows(&rt, chains.sole_shadow(NEWER) == Some(OLDER));
+    shows(&rt, chains.sole_shadow(NEWEST) == Some(NEWER));
+    shows(&rt, chains.sole_shadow(FILE) == Some(NEWEST));
+    Ok(())
+}

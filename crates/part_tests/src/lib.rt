@@ -7,6 +7,8 @@ mod answers;
 #[cfg(test)]
 mod chains;
 #[cfg(test)]
+mod copies;
+#[cfg(test)]
 mod frames;
 #[cfg(test)]
 mod holding;

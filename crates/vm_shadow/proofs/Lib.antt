@@ -1,7 +1,9 @@
 mod Counts
 mod Overs
+mod Places
 pub mod Ranks
 pub mod Sole
+mod Sums
 mod Tables
 mod Tallying
 mod Weights

@@ -50,6 +50,10 @@ tally_put old new object row write written at o = by (object == o) refl
 pub tally_found : (table : TallyTable) (o : ℕ) (tally : Tally) → lookup (λ id. o == id.0) table.rows ≡ Some tally → tally_at table o ≡ tally
 tally_found table o tally is = rw is refl
 
+-- and where none is, nothing is tallied
+pub tally_missing : (table : TallyTable) (o : ℕ) → lookup (λ id. o == id.0) table.rows ≡ None → tally_at table o ≡ no_tally
+tally_missing table o is = rw is refl
+
 -- where no entry stands on the object, their numbers have the sum 0
 none_stands : (o : ℕ) (es : List (ObjectId × ShadowRow)) → count_by (stands o) es ≡ 0 → sum_by (number o) es ≡ 0
 none_stands o [] none = refl
@@ -172,6 +176,23 @@ module _ (tallies : ℕ → Tally) (shadows : List (ObjectId × ShadowRow)) (t :
   sole_number : (o : ℕ) (shadow : ℕ) (row : ShadowRow) → (tallies o).count ≡ 1 → lookup (λ id. shadow == id.0) shadows ≡ Some row → row.under.0 ≡ o
       → shadow ≡ (tallies o).sum
   sole_number o shadow row single found under = sym ((has_number (record { 0 = shadow }) row o found under).last single)
+
+  -- where two shadows stand on it, more than one is counted
+  pub two_stand : (o a b : ℕ) (row other : ShadowRow) → a ≢ b → lookup (λ id. a == id.0) shadows ≡ Some row → lookup (λ id. b == id.0) shadows ≡ Some other
+      → row.under.0 ≡ o → other.under.0 ≡ o → 1 < (tallies o).count
+  two_stand o a b row other apart found also under too =
+      let has = has_number (record { 0 = a }) row o found under in
+      elim (ℕ_discrete (tallies o).count 1) [
+        | yes single ↦ absurd (apart (sole_number o a row single found under ∙ sym (sole_number o b other single also too)))
+        | no several ↦ let some = has.some in omega (arith, some, several)
+      ]
+
+  -- where none does, none is counted
+  pub none_over : (o : ℕ) → ((q : ℕ) (row : ShadowRow) → lookup (λ id. q == id.0) shadows ≡ Some row → row.under.0 ≢ o) → tallies o ≡ no_tally
+  none_over o bare = elim (ℕ_discrete (count_by (stands o) shadows) 0) [
+    | yes none ↦ tally_is (tallies o) 0 0 (count_told o ∙ none) (sum_told o ∙ none_stands o shadows none)
+    | no some ↦ let s = some_stands o shadows t.unique (omega (arith, some)) in absurd (bare s.shadow s.row s.found s.under)
+  ]
 
   sole_stands : (o : ℕ) → (tallies o).count ≡ 1 → Stands o shadows
   sole_stands o single = some_stands o shadows t.unique (omega (arith, single, count_told o))

@@ -1,5 +1,6 @@
 -- A rank falls along each chain, so each ends.
-use Rattle.std.proofs.Common.{◌≡◌, ◌≢◌, ◌∙◌, sym, subst, ap, ℕ, zero, suc, ◌+◌, ◌<◌, ◌≤◌, ◌==◌, true, false, Bool, List, [], ◌∷◌, length, Option, Some, None}
+use Rattle.std.proofs.Common.{◌≡◌, ◌≢◌, ◌∙◌, sym, subst, ap, ℕ, zero, suc, ◌+◌, ◌-◌, ◌*◌, ◌<◌, ◌≤◌, ◌==◌, ◌^◌, true, false, Bool}
+use Rattle.std.proofs.Common.{List, [], ◌∷◌, length, Option, Some, None}
 use Rattle.std.proofs.Common.{IsSome, IfSome, ◌||◌, eqb, if◌then◌else◌, arith, refl}
 use Rattle.std.proofs.lemmas.Bool.Decides.{nat_tests}
 use Rattle.std.proofs.lemmas.Cmp.{nat_eq_equiv}
@@ -10,16 +11,13 @@ use Rattle.std.specs.Map.{lookup}
 use Rattle.std.proofs.lemmas.Bool.{cond-false, cond-true, eq-eqb, ne_eqb}
 use native.Mathlib.Decide.{ℕ_discrete}
 use Rattle.vm_base.specs.declared.ids.ObjectId.{ObjectId}
-use Rattle.vm_shadow.specs.Chains.{ChainTable, IsRanked, ObjectsBelow, height, height_within, shadow_at}
+use Rattle.vm_shadow.specs.Chains.{BacksNone, ChainTable, IsRanked, height, height_within, shadow_at}
+use Rattle.vm_shadow.specs.Kept.{HasLowNumbers}
 use Rattle.vm_shadow.specs.declared.shadow_row.ShadowRow.{ShadowRow}
 
--- where there is no shadow each rank serves, and no chain goes further
+-- where there is no shadow each rank serves
 pub ranked_none : (table : ChainTable) → ((o : ℕ) → shadow_at table o ≡ None) → IsRanked table
 ranked_none table none = record { rank = λ o. o; under = λ o row is. absurd (let bad : None ≡ Some row = sym (none o) ∙ is in cc) }
-
-pub height_none : (at : ℕ → Option ShadowRow) → ((o : ℕ) → at o ≡ None) → (n o : ℕ) → height_within at n o ≡ 0
-height_none at none zero o = refl
-height_none at none (suc n) o = let here : at o ≡ None = none o in rw here refl
 
 -- where no shadow is new a rank falls still
 pub ranked_fewer : (old new : ChainTable) → ((o : ℕ) (row : ShadowRow) → shadow_at new o ≡ Some row → shadow_at old o ≡ Some row) → IsRanked old → IsRanked new
@@ -66,35 +64,6 @@ ranked_over old new object row at other unders r =
     rank : ℕ → ℕ
     rank = λ o. if object == o then r.rank row.under.0 + 1 else r.rank o
 
--- where no shadow is new no chain is longer
-pub height_fewer : (old new : ℕ → Option ShadowRow) → ((o : ℕ) (row : ShadowRow) → new o ≡ Some row → old o ≡ Some row)
-    → (n o : ℕ) → height_within new n o ≤ height_within old n o
-height_fewer old new was zero o = omega arith
-height_fewer old new was (suc n) o = by (height_fewer old new was n) (new o) refl
-  where
-    by : ((low : ℕ) → height_within new n low ≤ height_within old n low) → (x : Option ShadowRow) → new o ≡ x
-        → height_within new (suc n) o ≤ height_within old (suc n) o
-    by further None is = rw is (omega arith)
-    by further (Some row) is =
-        let before : old o ≡ Some row = was o row is in
-        let less = further row.under.0 in
-        rw (is, before) (omega (arith, less))
-
--- what is followed further is no shorter
-height_more : (at : ℕ → Option ShadowRow) (n o : ℕ) → height_within at n o ≤ height_within at (suc n) o
-height_more at zero o = omega arith
-height_more at (suc n) o = by (height_more at n) (at o) refl
-  where
-    by : ((low : ℕ) → height_within at n low ≤ height_within at (suc n) low) → (x : Option ShadowRow) → at o ≡ x
-        → height_within at (suc n) o ≤ height_within at (suc (suc n)) o
-    by further None is = rw is (omega arith)
-    by further (Some row) is = let less = further row.under.0 in rw is (omega (arith, less))
-
--- two steps for each
-abbrev pub twice : ℕ → ℕ
-twice zero = 0
-twice (suc n) = suc (suc (twice n))
-
 -- a shadow over a shadow stands on what that one stands on, and all others stand as they stood: a rank falls still
 pub ranked_merged : (old new : ChainTable) (upper : ℕ) (up low row : ShadowRow) → shadow_at old upper ≡ Some up → shadow_at old up.under.0 ≡ Some low
     → row.under.0 ≡ low.under.0 → shadow_at new upper ≡ Some row
@@ -111,34 +80,45 @@ ranked_merged old new upper up low row over below number put others r = record {
   ];
 }
 
--- and no chain is longer
-pub height_merged : (old new : ℕ → Option ShadowRow) (upper : ℕ) (up low row : ShadowRow) → old upper ≡ Some up → old up.under.0 ≡ Some low
-    → row.under.0 ≡ low.under.0 → new upper ≡ Some row → ((o : ℕ) (s : ShadowRow) → upper ≢ o → new o ≡ Some s → old o ≡ Some s)
-    → (n o : ℕ) → height_within new n o ≤ height_within old (twice n) o
-height_merged old new upper up low row over below number put others zero o = omega arith
-height_merged old new upper up low row over below number put others (suc n) o =
-    by (height_merged old new upper up low row over below number put others n) (new o) refl
+-- a shadow comes to stand on another over the same object: all ranks are doubled, and that one comes between
+pub ranked_rebased : (old new : ChainTable) (older newer : ℕ) (row put : ShadowRow) → shadow_at old older ≡ Some row → shadow_at old newer ≡ Some row
+    → put.under.0 ≡ newer → older ≢ newer → BacksNone newer old
+    → ((o : ℕ) → shadow_at new o ≡ (if older == o then Some put else shadow_at old o)) → IsRanked old → IsRanked new
+ranked_rebased old new older newer row put over_old over_new under other bare at r =
+    record {
+      rank = rank;
+      under = λ o s is. elim (ℕ_discrete older o) [
+        | yes same ↦
+            let its : s ≡ put = one_row (shadow_at new o) s put is (at o ∙ cond-true (older == o) (Some put) (shadow_at old o) (eq-eqb older o same)) in
+            let low : rank s.under.0 ≡ rank newer = ap (λ (z : ShadowRow). rank z.under.0) its ∙ ap rank under in
+            let high : rank o ≡ rank older = ap rank (sym same) in
+            omega (arith, low, high, between, elsewhere older (λ e. other (sym e)), r.under older row over_old)
+        | no apart ↦
+            let was : shadow_at old o ≡ Some s = sym (at o ∙ cond-false (older == o) (Some put) (shadow_at old o) (ne_eqb older o apart)) ∙ is in
+            kept o s was (elsewhere s.under.0 (λ e. bare o s was (sym e)))
+      ];
+    }
   where
-    by : ((q : ℕ) → height_within new n q ≤ height_within old (twice n) q) → (x : Option ShadowRow) → new o ≡ x
-        → height_within new (suc n) o ≤ height_within old (suc (suc (twice n))) o
-    by further None is = let none : height_within new (suc n) o ≡ 0 = rw is refl in omega (arith, none)
-    by further (Some s) is = elim (ℕ_discrete upper o) [
+    rank : ℕ → ℕ
+    rank = λ o. if newer == o then r.rank row.under.0 * 2 + 1 else r.rank o * 2
+
+    between : rank newer ≡ r.rank row.under.0 * 2 + 1
+    between = cond-true (newer == newer) (r.rank row.under.0 * 2 + 1) (r.rank newer * 2) (eq-eqb newer newer refl)
+
+    elsewhere : (o : ℕ) → newer ≢ o → rank o ≡ r.rank o * 2
+    elsewhere o apart = cond-false (newer == o) (r.rank row.under.0 * 2 + 1) (r.rank o * 2) (ne_eqb newer o apart)
+
+    kept : (o : ℕ) (s : ShadowRow) → shadow_at old o ≡ Some s → rank s.under.0 ≡ r.rank s.under.0 * 2 → rank s.under.0 < rank o
+    kept o s was low = elim (ℕ_discrete newer o) [
       | yes same ↦
-          let its : row ≡ s = one_row (new upper) row s put (ap new same ∙ is) in
-          let one : height_within new (suc n) o ≡ suc (height_within new n s.under.0) = rw is refl in
-          let there : old o ≡ Some up = ap old (sym same) ∙ over in
-          let two : height_within old (suc (suc (twice n))) o ≡ suc (suc (height_within old (twice n) low.under.0)) = rw there (rw below refl) in
-          let under : height_within old (twice n) s.under.0 ≡ height_within old (twice n) low.under.0
-          = ap (height_within old (twice n)) (sym (ap (λ (z : ShadowRow). z.under.0) its) ∙ number) in
-          omega (arith, one, two, under, further s.under.0)
-      | no apart ↦
-          let was = others o s apart is in
-          let less = further s.under.0 in
-          let more = height_more old (twice n) s.under.0 in
-          rw (is, was) (omega (arith, less, more))
+          let its : s ≡ row = one_row (shadow_at old o) s row was (ap (shadow_at old) (sym same) ∙ over_new) in
+          let base : r.rank s.under.0 ≡ r.rank row.under.0 = ap (λ (z : ShadowRow). r.rank z.under.0) its in
+          let high : rank o ≡ rank newer = ap rank (sym same) in
+          omega (arith, low, base, high, between)
+      | no apart ↦ omega (arith, low, elsewhere o apart, r.under o s was)
     ]
 
--- nor does any go further than it is followed
+-- no chain goes further than it is followed
 pub height_most : (at : ℕ → Option ShadowRow) (n o : ℕ) → height_within at n o ≤ n
 height_most at zero o = omega arith
 height_most at (suc n) o = by (height_most at n) (at o) refl
@@ -285,27 +265,9 @@ module _ (table : ChainTable) (r : IsRanked table) where
         by None is = let none : height_within (shadow_at table) (suc n) o ≡ 0 = rw is refl in omega (arith, some, none)
         by (Some row) is = let few = height_below (suc n) o [] (none_passed o) (shadows o row is) in omega (arith, few)
 
--- where a new shadow has the next number, no chain has more objects than have numbers
-pub few_over : (old new : ChainTable) (next : ℕ) (row : ShadowRow) → ObjectsBelow next old → row.under.0 < next
-    → ((o : ℕ) → shadow_at new o ≡ (if next == o then Some row else shadow_at old o)) → IsRanked new → (n o : ℕ)
-    → height_within (shadow_at new) n o + 1 ≤ next + 1
-few_over old new next row below less at ranked n o = height_few new ranked (next + 1) shadows unders (omega arith) n o
-  where
-    shadows : (q : ℕ) (s : ShadowRow) → shadow_at new q ≡ Some s → q < next + 1
-    shadows q s is = elim (ℕ_discrete next q) [
-      | yes same ↦ omega (arith, same)
-      | no apart ↦
-          let was = below.shadows q s (sym (at q ∙ cond-false (next == q) (Some row) (shadow_at old q) (ne_eqb next q apart)) ∙ is) in
-          omega (arith, was)
-    ]
-
-    unders : (q : ℕ) (s : ShadowRow) → shadow_at new q ≡ Some s → s.under.0 < next + 1
-    unders q s is = elim (ℕ_discrete next q) [
-      | yes same ↦
-          let its : s ≡ row = one_row (shadow_at new q) s row is (at q ∙ cond-true (next == q) (Some row) (shadow_at old q) (eq-eqb next q same)) in
-          let number = ap (λ (z : ShadowRow). z.under.0) its in
-          omega (arith, number, less)
-      | no apart ↦
-          let was = below.unders q s (sym (at q ∙ cond-false (next == q) (Some row) (shadow_at old q) (ne_eqb next q apart)) ∙ is) in
-          omega (arith, was)
-    ]
+-- no chain has more objects than there are low numbers
+pub low_few : (table : ChainTable) → IsRanked table → HasLowNumbers table → (n o : ℕ) → height_within (shadow_at table) n o + 1 < 2 ^ 32
+low_few table ranked low n o =
+    let few = height_few table ranked (2 ^ 32 - 1) (λ q row is. let small = (low q row is).0 in omega (arith, small))
+    (λ q row is. let small = (low q row is).1 in omega (arith, small)) (omega arith) n o in
+    omega (arith, few)

@@ -8,7 +8,7 @@ use Rattle.std.specs.Prelude.{if◌then◌else◌}
 use Rattle.vm_base.specs.declared.ids.ObjectId.{ObjectId}
 use Rattle.vm_base.specs.declared.ids.RegionId.{RegionId}
 use Rattle.vm_shadow.proofs.Tables.{row_told, same_row}
-use Rattle.vm_shadow.specs.Chains.{ChainTable, IsOnlyShadow, IsOnlyTop, references_in, region_at, shadow_at}
+use Rattle.vm_shadow.specs.Chains.{BacksNone, ChainTable, IsOnlyShadow, IsOnlyTop, references_in, region_at, shadow_at}
 use Rattle.vm_shadow.specs.declared.region_row.RegionRow.{RegionRow}
 use Rattle.vm_shadow.specs.declared.shadow_row.ShadowRow.{ShadowRow}
 
@@ -90,6 +90,12 @@ apart_keys n m k apart one two =
     let first : n ≡ k = grind (arith, nat_tests) in
     let second : m ≡ k = grind (arith, nat_tests) in
     apart (first ∙ sym second)
+
+-- where no reference to an object is counted, none stands on it
+pub backs_none : (table : ChainTable) (object : ℕ) → references_in table object ≡ 0 → BacksNone object table
+backs_none table object none = λ o shadow is also.
+    let more = row_counted (λ (id : ObjectId). o == id.0) (stands object) table.shadows shadow is (passes_test shadow.under.0 object also) in
+    omega (arith, none, more)
 
 -- the region over an object of which one reference is counted is that reference
 pub only_top : (table : ChainTable) (region object : ℕ) (row : RegionRow) → references_in table object ≡ 1 → region_at table region ≡ Some row

@@ -1,13 +1,15 @@
 -- What regions and shadows are after a write.
-use Rattle.std.proofs.Common.{◌≡◌, ◌≢◌, ◌∙◌, sym, ap, subst, ℕ, ◌+◌, ◌<◌, ◌≤◌, ◌==◌, true, false, Option, Some, None, if◌then◌else◌, IfSome, IsSome, IsSomeAnd}
+use Rattle.std.proofs.Common.{◌≡◌, ◌≢◌, ◌∙◌, sym, ap, subst, ℕ, ◌+◌, ◌<◌, ◌≤◌, ◌==◌, ◌^◌, true, false, Option, Some, None, if◌then◌else◌}
+use Rattle.std.proofs.Common.{IfSome, IsSome, IsSomeAnd}
 use Rattle.std.proofs.Common.{arith, refl}
 use Rattle.std.proofs.lemmas.Bool.Decides.{nat_tests}
 use Rattle.std.specs.Map.{lookup}
-use Rattle.std.proofs.lemmas.Bool.{cond-false, ne_eqb}
+use Rattle.std.proofs.lemmas.Bool.{cond-false, cond-true, eq-eqb, ne_eqb}
+use native.Mathlib.Decide.{ℕ_discrete}
 use Rattle.vm_base.specs.declared.ids.ObjectId.{ObjectId}
-use Rattle.vm_shadow.proofs.Ranks.{dropped_was, height_fewer, height_merged, ranked_dropped, ranked_merged, ranked_same, twice}
+use Rattle.vm_shadow.proofs.Ranks.{dropped_was, ranked_dropped, ranked_merged, ranked_same}
 use Rattle.vm_shadow.specs.Chains.{ChainTable, CopiesRegion, IsDeep, IsRanked, MergesShadow, Over, PutsRegion, RegionsBelow, copy_of, region_at, shadow_at}
-use Rattle.vm_shadow.specs.Kept.{AreKept, AreTallied, count_marked}
+use Rattle.vm_shadow.specs.Kept.{AreKept, AreTallied, HasLowNumbers, count_marked}
 use Rattle.vm_shadow.specs.declared.region_row.RegionRow.{RegionRow}
 use Rattle.vm_shadow.specs.declared.shadow_row.ShadowRow.{ShadowRow}
 use Rattle.vm_shadow.specs.declared.tally.Tally.{Tally}
@@ -56,6 +58,23 @@ region_copied old mid new source copy offset pages row found below is put there 
     = λ r. rw (← same) (grind (arith, nat_tests, marks.at r, put.at r, other)) in
     record { at = at; shadows = marks.shadows ∙ put.shadows }
 
+-- numbers stay low where a shadow with a low one comes over an object with a low one, and each other was there before
+pub low_put : (old new : ChainTable) (object : ℕ) (row : ShadowRow) → object + 1 < 2 ^ 32 → row.under.0 + 1 < 2 ^ 32 → shadow_at new object ≡ Some row
+    → ((o : ℕ) (s : ShadowRow) → object ≢ o → shadow_at new o ≡ Some s → shadow_at old o ≡ Some s) → HasLowNumbers old → HasLowNumbers new
+low_put old new object row small under put others low = λ o s is. elim (ℕ_discrete object o) [
+  | yes same ↦
+      let number = ap (λ (z : ShadowRow). z.under.0) (same_row (shadow_at new object) row s put (ap (shadow_at new) same ∙ is)) in
+      (omega (arith, small, same), omega (arith, under, number))
+  | no apart ↦ low o s (others o s apart is)
+]
+
+-- so they do where just that row was written
+pub low_at : (old new : ChainTable) (object : ℕ) (row : ShadowRow) → object + 1 < 2 ^ 32 → row.under.0 + 1 < 2 ^ 32
+    → ((o : ℕ) → shadow_at new o ≡ (if object == o then Some row else shadow_at old o)) → HasLowNumbers old → HasLowNumbers new
+low_at old new object row small under at low =
+    low_put old new object row small under (at object ∙ cond-true (object == object) (Some row) (shadow_at old object) (eq-eqb object object refl))
+    (λ o s apart is. sym (at o ∙ cond-false (object == o) (Some row) (shadow_at old o) (ne_eqb object o apart)) ∙ is) low
+
 -- tables with the same rows are kept alike
 pub kept_same : (tallies next : ℕ → Tally) (old new : ChainTable) → new.regions ≡ old.regions → new.shadows ≡ old.shadows → new.marked ≡ old.marked
     → next ≡ tallies → AreKept tallies old → AreKept next new
@@ -63,10 +82,7 @@ kept_same tallies next old new regions shadows marked told kept =
     let rows : (o : ℕ) → shadow_at new o ≡ shadow_at old o = λ o. ap (λ z. lookup (λ id. o == id.0) z) shadows in
     record {
       ranked = ranked_same old new rows kept.ranked;
-      few = λ n o.
-          let less = height_fewer (shadow_at old) (shadow_at new) (λ q row is. sym (rows q) ∙ is) n o in
-          let was = kept.few n o in
-          omega (arith, less, was);
+      low = λ o row is. kept.low o row (sym (rows o) ∙ is);
       count = marked ∙ (kept.count ∙ ap count_marked (sym regions));
       tallied = rw (told, shadows) kept.tallied;
     }
@@ -78,10 +94,7 @@ pub kept_dropped : (tallies next : ℕ → Tally) (old new : ChainTable) (object
 kept_dropped tallies next old new object at regions marked tallied kept =
     record {
       ranked = ranked_dropped old new object at kept.ranked;
-      few = λ n o.
-          let less = height_fewer (shadow_at old) (shadow_at new) (dropped_was old new object at) n o in
-          let was = kept.few n o in
-          omega (arith, less, was);
+      low = λ o row is. kept.low o row (dropped_was old new object at o row is);
       count = marked ∙ (kept.count ∙ ap count_marked (sym regions));
       tallied = tallied;
     }
@@ -128,7 +141,7 @@ merged_over old new mid upper lower up low there taken put regions = record {
   regions = regions;
 }
 
--- where an object is merged into its shadow a rank falls still, and no chain is longer
+-- where an object is merged into its shadow a rank falls still
 pub kept_merged : (tallies next : ℕ → Tally) (old new : ChainTable) (upper lower : ℕ) (up low row : ShadowRow) → shadow_at old upper ≡ Some up
     → up.under.0 ≡ lower
     → shadow_at old lower ≡ Some low → row.under ≡ low.under
@@ -142,10 +155,7 @@ kept_merged tallies next old new upper lower up low row over is there under at r
     let number : row.under.0 ≡ low.under.0 = ap (λ (z : ObjectId). z.0) under in
     record {
       ranked = ranked_merged old new upper up low row over below number put others kept.ranked;
-      few = λ n o.
-          let less = height_merged (shadow_at old) (shadow_at new) upper up low row over below number put others n o in
-          let was = kept.few (twice n) o in
-          omega (arith, less, was);
+      low = low_put old new upper row (kept.low upper up over).0 (let small = (kept.low lower low there).1 in omega (arith, small, number)) put others kept.low;
       count = marked ∙ (kept.count ∙ ap count_marked (sym regions));
       tallied = tallied;
     }

@@ -1,5 +1,5 @@
 -- The tallies stay those of the shadows where shadows are written, and no count or sum is too great.
-use Rattle.std.proofs.Common.{◌≡◌, ◌∙◌, sym, ap, subst, ℕ, suc, ◌+◌, ◌*◌, ◌<◌, ◌≤◌, ◌==◌, ◌^◌, Bool, true, false, List, [], ◌∷◌, length, Some, None}
+use Rattle.std.proofs.Common.{◌≡◌, ◌≢◌, ◌∙◌, sym, ap, subst, ℕ, suc, ◌+◌, ◌-◌, ◌*◌, ◌<◌, ◌≤◌, ◌==◌, ◌^◌, Bool, true, false, List, [], ◌∷◌, length, Some, None}
 use Rattle.std.proofs.Common.{if◌then◌else◌}
 use Rattle.std.proofs.Common.{◌||◌, IsSomeAnd, Option, eqb, arith, refl}
 use Rattle.std.proofs.lemmas.Bool.Decides.{nat_tests}
@@ -129,6 +129,37 @@ tallied_merged tallies between next old mid new upper lower up low row there tak
             tally_is (next o) _ _ (omega (arith, ap (λ (z : Tally). z.count) first, ap (λ (z : Tally). z.count) second, counts, more))
             (omega (arith, ap (λ (z : Tally). z.sum) first, ap (λ (z : Tally). z.sum) second, sums, greater))
 
+-- where one that stood on an object stands on another now
+pub tallied_moved : (tallies between next : ℕ → Tally) (old new : List (ObjectId × ShadowRow)) (object : ObjectId) (was row : ShadowRow)
+    → lookup (same_object object) old ≡ Some was → new ≡ set_value (same_object object) old row → was.under.0 ≢ row.under.0
+    → ((o : ℕ) → lookup (λ id. o == id.0) new ≡ (if object.0 == o then Some row else lookup (λ id. o == id.0) old))
+    → ((o : ℕ) → between o ≡ (if was.under.0 == o then without_shadow object.0 (tallies o) else tallies o))
+    → ((o : ℕ) → next o ≡ (if row.under.0 == o then with_shadow object.0 (between o) else between o)) → AreTallied tallies old → AreTallied next new
+tallied_moved tallies between next old new object was row there put apart at before told t =
+    record {
+      unique = rw put (rw (keys-set_value (same_object object) old row) t.unique);
+      numbers = numbers_kept old new object.0 (t.numbers object.0 was there) t.numbers (λ o s off is. sym (rw off at (at o)) ∙ is);
+      tally = λ o. written o (was.under.0 == o) (row.under.0 == o)
+          (λ p q. let one : was.under.0 ≡ o = grind (arith, nat_tests) in let two : row.under.0 ≡ o = grind (arith, nat_tests) in apart (one ∙ sym two))
+          (subst (λ (z : Tally). between o ≡ (if was.under.0 == o then without_shadow object.0 z else z)) (t.tally o) (before o))
+          (told o) (weighed_set (one o) old new object was row there put) (weighed_set (number o) old new object was row there put);
+    }
+  where
+    written : (o : ℕ) (a b : Bool) → (a ≡ true → b ≡ true → ⊥) → between o ≡ (if a then without_shadow object.0 (tally_of old o) else tally_of old o)
+        → next o ≡ (if b then with_shadow object.0 (between o) else between o)
+        → count_by (stands o) new + (if a then 1 else 0) ≡ count_by (stands o) old + (if b then 1 else 0)
+        → sum_by (number o) new + (if a then object.0 else 0) ≡ sum_by (number o) old + (if b then object.0 else 0) → next o ≡ tally_of new o
+    written o true true never first second counts sums = absurd (never refl refl)
+    written o true false never first second counts sums =
+        tally_is (next o) _ _ (omega (arith, ap (λ (z : Tally). z.count) first, ap (λ (z : Tally). z.count) second, counts))
+        (omega (arith, ap (λ (z : Tally). z.sum) first, ap (λ (z : Tally). z.sum) second, sums))
+    written o false true never first second counts sums =
+        tally_is (next o) _ _ (omega (arith, ap (λ (z : Tally). z.count) first, ap (λ (z : Tally). z.count) second, counts))
+        (omega (arith, ap (λ (z : Tally). z.sum) first, ap (λ (z : Tally). z.sum) second, sums))
+    written o false false never first second counts sums =
+        tally_is (next o) _ _ (omega (arith, ap (λ (z : Tally). z.count) first, ap (λ (z : Tally). z.count) second, counts))
+        (omega (arith, ap (λ (z : Tally). z.sum) first, ap (λ (z : Tally). z.sum) second, sums))
+
 -- the sum of numbers of 32 bits
 pub sum_most : (o : ℕ) (es : List (ObjectId × ShadowRow)) → IsDistinct same_object (keys_of es)
     → ((q : ℕ) (row : ShadowRow) → lookup (λ id. q == id.0) es ≡ Some row → q < 2 ^ 32) → sum_by (number o) es ≤ 4294967295 * count_by (stands o) es
@@ -209,6 +240,18 @@ made_fits tallies shadows next t below small o =
     let few = count_most o next shadows t.unique below in
     let most = sum_most o shadows t.unique t.numbers in
     (omega (arith, counts, few, small), omega (arith, counts, sums, few, most, small))
+
+-- or one with any low number is
+pub put_fits : (tallies : ℕ → Tally) (old new : List (ObjectId × ShadowRow)) (object : ObjectId) (row : ShadowRow) → AreTallied tallies old
+    → lookup (same_object object) old ≡ None → new ≡ insert_entry same_object old object row → IsDistinct same_object (keys_of new)
+    → ((q : ℕ) (s : ShadowRow) → lookup (λ id. q == id.0) new ≡ Some s → q + 1 < 2 ^ 32) → (tallies row.under.0).count + 1 < 2 ^ 32
+put_fits tallies old new object row t none is unique low =
+    let counts = count_told tallies old t row.under.0 in
+    let made = weighed_made (one row.under.0) old new object row none is in
+    let passes : stands row.under.0 (object, row) ≡ true = grind (arith, nat_tests) in
+    let adds : one row.under.0 (object, row) ≡ 1 = rw passes refl in
+    let few = count_most row.under.0 (2 ^ 32 - 1) new unique (λ q s found. let small = low q s found in omega (arith, small)) in
+    omega (arith, counts, made, adds, few)
 
 -- or a number of 32 bits comes in place of another
 pub merged_fits : (tallies : ℕ → Tally) (shadows : List (ObjectId × ShadowRow)) (upper : ℕ) → AreTallied tallies shadows → upper < 2 ^ 32 → (o : ℕ)

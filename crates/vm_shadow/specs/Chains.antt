@@ -61,6 +61,15 @@ pub record DropsShadow (object : ℕ) (old new : ChainTable) : Type 0 where
   pub at : (o : ℕ) → shadow_at new o ≡ (if object == o then None else shadow_at old o)
   pub regions : region_at new ≡ region_at old
 
+-- an object stands on this one now, without a shift; what stands under each other is as it was, and so is each region
+pub record Rebases (object : ℕ) (under : ObjectId) (old new : ChainTable) : Type 0 where
+  pub at : (o : ℕ) → shadow_at new o ≡ (if object == o then Some (record { under = under; shift = 0 }) else shadow_at old o)
+  pub regions : region_at new ≡ region_at old
+
+-- no object stands on this one
+abbrev pub BacksNone : ℕ → ChainTable → Type 0
+BacksNone object table = (o : ℕ) (row : ShadowRow) → shadow_at table o ≡ Some row → row.under.0 ≢ object
+
 -- how many regions have an object as their top, and how many objects it backs, in all
 abbrev pub references_in : ChainTable → ℕ → ℕ
 references_in table o =
@@ -69,7 +78,7 @@ references_in table o =
 -- the region is the one reference of an object: no other region has that as its top, and no object stands on it
 pub record IsOnlyTop (region object : ℕ) (table : ChainTable) : Type 0 where
   pub tops : (r : ℕ) (row : RegionRow) → region_at table r ≡ Some row → row.top.0 ≡ object → r ≡ region
-  pub bare : (o : ℕ) (row : ShadowRow) → shadow_at table o ≡ Some row → row.under.0 ≢ object
+  pub bare : BacksNone object table
 
 -- the shadow is the one reference of an object: no region has that as its top, and no other object stands on it
 pub record IsOnlyShadow (shadow object : ℕ) (table : ChainTable) : Type 0 where

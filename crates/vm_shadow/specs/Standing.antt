@@ -5,7 +5,7 @@ use Rattle.std.specs.Prelude.{ℕ, ◌≡◌, ◌+◌, ◌-◌, ◌<◌, ◌≤�
 use Rattle.vm_base.specs.declared.ids.ObjectId.{ObjectId}
 use Rattle.vm_shadow.specs.declared.tally.Tally.{Tally}
 
--- the tally of each object under some shadow, and how many further objects are tallied without memory
+-- the tally of each object under some shadow, and how many further shadows are tallied without memory
 pub record TallyTable : Type 0 where
   pub rows : List (ObjectId × Tally)
   pub spare : ℕ

@@ -1,11 +1,11 @@
 // The regions of a host, and the shadows under them.
 ghost use Rattle.std.specs.List.{count_by};
 ghost use Rattle.std.specs.Option.{option_map};
-ghost use Rattle.std.specs.Prelude.{ℕ, ◌≡◌, ◌+◌, ◌-◌, ◌==◌, ◌<◌, ◌≤◌, ◌^◌, min, Some, None, false, true, if◌then◌else◌, IfNone, IfOk, IfSome, IsOk, IsSome};
-ghost use Rattle.std.specs.Prelude.{IsSomeAnd};
+ghost use Rattle.std.specs.Prelude.{ℕ, ◌≡◌, ◌≢◌, ◌+◌, ◌-◌, ◌==◌, ◌<◌, ◌≤◌, ◌^◌, min, Some, None, false, true, if◌then◌else◌, IfNone, IfOk, IfSome, IsOk};
+ghost use Rattle.std.specs.Prelude.{IsSome, IsSomeAnd};
 ghost use Rattle.std.specs.Prelude.{OnErr, OnOk};
-ghost use Rattle.vm_shadow.specs.Chains.{CopiesRegion, DropsShadow, IsDeep, IsOnlyShadow, IsOnlyTop, IsRanked, ObjectsBelow, PutsRegion, RegionsBelow};
-ghost use Rattle.vm_shadow.specs.Chains.{SameChains, ShadowsRegion, StandsAlone};
+ghost use Rattle.vm_shadow.specs.Chains.{BacksNone, CopiesRegion, DropsShadow, IsDeep, IsOnlyShadow, IsOnlyTop, IsRanked, ObjectsBelow, PutsRegion};
+ghost use Rattle.vm_shadow.specs.Chains.{Rebases, RegionsBelow, SameChains, ShadowsRegion, StandsAlone};
 ghost use Rattle.vm_shadow.specs.Chains.{MergesShadow, height, place_under, references_in, region_at, shadow_at};
 
 use crate::{Ids, RegionRow, ShadowRow, Tallies};
@@ -89,7 +89,7 @@ impl Chains {
         }
         self.regions.reserve(rows as usize)?;
         self.shadows.reserve(rows as usize)?;
-        self.overs.reserve(rows as usize)?;
+        self.overs.reserve(rows)?;
         Ok(())
     }
 
@@ -251,6 +251,45 @@ impl Chains {
         ids.next_object += 1;
         ids.marks -= 1;
         Ok(object)
+    }
+
+    /// Lets an object stand on another, without a shift. It fails for want of memory alone. A copy object
+    /// is made so over the file that it is a copy of.
+    pub fn stand(&mut self, object: ObjectId, under: ObjectId) -> Result<(), NoMemory>
+        requires bottom { shadow_at self.old object.0 ≡ None }
+        requires bare { BacksNone object.0 self.old }
+        requires apart { object.0 ≢ under.0 }
+        requires low { (object.0 + 1 < 2 ^ 32) × (under.0 + 1 < 2 ^ 32) }
+        ensures ok { OnOk result (Rebases object.0 under self.old self.new) }
+        ensures marked { OnOk result (self.new.marked ≡ self.old.marked) }
+        ensures ranked { IsRanked self.new }
+        ensures err { OnErr result (SameChains self.old self.new) }
+        ensures succeeds { 0 < self.old.spare → IsOk result }
+        ensures spare { self.old.spare ≤ self.new.spare + 1 }
+    {
+        self.overs.reserve(1)?;
+        self.shadows.insert(object, ShadowRow { under, shift: 0 })?;
+        self.overs.add(object, under);
+        Ok(())
+    }
+
+    /// Lets an object stand on a newer one that stands on the same object, both without a shift. It
+    /// takes no memory.
+    pub fn rebase(&mut self, older: ObjectId, newer: ObjectId)
+        requires apart { older.0 ≢ newer.0 }
+        requires same { shadow_at self.old older.0 ≡ shadow_at self.old newer.0 }
+        requires over { IsSomeAnd (shadow_at self.old newer.0) (λ row. row.shift ≡ 0) }
+        requires bare { BacksNone newer.0 self.old }
+        ensures rebases { Rebases older.0 newer self.old self.new }
+        ensures marked { self.new.marked ≡ self.old.marked }
+        ensures ranked { IsRanked self.new }
+        ensures spare { self.old.spare ≤ self.new.spare }
+    {
+        let base = self.shadows[&newer].under;
+        self.overs.remove(older, base);
+        self.overs.add(older, newer);
+        let moved = self.shadows.get_mut(&older).unwrap();
+        moved.under = newer;
     }
 
     /// Takes the mark off a region whose top object nothing else refers to: whoever writes to it writes

@@ -8,23 +8,30 @@ use std::alloc::Global;
 use std::marker::Model;
 use vm_base::{NoMemory, ObjectId};
 
-/// A tally for each object under some shadow. Contracts see the rows, and how many further objects are
-/// tallied without memory.
+/// A tally for each object under some shadow. Contracts see the rows, and how many further shadows are
+/// tallied without memory. There is room for an object of its own for each shadow, so one that is moved
+/// to another object takes no memory.
 #[derive(Drop)]
 pub struct Tallies {
     rows: IndexMap<ObjectId, Tally>,
+    // So many shadows or fewer stand beside another on their object; each has room for one of its own.
+    beside: u32,
 }
 
 impl Model for Tallies {
+    ghost use Rattle.std.specs.Prelude.{◌-◌, ◌^◌, min};
     ghost use Rattle.indexmap.specs.IndexMap.{spare};
+    ghost use Rattle.vm_shadow.specs.Kept.{HasPlaces};
     ghost use Rattle.vm_shadow.specs.Standing.{TallyTable};
 
     ghost Value = { TallyTable };
 
     ghost view = { λ s. record {
       rows = s.rows.entries;
-      spare = spare s.rows;
+      spare = min (spare s.rows) (2 ^ 32 - 1) - s.beside;
     } };
+
+    ghost invariant = { λ s. HasPlaces s.rows.entries s.beside (min (spare s.rows) (2 ^ 32 - 1)) };
 }
 
 impl Tallies {
@@ -34,17 +41,21 @@ impl Tallies {
     {
         Tallies {
             rows: IndexMap::new(alloc),
+            beside: 0,
         }
     }
 
-    /// Makes room for so many further objects; it fails for want of memory alone.
-    pub fn reserve(&mut self, rows: usize) -> Result<(), NoMemory>
+    /// Makes room for so many further shadows; it fails for want of memory alone.
+    pub fn reserve(&mut self, rows: u32) -> Result<(), NoMemory>
         ensures same { self.new.rows ≡ self.old.rows }
         ensures room { OnOk result (rows ≤ self.new.spare) }
         ensures kept { self.old.spare ≤ self.new.spare }
         ensures succeeds { rows ≤ self.old.spare → IsOk result }
     {
-        self.rows.reserve(rows)?;
+        let Some(places) = self.beside.checked_add(rows) else {
+            return Err(NoMemory);
+        };
+        self.rows.reserve(places as usize)?;
         Ok(())
     }
 
@@ -56,23 +67,26 @@ impl Tallies {
         ensures added { (o : ℕ) → tally_at self.new o ≡ (if under.0 == o then with_shadow upper.0 (tally_at self.old o) else tally_at self.old o) }
         ensures spare { self.old.spare ≤ self.new.spare + 1 }
     {
-        let was = self
-            .rows
-            .get(&under)
-            .copied()
-            .unwrap_or(Tally { count: 0, sum: 0 });
-        let more = Tally {
-            count: was.count + 1,
-            sum: was.sum + u64::from(upper.0),
+        let Some(more) = self.rows.get_mut(&under) else {
+            let only = Tally {
+                count: 1,
+                sum: u64::from(upper.0),
+            };
+            let _ = self.rows.insert(under, only);
+            return;
         };
-        let _ = self.rows.insert(under, more);
+        more.count += 1;
+        more.sum += u64::from(upper.0);
+        self.beside += 1;
     }
 
-    /// Counts a shadow over an object no longer. An object under no shadow has no tally.
+    /// Counts a shadow over an object no longer. An object under no shadow has no tally. Where another
+    /// stands there still, a place is free for it.
     pub fn remove(&mut self, upper: ObjectId, under: ObjectId)
         requires has { HasNumber upper.0 (tally_at self.old under.0) }
         ensures removed { (o : ℕ) → tally_at self.new o ≡ (if under.0 == o then without_shadow upper.0 (tally_at self.old o) else tally_at self.old o) }
         ensures spare { self.old.spare ≤ self.new.spare }
+        ensures place { 1 < (tally_at self.old under.0).count → self.old.spare < self.new.spare }
     {
         let was = self.rows[&under];
         if was.count == 1 {
@@ -82,6 +96,7 @@ impl Tallies {
         let left = self.rows.get_mut(&under).unwrap();
         left.count = was.count - 1;
         left.sum = was.sum - u64::from(upper.0);
+        self.beside -= 1;
     }
 
     /// Counts one shadow over an object in place of another.

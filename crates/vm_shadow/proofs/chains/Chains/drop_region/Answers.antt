@@ -16,7 +16,7 @@ invariant_of-self c =
     let dropped = marked_dropped _ _ c.args.region c.unwrap-row.result (sym c.swap_remove.ensures.value ∙ c.unwrap-row.ensures) c.swap_remove.ensures.entries in
     record {
       ranked = ranked_same _ _ (λ o. refl) c.self.invariant.ranked;
-      few = c.self.invariant.few;
+      low = c.self.invariant.low;
       count = grind (arith, dropped, c.self.invariant.count, c.if-row.branch);
       tallied = c.self.invariant.tallied;
     }

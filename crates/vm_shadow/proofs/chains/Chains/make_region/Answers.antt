@@ -9,7 +9,7 @@ invariant_of-self-2 c =
     c.in_ok-insert.ensures.entries in
     record {
       ranked = ranked_same _ _ (λ o. refl) c.self.invariant.ranked;
-      few = c.self.invariant.few;
+      low = c.self.invariant.low;
       count = grind (arith, made, c.self.invariant.count, c.if-row.branch);
       tallied = c.self.invariant.tallied;
     }

@@ -3,8 +3,8 @@ use Rattle.std.specs.Option.{option_copied_mut}
 use Rattle.vm_base.specs.declared.ids.ObjectId.{ObjectId}
 use Rattle.vm_shadow.proofs.Counts.{marked_counted, marked_set}
 use Rattle.vm_shadow.proofs.Overs.{same_tallies}
-use Rattle.vm_shadow.proofs.Ranks.{few_over, ranked_over, ranked_same}
-use Rattle.vm_shadow.proofs.Tables.{kept_same, row_must, row_told, same_row, some_of}
+use Rattle.vm_shadow.proofs.Ranks.{ranked_over, ranked_same}
+use Rattle.vm_shadow.proofs.Tables.{kept_same, low_at, row_must, row_told, same_row, some_of}
 use Rattle.vm_shadow.proofs.Tallying.{made_fits, next_free, tallied_made}
 use Rattle.vm_shadow.specs.Chains.{ChainTable, IsRanked, ObjectsBelow, region_at, shadow_at}
 use Rattle.vm_shadow.specs.declared.region_row.RegionRow.{RegionRow}
@@ -60,7 +60,7 @@ invariant_of-self-2 c =
     (ranked_same _ old (λ o. refl) c.self.invariant.ranked) in
     record {
       ranked = ranked_same new _ (λ o. refl) ranked;
-      few = λ n o. let few = few_over old new next under below less at ranked n o in let small = c.requires.objects in omega (arith, few, small);
+      low = low_at old new next under c.requires.objects (let small = c.requires.objects in omega (arith, small, less)) at c.self.invariant.low;
       count = omega (arith, rw marked at set, c.self.invariant.count);
       tallied = tallied_made (tally_at c.reserve.new.self) _ _ _ object under (next_free next _ below.shadows) c.in_ok-insert.ensures.entries
           c.insert.ensures.unique at (let small = c.requires.objects in omega (arith, small)) c.add.ensures.added

@@ -32,7 +32,7 @@ invariant_of-self-2 c =
     let set = marked_set c.insert.new.self.entries _ c.args.source found marked there (c.get_mut.follows.holds marked).0 in
     record {
       ranked = ranked_same _ _ (λ o. refl) c.self.invariant.ranked;
-      few = c.self.invariant.few;
+      low = c.self.invariant.low;
       count = grind (arith, made, set, ap mark same, c.self.invariant.count, c.if-row.branch);
       tallied = c.self.invariant.tallied;
     }

@@ -25,7 +25,7 @@ invariant_of-self c =
     let set = marked_set _ _ c.args.region row unmarked found (c.get_mut.follows.holds unmarked).0 in
     record {
       ranked = ranked_same _ _ (λ o. refl) c.self.invariant.ranked;
-      few = c.self.invariant.few;
+      low = c.self.invariant.low;
       count = omega (arith, rw marked at set, c.self.invariant.count);
       tallied = c.self.invariant.tallied;
     }
