@@ -2,7 +2,6 @@
 use Rattle.std.proofs.Common.{Bool, List, MatchOption, None, Option, Some, [], ap, append_assoc, arith, false, if◌then◌else◌, inl, inr, length, refl, reverse}
 use Rattle.std.proofs.Common.{subst, sym, true, ℕ, ◌++◌, ◌+◌, ◌-◌, ◌/◌, ◌<◌, ◌∙◌, ◌∷◌, ◌≡◌, ◌≤◌, ◌⊎◌}
 use mathlib.Core.List.{reverse_aux}
-use Rattle.std.proofs.lemmas.Bool.Decides.{nat_tests}
 use Rattle.std.specs.Prelude.{◌==◌, ◌&&◌, ◌||◌, is_some, nat_lt}
 use Rattle.vm_base.specs.declared.code.Code.{Code}
 use Rattle.vm_base.specs.declared.entry.Entry.{Entry}
@@ -13,6 +12,7 @@ use Rattle.vm_base.specs.Entries.{entered, entry_at, page_at}
 use Rattle.vm_base.specs.declared.ids.ObjectId.{ObjectId}
 use Rattle.vm_base.specs.declared.ids.PageNo.{PageNo}
 use Rattle.vm_base.specs.declared.ids.TaskId.{TaskId}
+use Rattle.vm_model.proofs.Ports.{at_place}
 use Rattle.vm_model.specs.declared.command.Command.{Command}
 use Rattle.vm_model.specs.declared.command.Command.TheVariants as command
 use Rattle.vm_model.specs.declared.command.Numbered.{Numbered}
@@ -376,11 +376,6 @@ unheld_by header h k past below none (Unreachable above gone unasked) = absurd (
 unheld_by header h k past below none (Unheld declared unheld unasked) = unheld
 unheld_by header h k past below none (Destroyed destroyed) = absurd (none-some _ (sym none ∙ destroyed.taken))
 
-moved : (P : ℕ → ℕ → Type 0) (a b h o : ℕ) → (a == h && b == o) ≡ true → P a b → P h o
-moved P a b h o same there =
-    let host_is : a ≡ h = grind (arith, nat_tests) in
-    let object_is : b ≡ o = grind (arith, nat_tests) in subst (λ (k : ℕ). P k o) host_is (subst (λ (k : ℕ). P a k) object_is there)
-
 elsewhere : {A : Type 0} (b : Bool) (x y : A) → (b ≡ true → ⊥) → (if b then x else y) ≡ y
 elsewhere true x y never = absurd (never refl)
 elsewhere false x y never = refl
@@ -402,7 +397,7 @@ kept_then header outside host o p (event.Sent (Up at object) (message.Init contr
     let apart = kept_apart (at.0 == host && object.0 == o) (is_cached host o past) (is_cached host o (before_step past)) (live_control host o past)
     (Some control)
     (λ same. by_cause header outside (event.Sent (Up at object) (message.Init control size)) past caused.0 (λ doing c.
-    none_some (live_control host o past) (moved (λ h k. live_control h k past ≡ None) at.0 object.0 host o same c.none) was.lives))
+    none_some (live_control host o past) (at_place (λ h k. live_control h k past ≡ None) at.0 object.0 host o same c.none) was.lives))
     was.lives was.cached in
     record { lives = apart.0; cached = apart.1 }
 kept_then header outside host o p (event.Sent (Up at object) (message.Create control size) ∷ past) caused keeps prompt inside below is =
@@ -410,7 +405,7 @@ kept_then header outside host o p (event.Sent (Up at object) (message.Create con
     let apart = kept_apart (at.0 == host && object.0 == o) (is_cached host o past) (is_cached host o (before_step past)) (live_control host o past)
     (Some control)
     (λ same. by_cause header outside (event.Sent (Up at object) (message.Create control size)) past caused.0 (λ doing c.
-    let temporary : named header ≤ o = moved (λ h k. named header ≤ k) at.0 object.0 host o same c.temporary in absurd (omega (arith, temporary, below))))
+    let temporary : named header ≤ o = at_place (λ h k. named header ≤ k) at.0 object.0 host o same c.temporary in absurd (omega (arith, temporary, below))))
     was.lives was.cached in
     record { lives = apart.0; cached = apart.1 }
 kept_then header outside host o p (event.Sent (Up at object) (message.Terminate control) ∷ past) caused keeps prompt inside below is =
@@ -420,7 +415,7 @@ kept_then header outside host o p (event.Sent (Up at object) (message.Terminate 
     (λ same. by_cause header outside (event.Sent (Up at object) (message.Terminate control)) past caused.0 (λ doing c.
     ends_never header host o p past keeps.1 prompt inside below is was
     (unheld_by header host o past below (absent_undestroyed header past is)
-    (moved (λ h k. EndCause header h k past) at.0 object.0 host o same c.why))))
+    (at_place (λ h k. EndCause header h k past) at.0 object.0 host o same c.why))))
     was.lives was.cached in
     record { lives = apart.0; cached = apart.1 }
 kept_then header outside host o p (event.Sent (Up at object) m ∷ past) caused keeps prompt inside below is =

@@ -50,7 +50,7 @@ pub use Rattle.vm_legal.specs.Bytes.{OwnBytes}
 pub use Rattle.vm_legal.specs.Debts.{IsPaid}
 pub use Rattle.vm_legal.specs.InTurn.{WaitsAt}
 pub use Rattle.vm_legal.specs.Follows.{IsConsequence, head}
-pub use Rattle.vm_legal.specs.InTurn.{EndsNext, IsDoneInTurn, IsEnd}
+pub use Rattle.vm_legal.specs.InTurn.{EndsNext, GoesNext, IsDoneInTurn, IsEnd, IsNext, MeetsNoControl}
 pub use Rattle.vm_legal.specs.Frames.{Suffice, frames_free, frames_held, frames_used, frames_wired, returns_out}
 pub use Rattle.vm_legal.specs.Homes.{EntersNext, IsOnlyOfHost, begins_here, is_home, is_used, starts_copy}
 pub use Rattle.vm_legal.specs.Licences.{Created, Creates, Enters, Fails, GivesBack, HasCause, ReturnCause, ReturnsOn, Unreached, desired_access, owed}

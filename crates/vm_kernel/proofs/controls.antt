@@ -1,6 +1,7 @@
 -- Controls, and what is said between pagers and kernels.
 pub mod AccessesWoken
 pub mod AnswerEffects
+pub mod ControlMissed
 pub mod DeclaredKinds
 pub mod DeclaredMapped
 pub mod DeclaredRegion
@@ -9,6 +10,7 @@ pub mod FailureBuffers
 pub mod FlagSet
 pub mod FlagsKept
 pub mod LiveControls
+pub mod LockDone
 pub mod LockHeeded
 pub mod LockPending
 pub mod LockReplied
@@ -16,6 +18,7 @@ pub mod LockRequested
 pub mod NextControl
 pub mod ObjectDestroyed
 pub mod ObjectEmptied
+pub mod PageAnswered
 pub mod PageAsked
 pub mod PageLocked
 pub mod PagesCancelled

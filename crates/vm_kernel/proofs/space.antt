@@ -16,6 +16,7 @@ pub mod ObjectEnds
 pub mod ObjectsEnd
 pub mod ObjectsMerged
 pub mod RangeAllocated
+pub mod RangeCopied
 pub mod RegionCases
 pub mod RegionCopied
 pub mod RegionEnds

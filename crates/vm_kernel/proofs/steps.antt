@@ -10,6 +10,7 @@ pub mod CopyBegins
 pub mod CopyEnds
 pub mod CopyGoesOn
 pub mod CopyMakesPages
+pub mod CopyMayBegin
 pub mod CopyRefused
 pub mod EventsGrow
 pub mod FaultStates

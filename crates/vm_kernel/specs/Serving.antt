@@ -7,8 +7,8 @@ use Rattle.vm_fault.specs.Rooms.{pages_left}
 use Rattle.vm_frames.specs.Frames.{claimed, free}
 use Rattle.vm_model.specs.declared.event.Event.{Event}
 use Rattle.vm_model.specs.declared.script.Header.{Header}
-use Rattle.vm_legal.specs.Accesses.{FindsPage, Wants}
-use Rattle.vm_legal.specs.InTurn.{EndsNext}
+use Rattle.vm_legal.specs.Accesses.{Wants}
+use Rattle.vm_legal.specs.InTurn.{GoesNext}
 use Rattle.vm_legal.specs.Frames.{frames_free, returns_out}
 use Rattle.vm_legal.specs.Prompt.{HostIsFull, IsSource}
 use Rattle.vm_legal.specs.Steps.{departures}
@@ -130,9 +130,9 @@ pub record IsNextAccess (task : ℕ) (rows : List Waiting) : Type 0 where
   pub some : count_again rows ≡ 0 → ⊥
   pub only : (t : ℕ) (w : Waiting) → entry rows t ≡ Some w → is_again w.on ≡ true → t ≡ task
 
--- where it finds its page, it has ended before anything else was done
+-- where it finds its page, it has ended before anything else was done, and where it meets no control, it has failed
 abbrev pub RunsFirst : Header → List Waiting → List Event → List Event → List Event → Type 0
-RunsFirst header rows past before after = (task : ℕ) → IsNextAccess task rows → FindsPage header task (before ++ past) → EndsNext task before after
+RunsFirst header rows past before after = (task : ℕ) → IsNextAccess task rows → GoesNext header task past before after
 
 -- somebody stands in the frame queue only while no frame is free
 abbrev pub HasQueue : Header → ℕ → Parts → List Event → Type 0

@@ -2,7 +2,7 @@
 ghost use Rattle.std.specs.Prelude.{ℕ, ◌≡◌, ◌+◌, ◌<◌, ◌≤◌, ◌++◌, true, false, length, IfOk, IfSome, IsOk, None, OnOk, Some};
 ghost use Rattle.vm_frames.specs.Frames.{claimed, free};
 ghost use Rattle.vm_legal.specs.Accesses.{FindsPage, Wants};
-ghost use Rattle.vm_legal.specs.InTurn.{EndsNext, NoneSleepsOn};
+ghost use Rattle.vm_legal.specs.InTurn.{EndsNext, FailsNext, MeetsNoControl, NoneSleepsOn};
 ghost use Rattle.vm_legal.specs.Prompt.{HostIsFull, PromptAt};
 ghost use Rattle.vm_legal.specs.Returned.{OnlyReturned};
 ghost use Rattle.vm_model.specs.Named.{named};
@@ -42,6 +42,8 @@ impl Parts {
         ensures works { OnOk result (Works given.header given.host self.new ids.new woken.Nobody (log.new.items ++ given.past)) }
         ensures goes { OnOk result (LegalEvents given.header given.host given.outside given.command given.past log.old.items log.new.items) }
         ensures ends { OnOk result (FindsPage given.header waiting.task.0 (log.old.items ++ given.past) → EndsNext waiting.task.0 log.old.items log.new.items) }
+        ensures fails { OnOk result (MeetsNoControl given.header waiting.task.0 (log.old.items ++ given.past)
+            → FailsNext waiting.task.0 log.old.items log.new.items) }
         ensures attempts { IfOk result (λ answer. Attempts given.header given.host waiting may_claim answer self.old self.new (log.old.items ++ given.past)
             (log.new.items ++ given.past)) }
         ensures plays { OnOk result (Plays given.header given.past log.old.items (paging self.old) log.new.items (paging self.new)) }

@@ -11,7 +11,7 @@ use Rattle.vm_model.specs.declared.script.Declared.{Declared}
 use Rattle.vm_model.specs.declared.script.Header.{Header}
 use Rattle.vm_model.specs.Named.{declared, named}
 use Rattle.vm_legal.specs.Licences.{MaySendDown, PagerSends, is_paged}
-use Rattle.vm_legal.specs.Outside.{Outside, is_file_kept, is_file_kind, is_wild, is_wild_kind, kind_in, kind_of}
+use Rattle.vm_legal.specs.Outside.{Outside, is_file_kept, is_file_kind, kind_in, kind_of}
 
 -- the kinds that the default pager and the file pager serve
 abbrev serves : ObjectKind → Bool
@@ -66,16 +66,6 @@ pub paged_sends : (header : Header) (outside : Outside) (why : Command) (host ob
     → MaySendDown header outside why host object control m past → PagerSends (kind_of header object) header outside why host object control m past
 paged_sends header outside why host object control m past is may =
     sends_served (kind_of header object) header outside why host object control m past (paged_serves header object is) may
-
--- the script speaks for none of these
-pub paged_supplied : (header : Header) (object : ℕ) → is_paged header object ≡ true → is_wild header object ≡ false
-paged_supplied header object is = tame (kind_of header object) (paged_serves header object is)
-  where
-    tame : (kind : ObjectKind) → serves kind ≡ true → is_wild_kind kind ≡ false
-    tame Temp is = refl
-    tame File is = refl
-    tame Shared is = absurd (let bad : false ≡ true = is in cc)
-    tame Wild is = absurd (let bad : false ≡ true = is in cc)
 
 -- a temporary object is one
 pub later_paged : (header : Header) (object : ℕ) → named header ≤ object → is_paged header object ≡ true

@@ -82,3 +82,12 @@ shared_tame header o shared = by (kind_of header o) shared
     by File is = refl
     by Shared is = refl
     by Wild is = absurd (let bad : false ≡ true = is in cc)
+
+-- a wild object is declared
+pub wild_named : (header : Header) (o : ℕ) → is_wild header o ≡ true → o < named header
+wild_named header o wild = by_number (nat_lt o (named header)) refl
+  where
+    by_number : (b : Bool) → nat_lt o (named header) ≡ b → o < named header
+    by_number true is = grind (arith, nat_tests)
+    by_number false is =
+        absurd (let bad : false ≡ true = sym (ap (λ b. is_wild_kind (if b then kind_in (declared header o) else Temp)) is) ∙ wild in cc)

@@ -1,5 +1,5 @@
 -- What the rules fix beyond what makes a history legal: in which turn things are done that have their cause, and that nobody is passed over.
-use Rattle.std.specs.Prelude.{ℕ, ◌<◌, ◌≡◌, Bool, List, [], ◌∷◌, ◌++◌, length, true, false, Some, ◌==◌, ◌&&◌, nat_lt, not, if◌then◌else◌}
+use Rattle.std.specs.Prelude.{ℕ, ◌<◌, ◌≡◌, Bool, List, [], ◌∷◌, ◌++◌, length, true, false, None, Some, ◌==◌, ◌&&◌, nat_lt, not, if◌then◌else◌}
 use Rattle.vm_model.specs.declared.command.Command.{Command}
 use Rattle.vm_model.specs.declared.command.Command.TheVariants as command
 use Rattle.vm_model.specs.declared.command.Numbered.{Numbered}
@@ -12,18 +12,19 @@ use Rattle.vm_model.specs.declared.message.Channel.TheVariants.{Up}
 use Rattle.vm_model.specs.declared.message.Message.{Message}
 use Rattle.vm_model.specs.declared.message.Message.TheVariants as message
 use Rattle.vm_model.specs.declared.script.Header.{Header}
+use Rattle.vm_model.specs.Controls.{live_control}
 use Rattle.vm_model.specs.Local.{Local}
 use Rattle.vm_model.specs.PagePart.{page_part}
 use Rattle.vm_model.specs.Server.{Wanting, first, line, wants_write}
 use Rattle.vm_model.specs.Side.{side}
 use Rattle.vm_model.specs.Waiting.{Access, is_store}
 use Rattle.vm_legal.specs.Accesses.{Comes, FindsPage, HasPlace, Waits, begun_at, names, page_of}
-use Rattle.vm_legal.specs.Destroyed.{HostObject, destroy_taken}
+use Rattle.vm_legal.specs.Destroyed.{destroy_taken}
 use Rattle.vm_legal.specs.Follows.{FollowsBy, FollowsSoFarBy, IsDone, IsGroupBy, IsRunBy, IsWholeBy, SoFarBy}
 use Rattle.vm_legal.specs.Frames.{frames_free}
 use Rattle.vm_legal.specs.Licences.{ByError, Caused, DeviceFails, DropCause, Drops, Ended, Fails, GivesBack, HasSlot, IsBackingOf, IsBehind, MaySendUp}
 use Rattle.vm_legal.specs.Licences.{ReturnCause, TakesReturn, Unreached, Unserved}
-use Rattle.vm_legal.specs.Outside.{Outside, is_shared}
+use Rattle.vm_legal.specs.Outside.{Outside, is_shared, is_wild}
 use Rattle.vm_legal.specs.Prompt.{Awaits}
 use Rattle.vm_legal.specs.Serving.{HostsServed}
 use Rattle.vm_legal.specs.Steps.{before_step, error_taken, fails_of, fails_task, since}
@@ -143,12 +144,37 @@ IsEnd t (event.Loaded task object page value) = task.0 ≡ t
 IsEnd t (event.Stored task object page at bytes value) = task.0 ≡ t
 IsEnd t other = ⊥
 
--- on top of some events the next one ends the access of a task
-pub record EndsNext (task : ℕ) (before after : List Event) : Type 0 where
+-- the event ends the access of a task in memory failure
+abbrev pub IsFailureOf : ℕ → Event → Type 0
+IsFailureOf t (event.Failed task object page) = task.0 ≡ t
+IsFailureOf t other = ⊥
+
+-- on top of some events the next one ends something so
+pub record IsNext (Ends : Event → Type 0) (before after : List Event) : Type 0 where
   pub later : List Event
   pub end : Event
   pub is : after ≡ later ++ end ∷ before
-  pub ends : IsEnd task end
+  pub ends : Ends end
+
+-- the access of a task ends next
+abbrev pub EndsNext : ℕ → List Event → List Event → Type 0
+EndsNext task before after = IsNext (IsEnd task) before after
+
+-- or it fails next
+abbrev pub FailsNext : ℕ → List Event → List Event → Type 0
+FailsNext task before after = IsNext (IsFailureOf task) before after
+
+-- an access that waits is one on a wild object of which no control lives on its host: its pager has ended it
+pub record MeetsNoControl (header : Header) (task : ℕ) (past : List Event) : Type 0 where
+  pub access : Access
+  pub waits : Waits header task access past
+  pub wild : is_wild header waits.at.entry.region.0 ≡ true
+  pub none : live_control waits.at.host waits.at.entry.region.0 past ≡ None
+
+-- an access ends next where it finds its page, and fails next where it meets no control
+pub record GoesNext (header : Header) (task : ℕ) (past before after : List Event) : Type 0 where
+  pub finds : FindsPage header task (before ++ past) → EndsNext task before after
+  pub meets : MeetsNoControl header task (before ++ past) → FailsNext task before after
 
 -- a host stands in the way of one that wants a page: it has the page too, or, of one that wants to read, can write it
 abbrev pub is_in_way : Wanting → ℕ → ℕ → Bool
@@ -160,12 +186,11 @@ AllRecalled header past =
     (object page host : ℕ) (w : Wanting) → is_shared header object ≡ true → first (line (page_part header.size object page past)) ≡ Some w
     → is_in_way w host (side host (page_part header.size object page past)).holds ≡ true → 0 < (side host (page_part header.size object page past)).awaits
 
--- a command is done, and an access that finds its page when it begins ends next
+-- a command is done, and an access that when it begins finds its page, or meets no control, ends next
 abbrev pub IsDoneInTurn : Header → Command → List Event → List Event → Type 0
-IsDoneInTurn header (command.Load task address size) group past =
-    FindsPage header task.0 (event.BegunLoad task address size ∷ past) → EndsNext task.0 (event.BegunLoad task address size ∷ []) group
+IsDoneInTurn header (command.Load task address size) group past = GoesNext header task.0 past (event.BegunLoad task address size ∷ []) group
 IsDoneInTurn header (command.Store task address size value) group past =
-    FindsPage header task.0 (event.BegunStore task address size value ∷ past) → EndsNext task.0 (event.BegunStore task address size value ∷ []) group
+    GoesNext header task.0 past (event.BegunStore task address size value ∷ []) group
 IsDoneInTurn header other group past = IsDone header other group past
 
 -- what stands behind the line of a command, with each event in its turn

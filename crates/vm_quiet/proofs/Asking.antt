@@ -1,10 +1,10 @@
 -- How many pages of an object are asked on a host: its requests are counted, and their answers.
-use Rattle.std.proofs.Common.{ℕ, ◌≡◌, ◌∙◌, List, ◌∷◌, [], Bool, true, false, refl, sym, ap, subst, arith, if◌then◌else◌, Option, Some}
+use Rattle.std.proofs.Common.{ℕ, ◌≡◌, ◌∙◌, List, ◌∷◌, [], Bool, true, false, refl, sym, ap, subst, arith, if◌then◌else◌, Some}
 use Rattle.std.proofs.lemmas.Bool.Decides.{nat_tests}
 use Rattle.std.specs.Prelude.{◌==◌, ◌&&◌, ◌+◌, ◌-◌, ◌||◌, not, nat_lt}
 use Rattle.vm_base.specs.declared.ids.HostId.{HostId}
 use Rattle.vm_base.specs.declared.ids.ObjectId.{ObjectId}
-use Rattle.vm_legal.specs.Frames.{asked_pages, is_answered}
+use Rattle.vm_legal.specs.Frames.{asked_pages}
 use Rattle.vm_legal.specs.Licences.{HasCause, MaySendUp}
 use Rattle.vm_legal.specs.Outside.{Outside}
 use Rattle.vm_legal.specs.Walks.{page_on}
@@ -37,18 +37,18 @@ Asking header host k past = Held (asked_of header host k past) (asked_pages head
 
 -- what an effect leaves of that
 
-kept_if : (size : ℕ) (t : Bool) (e : LocalEffect) (page : Local) → (local_after size e page).asked ≡ page.asked
+pub kept_if : (size : ℕ) (t : Bool) (e : LocalEffect) (page : Local) → (local_after size e page).asked ≡ page.asked
     → (local_after size (if t then e else Elsewhere) page).asked ≡ page.asked
 kept_if size true e page is = is
 kept_if size false e page is = refl
 
-kept_two : (size : ℕ) (s t : Bool) (e : LocalEffect) (page : Local) → (local_after size e page).asked ≡ page.asked
+pub kept_two : (size : ℕ) (s t : Bool) (e : LocalEffect) (page : Local) → (local_after size e page).asked ≡ page.asked
     → (local_after size (if s then (if t then e else Elsewhere) else Elsewhere) page).asked ≡ page.asked
 kept_two size true true e page is = is
 kept_two size true false e page is = refl
 kept_two size false t e page is = refl
 
-kept_lock : (size lock : ℕ) (flush : Bool) (page : Local) → (local_after size (TakesLock lock flush) page).asked ≡ page.asked
+pub kept_lock : (size lock : ℕ) (flush : Bool) (page : Local) → (local_after size (TakesLock lock flush) page).asked ≡ page.asked
 kept_lock size lock flush page = by page.here
   where
     by : (b : Bool) → (if b then record page { lock = if flush || lock == 8 then page.lock else lock; unlocking = false } else page).asked ≡ page.asked

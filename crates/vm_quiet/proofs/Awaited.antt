@@ -1,7 +1,7 @@
 -- Each page that is asked, and each control that is not ready, has something on its way.
 use Rattle.std.proofs.Common.{inl, inr, ℕ, ◌≡◌, ◌∙◌, List, [], ◌∷◌, Bool, true, false, refl, sym, ap, subst, arith, Option, Some, None, if◌then◌else◌}
 use Rattle.std.proofs.lemmas.Bool.Decides.{nat_tests}
-use Rattle.std.specs.Prelude.{◌==◌, ◌&&◌, ◌||◌, ◌⊎◌}
+use Rattle.std.specs.Prelude.{◌==◌, ◌&&◌, ◌⊎◌}
 use Rattle.std.proofs.lemmas.Bool.{cond-false}
 use Rattle.vm_base.specs.Pages.{little_endian_bytes}
 use Rattle.vm_base.specs.declared.ids.HostId.{HostId}
@@ -18,7 +18,7 @@ use Rattle.vm_model.specs.declared.script.Header.{Header}
 use Rattle.vm_model.specs.Channels.{is_channel, queue, up_port, down_port}
 use Rattle.vm_model.specs.Controls.{is_control, without_control, live_control}
 use Rattle.vm_model.specs.Homes.{object_home}
-use Rattle.vm_model.specs.Local.{LocalEffect, Local, Zeroes, Raises, Stores, Drops, Returns, Asks, Unlocks, TakesPage, TakesNothing, TakesError, TakesLock}
+use Rattle.vm_model.specs.Local.{Local, Zeroes, Raises, Stores, Drops, Returns, Asks, Unlocks, TakesPage, TakesNothing, TakesError, TakesLock}
 use Rattle.vm_model.specs.Local.{Begins, Ends, Elsewhere, is_on, local_after, taken_effect}
 use Rattle.vm_model.specs.Moments.{BeforeSteps, EachEvent}
 use Rattle.vm_model.specs.Regions.{backing_of, object_pages}
@@ -32,6 +32,7 @@ use Rattle.vm_legal.specs.Licences.{HasCause, MaySendDown, MaySendUp, OwesAnswer
 use Rattle.vm_legal.specs.Outside.{Outside, is_wild, is_wild_kind, kind_of}
 use Rattle.vm_legal.specs.Steps.{answers, is_answer, is_ready_message as says_ready, readies, since, taken_letter}
 use Rattle.vm_legal.specs.Walks.{page_on}
+use Rattle.vm_quiet.proofs.Asking.{kept_if, kept_lock, kept_two}
 use Rattle.vm_quiet.specs.Carried.{is_request, opens}
 use Rattle.vm_quiet.proofs.Letters.{never}
 use Rattle.vm_quiet.proofs.Sane.{at_place, left, merge_case, right, control_of}
@@ -58,17 +59,6 @@ Asking host o p past = (k : ℕ) × (live_control host o past ≡ Some k) × OnT
 
 abbrev pub AllAsking : Header → ℕ → List Event → Type 0
 AllAsking header host past = (o p : ℕ) → is_paged header o ≡ true → (page_on header host o p past).asked ≡ true → Asking host o p past
-
-asked_if : (size : ℕ) (t : Bool) (e : LocalEffect) (page : Local) → (local_after size e page).asked ≡ page.asked
-    → (local_after size (if t then e else Elsewhere) page).asked ≡ page.asked
-asked_if size true e page is = is
-asked_if size false e page is = refl
-
-asked_two : (size : ℕ) (s t : Bool) (e : LocalEffect) (page : Local) → (local_after size e page).asked ≡ page.asked
-    → (local_after size (if s then (if t then e else Elsewhere) else Elsewhere) page).asked ≡ page.asked
-asked_two size true true e page is = is
-asked_two size true false e page is = refl
-asked_two size false t e page is = refl
 
 returned_asked : (size : ℕ) (keep : Bool) (page : Local) → (local_after size (Returns keep) page).asked ≡ page.asked
 returned_asked size true page = refl
@@ -136,17 +126,17 @@ up_asks header host at object (message.Request control page access) past c all o
     by false t l own its is = asking_sent host o p at object (message.Request control page access) past refl (all o p ours is)
 up_asks header host at object (message.Return control page dirty keep bytes) past c all o p ours = λ is.
     asking_sent host o p at object (message.Return control page dirty keep bytes) past refl
-    (all o p ours (sym (asked_two header.size (at.0 == host && object.0 == o) (page.0 == p) (Returns keep) (page_on header host o p past)
+    (all o p ours (sym (kept_two header.size (at.0 == host && object.0 == o) (page.0 == p) (Returns keep) (page_on header host o p past)
     (returned_asked header.size keep (page_on header host o p past))) ∙ is))
 up_asks header host at object (message.Unlock control page access) past c all o p ours = λ is.
     asking_sent host o p at object (message.Unlock control page access) past refl
-    (all o p ours (sym (asked_two header.size (at.0 == host && object.0 == o) (page.0 == p) Unlocks (page_on header host o p past) refl) ∙ is))
+    (all o p ours (sym (kept_two header.size (at.0 == host && object.0 == o) (page.0 == p) Unlocks (page_on header host o p past) refl) ∙ is))
 up_asks header host at object (message.Completed control page count) past c all o p ours = λ is.
     asking_sent host o p at object (message.Completed control page count) past refl
-    (all o p ours (sym (asked_if header.size (at.0 == host && object.0 == o) Elsewhere (page_on header host o p past) refl) ∙ is))
+    (all o p ours (sym (kept_if header.size (at.0 == host && object.0 == o) Elsewhere (page_on header host o p past) refl) ∙ is))
 up_asks header host at object (message.Changed control cache strategy) past c all o p ours = λ is.
     asking_sent host o p at object (message.Changed control cache strategy) past refl
-    (all o p ours (sym (asked_if header.size (at.0 == host && object.0 == o) Elsewhere (page_on header host o p past) refl) ∙ is))
+    (all o p ours (sym (kept_if header.size (at.0 == host && object.0 == o) Elsewhere (page_on header host o p past) refl) ∙ is))
 up_asks header host at object m past c all o p ours = absurd c.1
 
 answer_cause : (header : Header) (outside : Outside) (doing : Command) (h o k p : ℕ) (m : Message) (past : List Event)
@@ -207,15 +197,8 @@ asked_before size true p (message.Error at reason) page is = by (at.0 == p) is
     by : (t : Bool) → (local_after size (if t then TakesError else Elsewhere) page).asked ≡ true → page.asked ≡ true
     by true is = never is
     by false is = is
-asked_before size true p (message.Lock at count returns flush lock reply) page is = by (in_range p at.0 count) page.here is
-  where
-    by : (t b : Bool) → (local_after size (if t then TakesLock lock flush else Elsewhere) page).asked ≡ true → page.asked ≡ true
-    by true b is = sym (same page.here) ∙ is
-      where
-        same : (b : Bool) → (if b then record page { lock = if flush || lock == 8 then page.lock else lock; unlocking = false } else page).asked ≡ page.asked
-        same true = refl
-        same false = refl
-    by false b is = is
+asked_before size true p (message.Lock at count returns flush lock reply) page is =
+    sym (kept_if size (in_range p at.0 count) (TakesLock lock flush) page (kept_lock size lock flush page)) ∙ is
 asked_before size true p m page is = is
 
 answered_after : (size : ℕ) (s : Bool) (p : ℕ) (m : Message) (page : Local) → s ≡ true → is_answer p m ≡ true
@@ -283,18 +266,18 @@ ours_there header a o more is ours = subst (λ b. is_paged header b ≡ true) (s
 asks_next : (header : Header) (outside : Outside) (host : ℕ) (e : Event) (past : List Event) → HasCause header outside e past → StepPaid header e past
     → AllAsking header host past → AllAsking header host (e ∷ past)
 asks_next header outside host (event.Zeroed at object page) past c paid all =
-    λ o p ours is. all o p ours (sym (asked_if header.size (at.0 == host && (object.0 == o && page.0 == p)) Zeroes (page_on header host o p past) refl) ∙ is)
+    λ o p ours is. all o p ours (sym (kept_if header.size (at.0 == host && (object.0 == o && page.0 == p)) Zeroes (page_on header host o p past) refl) ∙ is)
 asks_next header outside host (event.Raised at lower lower_page upper upper_page) past c paid all = λ o p ours is.
-    all o p ours (sym (asked_if header.size (at.0 == host && (upper.0 == o && upper_page.0 == p)) (Raises (page_on header host lower.0 lower_page.0 past).bytes)
+    all o p ours (sym (kept_if header.size (at.0 == host && (upper.0 == o && upper_page.0 == p)) (Raises (page_on header host lower.0 lower_page.0 past).bytes)
     (page_on header host o p past) refl) ∙ is)
 asks_next header outside host (event.CopiedPage task page object object_page target) past c paid all = λ o p ours is.
-    all o p ours (sym (asked_if header.size (is_on host (host_of task.0 past) && (target.0 == o && page.0 == p))
+    all o p ours (sym (kept_if header.size (is_on host (host_of task.0 past) && (target.0 == o && page.0 == p))
     (Raises (page_on header host object.0 object_page.0 past).bytes) (page_on header host o p past) refl) ∙ is)
 asks_next header outside host (event.Stored task object page at size value) past c paid all = λ o p ours is.
-    all o p ours (sym (asked_if header.size (is_on host (host_of task.0 past) && (object.0 == o && page.0 == p)) (Stores at (little_endian_bytes size value))
+    all o p ours (sym (kept_if header.size (is_on host (host_of task.0 past) && (object.0 == o && page.0 == p)) (Stores at (little_endian_bytes size value))
     (page_on header host o p past) refl) ∙ is)
 asks_next header outside host (event.Dropped at object page) past c paid all =
-    λ o p ours is. all o p ours (sym (asked_if header.size (at.0 == host && (object.0 == o && page.0 == p)) Drops (page_on header host o p past) refl) ∙ is)
+    λ o p ours is. all o p ours (sym (kept_if header.size (at.0 == host && (object.0 == o && page.0 == p)) Drops (page_on header host o p past) refl) ∙ is)
 asks_next header outside host (event.Merged upper lower) past c paid all = λ o p ours is.
     all o p ours (merge_case (λ e. (local_after header.size e (page_on header host o p past)).asked ≡ true → (page_on header host o p past).asked ≡ true)
     (is_on host (object_home upper.0 past)) upper.0 lower.0 (backing_of header upper.0 past).shift (object_pages header upper.0 past)

@@ -130,16 +130,19 @@ dead_none : (live : Option ℕ) → live ≡ None → is_some live ≡ false
 dead_none live e = ap (λ (l : Option ℕ). is_some l) e
 
 -- a control ends, and what is asked of it
-ended_two : (size : ℕ) (own object live : Bool) (page : Local) → ((own && object) ≡ true → live ≡ true) → (page.here ≡ true → page.asked ≡ false)
-    → has_frame (local_after size (if own && object then (if live then Ends else Elsewhere) else Elsewhere) page)
-    ≡ (if own && (object && page.asked) then false else has_frame page)
-ended_two size true true true page is apart = by page.here page.asked apart
+ended_used : (page : Local) → (page.here ≡ true → page.asked ≡ false) → (page.here || false) ≡ (if page.asked then false else has_frame page)
+ended_used page apart = by page.here page.asked apart
   where
     by : (a b : Bool) → (a ≡ true → b ≡ false) → (a || false) ≡ (if b then false else (a || b))
     by true true apart = never (sym (apart refl))
     by true false apart = refl
     by false true apart = refl
     by false false apart = refl
+
+ended_two : (size : ℕ) (own object live : Bool) (page : Local) → ((own && object) ≡ true → live ≡ true) → (page.here ≡ true → page.asked ≡ false)
+    → has_frame (local_after size (if own && object then (if live then Ends else Elsewhere) else Elsewhere) page)
+    ≡ (if own && (object && page.asked) then false else has_frame page)
+ended_two size true true true page is apart = ended_used page apart
 ended_two size true true false page is apart = never (is refl)
 ended_two size true false live page is apart = refl
 ended_two size false object live page is apart = refl
@@ -290,15 +293,6 @@ lock_used size lock flush page = by page.here
     by : (b : Bool) → has_frame (if b then record page { lock = if flush || lock == 8 then page.lock else lock; unlocking = false } else page) ≡ has_frame page
     by true = refl
     by false = refl
-
-ended_used : (page : Local) → (page.here ≡ true → page.asked ≡ false) → (page.here || false) ≡ (if page.asked then false else has_frame page)
-ended_used page apart = by page.here page.asked apart
-  where
-    by : (a b : Bool) → (a ≡ true → b ≡ false) → (a || false) ≡ (if b then false else (a || b))
-    by true true apart = never (sym (apart refl))
-    by true false apart = refl
-    by false true apart = refl
-    by false false apart = refl
 
 nothing_used : (size : ℕ) (page : Local) → (page.here ≡ true → page.asked ≡ false)
     → has_frame (local_after size TakesNothing page) ≡ (if page.asked then false else has_frame page)

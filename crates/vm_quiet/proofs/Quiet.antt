@@ -8,8 +8,7 @@ use Rattle.std.specs.Prelude.{◌==◌, ◌&&◌, ◌||◌, not, nat_lt, ◌+◌
 use Rattle.vm_base.specs.declared.ids.ObjectKind.{ObjectKind}
 use Rattle.vm_base.specs.declared.ids.ObjectKind.TheVariants.{Temp, File, Shared, Wild}
 use Rattle.vm_legal.proofs.LockNames.{unnamed}
-use Rattle.vm_legal.proofs.Served.{paged_supplied}
-use Rattle.vm_legal.proofs.Unshared.{file_unshared, temporary_unshared}
+use Rattle.vm_legal.proofs.Unshared.{file_unshared, paged_tame, temporary_unshared}
 use Rattle.vm_model.specs.declared.event.Event.{Event}
 use Rattle.vm_model.specs.declared.script.Declared.{Declared}
 use Rattle.vm_model.specs.declared.script.Header.{Header}
@@ -24,7 +23,7 @@ use Rattle.vm_legal.specs.Licences.{HasCause, is_paged}
 use Rattle.vm_legal.specs.Living.{lives_on}
 use Rattle.vm_legal.specs.Undelivered.{undelivered}
 use Rattle.vm_legal.specs.Frames.{frames_free, frames_held, frames_of, frames_wired, returns_out}
-use Rattle.vm_legal.specs.Outside.{NoneIsTemporary, Outside, is_file_kept, is_file_kind, is_shared, is_shared_kind, is_wild, is_wild_kind, kind_in, kind_of}
+use Rattle.vm_legal.specs.Outside.{NoneIsTemporary, Outside, is_file_kept, is_file_kind, is_shared, is_shared_kind, is_wild, is_wild_kind, kind_in}
 use Rattle.vm_legal.specs.Prompt.{AnAnswer, AReady, AnUnlock, Awaits, IsExhausted, HostIsFull, Prompt, WaitsForPager}
 use Rattle.vm_legal.specs.Steps.{answers, is_answer, is_ready_message as says_ready, readies}
 use Rattle.vm_legal.specs.Walks.{page_on}
@@ -39,15 +38,6 @@ use Rattle.vm_quiet.proofs.Counting.{Count, count_of, framed}
 use Rattle.vm_quiet.proofs.Unlocked.{no_lock}
 use Rattle.vm_quiet.proofs.Ways.{way_none}
 use Rattle.vm_quiet.proofs.Awaited.{asks_of, done_opening, done_request, opens_of}
-
-shared_tame : (kind : ObjectKind) → is_shared_kind kind ≡ true → is_wild_kind kind ≡ false
-shared_tame Temp is = refl
-shared_tame File is = refl
-shared_tame Shared is = refl
-shared_tame Wild is = never is
-
-pub shared_supplied : (header : Header) (o : ℕ) → is_shared header o ≡ true → is_wild header o ≡ false
-shared_supplied header o is = shared_tame (kind_of header o) is
 
 -- where nothing is undelivered each live control is ready, but for wild objects'
 pub ready_now : (header : Header) (outside : Outside) (history : List Event) (host o control : ℕ) → EachEvent (HasCause header outside) history
@@ -332,7 +322,7 @@ pub quiet : (header : Header) (outside : Outside) (history : List Event) → All
     → BeforeSteps (IsPaid header) history → IsPaid header history → Prompt header history → undelivered history ≡ [] → NobodyWaitsInVain header history
 quiet header outside history all causes steps paid prompt delivered =
     none_in_vain header history only
-    (λ host task access for. never (sym (paged_supplied header for.what.object (paged header all for.what.object)) ∙ for.wild))
+    (λ host task access for. never (sym (paged_tame header for.what.object (paged header all for.what.object)) ∙ for.wild))
   where
     only : OnlyWildAreAwaited header history
     only =

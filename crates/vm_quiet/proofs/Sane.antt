@@ -1,4 +1,5 @@
 -- What holds of each place, control and channel of a host at every moment of a caused history.
+pub use Rattle.vm_model.proofs.Ports.{at_place}
 use Rattle.std.proofs.Common.{inl, inr, ℕ, zero, suc, ◌≡◌, ◌∙◌, List, [], ◌∷◌, Bool, true, false, refl, sym, ap, subst, arith, Option, Some, None}
 use Rattle.std.proofs.Common.{if◌then◌else◌}
 use Rattle.std.proofs.lemmas.Bool.Decides.{nat_tests}
@@ -60,15 +61,6 @@ there P a b c h o p is holds =
 
     third : (a b c h o p : ℕ) → (a == h && (b == o && c == p)) ≡ true → c ≡ p
     third a b c h o p is = grind (arith, nat_tests)
-
-pub at_place : (P : ℕ → ℕ → Type 0) (a b h o : ℕ) → (a == h && b == o) ≡ true → P a b → P h o
-at_place P a b h o is holds = subst (λ x. P h x) (second a b h o is) (subst (λ x. P x b) (only a b h o is) holds)
-  where
-    only : (a b h o : ℕ) → (a == h && b == o) ≡ true → a ≡ h
-    only a b h o is = grind (arith, nat_tests)
-
-    second : (a b h o : ℕ) → (a == h && b == o) ≡ true → b ≡ o
-    second a b h o is = grind (arith, nat_tests)
 
 pub own_number : (a b : ℕ) → (a == b) ≡ true → a ≡ b
 own_number a b is = grind (arith, nat_tests)

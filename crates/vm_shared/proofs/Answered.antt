@@ -1,8 +1,7 @@
 -- Where nothing is undelivered the server of shared memory has answered everybody.
-use Rattle.std.proofs.Common.{inl, inr, ⊎_elim, ℕ, zero, suc, ◌≡◌, ◌∙◌, List, [], Bool, true, false, refl, sym, ap, subst, arith, Option, Some, None}
+use Rattle.std.proofs.Common.{ℕ, zero, suc, ◌≡◌, ◌∙◌, List, [], Bool, true, false, refl, sym, ap, subst, arith, Option, Some, None}
 use Rattle.std.proofs.Common.{if◌then◌else◌}
-use Rattle.std.proofs.lemmas.Bool.{cases_lt}
-use Rattle.std.specs.Prelude.{◌<◌, ◌⊎◌}
+use Rattle.std.specs.Prelude.{◌<◌}
 use Rattle.vm_model.specs.declared.event.Event.{Event}
 use Rattle.vm_model.specs.declared.script.Header.{Header}
 use Rattle.vm_model.specs.Channels.{down_port, down_words, up_port, up_words}
@@ -13,10 +12,9 @@ use Rattle.vm_model.specs.Local.{Local}
 use Rattle.vm_model.specs.Moments.{BeforeSteps, EachEvent}
 use Rattle.vm_model.specs.PageLicences.{ActsLicensed}
 use Rattle.vm_model.specs.PagePart.{page_part}
-use Rattle.vm_model.specs.Named.{named}
 use Rattle.vm_model.specs.Waiting.{Access, address_of, next_page}
 use Rattle.vm_model.specs.Side.{Side, right_of, side}
-use Rattle.vm_legal.proofs.Served.{later_paged, paged_supplied}
+use Rattle.vm_legal.proofs.Unshared.{shared_tame, wild_named}
 use Rattle.vm_legal.specs.Accesses.{Waits, page_of}
 use Rattle.vm_legal.specs.Bytes.{OwnBytes}
 use Rattle.vm_legal.specs.Debts.{IsPaid}
@@ -33,8 +31,8 @@ use Rattle.vm_coherence.proofs.Still.{answered}
 use Rattle.vm_coherence.specs.Locals.{SideIsLocal, right_now}
 use Rattle.vm_flat.proofs.Locals.{each_founded}
 use Rattle.vm_quiet.proofs.Letters.{none_queued}
-use Rattle.vm_quiet.proofs.Quiet.{none_in_vain, only_wild, ready_now, shared_supplied}
-use Rattle.vm_quiet.specs.Quiet.{IsShortOfFrames, NobodyWaitsInVain, OnlyWildAreAwaited, SharedAreAnswered, WaitsForWild, WaitsOnWild}
+use Rattle.vm_quiet.proofs.Quiet.{none_in_vain, only_wild, ready_now}
+use Rattle.vm_quiet.specs.Quiet.{NobodyWaitsInVain, OnlyWildAreAwaited, SharedAreAnswered, WaitsForWild, WaitsOnWild}
 use Rattle.vm_shared.proofs.Kept.{unmerged}
 use Rattle.vm_shared.proofs.Causes.{licensed}
 use Rattle.vm_shared.proofs.Declared.{place_own}
@@ -68,7 +66,7 @@ quiet_part header outside history o p still shared licensed =
       all_ready = λ h live.
           (stepped_of header outside history still.causes h o p shared).ready live
           ∙ ready_now header outside history h o (side h (page_part header.size o p history)).control still.causes still.steps still.paid still.delivered
-          (shared_supplied header o shared)
+          (shared_tame header o shared)
           (live_some (side h (page_part header.size o p history)) (live_control h o history)
           (side_is_local header history h o p (unmerged header outside history still.causes o shared) known).control live);
       done = done_now header outside o p history shared still.causes still.paid;
@@ -126,11 +124,6 @@ shared_are_answered header outside history causes own steps paid served delivere
 
 -- whoever waits for a wild object's place waits on its region
 
-pub wild_declared : (header : Header) (o : ℕ) → is_wild header o ≡ true → o < named header
-wild_declared header o wild =
-    ⊎_elim (λ less. less) (λ above. let bad : true ≡ false = sym wild ∙ paged_supplied header o (later_paged header o above) in absurd (cc))
-    (cases_lt o (named header))
-
 on_wild : (header : Header) (outside : Outside) (history : List Event) (host task : ℕ) (access : Access) → EachEvent (HasCause header outside) history
     → WaitsForWild header host task access history → WaitsOnWild header host task access history
 on_wild header outside history host task access causes is =
@@ -138,7 +131,7 @@ on_wild header outside history host task access causes is =
     let n : Numbering header history = numbering header outside history causes in
     let made = at_made header task (address_of header.size (next_page task history) access) history n.made waits.at in
     let own = place_own header history waits.at.entry.region.0 (page_of header task access history waits.at.entry) is.what.object is.what.page n.numbered
-    (wild_declared header is.what.object is.wild) made is.what.place in
+    (wild_named header is.what.object is.wild) made is.what.place in
     record { waits = waits; on_host = is.what.on_host; wild = ap (is_wild header) own.own.region ∙ is.wild }
 
 pub nobody_waits : (header : Header) (outside : Outside) (history : List Event) → NoneIsTemporary header → EachEvent (HasCause header outside) history

@@ -12,7 +12,7 @@ use Rattle.vm_model.specs.declared.event.Event.TheVariants as event
 use Rattle.vm_model.specs.declared.script.Declared.{Declared}
 use Rattle.vm_system.proofs.Letters.{orderly_taken}
 use Rattle.vm_system.proofs.Taken.{front_of}
-use Rattle.vm_shared.proofs.Answered.{wild_declared}
+use Rattle.vm_legal.proofs.Unshared.{wild_named}
 use Rattle.vm_system.proofs.Replied.{AnswerKeeps, Replied, answered, files_apart, going, paged_apart, spares_files, spares_paging, stands_unshared, took}
 use Rattle.vm_legal.proofs.Locks.{no_change}
 
@@ -39,7 +39,7 @@ wild_unpaged : (header : Header) (o : ℕ) → is_wild header o ≡ true → is_
 wild_unpaged header o wild = by (nat_lt o (named header)) (is_file header o) low (wild_unfiled header o wild)
   where
     low : nat_lt o (named header) ≡ true
-    low = let below = wild_declared header o wild in grind (arith, nat_tests, below)
+    low = let below = wild_named header o wild in grind (arith, nat_tests, below)
 
     by : (b c : Bool) → b ≡ true → c ≡ false → not b || c ≡ false
     by true c low none = none
@@ -89,7 +89,7 @@ paid_wild given host object m s heard = record {
   change = λ request is wanted. no_change request (event.Taken (Up host object) m ∷ given.past) refl is;
   destroy = λ at o tame is. absurd (none-some _ is);
   slot =
-      λ at o control page dirty keep bytes high is lacks. let low = wild_declared given.header o (its o (ap object_up is)) in absurd (omega (arith, low, high));
+      λ at o control page dirty keep bytes high is lacks. let low = wild_named given.header o (its o (ap object_up is)) in absurd (omega (arith, low, high));
 }
   where
     its : (o : ℕ) → object.0 ≡ o → is_wild given.header o ≡ true
@@ -105,7 +105,7 @@ pub spares_wild : (given : Step) (line : Option ℕ) (number : ChannelId) (host 
     → Spares given.header given.outside s now
 spares_wild given line number host object m s now may heard pagers files items = record {
   paging =
-      spares_paging Files given line number host object m s now [] may heard.reply (wild_declared given.header object.0 heard.wild) refl pagers items;
+      spares_paging Files given line number host object m s now [] may heard.reply (wild_named given.header object.0 heard.wild) refl pagers items;
   files = spares_files Files given line number host object m s now [] may heard.reply (wild_unfiled given.header object.0 heard.wild) refl files items;
 }
 
@@ -118,7 +118,7 @@ answered_wild given host object m s now heard pagers files server keeps =
     let header = given.header in
     answered Files given host object m s now [] heard.reply
     (stands_unshared Files given host object m s now [] heard.reply (wild_unshared header object.0 heard.wild)
-    (rw pagers (paged_apart Files given host object m s [] heard.reply (wild_declared header object.0 heard.wild)))
+    (rw pagers (paged_apart Files given host object m s [] heard.reply (wild_named header object.0 heard.wild)))
     (rw files (files_apart Files given host object m s [] heard.reply (wild_unfiled header object.0 heard.wild))) server
     (orderly_taken header (Up host object) m given.past heard.reply.front.orderly heard.reply.head) (paid_wild given host object m s heard)) keeps
 

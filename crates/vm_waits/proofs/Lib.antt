@@ -2,5 +2,5 @@ mod ByTask
 pub mod Copies
 pub mod Entries
 pub mod Lines
-mod Rows
+pub mod Rows
 pub mod Tables

@@ -92,7 +92,7 @@ pub absent_behind : (x : Waiting) (xs : List Waiting) (t : ℕ) → (x.task.0 ==
 absent_behind x xs t here none = let same : x.task.0 ≡ t = grind (arith, nat_tests) in ap (entry xs) (sym same) ∙ none
 
 -- its row has another reason
-unturned : (t : ℕ) (reason : On) (rows : List Waiting) → entry rows t ≡ None → map (turned t reason) rows ≡ rows
+pub unturned : (t : ℕ) (reason : On) (rows : List Waiting) → entry rows t ≡ None → map (turned t reason) rows ≡ rows
 unturned t reason rows none = unchanged t (λ x. with_on x reason) rows none
 
 pub counted_turned : (test : On → Bool) (t : ℕ) (reason : On) (rows : List Waiting) (was : Waiting) → EachOnce rows → entry rows t ≡ Some was
@@ -166,7 +166,7 @@ counted_woken test count n (x ∷ xs) apart is =
     (cases_Bool (test x.on))
 
 -- the oldest row that passes a test, and how many pass it
-first_apart : (x : Waiting) (xs : List Waiting) (w : Waiting) → entry xs x.task.0 ≡ None → entry xs w.task.0 ≡ Some w → entry (x ∷ xs) w.task.0 ≡ Some w
+pub first_apart : (x : Waiting) (xs : List Waiting) (w : Waiting) → entry xs x.task.0 ≡ None → entry xs w.task.0 ≡ Some w → entry (x ∷ xs) w.task.0 ≡ Some w
 first_apart x xs w none some =
     ⊎_elim
     (λ (here : (x.task.0 == w.task.0) ≡ true). absurd (none-some w (sym (absent_behind x xs w.task.0 here none) ∙ some)))

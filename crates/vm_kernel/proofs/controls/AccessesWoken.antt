@@ -1,33 +1,17 @@
 -- The accesses on an object are woken, the oldest first.
+use Rattle.vm_waits.proofs.Rows.{first_apart, none_split, some_split, unturned}
 use Rattle.vm_kernel.proofs.Common.{Bool, List, None, On, Option, Some, TaskId, Waiting, [], ap, arith, eqb_tells, false, if◌then◌else◌, inl, inr, length, not}
-use Rattle.vm_kernel.proofs.Common.{refl, some_is, subst, sym, true, ℕ, ◌&&◌, ◌+◌, ◌-◌, ◌<◌, ◌==◌, ◌||◌, ◌∙◌, ◌∷◌, ◌≡◌, ◌≤◌}
+use Rattle.vm_kernel.proofs.Common.{refl, subst, sym, true, ℕ, ◌&&◌, ◌+◌, ◌-◌, ◌<◌, ◌==◌, ◌||◌, ◌∙◌, ◌∷◌, ◌≡◌, ◌≤◌}
 use Rattle.std.proofs.lemmas.List.{length-map}
 use Rattle.std.proofs.lemmas.Option.{none-some}
 use Rattle.std.specs.List.{filter}
 use Rattle.std.specs.Prelude.{map, option_map}
-use Rattle.vm_kernel.proofs.controls.WaitersWoken.{entry_map, woken_task}
+use Rattle.vm_kernel.proofs.controls.WaitersWoken.{entry_woken}
 use Rattle.vm_kernel.proofs.memory.PagesShown.{itself}
 use Rattle.vm_kernel.specs.Destroying.{WakesOn, is_on, oldest_on, queue_but_on, stands_on, waits_on, woken_on}
 use Rattle.vm_maps.specs.Maps.{Mapped}
 use Rattle.vm_waits.specs.Waits.{EachOnce, WaitTable, count_again, entry, is_again, is_frame, is_listed, one, queue_without, turned, waits_for_frame, with_on}
 use Rattle.vm_waits.specs.declared.waiting.On.TheVariants as on
-
-none_split : {A : Type 0} (b : Bool) (x : A) (o : Option A) → (if b then Some x else o) ≡ None → (b ≡ false) × (o ≡ None)
-none_split true x o none = absurd (none-some x (sym none))
-none_split false x o none = (refl, none)
-
--- where a test is passed, or what is left
-some_split : {A : Type 0} {P : Type 0} (b : Bool) (x y : A) (o : Option A) → (if b then Some x else o) ≡ Some y → (b ≡ true → x ≡ y → P)
-    → (b ≡ false → o ≡ Some y → P) → P
-some_split true x y o some here later = here refl (some_is x y some)
-some_split false x y o some here later = later refl some
-
--- no row is turned where its task has none
-unturned : (t : ℕ) (reason : On) (rows : List Waiting) → entry rows t ≡ None → map (turned t reason) rows ≡ rows
-unturned t reason [] none = refl
-unturned t reason (x ∷ xs) none =
-    let split = none_split (x.task.0 == t) x (entry xs t) none in
-    rw (split.0) (ap (λ (z : List Waiting). x ∷ z) (unturned t reason xs split.1))
 
 again_few : (rows : List Waiting) → count_again rows ≤ length rows
 again_few [] = omega arith
@@ -47,13 +31,6 @@ both : (b c : Bool) → (not b && c) ≡ true → (b ≡ false) × (c ≡ true)
 both true c is = absurd (let bad : false ≡ true = is in cc)
 both false c is = (refl, is)
 
--- whoever has a row behind the first one isn't the task of that one
-apart : (x : Waiting) (xs : List Waiting) (w : Waiting) → entry xs x.task.0 ≡ None → entry xs w.task.0 ≡ Some w → entry (x ∷ xs) w.task.0 ≡ Some w
-apart x xs w none is = elim (eqb_tells x.task.0 w.task.0) [
-  | inl same ↦ absurd (none-some w (sym none ∙ (ap (entry xs) same.1 ∙ is)))
-  | inr other ↦ rw other.0 is
-]
-
 pub oldest_stands : (maps : Mapped) (object : ℕ) (rows : List Waiting) (w : Waiting) → EachOnce rows → oldest_on maps object rows ≡ Some w
     → Stands maps object rows w
 oldest_stands maps object [] w once is = absurd (none-some w is)
@@ -65,7 +42,7 @@ oldest_stands maps object (x ∷ xs) w once is =
     record { is = rw (itself x.task.0) refl; on = parts.1; waits = parts.0 }))
     (λ (no : stands_on maps object x ≡ false) (later : oldest_on maps object xs ≡ Some w).
     let rest = oldest_stands maps object xs w once.1 later in
-    record { is = apart x xs w once.0 rest.is; on = rest.on; waits = rest.waits })
+    record { is = first_apart x xs w once.0 rest.is; on = rest.on; waits = rest.waits })
 
 -- whom it passes is woken anyway
 map_turned : (maps : Mapped) (object : ℕ) (rows : List Waiting) (w : Waiting) → EachOnce rows → entry rows w.task.0 ≡ Some w → is_on maps object w ≡ true
@@ -138,10 +115,6 @@ woken_waits maps object (Some w) = by (is_on maps object w)
     by : (b : Bool) → is_on maps object (if b then with_on w on.Again else w) ≡ is_on maps object w
     by true = refl
     by false = refl
-
-pub entry_woken : (maps : Mapped) (object : ℕ) (rows : List Waiting) (t : ℕ)
-    → entry (map (woken_on maps object) rows) t ≡ option_map (woken_on maps object) (entry rows t)
-entry_woken maps object rows t = entry_map (woken_on maps object) (woken_task maps object) rows t
 
 pub same_waits : (maps : Mapped) (object : ℕ) (old new : List Waiting) (t : ℕ) → map (woken_on maps object) new ≡ map (woken_on maps object) old
     → waits_on maps object (entry new t) ≡ waits_on maps object (entry old t)

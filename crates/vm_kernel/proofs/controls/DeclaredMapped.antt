@@ -1,8 +1,9 @@
 -- A declared object is mapped: a task gets an entry on its region, which counts one more or is made, and where no control of the object lives one begins.
+use Rattle.vm_kernel.proofs.controls.FlagSet.{puts_both}
 use Rattle.vm_kernel.proofs.Common.{Begins, Bool, ChainTable, ChangesOnly, Command, EachOf, Elsewhere, Entry, Event, HasControls, Header, Ids, IfSome, IsInside}
 use Rattle.vm_kernel.proofs.Common.{IsReferred, IsSome, List, MapChange, Mapped, Matches, None, ObjectId, ObjectRow, ObjectTable, Option, Outside, Parts, Plays}
 use Rattle.vm_kernel.proofs.Common.{PutsObject, PutsRegion, QueueIsStill, Ran, RegionRow, Rests, RunsNone, SameMarks, Shares, Some, Starts, TaskId, Temp, Up}
-use Rattle.vm_kernel.proofs.Common.{[], ap, arith, code_where, entered, entering, entries_in, entries_in_row, entries_of, entry_at, eqb_tells, false, get_or}
+use Rattle.vm_kernel.proofs.Common.{[], ap, arith, code_where, entered, entering, entries_in, entries_in_row, entries_of, entry_at, false, get_or}
 use Rattle.vm_kernel.proofs.Common.{got, has_pager, has_region, head, holds, host_id, host_of, if◌then◌else◌, in_use, inl, inr, is_none, is_range, is_ready}
 use Rattle.vm_kernel.proofs.Common.{is_some, last_control, length, live_control, live_in, local, marks_of, meets_range, most_entries, named, nat_tests}
 use Rattle.vm_kernel.proofs.Common.{next_object, next_region, object_at, object_home, page_below, pages_in, paging, place_of, refl, region_at, region_entries}
@@ -376,19 +377,6 @@ pub data MapsTo (header : Header) (h : ℕ) (task : TaskId) (row : Entry) (objec
       → k2 ≡ with_declared k objects chains maps → after ≡ beginning h object new.control header.size ∷ got task row ∷ before
       → MapsTo header h task row object past k k2 before after
 
--- an object is known otherwise, and then otherwise again
-puts_twice : (o : ℕ) (x y : Option ObjectRow) (old mid new : ObjectTable) → PutsObject o x old mid → PutsObject o y mid new → PutsObject o y old new
-puts_twice o x y old mid new first second =
-    record {
-      at = λ k. elim (eqb_tells o k) [
-        | inl same ↦ second.at k ∙ (ap (λ b. if b then y else object_at mid k) same.0 ∙ sym (ap (λ b. if b then y else object_at old k) same.0))
-        | inr apart ↦
-            second.at k
-            ∙ (ap (λ b. if b then y else object_at mid k) apart.0
-            ∙ (first.at k ∙ (ap (λ b. if b then x else object_at old k) apart.0 ∙ sym (ap (λ b. if b then y else object_at old k) apart.0))))
-      ];
-    }
-
 -- what a pager is told
 begins_at : {h : ℕ} {host : HostId} {size own_size : ℕ} (object : ObjectId) (control : ℕ) (before : List Event) → host ≡ host_id h → size ≡ own_size
     → event.Sent (Up host object) (message.Init control size) ∷ before ≡ beginning h object control own_size ∷ before
@@ -519,7 +507,7 @@ map_first header h task address bytes object offset d past k k2 k3 ids before mi
         let was = was_quiet header h past k ids object.0 d (now.control + 1) rests may.declared is_declared free quiet refl few in
         IsMade k3.memory.objects k2.chains maps d.pages new
         (made new k3.memory.objects was.0
-        (puts_twice object.0 (Some now) (Some new) k.memory.objects k2.memory.objects k3.memory.objects known second)
+        (puts_both object.0 (Some now) (Some new) k.memory.objects k2.memory.objects k3.memory.objects known second)
         (record { at = λ o p. marks2.at o p ∙ marks.at o p })) was.1
         (is ∙ ap (λ (z : Parts). record z { maps = maps; memory = record (z.memory) { objects = k3.memory.objects }; chains = k2.chains }) same)
         (says ∙ begins_at object (now.control + 1) mid host size ∙ ap (λ z. beginning h object (now.control + 1) header.size ∷ z) told)

@@ -353,6 +353,12 @@ controls_opened header os os2 last_at live_at ready_at o new has declared lives 
       ];
     }
 
+-- a pager that is ready is known
+pub ready_paged : (pager : PagerState) → is_ready_state pager ≡ true → has_pager pager ≡ true
+ready_paged state.Without is = is
+ready_paged state.Sent is = refl
+ready_paged state.Ready is = refl
+
 -- whoever waits for its pager does so still
 pub waits_declared : {stays unmet : PageKey → Type 0} (header : Header) (maps : Mapped) (cs : ChainTable) (rs : ResidentTable) (os os2 : ObjectTable)
     (rows : List Waiting) (who : On → Bool) (waiting_at : ℕ → Option Access) (o : ℕ) (new : ObjectRow)
@@ -373,14 +379,9 @@ waits_declared header maps cs rs os os2 rows who waiting_at o new has known put 
       | inr other ↦ ap ready_in other.1 ∙ is
     ])
   where
-    paged : (s : PagerState) → is_ready_state s ≡ true → has_pager s ≡ true
-    paged state.Without is = is
-    paged state.Sent is = refl
-    paged state.Ready is = refl
-
     still : (was : Option ObjectRow) → object_at os o ≡ was → ready_in was ≡ true → is_ready_state new.state ≡ true
     still None found is = absurd (let bad : false ≡ true = is in cc)
-    still (Some row) found is = ap is_ready_state (known.told row found (paged row.state is)) ∙ is
+    still (Some row) found is = ap is_ready_state (known.told row found (ready_paged row.state is)) ∙ is
 
 -- what a mapping that isn't refused has
 pub record MayMap (header : Header) (h : ℕ) (k : Parts) (task address bytes : ℕ) (object : ObjectId) (offset : ℕ) (past : List Event) : Type 0 where

@@ -1,19 +1,19 @@
 -- The end of a wild object that a host took is done, and paid.
-use Rattle.vm_kernel.proofs.Common.{Access, AllInner, Bool, Command, EachOf, Entry, Event, Header, Ids, IsAbsencePaid, LegalEvents, List, Message, None}
-use Rattle.vm_kernel.proofs.Common.{ObjectId, Option, Outside, PageKey, Parts, Rests, RunsNoneYet, Some, Still, Waiting, Waits, Want, Works, [], absence_more}
-use Rattle.vm_kernel.proofs.Common.{absence_taken, access_in, address_in, ap, append-nil, append_assoc, arith, before_more, before_step, copies_to, entries_of}
-use Rattle.vm_kernel.proofs.Common.{entry, entry_at, eqb_tells, error_more, error_taken, false, if◌then◌else◌, inl, inr, is_control, length, live_in, named}
-use Rattle.vm_kernel.proofs.Common.{nat_lt, next_page, no_request, none_again, not, object_at, of_both, refl, rows_in, some_is, subst, sym, true, ℕ, ◌&&◌, ◌++◌}
-use Rattle.vm_kernel.proofs.Common.{◌==◌, ◌∙◌, ◌∷◌, ◌≡◌}
+use Rattle.vm_legal.proofs.Unshared.{wild_named}
+use Rattle.vm_kernel.proofs.Common.{Access, AllInner, Bool, Command, EachOf, Entry, Event, HasWaits, Header, Ids, IsAbsencePaid, LegalEvents, List, Matches}
+use Rattle.vm_kernel.proofs.Common.{Message, None, ObjectId, Option, Outside, PageKey, Parts, Rests, RunsNoneYet, Some, Still, Waiting, Waits, Want, Works, []}
+use Rattle.vm_kernel.proofs.Common.{absence_more, absence_taken, access_in, address_in, ap, append-nil, append_assoc, arith, before_more, before_step}
+use Rattle.vm_kernel.proofs.Common.{copies_to, entries_of, entry, entry_at, eqb_tells, error_more, error_taken, false, if◌then◌else◌, inl, inr, is_control}
+use Rattle.vm_kernel.proofs.Common.{length, live_in, named, nat_lt, next_page, no_request, none_again, not, object_at, of_both, refl, rows_in, some_is, subst}
+use Rattle.vm_kernel.proofs.Common.{sym, true, ℕ, ◌&&◌, ◌++◌, ◌==◌, ◌∙◌, ◌∷◌, ◌≡◌}
 use Rattle.std.proofs.lemmas.List.{length-map}
 use Rattle.std.proofs.lemmas.Option.{none-some}
 use Rattle.std.specs.Prelude.{map, option_map}
 use Rattle.vm_base.specs.Listing.{Listed}
 use Rattle.vm_frames.specs.Frames.{frame_count}
-use Rattle.vm_kernel.proofs.controls.AccessesWoken.{entry_woken}
+use Rattle.vm_kernel.proofs.controls.WaitersWoken.{entry_woken}
 use Rattle.vm_kernel.proofs.controls.AnswerEffects.{hears, nothing_dead}
 use Rattle.vm_kernel.proofs.controls.LockHeeded.{Heeds}
-use Rattle.vm_kernel.proofs.controls.ObjectDestroyed.{wild_known}
 use Rattle.std.proofs.lemmas.Bool.Decides.{nat_tests}
 use Rattle.vm_kernel.proofs.controls.WaitersFail.{since_goes}
 use Rattle.vm_kernel.proofs.controls.WordHeard.{no_absence}
@@ -26,7 +26,7 @@ use Rattle.vm_kernel.proofs.steps.FramesInTurn.{unrun}
 use Rattle.vm_kernel.proofs.steps.StepEnds.{at_home, has_row}
 use Rattle.vm_kernel.specs.Destroying.{AllUnserved, FailsOnly, HasEmptied, HaveFallen, IsDestroyPaid, IsFailure, StandOrFell, WakesOn, is_destroy, is_on}
 use Rattle.vm_kernel.specs.Destroying.{is_place_on, place_led, queue_behind, queue_but_on, unserved, unserved_at, woken_on}
-use Rattle.vm_kernel.specs.Matches.{Undone}
+use Rattle.vm_kernel.specs.Matches.{HasSlow, Undone}
 use Rattle.vm_kernel.specs.Rooms.{Spends, if_copies}
 use Rattle.vm_kernel.specs.Sweeping.{EndsOnly}
 use Rattle.vm_kernel.specs.Turns.{RunsNone}
@@ -117,15 +117,11 @@ module _ (h : ℕ) (past front : List Event) (object : ObjectId) (control reason
   pub stood_before : before_step (front ++ past) ≡ past
   stood_before = ap (λ (z : List Event). before_step (z ++ past)) told
 
--- a wild object is declared
-wild_below : (header : Header) (o : ℕ) → is_wild header o ≡ true → nat_lt o (named header) ≡ true
-wild_below header o wild = let less = wild_known header o wild in grind (arith, nat_tests)
-
 -- whoever waited on the object has a row
-record WaitedHere (k : Parts) (task object : ℕ) : Type 0 where
-  row : Waiting
-  is : entry k.waits.rows task ≡ Some row
-  over : is_on k.maps object row ≡ true
+pub record WaitedHere (k : Parts) (task object : ℕ) : Type 0 where
+  pub row : Waiting
+  pub is : entry k.waits.rows task ≡ Some row
+  pub over : is_on k.maps object row ≡ true
 
 place_over : (maps : Mapped) (object address : ℕ) (rows : List Entry) (e : Entry) → entry_at address rows ≡ Some e → e.region.0 ≡ object
     → is_place_on object (option_map (place_at maps.size address) (entry_at address rows)) ≡ true
@@ -147,24 +143,23 @@ leads_over header maps chains resident destination next target task object e (wa
     absurd (let bad : false ≡ true = sym fits.range.supplied
     ∙ (ap (λ (z : Entry). is_wild header z.region.0) same ∙ (ap (is_wild header) region ∙ wild)) in cc)
 
-waited_here : (header : Header) (h : ℕ) (k : Parts) (ids : Ids) (past : List Event) (object task : ℕ) (access : Access) → Rests header h k ids past
-    → is_wild header object ≡ true → (waits : Waits header task access past) → waits.at.host ≡ h → waits.at.entry.region.0 ≡ object
-    → WaitedHere k task object
-waited_here header h k ids past object task access rests wild waits home region =
-    let m = rests.matches in
+pub waited_here : (header : Header) (h : ℕ) (k : Parts) (ids : Ids) (past : List Event) (object task : ℕ) (access : Access)
+    → Matches header h k ids [] past → HasWaits header h k woken.Nobody past → HasSlow header k past → is_wild header object ≡ true
+    → (waits : Waits header task access past) → waits.at.host ≡ h → waits.at.entry.region.0 ≡ object → WaitedHere k task object
+waited_here header h k ids past object task access m has copies wild waits home region =
     let here = at_home header h k ids past task access m waits home in
-    let row = has_row header h k past task access rests.waits here waits.waits in
+    let row = has_row header h k past task access has here waits.waits in
     let w = row.row in
     let over : (z : Waits header task (access_in k.maps.size (copies_to w.destination) w.want) past) → z.at.entry.region.0 ≡ object
     → is_on k.maps object w ≡ true = λ z its.
     let found : entry_at (address_in k.maps.size w.want) (rows_in task k.maps) ≡ Some z.at.entry =
     ap (entry_at (address_in k.maps.size w.want)) (sym (m.core.spaces.tasks.rows task here))
     ∙ (ap (λ (n : ℕ). entry_at n (entries_of header.size task past)) (sym (want_address k.maps.size header.size (next_page task past) (copies_to w.destination)
-    w.want m.core.spaces.tasks.sized (copies_next rests.used.copies task w row.found)))
+    w.want m.core.spaces.tasks.sized (copies_next copies task w row.found)))
     ∙ z.at.found) in
     ap (λ (t : ℕ). is_place_on object (place_led k.maps t w.want)) (entry_task k.waits.rows task w row.found)
     ∙ leads_over header k.maps k.chains k.memory.resident w.destination (next_page task past) (copy_target task past) task object z.at.entry w.want
-    (rests.used.copies.each task w row.found) (rests.waits.sized task w row.found) found its wild in
+    (copies.each task w row.found) (has.sized task w row.found) found its wild in
     record {
       row = w;
       is = row.found;
@@ -218,8 +213,8 @@ standing_woken header h k new ids past now object rests wild took woke = λ host
     let its : object ≡ o = ap (λ (z : HostObject). z.object) same in
     let was = subst (λ (z : List Event). (it : Waits header task access z) × ((it.at.host ≡ host) × (it.at.entry.region.0 ≡ o))) took.before
     (waits, (home, region)) in
-    let row = waited_here header h k ids past object task access rests wild was.0 (was.1.0 ∙ ap (λ (z : HostObject). z.host) (sym same))
-    (was.1.1 ∙ sym its) in
+    let row = waited_here header h k ids past object task access rests.matches rests.waits rests.used.copies wild was.0
+    (was.1.0 ∙ ap (λ (z : HostObject). z.host) (sym same)) (was.1.1 ∙ sym its) in
     inl (record {
       row = with_on row.row on.Again;
       is =
@@ -232,7 +227,7 @@ standing_woken header h k new ids past now object rests wild took woke = λ host
     host_is : (x y : HostObject) → Some x ≡ Some y → x ≡ y
     host_is x y is = some_is x y is
 
-unserved_over : (k : Parts) (object : ℕ) (x : Option Place) → is_place_on object x ≡ true → nat_lt object (length k.declared.items) ≡ true
+pub unserved_over : (k : Parts) (object : ℕ) (x : Option Place) → is_place_on object x ≡ true → nat_lt object (length k.declared.items) ≡ true
     → is_live_in (object_at k.memory.objects object) ≡ false → (key : PageKey) × (unserved_at k x ≡ Some key)
 unserved_over k object None over less ended = absurd (let bad : false ≡ true = over in cc)
 unserved_over k object (Some place) over less ended = elim (eqb_tells place.region.0 object) [
@@ -250,9 +245,12 @@ pub unserved_woken : (header : Header) (h : ℕ) (k new : Parts) (ids : Ids) (pa
 unserved_woken header h k new ids past object rests wild woke ended = λ t w is again.
     by (entry k.waits.rows t) t w refl (sym (woken_row k.maps object t k.waits.rows new.waits.rows woke.rows) ∙ is) again
   where
+    below : nat_lt object (named header) ≡ true
+    below = let low = wild_named header object wild in grind (arith, nat_tests)
+
     less : nat_lt object (length new.declared.items) ≡ true
     less = ap (λ z. nat_lt object (length z.items)) woke.declared
-        ∙ (ap (λ z. nat_lt object (length z)) rests.matches.core.setting.objects ∙ wild_below header object wild)
+        ∙ (ap (λ z. nat_lt object (length z)) rests.matches.core.setting.objects ∙ below)
 
     over : (w : Waiting) → is_on k.maps object w ≡ true → (key : PageKey) × (unserved new w ≡ Some key)
     over w is = unserved_over new object (place_led new.maps w.task.0 w.want) (ap (λ (z : Mapped). is_on z object w) woke.maps ∙ is) less ended

@@ -9,7 +9,8 @@ use Rattle.vm_kernel.proofs.controls.AnswerEffects.{hears, nothing_dead}
 use Rattle.vm_kernel.proofs.steps.EventsGrow.{goes_none}
 use Rattle.vm_kernel.proofs.controls.WordHeard.{no_absence}
 use Rattle.vm_kernel.proofs.memory.FramesHeld.{room_once}
-use Rattle.vm_kernel.proofs.controls.RangeLocked.{Done, IsTaken, Request, done, inner_of, request_at, wanted_at}
+use Rattle.vm_kernel.proofs.controls.RangeLocked.{IsTaken, Request, request_at, wanted_at}
+use Rattle.vm_kernel.proofs.controls.LockDone.{Done, done, inner_of}
 use Rattle.vm_kernel.proofs.controls.WordTaken.{changed_none, stays_heard, works_flagged, works_of as heard_works}
 use Rattle.vm_kernel.proofs.controls.PageLocked.{asks}
 use Rattle.vm_kernel.proofs.controls.LockRequested.{mid_taken}

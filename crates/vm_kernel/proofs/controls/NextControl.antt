@@ -1,11 +1,11 @@
 -- The next control of a declared object begins, where none lives though something refers to the object.
+use Rattle.vm_kernel.proofs.controls.DeclaredRegion.{BeginsAnew, controls_opened, ready_paged}
 use Rattle.vm_kernel.proofs.Common.{Begins, Elsewhere, Event, FrameTable, HasControls, HasPages, Header, Ids, IsOfKind, IsPagerTold, List, None, ObjectId}
 use Rattle.vm_kernel.proofs.Common.{ObjectRow, ObjectTable, Parts, PutsObject, ResidentTable, Rests, SameMarks, Some, Up, ap, arith, false, has_pager, host_id}
 use Rattle.vm_kernel.proofs.Common.{if◌then◌else◌, inl, inr, is_ready, is_ready_state, is_woken, last_control, live_control, live_in, local, named, object_at}
 use Rattle.vm_kernel.proofs.Common.{object_home, one_case, place_of, ready_in, refl, subst, sym, true, waiting, ℕ, ◌&&◌, ◌+◌, ◌-◌, ◌<◌, ◌==◌, ◌^◌, ◌∙◌, ◌∷◌}
 use Rattle.vm_kernel.proofs.Common.{◌≡◌}
 use Rattle.vm_kernel.proofs.abroad.OwnHost.{own_host}
-use Rattle.vm_kernel.proofs.controls.DeclaredRegion.{BeginsAnew, controls_opened}
 use Rattle.vm_kernel.proofs.controls.FlagsKept.{flags_set, uncached_dead}
 use Rattle.vm_kernel.proofs.controls.LockReplied.{replied_behind}
 use Rattle.vm_kernel.proofs.controls.WordTaken.{calm_none}
@@ -129,16 +129,11 @@ rests_begun header h object known past k k2 ids rests less some next kept =
       | inr other ↦ record { row = was.row; found = other.1 ∙ was.found; sent = was.sent }
     ]
 
-    paged : (pager : PagerState) → is_ready_state pager ≡ true → has_pager pager ≡ true
-    paged state.Without is = is
-    paged state.Sent is = refl
-    paged state.Ready is = refl
-
     ready : (x : ℕ) → ready_in (object_at k.memory.objects x) ≡ true → ready_in (object_at os x) ≡ true
     ready x was = elim (one_case o x (Some new) (object_at k.memory.objects x) (object_at os x) (next.put.at x)) [
       | inl this ↦
           let its : is_ready_state known.state ≡ true = sym (ap ready_in (sym (ap (object_at k.memory.objects) this.0) ∙ next.found)) ∙ was in
-          let bad : false ≡ true = sym untold ∙ paged known.state its in
+          let bad : false ≡ true = sym untold ∙ ready_paged known.state its in
           absurd (cc)
       | inr other ↦ ap ready_in other.1 ∙ was
     ]

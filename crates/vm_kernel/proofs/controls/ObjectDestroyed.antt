@@ -1,11 +1,11 @@
 -- An object that its pager has ended: its control has ended, nothing of it is here or asked, and nothing holds it but the entries that lead to it.
+use Rattle.vm_legal.proofs.Unshared.{wild_named}
 use Rattle.vm_kernel.proofs.Common.{AllReferred, Bool, Command, Elsewhere, Event, HasControls, HasFrames, HasPages, Header, Ids, List, None, ObjectId}
-use Rattle.vm_kernel.proofs.Common.{ObjectRow, ObjectTable, Option, Outside, Parts, PutsObject, SameMarks, ShadowRow, Some, Temp, Up, [], ap, arith, eqb_tells}
+use Rattle.vm_kernel.proofs.Common.{ObjectRow, ObjectTable, Option, Outside, Parts, PutsObject, SameMarks, ShadowRow, Some, Up, [], ap, arith, eqb_tells}
 use Rattle.vm_kernel.proofs.Common.{false, frames_held, frames_wired, host_id, if◌then◌else◌, inl, inr, is_control, is_ready, last_control, live_control}
-use Rattle.vm_kernel.proofs.Common.{live_in, local, local_after, named, nat_lt, nat_tests, next_object, next_region, object_at, object_home, page_on, place_of}
+use Rattle.vm_kernel.proofs.Common.{live_in, local, local_after, named, next_object, next_region, object_at, object_home, page_on, place_of}
 use Rattle.vm_kernel.proofs.Common.{refl, reverse, row_at, shadow_at, slice_get, some_is, subst, sym, true, without_control, ℕ, ◌&&◌, ◌+◌, ◌-◌, ◌<◌, ◌==◌, ◌∙◌}
 use Rattle.vm_kernel.proofs.Common.{◌∷◌, ◌≡◌}
-use Rattle.vm_abroad.proofs.Regions.{kind_cases}
 use Rattle.vm_kernel.proofs.abroad.OwnEvents.{own_named}
 use Rattle.vm_kernel.proofs.abroad.OwnHost.{own_host}
 use Rattle.vm_kernel.proofs.controls.FlagsKept.{flags_set}
@@ -22,9 +22,7 @@ use Rattle.vm_kernel.specs.Matches.{Core, IsCalm, control_facts, memory_facts, s
 use Rattle.vm_legal.specs.Destroyed.{IsDestroyed, destroy_taken, is_destroyed}
 use Rattle.vm_legal.specs.Frames.{asked_pages}
 use Rattle.vm_legal.specs.Licences.{Destroyed}
-use Rattle.vm_legal.specs.Outside.{is_wild, is_wild_kind, kind_in}
 use Rattle.vm_merge.specs.Merges.{IsThin}
-use Rattle.vm_model.specs.Named.{declared as declared_at}
 use Rattle.vm_model.specs.Local.{Ends as EndsControl}
 use Rattle.vm_model.specs.declared.event.Event.TheVariants as event
 use Rattle.vm_model.specs.declared.message.Message.TheVariants as message
@@ -37,15 +35,6 @@ use Rattle.vm_state.proofs.KnownPages.{sizes_put}
 use Rattle.vm_state.proofs.Referred.{all_but, all_ended, but_known}
 use Rattle.vm_state.specs.Places.{known_local}
 use Rattle.vm_state.specs.References.{references_to}
-
--- a wild object is declared
-pub wild_known : (header : Header) (o : ℕ) → is_wild header o ≡ true → o < named header
-wild_known header o wild = elim (kind_cases header o) [
-  | inl declared ↦ declared
-  | inr temporary ↦
-      let low : nat_lt o (named header) ≡ false = grind (arith, nat_tests, temporary) in
-      absurd (let bad : false ≡ true = sym (ap (λ b. is_wild_kind (if b then kind_in (declared_at header o) else Temp)) low) ∙ wild in cc)
-]
 
 -- a row is put where another was put
 puts_over : (o : ℕ) (x y : Option ObjectRow) (os mid os2 : ObjectTable) → PutsObject o x os mid → PutsObject o y os os2 → PutsObject o y mid os2
@@ -89,7 +78,7 @@ module _ {header : Header} {h : ℕ} {object : ObjectId} {k : Parts} {ids : Ids}
   ending = event.Sent (Up (host_id h) object) (message.Terminate known.control)
 
   declared : o < named header
-  declared = wild_known header o is.destroyed.wild
+  declared = wild_named header o is.destroyed.wild
 
   alive : live_control h o moment ≡ Some known.control
   alive = is.clears.core.controls.live o ∙ (ap live_in is.found ∙ ap (λ b. if b then Some known.control else None) is.live)

@@ -1,13 +1,13 @@
 -- An object that its pager ends: its pages that are asked are asked no more, and no event says so, until its control ends.
+use Rattle.vm_kernel.proofs.memory.PagesShown.{KeepsOthers, effect_on, pages_moved, row_elsewhere}
 use Rattle.vm_kernel.proofs.Common.{AllReferred, Bool, Cancels, ChainTable, Elsewhere, Event, HasPages, Header, HostParts, Ids, List, Local, None, ObjectId}
 use Rattle.vm_kernel.proofs.Common.{ObjectTable, OnlyLoses, PageKey, PageRow, Parts, ResidentTable, Some, TakesError, UsesAll, [], absent_at, ap, arith}
 use Rattle.vm_kernel.proofs.Common.{eqb_tells, false, frame_here, if◌then◌else◌, inl, inr, is_some, length, local_after, nat_lt, nat_tests, refl, row_at}
-use Rattle.vm_kernel.proofs.Common.{row_cases, row_put, subst, suc, sym, true, ℕ, ◌&&◌, ◌+◌, ◌-◌, ◌<◌, ◌==◌, ◌∙◌, ◌∷◌, ◌≡◌}
+use Rattle.vm_kernel.proofs.Common.{row_put, subst, suc, sym, true, ℕ, ◌&&◌, ◌+◌, ◌-◌, ◌<◌, ◌==◌, ◌∙◌, ◌∷◌, ◌≡◌}
 use Rattle.vm_kernel.proofs.controls.AnswerEffects.{asked_shows}
 use Rattle.vm_kernel.proofs.lists.ListsAsTold.{frames_kept}
 use Rattle.vm_kernel.proofs.memory.CoreChanges.{core_rerowed}
 use Rattle.vm_kernel.proofs.memory.PageChanges.{fit_rerowed, same_objects}
-use Rattle.vm_kernel.proofs.memory.PagesShown.{effect_on, pages_moved}
 use Rattle.vm_kernel.proofs.space.ObjectsEnd.{changes_beside, lost_one, of_state}
 use Rattle.vm_kernel.specs.Destroying.{occurrences}
 use Rattle.vm_kernel.specs.Matches.{ControlFacts, Core, MemoryFacts, SpaceFacts}
@@ -89,7 +89,7 @@ pub record AreCancelled (header : Header) (h : ℕ) (past : List Event) (start :
   pub rest : new ≡ record old { parts = new.parts; events = new.events }
   pub events : new.events ≡ old.events
   pub none : (p : ℕ) → row_at new.parts.resident object.0 p ≡ None
-  pub others : (o p : ℕ) → (object.0 ≡ o → ⊥) → row_at new.parts.resident o p ≡ row_at old.parts.resident o p
+  pub others : KeepsOthers object.0 old.parts.resident new.parts.resident
   pub pages : OnlyLoses old.parts.resident new.parts.resident
   pub frames : (o p : ℕ) → frame_here (row_at new.parts.resident o p) ≡ frame_here (row_at old.parts.resident o p)
   pub queues : new.parts.queues ≡ old.parts.queues
@@ -150,13 +150,6 @@ pages_cancel header h past start ids object _ s c m _ _ _ core used low (NextAsk
         (used_away old.parts.resident mid.parts.resident used
         (away_put object.0 page.0 None row old.parts.resident mid.parts.resident cancelled.page.found cancelled.page.row))
 
-    -- each other row is as it was
-    elsewhere : (o p : ℕ) → (object.0 ≡ o → page.0 ≡ p → ⊥) → row_at mid.parts.resident o p ≡ row_at old.parts.resident o p
-    elsewhere o p apart = elim (row_cases object.0 page.0 None old.parts.resident mid.parts.resident cancelled.page.row o p) [
-      | inl put ↦ absurd (apart put.object put.page)
-      | inr other ↦ other.is
-    ]
-
     gone : row_at mid.parts.resident object.0 page.0 ≡ None
     gone = row_put old.parts.resident mid.parts.resident object.0 page.0 None cancelled.page.row
 
@@ -170,7 +163,7 @@ pages_cancel header h past start ids object _ s c m _ _ _ core used low (NextAsk
     next : (q : ℕ) → q < suc page.0 → row_at mid.parts.resident object.0 q ≡ None
     next q below = elim (eqb_tells q page.0) [
       | inl this ↦ subst (λ (z : ℕ). row_at mid.parts.resident object.0 z ≡ None) (sym this.1) gone
-      | inr apart ↦ elsewhere object.0 q (λ one two. apart.1 (sym two)) ∙ in_front q (let other = apart.1 in grind arith)
+      | inr apart ↦ row_elsewhere cancelled.page.row object.0 q (λ one two. apart.1 (sym two)) ∙ in_front q (let other = apart.1 in grind arith)
     ]
 
     listed : AreCancelled header h past start ids object asked s c (record m { seen = first.seen; held = first.held }) mid new → (p : ℕ)
@@ -187,7 +180,7 @@ pages_cancel header h past start ids object _ s c m _ _ _ core used low (NextAsk
       | inr apart ↦
           let its = rest.listed p in
           let kept : one (is_some (row_at mid.parts.resident object.0 p)) ≡ one (is_some (row_at old.parts.resident object.0 p)) = ap (λ z. one (is_some z))
-          (elsewhere object.0 p (λ first second. apart.1 second)) in
+          (row_elsewhere cancelled.page.row object.0 p (λ first second. apart.1 second)) in
           let other : one (page.0 == p) ≡ 0 = ap one apart.0 in
           omega (arith, its, kept, other)
     ]
@@ -204,7 +197,7 @@ pages_cancel header h past start ids object _ s c m _ _ _ core used low (NextAsk
       rest = rest.rest ∙ ap (λ (z : FinishState). record z { parts = new.parts; events = new.events }) cancelled.rest.is;
       events = rest.events ∙ cancelled.events;
       none = rest.none;
-      others = λ o p apart. rest.others o p apart ∙ elsewhere o p (λ same also. apart same);
+      others = λ o p apart. rest.others o p apart ∙ row_elsewhere cancelled.page.row o p (λ same also. apart same);
       pages = λ o p row found. lost_one object.0 page.0 old.parts.resident mid.parts.resident cancelled.page.row o p row (rest.pages o p row found);
       frames = λ o p. rest.frames o p
           ∙ frames_kept old.parts.resident mid.parts.resident object.0 page.0 None cancelled.page.row (sym (ap frame_here found ∙ not_here)) o p;

@@ -1,15 +1,15 @@
 -- An object that its pager ends: its pages that are here go, one after another, while its control lives still.
+use Rattle.vm_kernel.proofs.memory.PagesShown.{KeepsOthers, pages_moved, row_elsewhere}
 use Rattle.vm_kernel.proofs.Common.{AllReferred, Bool, Command, Discards, Drops, Elsewhere, Event, HasOrder, HasPages, HasWaits, Header, HostParts, Ids}
 use Rattle.vm_kernel.proofs.Common.{IsSettled, LegalEvents, List, Local, None, ObjectId, Option, Outside, PageKey, PageRow, Parts, Rests, Some, UsesAll, []}
 use Rattle.vm_kernel.proofs.Common.{absent_at, ap, arith, away, eqb_tells, false, frames_held, host_id, if◌then◌else◌, inl, inr, is_control, live_control}
 use Rattle.vm_kernel.proofs.Common.{live_in, local, local_after, local_of_row, nat_lt, nat_tests, not, object_at, page_on, paging, place_of, refl, row_at}
-use Rattle.vm_kernel.proofs.Common.{row_cases, row_put, subst, suc, sym, true, ℕ, ◌&&◌, ◌++◌, ◌<◌, ◌==◌, ◌||◌, ◌∙◌, ◌∷◌, ◌≡◌, ◌⊎◌}
+use Rattle.vm_kernel.proofs.Common.{row_put, subst, suc, sym, true, ℕ, ◌&&◌, ◌++◌, ◌<◌, ◌==◌, ◌||◌, ◌∙◌, ◌∷◌, ◌≡◌, ◌⊎◌}
 use Rattle.vm_kernel.proofs.abroad.OwnEvents.{own_named}
 use Rattle.vm_kernel.proofs.abroad.OwnHost.{own_host}
 use Rattle.vm_kernel.proofs.lists.ListsAsTold.{frames_put, here_is, plays_told, same_paging}
 use Rattle.vm_kernel.proofs.memory.CoreChanges.{core_rerowed}
 use Rattle.vm_kernel.proofs.memory.PageChanges.{drops, fit_lost, same_objects}
-use Rattle.vm_kernel.proofs.memory.PagesShown.{pages_moved}
 use Rattle.vm_kernel.proofs.memory.WhatIsKnown.{known_on}
 use Rattle.vm_kernel.proofs.space.ObjectsEnd.{Led, changes_beside, led_both, led_none, lost_one, of_state, only_one}
 use Rattle.vm_kernel.proofs.steps.EventsGrow.{Follows, goes_one, suffices}
@@ -175,7 +175,7 @@ pub record AreDropped (header : Header) (h : ℕ) (outside : Outside) (doing : C
   pub objects : new.parts.objects ≡ old.parts.objects
   pub rest : new ≡ record old { parts = new.parts; events = new.events }
   pub none : (p : ℕ) → is_here (row_at new.parts.resident object.0 p) ≡ false
-  pub others : (o p : ℕ) → (object.0 ≡ o → ⊥) → row_at new.parts.resident o p ≡ row_at old.parts.resident o p
+  pub others : KeepsOthers object.0 old.parts.resident new.parts.resident
   pub away : (p : ℕ) → is_here (row_at old.parts.resident object.0 p) ≡ false → row_at new.parts.resident object.0 p ≡ row_at old.parts.resident object.0 p
   pub told : (p : ℕ) → (is_here (row_at old.parts.resident object.0 p) ≡ true) ⊎ (since (drops_page h object.0 p) (old.events ++ past) ≡ true)
       → since (drops_page h object.0 p) (new.events ++ past) ≡ true
@@ -234,13 +234,6 @@ pages_drop header h outside doing past start ids object _ _ _ e low (NextHere fr
     was_here : is_here (row_at old.parts.resident object.0 page.0) ≡ true
     was_here = ap is_here found ∙ dropped.here
 
-    -- each other row is as it was
-    elsewhere : (o p : ℕ) → (object.0 ≡ o → page.0 ≡ p → ⊥) → row_at mid.parts.resident o p ≡ row_at old.parts.resident o p
-    elsewhere o p apart = elim (row_cases object.0 page.0 None old.parts.resident mid.parts.resident dropped.page.row o p) [
-      | inl put ↦ absurd (apart put.object put.page)
-      | inr other ↦ other.is
-    ]
-
     same : of_state start mid ≡ record base { memory = memory }
     same = ap (of_state start) dropped.rest.is
 
@@ -266,7 +259,7 @@ pages_drop header h outside doing past start ids object _ _ _ e low (NextHere fr
     next q below = elim (eqb_tells q page.0) [
       | inl same ↦ subst (λ (z : ℕ). is_here (row_at mid.parts.resident object.0 z) ≡ false) (sym same.1)
           (ap is_here (row_put old.parts.resident mid.parts.resident object.0 page.0 None dropped.page.row))
-      | inr apart ↦ ap is_here (elsewhere object.0 q (λ one two. apart.1 (sym two))) ∙ first q (let other = apart.1 in grind arith)
+      | inr apart ↦ ap is_here (row_elsewhere dropped.page.row object.0 q (λ one two. apart.1 (sym two))) ∙ first q (let other = apart.1 in grind arith)
     ]
 
     since_mid : (p : ℕ) → (page.0 ≡ p) ⊎ (since (drops_page h object.0 p) (old.events ++ past) ≡ true)
@@ -283,7 +276,7 @@ pages_drop header h outside doing past start ids object _ _ _ e low (NextHere fr
     told rest p (inr done) = rest.told p (inr (since_mid p (inr done)))
     told rest p (inl here) = elim (eqb_tells page.0 p) [
       | inl this ↦ rest.told p (inr (since_mid p (inl this.1)))
-      | inr apart ↦ rest.told p (inl (ap is_here (elsewhere object.0 p (λ one two. apart.1 two)) ∙ here))
+      | inr apart ↦ rest.told p (inl (ap is_here (row_elsewhere dropped.page.row object.0 p (λ one two. apart.1 two)) ∙ here))
     ]
 
     whole : AreDropped header h outside doing past start ids object mid new → AreDropped header h outside doing past start ids object old new
@@ -294,9 +287,9 @@ pages_drop header h outside doing past start ids object _ _ _ e low (NextHere fr
           objects = rest.objects ∙ dropped.rest.objects;
           rest = rest.rest ∙ ap (λ (z : FinishState). record z { parts = new.parts; events = new.events }) dropped.rest.is;
           none = rest.none;
-          others = λ o p apart. rest.others o p apart ∙ elsewhere o p (λ same also. apart same);
+          others = λ o p apart. rest.others o p apart ∙ row_elsewhere dropped.page.row o p (λ same also. apart same);
           away = λ p gone.
-              let same : row_at mid.parts.resident object.0 p ≡ row_at old.parts.resident object.0 p = elsewhere object.0 p (λ same also.
+              let same : row_at mid.parts.resident object.0 p ≡ row_at old.parts.resident object.0 p = row_elsewhere dropped.page.row object.0 p (λ same also.
               let bad : true ≡ false = sym (subst (λ (z : ℕ). is_here (row_at old.parts.resident object.0 z) ≡ true) also was_here) ∙ gone in absurd (cc)) in
               rest.away p (ap is_here same ∙ gone) ∙ same;
           told = told rest;

@@ -1,31 +1,23 @@
--- The pages of a lock request's range obey one after another, and the pager is told.
-use Rattle.vm_kernel.proofs.controls.LockReplied.{replied_lock}
-use Rattle.vm_kernel.proofs.Common.{AllInner, Bool, CausedInTurn, Command, EachOf, Event, FrameTable, Header, HostParts, Ids, IsInner, LegalEvents, List, Local}
-use Rattle.vm_kernel.proofs.Common.{None, ObjectId, ObjectRow, Option, Outside, PageKey, PageNo, PageRow, Parts, Plays, PutsRow, ResidentTable, RunsNone, Some}
-use Rattle.vm_kernel.proofs.Common.{Still, Then, Works, [], absent_at, ap, append-nil, arith, before_more, eqb_tells, false, host_id, if◌then◌else◌, inl, inr}
-use Rattle.vm_kernel.proofs.Common.{live_in, local, local_of_row, nat_le, nat_lt, nat_tests, not, object_at, page_in, page_on, paging, place_of, refl, row_at}
-use Rattle.vm_kernel.proofs.Common.{row_cases, row_put, since, some_is, subst, suc, sym, true, zero, ℕ, ◌&&◌, ◌++◌, ◌+◌, ◌<◌, ◌==◌, ◌||◌, ◌∙◌, ◌∷◌, ◌≡◌, ◌≤◌}
-use Rattle.vm_kernel.proofs.Common.{◌⊎◌}
+-- The pages of a lock request's range obey one after another.
+use Rattle.vm_kernel.proofs.memory.PagesShown.{itself, row_elsewhere}
+use Rattle.vm_kernel.proofs.Common.{Bool, Command, EachOf, Event, Header, HostParts, Ids, IsInner, LegalEvents, List, None, ObjectId, ObjectRow, Option}
+use Rattle.vm_kernel.proofs.Common.{Outside, PageKey, PageNo, PageRow, Parts, Plays, PutsRow, ResidentTable, RunsNone, Some, Still, Then, [], absent_at, ap}
+use Rattle.vm_kernel.proofs.Common.{arith, eqb_tells, false, host_id, if◌then◌else◌, inl, inr, local_of_row, nat_le, nat_lt, nat_tests, not, object_at, page_in}
+use Rattle.vm_kernel.proofs.Common.{page_on, paging, refl, row_at, row_put, since, some_is, subst, suc, sym, true, zero, ℕ, ◌&&◌, ◌++◌, ◌+◌, ◌<◌, ◌==◌, ◌||◌}
+use Rattle.vm_kernel.proofs.Common.{◌∙◌, ◌∷◌, ◌≡◌, ◌≤◌, ◌⊎◌}
 use Rattle.std.specs.Prelude.{option_map}
 use Rattle.vm_kernel.proofs.space.ObjectsEnd.{changes_beside}
-use Rattle.vm_kernel.proofs.steps.EventsGrow.{Follows, goes_more, goes_none, suffices}
-use Rattle.vm_kernel.proofs.controls.PageLocked.{ComesTo, Mid, StaysPut, comes_dropped, comes_returned, comes_saved, comes_still, completed, works_mid}
-use Rattle.vm_kernel.proofs.memory.PageChanges.{amidst_moved, drops, gives}
-use Rattle.vm_kernel.proofs.memory.MayLeave.{IsSeen, seen_here}
-use Rattle.vm_kernel.proofs.controls.AnswerEffects.{same_effect}
-use Rattle.vm_kernel.proofs.abroad.OwnEvents.{own_named}
-use Rattle.vm_kernel.proofs.abroad.OwnHost.{own_host}
-use Rattle.vm_kernel.proofs.memory.PagesShown.{itself}
+use Rattle.vm_kernel.proofs.steps.EventsGrow.{goes_more, goes_none}
+use Rattle.vm_kernel.proofs.controls.PageLocked.{ComesTo, Mid, StaysPut, comes_dropped, comes_returned, comes_saved, comes_still}
+use Rattle.vm_kernel.proofs.memory.PageChanges.{drops, gives}
 use Rattle.vm_legal.proofs.Inside.{since_more}
 use Rattle.vm_legal.proofs.Paying.{lock_more}
-use Rattle.vm_legal.specs.Debts.{HasLocked, HasObeyed, was_on}
 use Rattle.vm_legal.specs.Licences.{IsLocked, LockRequest, gives_back, lock_taken}
 use Rattle.vm_legal.specs.Steps.{before_step, completes, drops_page, gives_page, returns_page}
-use Rattle.vm_locks.specs.Obeys.{GoesBack, IsAsked, IsDropped, IsSaved, IsTold, LockState, Next, NoMore, PageObeys, PagesObey, Replies, Silent, Stays, act_on}
-use Rattle.vm_locks.specs.Obeys.{lock_state}
+use Rattle.vm_locks.specs.Obeys.{GoesBack, IsAsked, IsDropped, IsSaved, LockState, Next, NoMore, PageObeys, PagesObey, Stays, act_on, lock_state}
 use Rattle.vm_base.specs.declared.ids.Lock.{Lock}
-use Rattle.vm_kernel.proofs.controls.LockPending.{Ahead, aimed, changes_pended, frame_pended, is_ahead, owner_repaged, pend, pended, pended_away, pended_behind}
-use Rattle.vm_kernel.proofs.controls.LockPending.{pended_frame, row_repaged}
+use Rattle.vm_kernel.proofs.controls.LockPending.{Ahead, aimed, changes_pended, frame_pended, is_ahead, owner_repaged, pend, pended, pended_away, pended_frame}
+use Rattle.vm_kernel.proofs.controls.LockPending.{row_repaged}
 use Rattle.vm_kernel.proofs.controls.LockRequested.{SameRows, ahead_of, mid_rows}
 use Rattle.vm_locks.specs.Requests.{lock_wanted, returns_numbered}
 use Rattle.vm_locks.specs.declared.request.LockRequest.{LockRequest as Wanted}
@@ -35,11 +27,7 @@ use Rattle.vm_parts.specs.Locks.{lock_after}
 use Rattle.vm_queues.specs.Queues.{Queues}
 use Rattle.vm_state.specs.Places.{known_local}
 use Rattle.vm_tables.specs.Cases.{gives_back as goes_back}
-use Rattle.vm_state.proofs.Bypassing.{waits_quiet}
-use Rattle.vm_state.proofs.Passing.{quiet_if}
-use Rattle.vm_model.specs.Local.{Elsewhere}
 use Rattle.vm_model.specs.declared.event.Event.TheVariants as event
-use Rattle.vm_supply.specs.declared.woken.Woken.TheVariants as woken
 
 -- A lock request that a host took for the live control of an object, of which it knows this. The kernel is that in front of it, but for those that are to be
 -- run again, and the past ends with its taking.
@@ -134,7 +122,7 @@ pub record Obeyed (r : Request) (from : ℕ) (s : LockState) : Type 0 where
       → IsGiven r p row (s.events ++ r.past)
   pub left : (p : ℕ) (row : PageRow) → IsOf r from p → row_at s.parts.resident r.object.0 p ≡ Some row → row.here ≡ true → IsLeft r row
 
-below_or : (p n : ℕ) → (p < n) ⊎ (n ≤ p)
+pub below_or : (p n : ℕ) → (p < n) ⊎ (n ≤ p)
 below_or p n = by (nat_lt p n) refl
   where
     by : (b : Bool) → nat_lt p n ≡ b → (p < n) ⊎ (n ≤ p)
@@ -142,11 +130,11 @@ below_or p n = by (nat_lt p n) refl
     by false is = inr (grind (arith, nat_tests, is))
 
 -- the lists are the same, and each page is where it is
-paging_aimed : (r : Request) (from : ℕ) (s : LockState) → paging (aimed_at r from s) ≡ paging (at_state r.kernel s)
+pub paging_aimed : (r : Request) (from : ℕ) (s : LockState) → paging (aimed_at r from s) ≡ paging (at_state r.kernel s)
 paging_aimed r from s = λ i. record { frame_at = λ o p. frame_pended (ahead_in r from) s.parts.resident o p i; queues = s.parts.queues }
 
 -- at first
-obeyed_first : (r : Request) → IsTaken r → Obeyed r r.page.0 (lock_state r.kernel.memory r.kernel.laundry.held r.kernel.laundry.room [])
+pub obeyed_first : (r : Request) → IsTaken r → Obeyed r r.page.0 (lock_state r.kernel.memory r.kernel.laundry.held r.kernel.laundry.room [])
 obeyed_first r t =
     record {
       rests = t.rests;
@@ -257,10 +245,10 @@ since_one test other past inner = refl
 since_none : (test : Event → Bool) (e : Event) (past : List Event) → IsInner e → test e ≡ false → since test past ≡ false → since test (e ∷ past) ≡ false
 since_none test e past inner other none = since_one test e past inner ∙ (ap (λ b. b || since test past) other ∙ none)
 
-since_now : (test : Event → Bool) (e : Event) (past : List Event) → IsInner e → test e ≡ true → since test (e ∷ past) ≡ true
+pub since_now : (test : Event → Bool) (e : Event) (past : List Event) → IsInner e → test e ≡ true → since test (e ∷ past) ≡ true
 since_now test e past inner is = since_one test e past inner ∙ ap (λ b. b || since test past) is
 
-given_still : (r : Request) (p : ℕ) (row : PageRow) (e : Event) (past : List Event) → IsInner e → IsGiven r p row past → IsGiven r p row (e ∷ past)
+pub given_still : (r : Request) (p : ℕ) (row : PageRow) (e : Event) (past : List Event) → IsInner e → IsGiven r p row past → IsGiven r p row (e ∷ past)
 given_still r p row e past inner is = record {
   back = λ due. since_more (returns_page r.host r.object.0 p (not r.flush)) (e ∷ []) past (inner, tt) (is.back due);
   dropped = λ kept flushes. since_more (drops_page r.host r.object.0 p) (e ∷ []) past (inner, tt) (is.dropped kept flushes);
@@ -436,9 +424,6 @@ changes_aimed r page row now held bytes lists old new ahead here c =
     changes_beside (pend (ahead_in r page.0) old.parts) (pend (ahead_in r (suc page.0)) new.parts) r.kernel
     (changes_pended (ahead_in r page.0) (record { object = r.object; page = page }) row now held bytes lists old.parts new.parts refl refl ahead here c)
 
-rows_apart : (o p : ℕ) (x : Option PageRow) (rs rs2 : ResidentTable) → PutsRow o p x rs rs2 → (q : ℕ) → (p ≡ q → ⊥) → row_at rs2 o q ≡ row_at rs o q
-rows_apart o p x rs rs2 put q apart = elim (row_cases o p x rs rs2 put o q) [ inl now ↦ absurd (apart now.page) | inr other ↦ other.is ]
-
 page_apart : (h o p q : ℕ) → p < q → (h == h && (o == o && p == q)) ≡ false
 page_apart h o p q less = let apart : (p == q) ≡ false = grind (arith, nat_tests, less) in rw (itself h, itself o, apart) refl
 
@@ -451,7 +436,7 @@ tells_given r page dirty keep bytes =
     record { inner = tt; quiet = tt; going = rw (itself r.host, itself r.object.0) refl; mine = λ q less. page_apart r.host r.object.0 page.0 q less }
 
 -- it isn't given back
-spared : {R : Type 0} {b : Bool} → b ≡ false → b ≡ true → R
+pub spared : {R : Type 0} {b : Bool} → b ≡ false → b ≡ true → R
 spared kept due = absurd (let bad : false ≡ true = sym kept ∙ due in cc)
 
 page_gone : (r : Request) (p : ℕ) (rs rs2 : ResidentTable) → PutsRow r.object.0 p None rs rs2 → (now : PageRow) → row_at rs2 r.object.0 p ≡ Some now
@@ -482,7 +467,7 @@ page_obeys r page row old new t o below found here (IsDropped act c objects held
     (comes_dropped r.header r.host r.outside r.command r.ids (aimed_at r page.0 old) (memory_of r page.0 new) key (aimed (ahead_in r page.0) row) moment
     r.returns o.rests a.locked a.act here refl (changes_aimed r page row None _ _ _ old new a.ahead here c) objects refl))
     (record {
-      rows = rows_apart r.object.0 page.0 None old.parts.resident new.parts.resident c.row;
+      rows = λ q apart. row_elsewhere c.row r.object.0 q (λ same. apart);
       found = ap (λ z. object_at z r.object.0) objects;
       given =
           record {
@@ -502,7 +487,7 @@ page_obeys r page row old new t o below found here (Stays act c objects held roo
     (comes_still r.header r.host r.ids (aimed_at r page.0 old) (memory_of r page.0 new) key (aimed (ahead_in r page.0) row) moment o.rests here refl
     (changes_aimed r page row _ _ _ _ old new a.ahead here (stays_so r row false a.flushes old new c)) objects refl))
     (record {
-      rows = rows_apart r.object.0 page.0 _ old.parts.resident new.parts.resident c.row;
+      rows = λ q apart. row_elsewhere c.row r.object.0 q (λ same. apart);
       found = ap (λ z. object_at z r.object.0) objects;
       given = record { back = λ due. spared a.act due; dropped = λ kept flushes. spared a.flushes flushes };
       left =
@@ -525,7 +510,7 @@ page_obeys r page row old new t o below found here (GoesBack act c objects absen
     (aimed (ahead_in r page.0) row) r.known moment r.returns o.rests a.locked a.act here o.found t.live refl
     (changes_aimed r page row None _ _ _ old new a.ahead here c) objects absent refl held room)
     (record {
-      rows = rows_apart r.object.0 page.0 None old.parts.resident new.parts.resident c.row;
+      rows = λ q apart. row_elsewhere c.row r.object.0 q (λ same. apart);
       found = objects.at r.object.0;
       given = record {
         back =
@@ -548,7 +533,7 @@ page_obeys r page row old new t o below found here (IsSaved act c objects absent
     r.returns o.rests a.locked a.act here o.found t.live refl (changes_aimed r page row _ _ _ _ old new a.ahead here
     (stays_so r row true a.flushes old new c)) objects absent refl))
     (record {
-      rows = rows_apart r.object.0 page.0 _ old.parts.resident new.parts.resident c.row;
+      rows = λ q apart. row_elsewhere c.row r.object.0 q (λ same. apart);
       found = objects.at r.object.0;
       given = record {
         back =
@@ -578,7 +563,7 @@ pub record AllObeyed (r : Request) (s : LockState) : Type 0 where
   pub end : r.page.0 + r.count ≤ to
   pub obeyed : Obeyed r to s
 
-pages_obey : (r : Request) (from : ℕ) (old new : LockState) → IsTaken r → Obeyed r from old
+pub pages_obey : (r : Request) (from : ℕ) (old new : LockState) → IsTaken r → Obeyed r from old
     → PagesObey (host_id r.host) r.object r.known.control (wanted_at r) from old new → AllObeyed r new
 pages_obey r _ _ _ t o (NoMore from s none) =
     record {
@@ -601,214 +586,3 @@ pages_obey r _ _ _ t o (Next from page row old mid new next here obeys rest) =
     pages_obey r (suc page.0) mid new t
     (page_obeys r page row old mid t (passes r from page.0 old o next.next.low (λ p was high low inside found is. let bad : None ≡ Some was = sym
     (next.next.first p high low) ∙ found in absurd (cc))) next.inside next.found here obeys) rest
-
--- what the history has of a page that is here
-
-record IsRow (x : Option PageRow) (seen : Local) : Type 0 where
-  row : PageRow
-  is : x ≡ Some row
-  here : row.here ≡ true
-  dirty : seen.dirty ≡ row.dirty
-  precious : seen.precious ≡ row.precious
-
-row_seen : (header : Header) (o p : ℕ) (fs : FrameTable) (x : Option PageRow) (lacked : Bool) (seen : Local)
-    → known_local header o p seen ≡ local_of_row fs x lacked → seen.here ≡ true → IsRow x seen
-row_seen header o p fs None lacked seen is here = absurd (let bad : false ≡ true = sym (ap (λ z. z.here) is) ∙ here in cc)
-row_seen header o p fs (Some row) lacked seen is here =
-    let there : row.here ≡ true = sym (ap (λ z. z.here) is) ∙ here in
-    let its : IsSeen (known_local header o p seen) row (page_in fs row.frame.0) = seen_here fs row lacked (known_local header o p seen) is there in
-    record { row = row; is = refl; here = there; dirty = its.dirty; precious = its.precious }
-
-gives_seen : (returns : ℕ) (x : Option PageRow) (seen : Local) (is : IsRow x seen)
-    → gives_back returns seen.dirty seen.precious ≡ gives_back returns is.row.dirty is.row.precious
-gives_seen returns x seen is = ap (λ z. gives_back returns z seen.precious) is.dirty ∙ ap (gives_back returns is.row.dirty) is.precious
-
--- events behind a taking are inside its step
-pub inner_of : {header : Header} {h : ℕ} {outside : Outside} {doing : Command} {past events : List Event} → LegalEvents header h outside doing past [] events
-    → AllInner events
-inner_of goes = subst AllInner (sym (goes.is ∙ append-nil goes.more)) goes.inner
-
--- so the request is paid
-
-pages_paid : (r : Request) (s : LockState) (moment : List Event) → IsTaken r → before_step moment ≡ before_step r.past
-    → ((p : ℕ) (row : PageRow) → r.page.0 ≤ p → p < r.page.0 + r.count → row_at r.kernel.memory.resident r.object.0 p ≡ Some row → row.here ≡ true
-    → IsGiven r p row moment)
-    → (p : ℕ) → r.page.0 ≤ p → p < r.page.0 + r.count → (was_on r.header (request_at r) p moment).here ≡ true → HasObeyed r.header (request_at r) p moment
-pages_paid r s moment t same given p least below here =
-    record {
-      back = λ due. its.back (sym (gives_seen r.returns _ _ row) ∙ (ap (λ (z : List Event). back_at z) (sym same) ∙ due));
-      dropped = λ kept flushes. its.dropped (sym (gives_seen r.returns _ _ row) ∙ (ap (λ (z : List Event). back_at z) (sym same) ∙ kept)) flushes;
-    }
-  where
-    back_at : List Event → Bool
-    back_at z = gives_back r.returns (page_on r.header r.host r.object.0 p z).dirty (page_on r.header r.host r.object.0 p z).precious
-
-    row : IsRow (row_at r.kernel.memory.resident r.object.0 p) (page_on r.header r.host r.object.0 p (before_step r.past))
-    row =
-        row_seen r.header r.object.0 p r.kernel.memory.frames (row_at r.kernel.memory.resident r.object.0 p) (absent_at r.kernel.memory.objects r.object.0 p)
-        (page_on r.header r.host r.object.0 p (before_step r.past))
-        (t.shown p) (ap (λ (z : List Event). (page_on r.header r.host r.object.0 p z).here) (sym same) ∙ here)
-
-    its : IsGiven r p (IsRow.row row) moment
-    its = given p (IsRow.row row) least below (IsRow.is row) (IsRow.here row)
-
--- the request is done
-pub record Done (r : Request) (s : LockState) : Type 0 where
-  pub works : Works r.header r.host (at_state r.kernel s) r.ids woken.Nobody (s.events ++ r.past)
-  pub goes : LegalEvents r.header r.host r.outside r.command r.past [] s.events
-  pub plays : Plays r.header r.past [] (paging r.kernel) s.events (paging (at_state r.kernel s))
-  pub quiet : EachOf RunsNone s.events
-  pub paid : HasLocked r.header (request_at r) (s.events ++ r.past)
-
-given_all : (r : Request) (s : LockState) → (all : AllObeyed r s) → (p : ℕ) (row : PageRow) → r.page.0 ≤ p → p < r.page.0 + r.count
-    → row_at r.kernel.memory.resident r.object.0 p ≡ Some row → row.here ≡ true → IsGiven r p row (s.events ++ r.past)
-given_all r s all p row least below found here =
-    all.obeyed.given p row (record { least = least; below = let end = all.end in omega (arith, end, below); inside = below }) found here
-
--- there is no page to come to any more, so the rows are as they are
-mid_all : (r : Request) (s : LockState) → AllObeyed r s → Mid r.header r.host (at_state r.kernel s) r.ids (s.events ++ r.past)
-mid_all r s all =
-    mid_rows r.header r.host (aimed_at r all.to s) r.ids s.parts.resident (s.events ++ r.past) all.obeyed.rests
-    (record {
-      rows = λ o p. sym (row_repaged (pended (ahead_in r all.to)) s.parts.resident o p ∙ by o p (row_at s.parts.resident o p));
-      owners = λ g. sym (owner_repaged (pended (ahead_in r all.to)) s.parts.resident g (pended_frame (ahead_in r all.to)));
-    })
-  where
-    never : (b : Bool) → (b && false) ≡ false
-    never true = refl
-    never false = refl
-
-    none : (o p : ℕ) → is_ahead (ahead_in r all.to) o p ≡ false
-    none o p = out (r.object.0 == o) (nat_le r.page.0 p) (nat_lt p (r.page.0 + r.count)) (nat_le all.to p) over
-      where
-        over : (nat_lt p (r.page.0 + r.count) && nat_le all.to p) ≡ false
-        over = elim (below_or p all.to) [
-          | inl low ↦ ap (λ b. nat_lt p (r.page.0 + r.count) && b) {y = false} (grind (arith, nat_tests, low)) ∙ never (nat_lt p (r.page.0 + r.count))
-          | inr high ↦ let end = all.end in ap (λ b. b && nat_le all.to p) {y = false} (grind (arith, nat_tests, high, end))
-        ]
-
-        out : (a b c d : Bool) → (c && d) ≡ false → (a && ((b && c) && d)) ≡ false
-        out true true true d is = is
-        out true true false d is = refl
-        out true false c d is = refl
-        out false b c d is = refl
-
-    by : (o p : ℕ) (x : Option PageRow) → option_map (pended (ahead_in r all.to) o p) x ≡ x
-    by o p None = refl
-    by o p (Some row) = ap Some (pended_behind (ahead_in r all.to) o p row (none o p))
-
-plays_all : (r : Request) (s : LockState) → (all : AllObeyed r s) → Plays r.header r.past [] (paging r.kernel) s.events (paging (at_state r.kernel s))
-plays_all r s all = subst (λ z. Plays r.header r.past [] (paging r.kernel) s.events z) (paging_aimed r all.to s) all.obeyed.plays
-
-done_silent : (r : Request) (s : LockState) → IsTaken r → AllObeyed r s → r.reply ≡ false → Done r s
-done_silent r s t all silent =
-    let o = all.obeyed in
-    record {
-      works =
-          works_mid (mid_all r s all) (replied_lock o.taken (λ request is own. absurd (let bad : false ≡ true = sym silent
-          ∙ (ap (λ z. z.reply) (some_is (request_at r) request (sym o.taken ∙ is)) ∙ own) in cc)));
-      goes = o.goes;
-      plays = plays_all r s all;
-      quiet = o.quiet;
-      paid = record {
-        pages = pages_paid r s (s.events ++ r.past) t (before_more s.events r.past (inner_of o.goes)) (given_all r s all);
-        reply = λ wanted. spared silent wanted;
-      };
-    }
-
--- the reply is sent
-
-completed_rests : (r : Request) (k : Parts) (past : List Event) → Mid r.header r.host k r.ids past
-    → Mid r.header r.host k r.ids (completed r.host r.object r.known.control r.page r.count ∷ past)
-completed_rests r k past rests =
-    let c = rests.runs.core in
-    record {
-      runs = amidst_moved rests.runs (record { space = refl; accesses = refl; controls = refl })
-          (record {
-            fits = c.fits;
-            away = λ o p none. none;
-            objects = record { at = λ o. refl };
-            kinds = c.objects.kinds;
-            pages = record {
-              shown = record {
-                shown = λ o p. ap (known_local r.header o p) (rw (own_host r.host)
-                    (same_effect r.header.size (r.object.0 == o) (local r.header r.host (place_of o p) past))) ∙ c.pages.shown.shown o p;
-              };
-              washed = c.pages.washed;
-              counted = c.pages.counted;
-            };
-            waits =
-                waits_quiet r.header r.host (completed r.host r.object r.known.control r.page r.count) past
-                (λ place. quiet_if (r.host == r.host && r.object.0 == place.object.0) Elsewhere Elsewhere tt tt) rests.runs.waits;
-          });
-      settled = record { none_owed = refl; shut = λ region. refl };
-      referred = rests.referred;
-      thin = rests.thin;
-    }
-
-completed_cause : (r : Request) (s : LockState) → IsTaken r → AllObeyed r s → r.reply ≡ true
-    → CausedInTurn r.header r.outside r.command (completed r.host r.object r.known.control r.page r.count) (s.events ++ r.past)
-completed_cause r s t all wanted =
-    let o = all.obeyed in
-    let m = mid_all r s all in
-    record {
-      live = m.runs.core.controls.live r.object.0 ∙ (ap live_in o.found ∙ ap (λ b. if b then Some r.known.control else None) t.live);
-      returns = r.returns;
-      flush = r.flush;
-      lock = r.lock;
-      taken = o.taken ∙ ap (λ b. Some (record (request_at r) { reply = b })) wanted;
-      once = o.undone;
-      done = λ p least below here.
-          let row = row_seen r.header r.object.0 p s.parts.frames (row_at s.parts.resident r.object.0 p) (absent_at s.parts.objects r.object.0 p)
-          (page_on r.header r.host r.object.0 p (s.events ++ r.past)) (m.runs.core.pages.shown.shown r.object.0 p) here in
-          let left = o.left p row.row (record { least = least; below = let end = all.end in omega (arith, end, below); inside = below }) row.is row.here in
-          (left.0, gives_seen r.returns _ _ row ∙ left.1);
-    }
-
-done_told : (r : Request) (s : LockState) → IsTaken r → AllObeyed r s → r.reply ≡ true
-    → Done r (record s { events = completed r.host r.object r.known.control r.page r.count ∷ s.events })
-done_told r s t all wanted =
-    let o = all.obeyed in
-    let e = completed r.host r.object r.known.control r.page r.count in
-    let moment = s.events ++ r.past in
-    let rests = completed_rests r (at_state r.kernel s) moment (mid_all r s all) in
-    let follows : Follows r.header r.host r.outside r.command e moment =
-    record {
-      consequence = tt;
-      cause = completed_cause r s t all wanted;
-      own_bytes = tt;
-      frames = suffices r.header r.host s.parts.frames (e ∷ moment) rests.runs.core.pages.counted;
-      inner = tt;
-      said = refl;
-      own = own_named r.host;
-      creates = tt;
-    } in
-    let goes = goes_more r.header r.host r.outside r.command r.past [] s.events e o.goes o.rests.settled follows in
-    let sent = since_now (completes r.host r.object.0) e moment tt (rw (itself r.host, itself r.object.0) refl) in
-    record {
-      works = works_mid rests
-          (replied_lock (lock_more (e ∷ []) moment (tt, tt) ∙ o.taken) (λ request is own.
-          let its : request_at r ≡ request = some_is (request_at r) request (sym (lock_more (e ∷ []) moment (tt, tt) ∙ o.taken) ∙ is) in
-          subst (λ (z : LockRequest). since (completes z.host z.object) (e ∷ moment) ≡ true) its sent));
-      goes = goes;
-      plays = Then e s.events (paging (at_state r.kernel s)) (paging (at_state r.kernel s)) (plays_all r s all) refl;
-      quiet = (tt, o.quiet);
-      paid = record {
-        pages =
-            pages_paid r s (e ∷ moment) t (before_more (e ∷ s.events) r.past (inner_of goes))
-            (λ p row least below found here. given_still r p row e moment tt (given_all r s all p row least below found here));
-        reply = λ is. sent;
-      };
-    }
-
-pub replied : (r : Request) (old new : LockState) → IsTaken r → AllObeyed r old → Replies (host_id r.host) r.object r.known.control (wanted_at r) old new
-    → Done r new
-replied r old new t all (Silent silent same) = subst (Done r) (sym same) (done_silent r old t all silent)
-replied r old new t all (IsTold wanted same) = subst (Done r) (sym same) (done_told r old t all wanted)
-
--- from the start of the call
-pub done : (r : Request) (mid new : LockState) → IsTaken r
-    → PagesObey (host_id r.host) r.object r.known.control (wanted_at r) r.page.0 (lock_state r.kernel.memory r.kernel.laundry.held r.kernel.laundry.room []) mid
-    → Replies (host_id r.host) r.object r.known.control (wanted_at r) mid new → Done r new
-done r mid new t pages reply =
-    replied r mid new t (pages_obey r r.page.0 (lock_state r.kernel.memory r.kernel.laundry.held r.kernel.laundry.room []) mid t (obeyed_first r t) pages) reply

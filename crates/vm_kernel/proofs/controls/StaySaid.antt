@@ -1,4 +1,6 @@
 -- A pager says whether its object stays without an entry: by a first ready, or by a change of attributes, which is told back where it wants that.
+use Rattle.vm_kernel.proofs.space.EntriesGone.{endings_quiet}
+use Rattle.vm_legal.proofs.Stretched.{of_both}
 use Rattle.vm_kernel.proofs.Common.{AllInner, AnswerBrings, AnswerEffects, Bool, Command, Discarded, EachOf, Elsewhere, EndsNobody, Err, Event, FailsNow, Fit}
 use Rattle.vm_kernel.proofs.Common.{HasAsker, Header, HostParts, Ids, IsAnswered, LegalEvents, List, Message, None, ObjectId, ObjectRow, ObjectTable, Ok, OnOk}
 use Rattle.vm_kernel.proofs.Common.{Option, Outside, PageKey, PageRow, PagerState, Paging, Parts, Plays, Readied, ResidentTable, Rests, Result, Some, Still}
@@ -32,13 +34,13 @@ use Rattle.vm_kernel.specs.Rooms.{may_end, heeding, returning, HasBuffers, if_co
 use Rattle.vm_state.proofs.Passing.{quiet_if}
 use Rattle.vm_legal.proofs.Paying.{attributes_more, lock_more}
 use Rattle.std.proofs.lemmas.Bool.{and_parts}
-use Rattle.vm_kernel.specs.Sweeping.{IsEnding, EndsOnly}
+use Rattle.vm_kernel.specs.Sweeping.{EndsOnly}
 use Rattle.vm_kernel.proofs.memory.PagesShown.{itself}
 use Rattle.vm_kernel.proofs.lists.ListsAsTold.{plays_one, plays_both}
 use Rattle.vm_kernel.specs.Turns.{RunsNone}
 use Rattle.vm_legal.specs.Licences.{lock_taken}
-use Rattle.vm_kernel.proofs.controls.WordHeard.{no_absence, live_test, dead_none, hears_done}
-use Rattle.vm_kernel.proofs.controls.RangeLocked.{inner_of}
+use Rattle.vm_kernel.proofs.controls.WordHeard.{no_absence, lives_is, dead_none, hears_done}
+use Rattle.vm_kernel.proofs.controls.LockDone.{inner_of}
 use Rattle.vm_legal.proofs.Inside.{error_more, absence_more}
 use Rattle.vm_terminate.specs.Counts.{live_below}
 use Rattle.std.specs.Prelude.{IfOk}
@@ -173,17 +175,14 @@ ready_said header h k ids past before after object control cache strategy who ne
     by_state known state.Ready is found live lives_now ready done =
         silent (ready_again h object control cache strategy past lives_now (ready ∙ ap is_ready_state is)) done
 
-    lives_is : (known : ObjectRow) → object_at k.memory.objects object.0 ≡ Some known → lives h object control past ≡ (known.live && known.control == control)
-    lives_is known found = ap (is_control control) (rests.matches.core.controls.live object.0 ∙ ap live_in found) ∙ live_test control known
-
     by_test : (known : ObjectRow) (b : Bool) → (known.live && known.control == control) ≡ b → object_at k.memory.objects object.0 ≡ Some known
         → AnswerEffects k.host object (if b then ready_outcome known.state else Discarded) who k.memory new before after → Answers
     by_test known true is found done =
         let live = (and_parts known.live (known.control == control) is).0 in
         let number = rests.matches.core.controls.live object.0 ∙ (ap live_in found ∙ ap (λ b. if b then Some known.control else None) live) in
-        by_state known known.state refl found live (lives_is known found ∙ is)
+        by_state known known.state refl found live (lives_is rests object control known found ∙ is)
         (rests.matches.core.controls.ready object.0 known.control number ∙ ap ready_in found) done
-    by_test known false is found done = silent (ready_dead h object control cache strategy past (lives_is known found ∙ is)) done
+    by_test known false is found done = silent (ready_dead h object control cache strategy past (lives_is rests object control known found ∙ is)) done
 
     by_known : (x : Option ObjectRow) → object_at k.memory.objects object.0 ≡ x
         → AnswerEffects k.host object (outcome_of x control (row_at k.memory.resident object.0) (message.Ready cache strategy)) who k.memory new before after
@@ -364,21 +363,6 @@ brings_none object (Some known) control rows other s ends = absurd (let bad : fa
 
 -- what a pager's word came to, once the flag is set
 
--- ends of pages and controls run no access
-ending_quiet : (e : Event) → IsEnding e → RunsNone e
-ending_quiet (event.Dropped host object page) is = tt
-ending_quiet (event.Sent (Up host object) (message.Return control page dirty keep bytes)) is = tt
-ending_quiet (event.Sent (Up host object) (message.Terminate control)) is = tt
-ending_quiet other is = absurd is
-
-endings_quiet : (events : List Event) → EachOf IsEnding events → EachOf RunsNone events
-endings_quiet [] all = tt
-endings_quiet (e ∷ events) all = (ending_quiet e all.0, endings_quiet events all.1)
-
-quiet_both : (more events : List Event) → EachOf RunsNone more → EachOf RunsNone events → EachOf RunsNone (more ++ events)
-quiet_both [] events one two = two
-quiet_both (e ∷ more) events one two = (one.0, quiet_both more events one.1 two)
-
 -- what the step took, of which nothing is owed but the completion
 pub record TookStay (header : Header) (past events : List Event) : Type 0 where
   pub error : error_taken header past ≡ None
@@ -401,7 +385,7 @@ said_done {header = header} {h = h} {outside = outside} {doing = doing} old mid 
       works = works;
       waits = waits ∙ same;
       goes = all;
-      quiet = subst (λ (z : List Event). EachOf RunsNone z) (sym only.is) (quiet_both only.more events (endings_quiet only.more only.each) quiet);
+      quiet = subst (λ (z : List Event). EachOf RunsNone z) (sym only.is) (of_both RunsNone only.more events (endings_quiet only.more only.each) quiet);
       unfailed = error_more header after past inner ∙ took.error;
       zeroed = no_absence header (after ++ past) (absence_more header after past inner ∙ took.absence);
       locked = λ request is. no_request request (after ++ past) (lock_more after past inner ∙ took.lock) is;

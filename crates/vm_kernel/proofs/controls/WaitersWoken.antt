@@ -1,12 +1,14 @@
 -- Accesses on an object that its pager has ended are to be run again: who waits for what then.
+use Rattle.vm_legal.proofs.Unshared.{wild_named}
+use Rattle.vm_waits.proofs.Entries.{entry_task}
+use Rattle.vm_waits.proofs.Rows.{entry_map}
 use Rattle.vm_kernel.proofs.Common.{Access, AllUsed, Asker, BeganInOrder, Bool, ChainTable, HasCopies, HasWaiters, Header, Ids, IsPagerTold, LeadsTo, List}
 use Rattle.vm_kernel.proofs.Common.{Mapped, None, ObjectRow, ObjectTable, On, Option, PageKey, Parts, PutsObject, Reason, ResidentTable, ShadowRow, Some}
 use Rattle.vm_kernel.proofs.Common.{Target, Waiting, Want, [], ap, arith, entry, eqb_tells, false, if◌then◌else◌, inl, inr, is_woken, map, named, object_at}
-use Rattle.vm_kernel.proofs.Common.{one_case, page_key, ready_in, refl, row_at, shadow_at, some_is, subst, suc, sym, true, zero, ℕ, ◌<◌, ◌==◌, ◌∙◌, ◌∷◌, ◌≡◌}
+use Rattle.vm_kernel.proofs.Common.{one_case, page_key, ready_in, refl, row_at, shadow_at, some_is, subst, suc, sym, true, zero, ℕ, ◌<◌, ◌==◌, ◌∙◌, ◌≡◌}
 use Rattle.std.specs.Option.{option_map}
 use Rattle.vm_fault.specs.Walks.{IsAt, IsUnder}
-use Rattle.vm_kernel.proofs.controls.ObjectDestroyed.{wild_known}
-use Rattle.vm_kernel.proofs.memory.PagesShown.{itself}
+use Rattle.vm_kernel.proofs.memory.PagesShown.{KeepsOthers, itself}
 use Rattle.vm_kernel.proofs.space.ObjectsEnd.{last_step}
 use Rattle.vm_kernel.proofs.steps.RowsInOrder.{map_order}
 use Rattle.vm_kernel.specs.Destroying.{is_on, is_place_on, place_led, woken_on}
@@ -26,34 +28,17 @@ use Rattle.vm_waits.specs.declared.waiting.Destination.{Destination}
 use Rattle.vm_waits.specs.declared.waiting.On.TheVariants as on
 use Rattle.vm_waits.specs.declared.waiting.Want.TheVariants as want
 
--- rows that are changed one by one
-pub entry_map : (f : Waiting → Waiting) → ((w : Waiting) → (f w).task ≡ w.task) → (rows : List Waiting) (t : ℕ)
-    → entry (map f rows) t ≡ option_map f (entry rows t)
-entry_map f same [] t = refl
-entry_map f same (w ∷ rows) t =
-    ap (λ z. if z.0 == t then Some (f w) else entry (map f rows) t) (same w)
-    ∙ (ap (λ z. if w.task.0 == t then Some (f w) else z) (entry_map f same rows t) ∙ by (w.task.0 == t))
-  where
-    by : (b : Bool) → (if b then Some (f w) else option_map f (entry rows t)) ≡ option_map f (if b then Some w else entry rows t)
-    by true = refl
-    by false = refl
-
--- a row of a task is the task's
-entry_own : (rows : List Waiting) (t : ℕ) (w : Waiting) → entry rows t ≡ Some w → w.task.0 ≡ t
-entry_own [] t w found = absurd (let bad : None ≡ Some w = found in cc)
-entry_own (v ∷ rows) t w found = elim (eqb_tells v.task.0 t) [
-  | inl same ↦
-      let its : v ≡ w = some_is v w (sym (ap (λ b. if b then Some v else entry rows t) same.0) ∙ found) in
-      sym (ap (λ z. z.task.0) its) ∙ same.1
-  | inr apart ↦ entry_own rows t w (sym (ap (λ b. if b then Some v else entry rows t) apart.0) ∙ found)
-]
-
-pub woken_task : (maps : Mapped) (o : ℕ) (w : Waiting) → (woken_on maps o w).task ≡ w.task
+woken_task : (maps : Mapped) (o : ℕ) (w : Waiting) → (woken_on maps o w).task ≡ w.task
 woken_task maps o w = by (is_on maps o w)
   where
     by : (b : Bool) → (if b then with_on w on.Again else w).task ≡ w.task
     by true = refl
     by false = refl
+
+-- the rows of tasks, once they are woken
+pub entry_woken : (maps : Mapped) (o : ℕ) (rows : List Waiting) (t : ℕ)
+    → entry (map (woken_on maps o) rows) t ≡ option_map (woken_on maps o) (entry rows t)
+entry_woken maps o rows t = entry_map (woken_on maps o) rows t (λ w. ap (λ z. z.0) (woken_task maps o w))
 
 again_page : (key : PageKey) → on.Again ≡ on.Page key → ⊥
 again_page key bad = let no : true ≡ false = ap is_again bad in cc
@@ -85,7 +70,7 @@ record WasRow (maps : Mapped) (o t : ℕ) (rows : List Waiting) (w : Waiting) : 
   wakes : Wakened maps o was w
 
 was_row : (maps : Mapped) (o t : ℕ) (rows : List Waiting) (w : Waiting) → entry (map (woken_on maps o) rows) t ≡ Some w → WasRow maps o t rows w
-was_row maps o t rows w found = by (entry rows t) refl (sym (entry_map (woken_on maps o) (woken_task maps o) rows t) ∙ found)
+was_row maps o t rows w found = by (entry rows t) refl (sym (entry_woken maps o rows t) ∙ found)
   where
     by : (x : Option Waiting) → entry rows t ≡ x → option_map (woken_on maps o) x ≡ Some w → WasRow maps o t rows w
     by None is bad = absurd (let no : None ≡ Some w = bad in cc)
@@ -95,13 +80,13 @@ was_row maps o t rows w found = by (entry rows t) refl (sym (entry_map (woken_on
 -- An object has no page any more, and is known otherwise; each other object is as it was.
 pub record IsEmptied (k : Parts) (o : ℕ) (resident : ResidentTable) (objects : ObjectTable) (now : ObjectRow) : Type 0 where
   pub none : (p : ℕ) → row_at resident o p ≡ None
-  pub others : (x p : ℕ) → (o ≡ x → ⊥) → row_at resident x p ≡ row_at k.memory.resident x p
+  pub others : KeepsOthers o k.memory.resident resident
   pub put : PutsObject o (Some now) k.memory.objects objects
 
 module _ {header : Header} {h : ℕ} {k : Parts} {ids : Ids} {s : SpaceFacts} {c : ControlFacts} {m : MemoryFacts} (o : ℕ)
     (core : Core header h k ids [] s c m) (wild : is_wild header o ≡ true) where
   declared : o < named header
-  declared = wild_known header o wild
+  declared = wild_named header o wild
 
   -- a shadow is none of a declared object, nor is one under it
   no_shadow : (x : ℕ) (row : ShadowRow) → shadow_at k.chains x ≡ Some row → x ≡ o → ⊥
@@ -198,7 +183,7 @@ module _ {header : Header} {h : ℕ} {k : Parts} {ids : Ids} {s : SpaceFacts} {c
     beside : (t : ℕ) (w : Waiting) (key : PageKey) → entry k.waits.rows t ≡ Some w → is_on k.maps o w ≡ false → IsPlaceOf k.maps k.chains t w.want key
         → o ≡ key.object.0 → ⊥
     beside t w key found off place same =
-        let on_it : is_on k.maps o w ≡ true = subst (λ (z : ℕ). is_place_on o (place_led k.maps z w.want) ≡ true) (sym (entry_own k.waits.rows t w found))
+        let on_it : is_on k.maps o w ≡ true = subst (λ (z : ℕ). is_place_on o (place_led k.maps z w.want) ≡ true) (sym (entry_task k.waits.rows t w found))
         (place_on t w.want w.destination (next_at t) (target_at t) key (has.sized t w found) (copies.each t w found) place (sym same)) in
         let bad : false ≡ true = sym off ∙ on_it in cc
 
@@ -245,7 +230,7 @@ module _ {header : Header} {h : ℕ} {k : Parts} {ids : Ids} {s : SpaceFacts} {c
         w = asker.row
 
         place : IsPlaceOf k.maps k.chains w.task.0 w.want (page_key x p)
-        place = subst (λ (z : ℕ). IsPlaceOf k.maps k.chains z w.want (page_key x p)) (sym (entry_own k.waits.rows asker.task w asker.is))
+        place = subst (λ (z : ℕ). IsPlaceOf k.maps k.chains z w.want (page_key x p)) (sym (entry_task k.waits.rows asker.task w asker.is))
             (has.aims asker.task w (page_key x p) asker.is asker.waits)
 
         by : (b : Bool) → is_on k.maps o w ≡ b → Asker (map (woken_on k.maps o) k.waits.rows) x p
@@ -253,14 +238,14 @@ module _ {header : Header} {h : ℕ} {k : Parts} {ids : Ids} {s : SpaceFacts} {c
         by false off = record {
           task = asker.task;
           row = w;
-          is = entry_map (woken_on k.maps o) (woken_task k.maps o) k.waits.rows asker.task
+          is = entry_woken k.maps o k.waits.rows asker.task
               ∙ (ap (option_map (woken_on k.maps o)) asker.is ∙ ap (λ b. Some (if b then with_on w on.Again else w)) off);
           waits = asker.waits;
         }
 
     pub waits_emptied : HasWaiters k.maps k.chains rs2 os2 (map (woken_on k.maps o) k.waits.rows) (is_woken woken.Nobody) waiting_at stays unmet
     waits_emptied = record {
-      is = λ t lives. has.is t lives ∙ sym (ap (waiting_in k.maps.size) (entry_map (woken_on k.maps o) (woken_task k.maps o) k.waits.rows t)
+      is = λ t lives. has.is t lives ∙ sym (ap (waiting_in k.maps.size) (entry_woken k.maps o k.waits.rows t)
           ∙ same_access k.maps o (entry k.waits.rows t));
       allowed = λ t w found. let was = was_row k.maps o t k.waits.rows w found in
           rw ((want_now was.was w was.wakes).0) (has.allowed t was.was was.found);
@@ -290,7 +275,7 @@ fills_one maps o r (Some w) = by (is_on maps o w)
     by false = refl
 
 pub fills_emptied : (maps : Mapped) (o : ℕ) (rows : List Waiting) → SameFills rows (map (woken_on maps o) rows)
-fills_emptied maps o rows t r = ap (fills_in r) (entry_map (woken_on maps o) (woken_task maps o) rows t) ∙ fills_one maps o r (entry rows t)
+fills_emptied maps o rows t r = ap (fills_in r) (entry_woken maps o rows t) ∙ fills_one maps o r (entry rows t)
 
 pub order_emptied : (maps : Mapped) (o : ℕ) (begun : ℕ → ℕ) (rows : List Waiting) → BeganInOrder begun 0 rows
     → BeganInOrder begun 0 (map (woken_on maps o) rows)

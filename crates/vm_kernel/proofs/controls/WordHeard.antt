@@ -17,8 +17,8 @@ use Rattle.vm_kernel.proofs.controls.DeclaredKinds.{declared_kind}
 use Rattle.vm_model.specs.declared.event.Event.TheVariants as event
 use Rattle.vm_abroad.proofs.Regions.{kind_cases}
 use Rattle.vm_supply.specs.Answers as supply
-use Rattle.vm_kernel.proofs.controls.WordTaken.{Changed, TakesNoOrder, changed_failed, changed_lacked, changed_none, changed_ready, changed_supplied}
-use Rattle.vm_kernel.proofs.controls.WordTaken.{changed_zeroed, filled_follows, heard, lacking, stays_heard, stays_zeroed, works_of, zeros}
+use Rattle.vm_kernel.proofs.controls.WordTaken.{Changed, TakesNoOrder, changed_none, changed_ready, heard, stays_heard, stays_zeroed, works_of, zeros}
+use Rattle.vm_kernel.proofs.controls.PageAnswered.{changed_failed, changed_lacked, changed_supplied, changed_zeroed, filled_follows, lacking}
 use Rattle.vm_kernel.specs.Matches.{WorksBut}
 use Rattle.vm_legal.specs.Cached.{is_cached}
 use Rattle.vm_legal.specs.Steps.{is_ready_message}
@@ -34,6 +34,10 @@ live_test control known = by_live known.live
     by_live : (b : Bool) → is_control control (if b then Some known.control else None) ≡ (b && known.control == control)
     by_live true = refl
     by_live false = refl
+
+pub lives_is : {header : Header} {h : ℕ} {k : Parts} {ids : Ids} {past : List Event} → Rests header h k ids past → (object : ObjectId) (control : ℕ)
+    (known : ObjectRow) → object_at k.memory.objects object.0 ≡ Some known → lives h object control past ≡ (known.live && known.control == control)
+lives_is rests object control known found = ap (is_control control) (rests.matches.core.controls.live object.0 ∙ ap live_in found) ∙ live_test control known
 
 -- a page that isn't asked
 unasked_shows : (fs : FrameTable) (x : Option PageRow) (lacked : Bool) → asked_row x ≡ None → (local_of_row fs x lacked).asked ≡ false
@@ -180,9 +184,6 @@ hears_it header h outside doing k ids after past object control m who new was te
         (changed_none header h k ids past object control said rests nothing)))
         (no_absence header (hears h object control said ∷ past) nothing.absence)
 
-    lives_is : (known : ObjectRow) → object_at k.memory.objects object.0 ≡ Some known → lives h object control past ≡ (known.live && known.control == control)
-    lives_is known found = ap (is_control control) (rests.matches.core.controls.live object.0 ∙ ap live_in found) ∙ live_test control known
-
     ready_now : (known : ObjectRow) (cache : Bool) (strategy : ℕ) → object_at k.memory.objects object.0 ≡ Some known → known.live ≡ true
         → lives h object control past ≡ true → Answers Readied → Hear (message.Ready cache strategy)
     ready_now known cache strategy found live lives_now done =
@@ -269,10 +270,11 @@ hears_it header h outside doing k ids after past object control m who new was te
         → Answers (if b then live_outcome known (row_at k.memory.resident object.0) m else Discarded) → Hear m
     by_test known true is found done =
         let live = (and_parts known.live (known.control == control) is).0 in
-        by_message known m temp found live (lives_is known found ∙ is) (rests.matches.core.controls.live object.0
+        by_message known m temp found live (lives_is rests object control known found ∙ is) (rests.matches.core.controls.live object.0
         ∙ (ap live_in found ∙ ap (λ b. if b then Some known.control else None) live)) done
     by_test known false is found done =
-        discards m (answer_unlocked h object control k.size m past temp) (nothing_dead header h object control m past (lives_is known found ∙ is)) done
+        discards m (answer_unlocked h object control k.size m past temp)
+        (nothing_dead header h object control m past (lives_is rests object control known found ∙ is)) done
 
     by_known : (x : Option ObjectRow) → object_at k.memory.objects object.0 ≡ x → Answers (outcome_of x control (row_at k.memory.resident object.0) m) → Hear m
     by_known None found done =

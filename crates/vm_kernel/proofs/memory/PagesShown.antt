@@ -1,4 +1,5 @@
 -- What a host has of its pages and frames, once a page and its frame have changed.
+use Rattle.vm_kernel.proofs.Common.{PutsRow}
 use Rattle.vm_kernel.proofs.Common.{Asks, Bool, Changes, Elsewhere, Fit, FrameNo, FrameTable, HasFrames, HasLaundry, HasPages, HostParts, IsWashed, LaundryList}
 use Rattle.vm_kernel.proofs.Common.{List, Local, LocalEffect, None, ObjectTable, Option, PageKey, PageRow, Queues, ResidentTable, SameMarks, Some, []}
 use Rattle.vm_kernel.proofs.Common.{absent_at, ap, arith, claimed, eqb_tells, false, frame_apart, frame_count, get_or, inl, inr, is_claimed, is_some, led}
@@ -7,6 +8,16 @@ use Rattle.vm_kernel.proofs.Common.{row_put, subst, sym, true, ℕ, if◌then◌
 
 pub itself : (n : ℕ) → (n == n) ≡ true
 itself n = elim (eqb_tells n n) [ inl same ↦ same.0 | inr apart ↦ absurd (apart.1 refl) ]
+
+-- where the row of a page is another, each other page's is as it was
+pub row_elsewhere : {o p : ℕ} {x : Option PageRow} {rs rs2 : ResidentTable} → PutsRow o p x rs rs2 → (a b : ℕ) → (o ≡ a → p ≡ b → ⊥)
+    → row_at rs2 a b ≡ row_at rs a b
+row_elsewhere {o = o} {p = p} {x = x} {rs = rs} {rs2 = rs2} put a b apart =
+    elim (row_cases o p x rs rs2 put a b) [ inl now ↦ absurd (apart now.object now.page) | inr other ↦ other.is ]
+
+-- the rows of the pages of each other object are as they were
+abbrev pub KeepsOthers : ℕ → ResidentTable → ResidentTable → Type 0
+KeepsOthers object rs rs2 = (o p : ℕ) → (object ≡ o → ⊥) → row_at rs2 o p ≡ row_at rs o p
 
 -- what a page shows that has a row, by whether it is here and its bytes
 abbrev pub shown_as : PageRow → Bool → Bool → List ℕ → Bool → Local

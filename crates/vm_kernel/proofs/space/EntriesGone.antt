@@ -214,12 +214,13 @@ ending_quiet (event.Sent (Up host object) (message.Return control page dirty kee
 ending_quiet (event.Sent (Up host object) (message.Terminate control)) is = tt
 ending_quiet other is = absurd is
 
-each_quiet : (events : List Event) → EachOf IsEnding events → EachOf RunsNone events
-each_quiet [] all = tt
-each_quiet (e ∷ events) all = (ending_quiet e all.0, each_quiet events all.1)
+pub endings_quiet : (events : List Event) → EachOf IsEnding events → EachOf RunsNone events
+endings_quiet [] all = tt
+endings_quiet (e ∷ events) all = (ending_quiet e all.0, endings_quiet events all.1)
 
 pub ends_nobody : (old new : WaitTable) (before after : List Event) → new ≡ old → EndsOnly before after → RunsNobody old.queue new.queue before after
-ends_nobody old new before after same only = record { queue = ap (λ z. z.queue) same; more = only.more; told = only.is; none = each_quiet only.more only.each }
+ends_nobody old new before after same only =
+    record { queue = ap (λ z. z.queue) same; more = only.more; told = only.is; none = endings_quiet only.more only.each }
 
 pub ends_still : (old new : WaitTable) (before after : List Event) → new ≡ old → EndsOnly before after → QueueIsStill old.queue new.queue before after
 ends_still old new before after same only =

@@ -173,29 +173,28 @@ pub place_unfilled : (size task : ℕ) (what : Want) (key : PageKey) (maps : Map
 place_unfilled size task what key maps cs lost has place =
     leads_unfilled cs place.steps place.top key place.leads (at_unfilled size task what place.top maps cs lost has place.at)
 
--- no access that waits fills a region on which there are entries
-pub counted_unfilled : {header : Header} {maps : Mapped} {cs : ChainTable} {rs : ResidentTable} {list : List Waiting} {next_at : ℕ → ℕ}
-    {target_at : ℕ → Option Target} (r : ℕ) (row : RegionRow) → HasCopies header maps cs rs list next_at target_at → region_at cs r ≡ Some row → 0 < row.entries
-    → (task : ℕ) → fills_in r (entry list task) ≡ false
-counted_unfilled {list = list} r row copies found some task = by (fills_in r (entry list task)) refl
+-- no access that waits fills a region that isn't a filled one
+unfilled_if : {header : Header} {maps : Mapped} {cs : ChainTable} {rs : ResidentTable} {list : List Waiting} {next_at : ℕ → ℕ}
+    {target_at : ℕ → Option Target} (r : ℕ) → HasCopies header maps cs rs list next_at target_at
+    → ((object : ObjectId) (pages : ℕ) → region_at cs r ≡ Some (filled_row object pages) → ⊥) → (task : ℕ) → fills_in r (entry list task) ≡ false
+unfilled_if {list = list} r copies other task = by (fills_in r (entry list task)) refl
   where
     by : (b : Bool) → fills_in r (entry list task) ≡ b → b ≡ false
     by false is = refl
-    by true is =
-        let there = filled_there copies task r is in
-        let none : row.entries ≡ 0 = ap (λ z. z.entries) (some_is row (filled_row there.object there.pages) (sym found ∙ there.region)) in
-        absurd (omega (arith, some, none))
+    by true is = let there = filled_there copies task r is in absurd (other there.object there.pages there.region)
+
+-- as one on which there are entries
+pub counted_unfilled : {header : Header} {maps : Mapped} {cs : ChainTable} {rs : ResidentTable} {list : List Waiting} {next_at : ℕ → ℕ}
+    {target_at : ℕ → Option Target} (r : ℕ) (row : RegionRow) → HasCopies header maps cs rs list next_at target_at → region_at cs r ≡ Some row → 0 < row.entries
+    → (task : ℕ) → fills_in r (entry list task) ≡ false
+counted_unfilled r row copies found some = unfilled_if r copies (λ object pages there.
+    let none : row.entries ≡ 0 = ap (λ z. z.entries) (some_is row (filled_row object pages) (sym found ∙ there)) in omega (arith, some, none))
 
 -- nor one that isn't there
 pub free_unfilled : {header : Header} {maps : Mapped} {cs : ChainTable} {rs : ResidentTable} {list : List Waiting} {next_at : ℕ → ℕ}
     {target_at : ℕ → Option Target} (r : ℕ) → HasCopies header maps cs rs list next_at target_at → region_at cs r ≡ None → (task : ℕ)
     → fills_in r (entry list task) ≡ false
-free_unfilled {list = list} r copies none task = by (fills_in r (entry list task)) refl
-  where
-    by : (b : Bool) → fills_in r (entry list task) ≡ b → b ≡ false
-    by false is = refl
-    by true is =
-        let there = filled_there copies task r is in absurd (let bad : None ≡ Some (filled_row there.object there.pages) = sym none ∙ there.region in cc)
+free_unfilled r copies none = unfilled_if r copies (λ object pages there. let bad : None ≡ Some (filled_row object pages) = sym none ∙ there in cc)
 
 -- who waits has the entries that it had, where a task's change that doesn't wait
 pub same_waiting : (maps maps2 : Mapped) (task : ℕ) (made : Option (List Entry)) (list : List Waiting) → ChangesOnly maps maps2 task made

@@ -1,6 +1,6 @@
 -- A load or store begins: its task waits, and the access is to be run.
 use Rattle.vm_kernel.proofs.memory.CoreChanges.{core_holds}
-use Rattle.vm_kernel.proofs.Common.{Access, AllUsed, Asker, BeganInOrder, Bool, ChainTable, Code, Command, EndsNext, Entry, Event, FindsPage, Grows, HasWaiters}
+use Rattle.vm_kernel.proofs.Common.{Access, AllUsed, Asker, BeganInOrder, Bool, ChainTable, Code, Command, Entry, Event, GoesNext, Grows, HasWaiters}
 use Rattle.vm_kernel.proofs.Common.{Header, Ids, IsAllowed, IsDoneInTurn, IsLined, IsNextAccess, IsOfNumber, IsSizedWant, LegalEvents, List, Mapped, Matches}
 use Rattle.vm_kernel.proofs.Common.{None, ObjectTable, On, Option, Outside, Parts, PutsEntry, Ran, Reason, ResidentTable, Rests, RunsFirst, Some, Starts}
 use Rattle.vm_kernel.proofs.Common.{TaskId, WaitTable, Waiting, Want, Works, [], access_in, access_refusal, acting, acts_on, address_in, allows, ap, arith}
@@ -331,9 +331,9 @@ begun_next task what rows new idle one puts =
     }
 
 begun_done : (header : Header) (task : TaskId) (what : Number) (past events : List Event)
-    → (FindsPage header task.0 (begun task what ∷ past) → EndsNext task.0 (begun task what ∷ []) events) → IsDoneInTurn header (asks task what) events past
-begun_done header task (Loads address size) past events ends = ends
-begun_done header task (Stores address size value) past events ends = ends
+    → GoesNext header task.0 past (begun task what ∷ []) events → IsDoneInTurn header (asks task what) events past
+begun_done header task (Loads address size) past events goes = goes
+begun_done header task (Stores address size value) past events goes = goes
 
 -- the access was run, and all that were to be
 pub begun_ran : (header : Header) (h : ℕ) (outside : Outside) (doing : Command) (task : TaskId) (what : Number) (past : List Event) (k new : Parts)
@@ -348,10 +348,10 @@ begun_ran header h outside doing task what past k new ids ids2 before log after 
     let grows : Grows header h outside doing past log =
     subst (λ (z : Command). Grows header h outside z past log) (sym is) (subst (λ (z : List Event). Grows header h outside (asks task what) past z) (sym same)
     first) in
-    let ends : FindsPage header task.0 (begun task what ∷ past) → EndsNext task.0 (begun task what ∷ []) after =
-    subst (λ (z : List Event). FindsPage header task.0 (z ++ past) → EndsNext task.0 z after) same (runs task.0 next) in
+    let gone : GoesNext header task.0 past (begun task what ∷ []) after = subst (λ (z : List Event). GoesNext header task.0 past z after) same
+    (runs task.0 next) in
     record {
       rests = rests;
       grows = grows_goes header h outside doing past log after grows goes;
-      done = subst (λ (z : Command). IsDoneInTurn header z after past) (sym is) (begun_done header task what past after ends);
+      done = subst (λ (z : Command). IsDoneInTurn header z after past) (sym is) (begun_done header task what past after gone);
     }

@@ -3,25 +3,21 @@ use Rattle.vm_kernel.proofs.memory.CoreChanges.{pages_known_so}
 use Rattle.vm_state.proofs.KnownPages.{sizes_made}
 use Rattle.vm_kernel.proofs.Common.{AllUsed, BeganInOrder, Bool, ChainTable, Command, EachOf, Entry, Event, Grows, HasEntries, HasRegions, HasUse, HasWaiters}
 use Rattle.vm_kernel.proofs.Common.{Header, Ids, InOrder, IsAllowed, IsDoneInTurn, IsFilledIn, IsInUse, IsInside, IsLined, KnowsHomes, LegalEvents, List}
-use Rattle.vm_kernel.proofs.Common.{MadeRange, Mapped, Matches, None, ObjectId, ObjectRow, Option, Outside, PageRow, Parts, Place, PutsEntry, PutsRegion}
-use Rattle.vm_kernel.proofs.Common.{QueueIsStill, Ran, RegionId, RegionRow, Rests, RunsNone, Some, Starts, TaskId, WaitTable, Waiting, Works, [], all_tasks, ap}
-use Rattle.vm_kernel.proofs.Common.{arith, backing_of, begun_at, copy_target, count_by, entries_in, entries_of, entry, entry_at, eqb_tells, false, fills}
-use Rattle.vm_kernel.proofs.Common.{fills_in, has_entry, head, holds, home_of, host_of, if◌then◌else◌, in_use, inl, inr, is_on, is_range, is_ready, is_some}
-use Rattle.vm_kernel.proofs.Common.{is_woken, last_control, length, live_control, lives_on, made_here, marked_regions, named, nat_le, nat_lt, nat_tests}
-use Rattle.vm_kernel.proofs.Common.{next_object, next_page, next_region, object_at, object_home, page_at, place_at, puts_cases, refl, region_at, region_of}
-use Rattle.vm_kernel.proofs.Common.{row_at, rows_in, rows_map, some_is, subst, suc, sym, tasks, true, waiting, with_entries, zero, ℕ, ◌%◌, ◌&&◌, ◌*◌, ◌++◌, ◌+◌}
-use Rattle.vm_kernel.proofs.Common.{◌/◌, ◌<◌, ◌==◌, ◌^◌, ◌||◌, ◌∙◌, ◌∷◌, ◌≡◌, ◌≤◌, ◌⊎◌}
-use Rattle.std.proofs.Math.Nat.{mul-lt-mul_of_pos_right}
-use Rattle.std.proofs.lemmas.Bool.{or_parts}
+use Rattle.vm_kernel.proofs.Common.{MadeRange, Matches, None, ObjectId, ObjectRow, Option, Outside, PageRow, Parts, Place, PutsEntry, PutsRegion, QueueIsStill}
+use Rattle.vm_kernel.proofs.Common.{Ran, RegionId, RegionRow, Rests, RunsNone, Some, Starts, TaskId, WaitTable, Waiting, Works, [], all_tasks, ap, arith}
+use Rattle.vm_kernel.proofs.Common.{backing_of, begun_at, copy_target, count_by, entries_in, entries_of, entry, entry_at, eqb_tells, false, fills, fills_in}
+use Rattle.vm_kernel.proofs.Common.{has_entry, head, holds, home_of, host_of, if◌then◌else◌, in_use, inl, inr, is_on, is_ready, is_some, is_woken, last_control}
+use Rattle.vm_kernel.proofs.Common.{length, live_control, lives_on, made_here, named, nat_lt, nat_tests, next_object, next_page, next_region, object_at}
+use Rattle.vm_kernel.proofs.Common.{object_home, page_at, place_at, puts_cases, refl, region_at, region_of, row_at, rows_in, rows_map, some_is, subst, sym}
+use Rattle.vm_kernel.proofs.Common.{tasks, true, waiting, with_entries, ℕ, ◌%◌, ◌&&◌, ◌*◌, ◌++◌, ◌+◌, ◌/◌, ◌<◌, ◌==◌, ◌^◌, ◌||◌, ◌∙◌, ◌∷◌, ◌≡◌, ◌≤◌, ◌⊎◌}
 use Rattle.std.specs.Prelude.{IsSome}
 use Rattle.vm_abroad.proofs.Home.{home_made, objects_stay, region_made}
-use Rattle.vm_base.specs.Limits.{most_objects, most_pages, most_regions}
-use Rattle.vm_base.specs.Pages.{page_positive}
+use Rattle.vm_base.specs.Limits.{most_objects, most_regions}
 use Rattle.vm_base.specs.declared.ids.Inherit.TheVariants.{Copy}
 use Rattle.vm_base.specs.declared.ids.Access.TheVariants as need
-use Rattle.vm_maps.proofs.Multiples.{pages_of}
 use Rattle.vm_kernel.proofs.steps.AccessBegins.{lined_below, waits_added}
-use Rattle.vm_kernel.proofs.space.RegionCopied.{heads_more, is_full_copy, may_place, no_row, same_put}
+use Rattle.vm_kernel.proofs.space.RegionCopied.{heads_more, same_put}
+use Rattle.vm_kernel.proofs.space.RangeCopied.{may_place}
 use Rattle.vm_kernel.proofs.space.EntriesCounted.{by_none}
 use Rattle.vm_kernel.proofs.space.RegionsFilled.{free_unfilled, put_filled, unknown_unfilled}
 use Rattle.vm_kernel.proofs.steps.EventsGrow.{grows_goes, suffices}
@@ -41,7 +37,7 @@ use Rattle.vm_kernel.specs.Forking.{EntersCopy}
 use Rattle.vm_kernel.specs.Sweeping.{PutsEntries}
 use Rattle.vm_legal.proofs.Heads.{to_itself}
 use Rattle.vm_legal.specs.Follows.{copy_head}
-use Rattle.vm_legal.specs.Outside.{is_file, is_wild}
+use Rattle.vm_legal.specs.Outside.{is_file}
 use Rattle.vm_model.specs.Homes.{first_of, home_in}
 use Rattle.vm_model.specs.Waiting.{Copying}
 use Rattle.vm_model.specs.declared.command.Command.TheVariants as command
@@ -52,12 +48,12 @@ use Rattle.vm_state.proofs.Declared.{kind_new, kinds_put, kinds_region}
 use Rattle.vm_state.proofs.Files.{files_temporary, no_file}
 use Rattle.vm_state.proofs.Filling.{copies_kept, copies_told, rows_unmade}
 use Rattle.vm_state.proofs.Making.{regions_made}
-use Rattle.vm_state.proofs.Marks.{marked_made, regions_marked}
+use Rattle.vm_state.proofs.Marks.{marked_made}
 use Rattle.vm_state.proofs.Places.{keeps_made}
 use Rattle.vm_state.proofs.Referred.{comes_served, referred_put}
 use Rattle.vm_state.proofs.Told.{knows_made, waits_known}
 use Rattle.vm_state.proofs.Waited.{waits_kept}
-use Rattle.vm_state.specs.Filling.{FitsCopy, IsAlone, IsCopied, IsFreeFor, IsSlow, filled_row}
+use Rattle.vm_state.specs.Filling.{FitsCopy, IsAlone, IsSlow, filled_row}
 use Rattle.vm_supply.specs.declared.woken.Woken.TheVariants as woken
 use Rattle.vm_waits.specs.declared.waiting.On.TheVariants as on
 use Rattle.vm_waits.specs.declared.waiting.Want.TheVariants as want
@@ -66,131 +62,7 @@ use Rattle.vm_state.specs.Counts.{marks_of}
 use Rattle.vm_kernel.proofs.space.RegionHomes.{homes_caused, homes_put}
 use Rattle.vm_kernel.proofs.space.StillThin.{thin_made}
 use Rattle.vm_kernel.proofs.controls.FlagsKept.{flags_temporary}
-
--- An address behind another in its entry is in the same entry.
-
-found_high : (from to address : ℕ) (rows : List Entry) (row : Entry) → InOrder from to rows → entry_at address rows ≡ Some row → from ≤ address
-found_high from to address [] row order found = absurd (let bad : None ≡ Some row = found in cc)
-found_high from to address (own ∷ rows) row order found =
-    by (nat_le own.address address) refl (λ rest. found_high (own.address + own.bytes) to address rows row order.1.1 rest)
-  where
-    by : (b : Bool) → nat_le own.address address ≡ b → (entry_at address rows ≡ Some row → own.address + own.bytes ≤ address) → from ≤ address
-    by true is more = let low = order.0 in let test : own.address ≤ address = grind (arith, nat_tests) in omega (arith, low, test)
-    by false is more =
-        let high = more (sym (ap (λ b. if b && nat_lt address (own.address + own.bytes) then Some own else entry_at address rows) is) ∙ found) in
-        let low = order.0 in
-        omega (arith, low, high)
-
-found_behind : (from to address later : ℕ) (rows : List Entry) (row : Entry) → InOrder from to rows → entry_at address rows ≡ Some row → address ≤ later
-    → later < row.address + row.bytes → entry_at later rows ≡ Some row
-found_behind from to address later [] row order found le less = absurd (let bad : None ≡ Some row = found in cc)
-found_behind from to address later (own ∷ rows) row order found le less =
-    by (nat_le own.address address && nat_lt address (own.address + own.bytes)) refl found
-    (λ now. found_behind (own.address + own.bytes) to address later rows row order.1.1 now le less)
-  where
-    by : (b : Bool) → (nat_le own.address address && nat_lt address (own.address + own.bytes)) ≡ b → (if b then Some own else entry_at address rows) ≡ Some row
-        → (entry_at address rows ≡ Some row → entry_at later rows ≡ Some row)
-        → (if nat_le own.address later && nat_lt later (own.address + own.bytes) then Some own else entry_at later rows) ≡ Some row
-    by true is now more =
-        let same : own ≡ row = some_is own row now in
-        let end : later < own.address + own.bytes = subst (λ (z : Entry). later < z.address + z.bytes) (sym same) less in
-        let here : (nat_le own.address later && nat_lt later (own.address + own.bytes)) ≡ true = grind (arith, nat_tests) in
-        ap (λ b. if b then Some own else entry_at later rows) here ∙ now
-    by false is now more =
-        let high = found_high (own.address + own.bytes) to address rows row order.1.1 now in
-        let test : (nat_le own.address later && nat_lt later (own.address + own.bytes)) ≡ false = grind (arith, nat_tests) in
-        ap (λ b. if b then Some own else entry_at later rows) test ∙ more now
-
--- what a slow copy that isn't refused has
-pub record MayBegin (header : Header) (task address bytes to : ℕ) (past : List Event) (k : Parts) (ids : Ids) : Type 0 where
-  pub row : Entry
-  pub lives : entries_in task k.maps ≡ Some (rows_in task k.maps)
-  pub found : entry_at address (rows_in task k.maps) ≡ Some row
-  pub allowed : IsAllowed k.maps task address need.Load
-  pub declared : row.region.0 < named header
-  pub copied : IsCopied header k.maps task address (bytes / header.size)
-  pub even : address % header.size ≡ 0
-  pub whole : bytes / header.size * header.size ≡ bytes
-  pub some : 0 < bytes / header.size
-  pub short : bytes / header.size ≤ most_pages
-  pub below : address + bytes ≤ 2 ^ 32
-  pub place : IsFreeFor k.maps task to (bytes / header.size)
-  pub idle : waiting task past ≡ None
-  pub absent : entry k.waits.rows task ≡ None
-  pub regions : ids.next_region < most_regions
-  pub marks : ids.next_object + ids.marks < most_objects
-
-some_pages : (pages size bytes : ℕ) → pages * size ≡ bytes → 0 < bytes → 0 < pages
-some_pages zero size bytes is some = absurd (omega (arith, is, some))
-some_pages (suc n) size bytes is some = omega arith
-
--- the pages of the range lie in the one entry that its first page has
-copied_range : (header : Header) (maps : Mapped) (task address bytes : ℕ) (row : Entry) → maps.size ≡ header.size → 0 < header.size
-    → InOrder 0 (2 ^ 32) (rows_in task maps) → entry_at address (rows_in task maps) ≡ Some row → row.region.0 < named header
-    → is_wild header row.region.0 ≡ false → bytes / header.size * header.size ≡ bytes → address + bytes ≤ row.address + row.bytes
-    → IsCopied header maps task address (bytes / header.size)
-copied_range header maps task address bytes row sized some order found declared supplied whole ends =
-    record {
-      entry = row;
-      declared = declared;
-      supplied = supplied;
-      whole = λ p less. subst (λ (z : ℕ). entry_at (address + p * z) (rows_in task maps) ≡ Some row) (sym sized)
-          (let below : p * header.size < bytes / header.size * header.size = mul-lt-mul_of_pos_right less some in
-          found_behind 0 (2 ^ 32) address (address + p * header.size) (rows_in task maps) row order found (omega arith) (omega (arith, below, whole, ends)));
-    }
-
-pub may_begin : (header : Header) (h : ℕ) (task : TaskId) (address bytes to : ℕ) (past : List Event) (k : Parts) (ids : Ids) (before : List Event)
-    → Starts header h (command.Copy task address bytes task to) past k ids before
-    → ((row : Entry) → entry_at address (rows_in task.0 k.maps) ≡ Some row → row.region.0 < length k.declared.items)
-    → InOrder 0 (2 ^ 32) (rows_in task.0 k.maps) → MayBegin header task.0 address bytes to past k ids
-may_begin header h task address bytes to past k ids before s is_declared order =
-    let m = s.rests.matches in
-    let size = header.size in
-    let pages = bytes / size in
-    let p = may_place header h task address bytes task to past k ids before s in
-    let all : length k.declared.items ≡ named header = ap length m.core.setting.objects in
-    let declared : p.entry.region.0 < named header = let less = is_declared p.entry p.found in omega (arith, less, all) in
-    let test : nat_lt p.entry.region.0 (named header) ≡ true = grind (arith, nat_tests) in
-    let there : entry_at address (entries_of size task.0 past) ≡ Some p.entry = ap (entry_at address) (rows_here m.core.spaces.tasks p.lives) ∙ p.found in
-    let own = to_itself header past task address bytes task to p.entry s.accepted there test in
-    let from : is_range size address bytes ≡ true = p.from in
-    let even_bytes : bytes % size ≡ 0 = grind (arith, nat_tests) in
-    let some_bytes : 0 < bytes = grind (arith, nat_tests) in
-    let whole = pages_of size bytes even_bytes in
-    let few = p.few in
-    let full = sym (is_full_copy header p.entry.region.0 past true (region_of header p.entry.region.0 past).mark test refl) ∙ p.full in
-    let counts = or_parts (nat_le most_regions (next_region header past)) (nat_lt most_objects (next_object header past + marked_regions header past + 1))
-    full in
-    let regions : nat_le most_regions (next_region header past) ≡ false = counts.0 in
-    let objects : nat_lt most_objects (next_object header past + marked_regions header past + 1) ≡ false = counts.1 in
-    let next = m.core.objects.regions.region in
-    let number = m.core.objects.regions.object in
-    let marked : ids.marks ≡ marked_regions header past = m.core.objects.regions.marks ∙ sym (regions_marked header past) in
-    record {
-      row = p.entry;
-      lives = p.lives;
-      found = p.found;
-      allowed = p.allowed;
-      declared = declared;
-      copied =
-          copied_range header k.maps task.0 address bytes p.entry m.core.spaces.tasks.sized (page_positive size m.core.setting.ranged.size) order p.found
-          declared own.0 whole p.ends;
-      even = grind (arith, nat_tests);
-      whole = whole;
-      some = some_pages pages size bytes whole some_bytes;
-      short = p.short;
-      below = grind (arith, nat_tests);
-      place =
-          record {
-            range = rw (m.core.spaces.tasks.sized, whole) p.range;
-            free = rw (m.core.spaces.tasks.sized, whole) p.free;
-            room = grind (arith, nat_tests);
-          };
-      idle = p.idle;
-      absent = no_row k.maps.size (entry k.waits.rows task.0) (waiting task.0 past) (s.rests.waits.is task.0 (ap is_some p.lives)) p.idle;
-      regions = grind (arith, nat_tests);
-      marks = grind (arith, nat_tests);
-    }
+use Rattle.vm_kernel.proofs.steps.CopyMayBegin.{MayBegin, may_begin}
 
 -- the row of the access that begins
 abbrev pub copy_row : TaskId → ℕ → ℕ → ℕ → RegionId → ObjectId → Waiting

@@ -14,7 +14,7 @@ use Rattle.vm_abroad.proofs.Regions.{kind_cases}
 use Rattle.vm_state.proofs.Declared.{whole_row}
 use Rattle.vm_state.proofs.Referring.{row_of}
 use Rattle.vm_kernel.specs.Refusing.{is_copy_full, is_uncopied, is_wild_row, source_code}
-use Rattle.vm_kernel.proofs.space.RegionCopied.{is_full_copy}
+use Rattle.vm_kernel.proofs.space.RangeCopied.{is_full_copy}
 use Rattle.vm_kernel.proofs.abroad.OwnHost.{lives_in, on_is, own_host, rows_here}
 use Rattle.vm_kernel.proofs.space.RegionRows.{region_row}
 use Rattle.vm_state.proofs.Marks.{regions_marked}

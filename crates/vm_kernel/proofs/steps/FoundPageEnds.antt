@@ -1,9 +1,10 @@
 -- An access that finds its page ends at once.
-use Rattle.vm_kernel.proofs.Common.{Backing, Bool, Comes, Command, EndsNext, Event, FindsPage, FrameNo, Header, HostId, HostParts, Ids, IsAt, IsNextAccess}
-use Rattle.vm_kernel.proofs.Common.{IsOfNumber, IsTop, LegalEvents, List, Loading, Option, Outside, PageKey, PageRow, Parts, RegionRow, Sight, Some, Storing}
-use Rattle.vm_kernel.proofs.Common.{TaskId, ToRead, ToWrite, Waiting, Waits, Walks, Want, Works, [], access_in, address_in, ap, append_assoc, backing_of}
-use Rattle.vm_kernel.proofs.Common.{copies_to, count_again, entries_of, entry, entry_at, false, has_pager, inl, inr, is_again, is_some, page_at, page_on, refl}
-use Rattle.vm_kernel.proofs.Common.{region_of, sight, some_is, subst, suc, sym, true, waiting, waiting_in, zero, ℕ, ◌%◌, ◌&&◌, ◌++◌, ◌∙◌, ◌∷◌, ◌≡◌, ◌⊎◌}
+use Rattle.vm_kernel.proofs.Common.{Backing, Bool, Comes, Command, EndsNext, Event, FindsPage, FrameNo, GoesNext, Header, HostId, HostParts, Ids, IsAt, IsEnd}
+use Rattle.vm_kernel.proofs.Common.{IsNext, IsNextAccess, IsOfNumber, IsTop, LegalEvents, List, Loading, Option, Outside, PageKey, PageRow, Parts, RegionRow}
+use Rattle.vm_kernel.proofs.Common.{Sight, Some, Storing, TaskId, ToRead, ToWrite, Waiting, Waits, Walks, Want, Works, [], access_in, address_in, ap}
+use Rattle.vm_kernel.proofs.Common.{append_assoc, backing_of, copies_to, count_again, entries_of, entry, entry_at, false, has_pager, inl, inr, is_again}
+use Rattle.vm_kernel.proofs.Common.{is_some, page_at, page_on, refl, region_of, sight, some_is, subst, suc, sym, true, waiting, waiting_in, zero, ℕ, ◌%◌, ◌&&◌}
+use Rattle.vm_kernel.proofs.Common.{◌++◌, ◌∙◌, ◌∷◌, ◌≡◌, ◌⊎◌}
 use Rattle.vm_base.specs.declared.entry.Entry.{Entry}
 use Rattle.vm_fault.specs.Faults.{AfterZeros, AtOnce, Copied, Ended, FaultState, Faulted, Hits, Needs, Nowhere, Prepares, Raised, Runs, ToAsk, ToCopy, ToRaise}
 use Rattle.vm_fault.specs.Faults as fault
@@ -24,6 +25,7 @@ use Rattle.vm_waits.specs.declared.waiting.Want.TheVariants as want
 use Rattle.vm_kernel.proofs.memory.WalksShown.{shown_at}
 use Rattle.vm_state.proofs.Locks.{kept_anywhere, names_kept}
 use Rattle.vm_legal.specs.Accesses.{names}
+use Rattle.vm_legal.specs.InTurn.{IsFailureOf}
 use Rattle.std.proofs.lemmas.Bool.{and_left, and_right}
 use Rattle.vm_model.specs.Waiting.{Copying}
 use Rattle.std.specs.Prelude.{◌*◌}
@@ -335,8 +337,8 @@ ends_next header h past k ids w may answer last events new works is runs finds =
     ends_once header h past k ids w may answer events new works is (stops_once (number_of_found header h (events ++ past) k ids w works is finds) runs) finds
 
 -- what comes later doesn't change that
-pub next_more : (task : ℕ) (before events more : List Event) → EndsNext task before events → EndsNext task before (more ++ events)
-next_more task before events more e =
+next_more : (Ends : Event → Type 0) (before events more : List Event) → IsNext Ends before events → IsNext Ends before (more ++ events)
+next_more Ends before events more e =
     record {
       later = more ++ e.later;
       end = e.end;
@@ -344,29 +346,29 @@ next_more task before events more e =
       ends = e.ends;
     }
 
-pub next_goes : (header : Header) (h : ℕ) (outside : Outside) (doing : Command) (past : List Event) (task : ℕ) (before events after : List Event)
-    → LegalEvents header h outside doing past events after → EndsNext task before events → EndsNext task before after
-next_goes header h outside doing past task before events after goes e =
-    subst (λ (z : List Event). EndsNext task before z) (sym goes.is) (next_more task before events goes.more e)
+pub goes_more : (header : Header) (task : ℕ) (past before events more : List Event) → GoesNext header task past before events
+    → GoesNext header task past before (more ++ events)
+goes_more header task past before events more g =
+    record {
+      finds = λ finds. next_more (IsEnd task) before events more (g.finds finds);
+      meets = λ meets. next_more (IsFailureOf task) before events more (g.meets meets);
+    }
 
 -- those that were to be run again are run: the first one, which alone is to be, or nothing was done yet
-abbrev pub FirstOf : ℕ → List Waiting → List Waiting → List Event → List Event → Type 0
-FirstOf task first rows before events = EndsNext task before events ⊎ ((rows ≡ first) × (events ≡ before))
+abbrev pub FirstOf : Header → ℕ → List Event → List Waiting → List Waiting → List Event → List Event → Type 0
+FirstOf header task past first rows before events = GoesNext header task past before events ⊎ ((rows ≡ first) × (events ≡ before))
 
 pub first_more : (header : Header) (h : ℕ) (outside : Outside) (doing : Command) (past : List Event) (task : ℕ) (first rows rows2 : List Waiting) (w : Waiting)
-    (before events after : List Event) → FirstOf task first rows before events → IsNextAccess task first
-    → FindsPage header task (before ++ past) → entry rows w.task.0 ≡ Some w → is_again w.on ≡ true → LegalEvents header h outside doing past events after
-    → (FindsPage header w.task.0 (events ++ past) → EndsNext w.task.0 events after)
-    → FirstOf task first rows2 before after
-first_more header h outside doing past task first rows rows2 w before events after (inl ended) next finds found on_again goes ends =
-    inl (next_goes header h outside doing past task before events after goes ended)
-first_more header h outside doing past task first rows rows2 w before events after (inr none) next finds found on_again goes ends =
+    (before events after : List Event) → FirstOf header task past first rows before events → IsNextAccess task first
+    → entry rows w.task.0 ≡ Some w → is_again w.on ≡ true → LegalEvents header h outside doing past events after
+    → GoesNext header w.task.0 past events after → FirstOf header task past first rows2 before after
+first_more header h outside doing past task first rows rows2 w before events after (inl gone) next found on_again goes runs =
+    inl (subst (λ (z : List Event). GoesNext header task past before z) (sym goes.is) (goes_more header task past before events goes.more gone))
+first_more header h outside doing past task first rows rows2 w before events after (inr none) next found on_again goes runs =
     let same : w.task.0 ≡ task = next.only w.task.0 w (ap (λ (z : List Waiting). entry z w.task.0) (sym none.0) ∙ found) on_again in
-    let there : FindsPage header w.task.0 (events ++ past) = subst (λ (z : List Event). FindsPage header w.task.0 (z ++ past)) (sym none.1)
-    (subst (λ (z : ℕ). FindsPage header z (before ++ past)) (sym same) finds) in
-    inl (subst (λ (z : List Event). EndsNext task z after) none.1 (subst (λ (z : ℕ). EndsNext z events after) same (ends there)))
+    inl (subst (λ (z : List Event). GoesNext header task past z after) none.1 (subst (λ (z : ℕ). GoesNext header z past events after) same runs))
 
-pub first_done : (task : ℕ) (first rows : List Waiting) (before events : List Event) → FirstOf task first rows before events → IsNextAccess task first
-    → count_again rows ≡ 0 → EndsNext task before events
-first_done task first rows before events (inl ended) next none = ended
-first_done task first rows before events (inr nothing) next none = absurd (next.some (ap count_again (sym nothing.0) ∙ none))
+pub first_done : (header : Header) (task : ℕ) (past : List Event) (first rows : List Waiting) (before events : List Event)
+    → FirstOf header task past first rows before events → IsNextAccess task first → count_again rows ≡ 0 → GoesNext header task past before events
+first_done header task past first rows before events (inl gone) next none = gone
+first_done header task past first rows before events (inr nothing) next none = absurd (next.some (ap count_again (sym nothing.0) ∙ none))

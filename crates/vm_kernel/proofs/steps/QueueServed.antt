@@ -1,6 +1,10 @@
 -- Accesses are run again, and the frame queue is served.
 use Rattle.vm_kernel.proofs.Common.{Attempts, Bool, Command, Err, Event, HasQueue, Header, Ids, LegalEvents, List, Ok, OnOk, Outside, Parts, PromptAt, Rests}
-use Rattle.vm_kernel.proofs.Common.{Result, Served, Waiting, Works, arith, count_again, ℕ, ◌++◌, ◌≡◌}
+use Rattle.vm_kernel.proofs.Common.{Option, PageKey, Result, Served, Waiting, Works, ap, arith, claimed, count_again, frame_count, is_frame, queued, refl}
+use Rattle.vm_kernel.proofs.Common.{some_is, subst, sym, true, ℕ, ◌*◌, ◌++◌, ◌+◌, ◌<◌, ◌∙◌, ◌≡◌, ◌≤◌}
+use Rattle.std.proofs.Math.Nat.{add-mul}
+use Rattle.vm_kernel.specs.Serving.{pages_to_copy}
+use Rattle.vm_waits.specs.Waits.{one}
 use Rattle.vm_supply.specs.declared.woken.Woken.TheVariants as woken
 use Rattle.vm_kernel.specs.declared.attempt.Attempt.{Attempt}
 use Rattle.vm_kernel.specs.declared.attempt.Attempt.TheVariants as attempt
@@ -42,3 +46,26 @@ pub attempts_idle : (header : Header) (h : ℕ) (was : Waiting) (may_claim : Boo
     → Attempts header h was may_claim answer old new before after → count_again old.waits.rows ≡ 0 → count_again new.waits.rows ≡ 0
 attempts_idle header h was may_claim (attempt.Wants source) old new before after joins idle = let step = joins.again in omega arith
 attempts_idle header h was may_claim attempt.Ran old new before after ran idle = let step = ran.again in omega arith
+
+less_left : (n m f c d p q : ℕ) → n + 1 ≡ m → d ≤ f → q ≤ p → n * (f + 1) + d + q < m * (f + 1) + c + p
+less_left n m f c d p q same fits few =
+    let one : m * (f + 1) ≡ n * (f + 1) + 1 * (f + 1) = ap (λ z. z * (f + 1)) (sym same) ∙ add-mul n 1 (f + 1) in
+    omega (arith, one)
+
+-- one that ended, or waits for something else than a frame, leaves less to be served
+pub served_less : (header : Header) (h : ℕ) (was : Waiting) (answer : Attempt) (old new : Parts) (ids ids2 : Ids) (before after : List Event)
+    → Rests header h old ids before → Works header h new ids2 woken.Nobody after → is_frame was.on ≡ true
+    → Attempts header h was true answer old new before after → ((source : Option PageKey) → answer ≡ attempt.Wants source → ⊥)
+    → queued new.waits.rows * (frame_count new.memory.frames + 1) + claimed new.memory.frames + pages_to_copy new.waits.rows
+    < queued old.waits.rows * (frame_count old.memory.frames + 1) + claimed old.memory.frames + pages_to_copy old.waits.rows
+served_less header h was (attempt.Wants source) old new ids ids2 before after rests works queues wants other = absurd (other source refl)
+served_less header h was attempt.Ran old new ids ids2 before after rests works queues ran other =
+    let now = works.matches.core.pages.counted in
+    let same : frame_count old.memory.frames ≡ frame_count new.memory.frames = some_is (frame_count old.memory.frames) (frame_count new.memory.frames)
+    (sym rests.matches.core.pages.counted.total ∙ now.total) in
+    let fits = now.fits in
+    let left : queued new.waits.rows + 1 ≡ queued old.waits.rows = ap (λ (b : Bool). queued new.waits.rows + one b) (sym queues) ∙ ran.queued in
+    subst (λ (z : ℕ). queued new.waits.rows * (frame_count new.memory.frames + 1) + claimed new.memory.frames + pages_to_copy new.waits.rows
+    < queued old.waits.rows * (z + 1) + claimed old.memory.frames + pages_to_copy old.waits.rows) (sym same)
+    (less_left (queued new.waits.rows) (queued old.waits.rows) (frame_count new.memory.frames) (claimed old.memory.frames) (claimed new.memory.frames)
+    (pages_to_copy old.waits.rows) (pages_to_copy new.waits.rows) left (omega arith) ran.left)

@@ -3,7 +3,7 @@ use Rattle.vm_kernel.proofs.Common.{AllInner, Command, Event, Header, IsDoneInTu
 use Rattle.vm_kernel.proofs.Common.{◌≡◌}
 use Rattle.vm_model.specs.declared.event.Event.TheVariants as event
 use Rattle.vm_model.specs.declared.command.Command.TheVariants as command
-use Rattle.vm_kernel.proofs.steps.FoundPageEnds.{next_more}
+use Rattle.vm_kernel.proofs.steps.FoundPageEnds.{goes_more}
 
 pub done_more : (header : Header) (doing : Command) (past events more : List Event) → kernel_runs doing ≡ true → AllInner more
     → IsDoneInTurn header doing events past → IsDoneInTurn header doing (more ++ events) past
@@ -16,8 +16,8 @@ done_more header (command.Pageout host count) past events more built inner done 
       enough = done.enough;
     }
 done_more header (command.Load task address size) past events more built inner done =
-    λ finds. next_more task.0 (event.BegunLoad task address size ∷ []) events more (done finds)
+    goes_more header task.0 past (event.BegunLoad task address size ∷ []) events more done
 done_more header (command.Store task address size value) past events more built inner done =
-    λ finds. next_more task.0 (event.BegunStore task address size value ∷ []) events more (done finds)
+    goes_more header task.0 past (event.BegunStore task address size value ∷ []) events more done
 done_more header (command.Settle count) past events more built inner done = absurd (let bad : false ≡ true = built in cc)
 done_more header other past events more built inner done = tt

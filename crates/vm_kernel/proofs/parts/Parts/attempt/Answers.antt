@@ -1,9 +1,11 @@
-use Rattle.vm_kernel.proofs.Common.{Event, List, Parts, Waiting, ap, length, paging, refl, subst, sym, true, ◌++◌, ◌+◌, ◌∙◌, ◌≡◌, ◌≤◌, false, suc}
+use Rattle.vm_kernel.proofs.Common.{Event, List, Parts, Waiting, [], ap, length, paging, refl, subst, sym, true, ◌++◌, ◌+◌, ◌∙◌, ◌≡◌, ◌≤◌, false, suc}
 use Rattle.vm_model.specs.declared.event.Event.TheVariants as event
+use Rattle.vm_kernel.proofs.controls.ControlMissed.{served_meets}
 use Rattle.vm_kernel.proofs.controls.LockReplied.{replied_behind}
 use Rattle.vm_kernel.proofs.lists.ListsAsTold.{plays_one}
 use Rattle.vm_kernel.proofs.room.RoomForRun.{few_failed, room_failed, room_to_fail, some_run}
 use Rattle.vm_kernel.proofs.steps.AccessUnserved.{finds_none}
+use Rattle.vm_kernel.proofs.steps.EventsGrow.{on_ok}
 use Rattle.vm_kernel.proofs.steps.FramesClaimed.{once_unserved}
 use Rattle.vm_kernel.proofs.steps.PagesLeft.{without_less}
 use Rattle.vm_kernel.specs.Matches.{IsReplied}
@@ -52,6 +54,22 @@ pub returns-in_ok-end_unserved-in-Some-clause-ends : goal.returns-in_ok-end_unse
 returns-in_ok-end_unserved-in-Some-clause-ends g c = λ finds.
     absurd (finds_none g.given.header g.given.host (c.args.log.now.items ++ g.given.past) c.args.self.now c.args.ids.now c.args.waiting c.in-Some.key
     c.requires.0 c.requires.1.0 (sym c.unserved.ensures ∙ c.in-Some.is) finds)
+
+pub returns-in_ok-end_unserved-in-Some-clause-fails : goal.returns-in_ok-end_unserved-in-Some-clause-fails
+returns-in_ok-end_unserved-in-Some-clause-fails g c = λ meets.
+    let key = c.in-Some.key in
+    record {
+      later = [];
+      end = event.Failed c.args.waiting.task key.object key.page;
+      is = c.in_ok-end_unserved-in-Some.ensures.told;
+      ends = refl;
+    }
+
+pub returns-in-None-clause-fails : goal.returns-in-None-clause-fails
+returns-in-None-clause-fails g c =
+    on_ok c.run_access.result _ _ (λ works meets.
+    absurd (served_meets g.given.header g.given.host (c.args.log.now.items ++ g.given.past) c.args.self.now c.args.ids.now c.args.waiting c.requires.0
+    c.requires.1.0 (sym c.unserved.ensures ∙ c.in-None.is) meets)) c.run_access.ensures.works
 
 pub returns-in_ok-end_unserved-in-Some-clause-attempts : goal.returns-in_ok-end_unserved-in-Some-clause-attempts
 returns-in_ok-end_unserved-in-Some-clause-attempts g c =

@@ -1,6 +1,6 @@
 use Rattle.vm_kernel.proofs.Common.{Ran, Starts, TaskId, ap, arith, refl, rows_in, subst, sym, ℕ, ◌<◌, ◌≤◌}
 use Rattle.vm_model.specs.declared.command.Command.TheVariants as command
-use Rattle.vm_kernel.proofs.space.RegionCopied.{can_place, may_place, ran_copy}
+use Rattle.vm_kernel.proofs.space.RangeCopied.{can_place, may_place, ran_copy}
 use Rattle.vm_kernel.proofs.steps.CopyBegins.{copy_declared, copy_target_own, entered_quiet}
 use Rattle.vm_kernel.proofs.steps.EventsGrow.{on_ok}
 use Rattle.vm_kernel.proofs.lists.ListsAsTold.{lists_same, plays_both, plays_told}

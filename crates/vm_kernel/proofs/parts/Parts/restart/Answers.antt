@@ -13,7 +13,7 @@ again-init g c =
       works = c.requires;
       goes = goes_none g.given.header g.given.host g.given.outside g.given.command g.given.past c.args.log.now.items;
       plays = Still;
-      first = λ task next finds. inr (refl, refl);
+      first = λ task next. inr (refl, refl);
       room = λ more has. has;
       spare = keeps_none c.args.self.now;
       few = omega arith;
@@ -46,16 +46,17 @@ again-preserved g c =
       room = λ more has. (run.room more (was.room more has)).1;
       spare = keeps_both was.spare run.spare;
       few = few_both (length c.args.log.now.items) (length c.again.log.items) (length c.attempt.new.log.items) _ _ _ was.few run.few;
-      first = λ task next finds.
+      first = λ task next.
           first_more g.given.header g.given.host g.given.outside g.given.command g.given.past task c.args.self.now.waits.rows c.again.self.waits.rows
           c.attempt.new.self.waits.rows c.in-Some.waiting c.args.log.now.items c.again.log.items c.attempt.new.log.items
-          (was.first task next finds) next finds c.in-Some.ensures.row.0 c.in-Some.ensures.row.1 run.goes run.ends;
+          (was.first task next) next c.in-Some.ensures.row.0 c.in-Some.ensures.row.1 run.goes
+          (record { finds = run.ends; meets = run.fails });
     }
 
 pub returns-clause-first : goal.returns-clause-first
 returns-clause-first g c =
-    λ task next finds. first_done task c.args.self.now.waits.rows c.again.self.waits.rows c.args.log.now.items c.again.log.items
-    (c.again.invariant.first task next finds) next (rw c.in_default.is at c.next_again.ensures.row)
+    λ task next. first_done g.given.header task g.given.past c.args.self.now.waits.rows c.again.self.waits.rows c.args.log.now.items c.again.log.items
+    (c.again.invariant.first task next) next (rw c.in_default.is at c.next_again.ensures.row)
 
 pub returns-clause-restarts : goal.returns-clause-restarts
 returns-clause-restarts g c = λ none. let now = c.again.invariant.restarts none in (now.from, now.runs)

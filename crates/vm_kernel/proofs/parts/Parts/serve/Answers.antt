@@ -1,8 +1,8 @@
 use Rattle.vm_kernel.proofs.Common.{Parts, ap, arith, false, inr, length, queued, refl, true, ◌∙◌, ◌≡◌}
-use Rattle.std.specs.Prelude.{◌+◌}
+use Rattle.std.specs.Prelude.{◌+◌, ◌++◌}
 use Rattle.vm_kernel.proofs.room.RoomForRun.{few_both, front_runs, served_room, serve_spare}
 use Rattle.vm_kernel.proofs.steps.EventsGrow.{goes_both}
-use Rattle.vm_kernel.proofs.steps.QueueServed.{attempts_idle, rests_of}
+use Rattle.vm_kernel.proofs.steps.QueueServed.{attempts_idle, rests_of, served_less}
 use Rattle.vm_kernel.proofs.steps.FramesInTurn.{leaves_gone, leaves_of, leaves_ran, others_gone, others_ran}
 use Rattle.vm_kernel.specs.Serving.{wants_frame}
 use Rattle.vm_kernel.proofs.parts.Parts.serve.Goals as goal
@@ -139,3 +139,12 @@ returns-then-branch-clause-few g c =
     let run = c.in_ok-source.ensures.few in
     let two = c.in_ok-stops.ensures.two in
     omega (arith, was, run, two)
+
+pub returns-then-branch-clause-served : goal.returns-then-branch-clause-served
+returns-then-branch-clause-served g c = inr (c.in_ok-stops.ensures.full c.if-branch.true)
+
+pub serve-smaller : goal.serve-smaller
+serve-smaller g c =
+    served_less g.given.header g.given.host c.in-Some.waiting c.in_ok-source.field-0 c.serve.self c.attempt.new.self c.serve.ids c.attempt.new.ids
+    (c.serve.log.items ++ g.given.past) (c.attempt.new.log.items ++ g.given.past) c.serve.invariant.rests c.in_ok-source.ensures.works
+    c.in-Some.ensures.row.1 c.in_ok-source.ensures.attempts c.in_default-2.not-Wants
