@@ -115,6 +115,16 @@ fn regions_and_entries_made(rt: HostRuntime) -> Result<(), Fail> {
             "cow 4 0 7 2\n",
         ),
         (
+            Event::Delayed {
+                region: RegionId(1),
+                source: RegionId(0),
+                offset: 0,
+                pages: 1,
+                copy: ObjectId(1),
+            },
+            "delayed 1 0 0 1 1\n",
+        ),
+        (
             Event::Entered {
                 task: TASK,
                 address: 4096,

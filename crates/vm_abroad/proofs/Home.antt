@@ -140,11 +140,13 @@ home_shadowed h region new old past none home = ap (home_in (λ r. home_of r pas
 region_later : (header : Header) (e : Event) (past : List Event) (r : ℕ) → next_region header (e ∷ past) ≤ r → next_region header past ≤ r
 region_later header (event.RegionMade region object pages) past r high = omega (arith, high)
 region_later header (event.RegionCopied region source offset pages) past r high = omega (arith, high)
+region_later header (event.Delayed region source offset pages copy) past r high = omega (arith, high)
 region_later header other past r high = high
 
 object_later : (header : Header) (e : Event) (past : List Event) (o : ℕ) → next_object header (e ∷ past) ≤ o → next_object header past ≤ o
 object_later header (event.RegionMade region object pages) past o high = omega (arith, high)
 object_later header (event.Shadowed region new old) past o high = omega (arith, high)
+object_later header (event.Delayed region source offset pages copy) past o high = omega (arith, high)
 object_later header other past o high = high
 
 regions_next : (header : Header) (outside : Outside) (e : Event) (past : List Event) (r : ℕ) → HasCause header outside e past
@@ -167,6 +169,7 @@ objects_next header outside (event.Shadowed region new old) past o cause high no
     let number = cause.1.next in
     let apart : (new.0 == o) ≡ false = unlike new.0 o (λ same. omega (arith, same, number, high)) in
     ap (λ b. if b then first_of (region_for o past) (Some region.0) else region_for o past) apart ∙ none
+objects_next header outside (event.Delayed new source offset pages copy) past o cause high none = absurd cause.1
 objects_next header outside other past o cause high none = none
 
 -- a region that has a home is in use nowhere else
@@ -214,6 +217,7 @@ stay_next header outside (event.RegionMade new object pages) past cause homes g 
     made_where header g h r new.0 (r == new.0) (new.0 == r) past refl refl cause.1.0 homes used home
 stay_next header outside (event.RegionCopied new source offset pages) past cause homes g h r used home =
     new_homeless header g h r new.0 (r == new.0) (in_use header g source.0 past) past refl cause.1.next homes used home (λ now. homes.stay g h r now home)
+stay_next header outside (event.Delayed new source offset pages copy) past cause homes g h r used home = absurd cause.1
 stay_next header outside (event.Entered task address bytes region offset prot inherit) past cause homes g h r used home =
     home_first header g h r region.0 (lives_on g task.0 past) (region.0 == r) (home_of r past) (host_of task.0 past) past refl used
     (on_host g (host_of task.0 past)) home (λ was now. homes.stay g h r now was)
@@ -284,6 +288,7 @@ files_next header outside (event.RegionMade new object pages) past cause homes r
     rw other (homes.files r h file before)
 files_next header outside (event.RegionCopied new source offset pages) past cause homes r h file home =
     rw (file_other header r new.0 past file cause.1.next) (homes.files r h file home)
+files_next header outside (event.Delayed new source offset pages copy) past cause homes r h file home = absurd cause.1
 files_next header outside (event.Entered task address bytes region offset prot inherit) past cause homes r h file home = elim (eqb_tells r region.0) [
   | inl same ↦
       let turned : (region.0 == r) ≡ true = let is = same.1 in grind (arith, nat_tests) in
@@ -325,6 +330,7 @@ whole_next header outside (event.RegionCopied new source offset pages) past caus
     let other : (r == new.0) ≡ false = unlike r new.0 (λ same. omega (arith, same, number, more, declared)) in
     let apart : (r == source.0) ≡ false = unlike r source.0 (λ same. omega (arith, same, temporary, declared)) in
     rw (other, apart) (homes.whole r declared)
+whole_next header outside (event.Delayed new source offset pages copy) past cause homes r declared = absurd cause.1
 whole_next header outside (event.Shadowed changed new old) past cause homes r declared =
     let marked = cause.1.marked in
     let other : (r == changed.0) ≡ false = unlike r changed.0 (λ same. absurd (let plain : (region_of header changed.0 past).mark ≡ false = ap
@@ -352,6 +358,7 @@ bare_next header outside (event.Shadowed changed new old) past cause homes o dec
     rw other (homes.bare o declared)
 bare_next header outside (event.Merged upper lower) past cause homes o declared =
     rw (not_upper header o upper.0 lower.0 past cause.1 (homes.bare o declared)) (homes.bare o declared)
+bare_next header outside (event.Delayed new source offset pages copy) past cause homes o declared = absurd cause.1
 bare_next header outside other past cause homes o declared = homes.bare o declared
 
 -- an object that isn't made yet stands on nothing
@@ -364,6 +371,7 @@ unmade_next header outside (event.Shadowed changed new old) past cause homes o h
     rw other (homes.unmade o (omega (arith, high)))
 unmade_next header outside (event.Merged upper lower) past cause homes o high =
     rw (not_upper header o upper.0 lower.0 past cause.1 (homes.unmade o high)) (homes.unmade o high)
+unmade_next header outside (event.Delayed new source offset pages copy) past cause homes o high = absurd cause.1
 unmade_next header outside other past cause homes o high = homes.unmade o high
 
 -- a slow copy fills the region that was made for it
@@ -406,6 +414,7 @@ target_made_next header outside (event.RegionMade region object pages) past caus
     by_test false was = let less = homes.target_made task target was in omega (arith, less)
 target_made_next header outside (event.Shadowed changed new old) past cause homes task target is =
     let less = homes.target_made task target is in omega (arith, less)
+target_made_next header outside (event.Delayed new source offset pages copy) past cause homes task target is = absurd cause.1
 target_made_next header outside other past cause homes task target is = homes.target_made task target is
 
 target_bare_next : (header : Header) (outside : Outside) (e : Event) (past : List Event) → HasCause header outside e past → HaveHomes header past
@@ -434,6 +443,7 @@ target_bare_next header outside (event.Merged upper lower) past cause homes task
     let other : (target.object == upper.0) ≡ false = unlike target.object upper.0
     (λ same. (let bad : false ≡ true = sym bare ∙ (ap (λ z. (backing_of header z past).backed) same ∙ cause.1.pair.backed) in cc)) in
     ap (λ b. (joined b (backing_of header lower.0 past) (backing_of header target.object past)).backed) other ∙ bare
+target_bare_next header outside (event.Delayed new source offset pages copy) past cause homes task target is = absurd cause.1
 target_bare_next header outside other past cause homes task target is = homes.target_bare task target is
 
 -- what has a home was made, whatever is added with its cause

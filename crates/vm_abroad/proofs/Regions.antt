@@ -131,6 +131,7 @@ used_abroad header outside h (event.RegionCopied new source offset pages) past s
         let number = abroad.cause.1.next in
         ap (λ z. z && true) abroad.foreign ∙ sym (fresh_unused header h r past sound temporary (omega (arith, it, number)))
     by_test false is = was_shut (in_use header h r past) r past (shut_before r (event.RegionCopied new source offset pages) past abroad.enters refl)
+used_abroad header outside h (event.Delayed new source offset pages copy) past sound knows abroad r temporary = absurd abroad.cause.1
 used_abroad header outside h (event.Entered task address bytes entered offset prot inherit) past sound knows abroad r temporary = by_test (r == entered.0) refl
   where
     by_test : (b : Bool) → (r == entered.0) ≡ b → (((not b || lives_on h task.0 past) && in_use header h r past) && true) ≡ is_used header h r past
@@ -180,6 +181,7 @@ region_abroad header outside h (event.RegionCopied new source offset pages) past
       | inr temporary ↦ not_elsewhere header h r source.0 past own temporary abroad.foreign
     ] in
     rw (other, away) refl
+region_abroad header outside h (event.Delayed new source offset pages copy) past sound abroad r small own = absurd abroad.cause.1
 region_abroad header outside h (event.Shadowed changed new old) past sound abroad r small own =
     let away : (r == changed.0) ≡ false = elim (kind_cases header r) [
       | inl declared ↦ no_shadow header r changed.0 past sound declared abroad.cause.1.marked
@@ -209,6 +211,7 @@ backing_abroad header outside h (event.Merged upper lower) past sound abroad o s
           ∙ (ap (λ z. is_on h (object_home z past)) same ∙ abroad.foreign) in cc))
     ] in
     rw other refl
+backing_abroad header outside h (event.Delayed new source offset pages copy) past sound abroad o small own = absurd abroad.cause.1
 backing_abroad header outside h other past sound abroad o small own = refl
 
 -- objects have the pages that they were made with
@@ -222,4 +225,5 @@ sizes_abroad header outside h (event.Shadowed region new old) past abroad o smal
     let number = abroad.cause.1.next in
     let other : (o == new.0) ≡ false = unlike o new.0 (λ same. omega (arith, same, number, small)) in
     rw other refl
+sizes_abroad header outside h (event.Delayed new source offset pages copy) past abroad o small = absurd abroad.cause.1
 sizes_abroad header outside h other past abroad o small = refl

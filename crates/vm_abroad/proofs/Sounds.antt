@@ -75,6 +75,7 @@ made_next header outside (event.RegionCopied new source offset pages) past sound
     by_test : (b : Bool) → (r == new.0) ≡ b → (if b then in_use header h source.0 past else in_use header h r past) ≡ true → r < next_region header past + 1
     by_test true is now = let it : r ≡ new.0 = grind (arith, nat_tests) in let number = cause.1.next in omega (arith, it, number)
     by_test false is now = let old = sound.made h r temporary now in omega (arith, old)
+made_next header outside (event.Delayed new source offset pages copy) past sound cause h r temporary used = absurd cause.1
 made_next header outside (event.Entered task address bytes entered offset prot inherit) past sound cause h r temporary used =
     sound.made h r temporary (both_right (not (r == entered.0) || lives_on h task.0 past) (in_use header h r past) used)
 made_next header outside (event.Removed task address bytes) past sound cause h r temporary used =
@@ -124,6 +125,7 @@ apart_next header outside (event.RegionCopied new source offset pages) past soun
     by_test false one two =
         sound.apart g h r temporary (was_used header g r (event.RegionCopied new source offset pages) past next refl one)
         (was_used header h r (event.RegionCopied new source offset pages) past next refl two)
+apart_next header outside (event.Delayed new source offset pages copy) past sound cause next g h r temporary one two = absurd cause.1
 apart_next header outside (event.Entered task address bytes entered offset prot inherit) past sound cause next g h r temporary one two =
     by_test (r == entered.0) refl one two
   where
@@ -172,6 +174,7 @@ unmarked_next header outside (event.RegionCopied new source offset pages) past s
     let other : (r == new.0) ≡ false = unlike r new.0 (λ same. omega (arith, same, number, more, declared)) in
     let apart : (r == source.0) ≡ false = unlike r source.0 (λ same. omega (arith, same, temporary, declared)) in
     rw (other, apart) (sound.unmarked r declared)
+unmarked_next header outside (event.Delayed new source offset pages copy) past sound cause r declared = absurd cause.1
 unmarked_next header outside (event.Shadowed changed new old) past sound cause r declared = cleared (r == changed.0) (sound.unmarked r declared)
 unmarked_next header outside (event.Unmarked changed) past sound cause r declared = cleared (r == changed.0) (sound.unmarked r declared)
 unmarked_next header outside other past sound cause r declared = sound.unmarked r declared
@@ -195,6 +198,7 @@ tops_next header outside (event.RegionCopied new source offset pages) past sound
     let more = sound.named_regions in
     let other : (r == new.0) ≡ false = unlike r new.0 (λ same. omega (arith, same, number, more, declared)) in
     rw other (sound.tops r declared)
+tops_next header outside (event.Delayed new source offset pages copy) past sound cause r declared = absurd cause.1
 tops_next header outside (event.Shadowed changed new old) past sound cause r declared =
     let other : (r == changed.0) ≡ false = no_shadow header r changed.0 past sound declared cause.1.marked in
     rw other (sound.tops r declared)
@@ -212,6 +216,7 @@ bare_next header outside (event.Merged upper lower) past sound cause o declared 
     let other : (o == upper.0) ≡ false = unlike o upper.0 (λ same. absurd (let bad : false ≡ true = sym (sound.bare o declared)
     ∙ (ap (λ z. (backing_of header z past).backed) same ∙ pair.backed) in cc)) in
     rw other (sound.bare o declared)
+bare_next header outside (event.Delayed new source offset pages copy) past sound cause o declared = absurd cause.1
 bare_next header outside other past sound cause o declared = sound.bare o declared
 
 -- numbers rise
@@ -219,11 +224,13 @@ bare_next header outside other past sound cause o declared = sound.bare o declar
 pub regions_rise : (header : Header) (e : Event) (past : List Event) → next_region header past ≤ next_region header (e ∷ past)
 regions_rise header (event.RegionMade new object pages) past = omega arith
 regions_rise header (event.RegionCopied new source offset pages) past = omega arith
+regions_rise header (event.Delayed new source offset pages copy) past = omega arith
 regions_rise header other past = omega arith
 
 pub objects_rise : (header : Header) (e : Event) (past : List Event) → next_object header past ≤ next_object header (e ∷ past)
 objects_rise header (event.RegionMade new object pages) past = omega arith
 objects_rise header (event.Shadowed changed new old) past = omega arith
+objects_rise header (event.Delayed new source offset pages copy) past = omega arith
 objects_rise header other past = omega arith
 
 pub sound_next : (header : Header) (outside : Outside) (e : Event) (past : List Event) → Sound header past → HasCause header outside e past → EntersNext e past

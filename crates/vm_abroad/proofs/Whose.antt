@@ -46,6 +46,7 @@ own_of_home header outside g (event.RegionMade region object pages) past sound c
 own_of_home header outside g (event.RegionCopied region source offset pages) past sound cause next new home h there =
     let shut = shut_before source.0 (event.RegionCopied region source offset pages) past next refl in
     sound.apart h g source.0 cause.1.temporary (used_of header h source.0 past shut there) (used_of header g source.0 past shut home)
+own_of_home header outside g (event.Delayed region source offset pages copy) past sound cause next new home h there = absurd cause.1
 own_of_home header outside g (event.Entered task address bytes region offset prot inherit) past sound cause next new home h there =
     one_task g h task.0 past home there
 own_of_home header outside g (event.Removed task address bytes) past sound cause next new home h there = one_task g h task.0 past home there

@@ -722,6 +722,7 @@ cause header outside host (event.RegionMade region object pages) past h c curren
 )
 cause header outside host (event.RegionCopied region source offset pages) past h c current =
     cow_cause header outside host region.0 source.0 offset pages past h c
+cause header outside host (event.Delayed region source offset pages copy) past h c current = absurd c
 cause header outside host (event.Shadowed region new old) past h c current = shadow_cause header outside host region.0 new.0 old.0 past h c
 cause header outside host (event.Unmarked region) past h c current = unmark_cause header outside host region.0 past h c
 cause header outside host (event.Merged upper lower) past h c current = merge_cause header outside host upper.0 lower.0 past h c

@@ -4,7 +4,7 @@ use Rattle.vm_flat.specs.Words.{Requests, Returns, TakesRequest, TakesReturn, An
 use Rattle.vm_flat.specs.Spot.{Spot}
 use Rattle.vm_flat.proofs.Allowed.{Passed, May, content}
 use Rattle.vm_flat.proofs.Deeds.{Ground, is_file, covered, Deed, Line, Region, Cow, Kept, Shadowed, Unmarked, Zeroed, Raised, Stored, Dropped, Created, Asked}
-use Rattle.vm_flat.proofs.Deeds.{Copied, Merged, pages}
+use Rattle.vm_flat.proofs.Deeds.{Copied, Delayed, Merged, pages}
 use Rattle.vm_flat.proofs.Deeds.{Returned, TookRequest, TookReturn, Answered, Took, Terminated, Elsewhere, Row, row, regions, objects, Link, link, spot}
 use Rattle.vm_flat.proofs.Deeds.{control, flat}
 
@@ -129,6 +129,7 @@ abbrev pub Cause : Ground → Deed → List Deed → Type 0
 Cause z Line past = Unit {0}
 Cause z (Region own region object count) past = (region ≡ regions z past) × (object ≡ objects z past) × (own ≡ true → covered z object ≡ true)
 Cause z (Cow region source off count) past = (region ≡ regions z past) × (source < regions z past) × (off + count ≤ (row z source past).pages)
+Cause z (Delayed region source off count copy newest) past = ⊥
 Cause z (Kept held) past = Unit {0}
 Cause z (Shadowed region new) past =
     (new ≡ objects z past) × (region < regions z past) × ((row z region past).mark ≡ true) × (covered z (row z region past).top ≡ covered z new)

@@ -15,12 +15,12 @@ use Rattle.vm_legal.specs.Used.{is_kept, made_here}
 use Rattle.vm_model.specs.Controls.{is_control, last_control, live_control}
 use Rattle.vm_model.specs.Homes.{object_home}
 use Rattle.vm_model.specs.Local.{is_on}
-use Rattle.vm_model.specs.Regions.{backing_of, object_pages}
+use Rattle.vm_model.specs.Regions.{backing_of, is_newest, newest_copy, object_pages}
 use Rattle.vm_legal.specs.Flat.{StoreChange, change_of, made_over}
 use Rattle.vm_flat.specs.Words.{SpotDownWord, Supplying, Unavailing, Erring}
 use Rattle.vm_legal.specs.Outside.{Outside}
 use Rattle.vm_flat.proofs.Deeds.{Ground, Deed, Line, Region, Cow, Kept, Shadowed, Unmarked, Zeroed, Raised, Stored, Dropped, Created, Asked, Copied, Returned}
-use Rattle.vm_flat.proofs.Deeds.{Merged, TookRequest, TookReturn, Answered, Took, Terminated, Elsewhere}
+use Rattle.vm_flat.proofs.Deeds.{Delayed, Merged, TookRequest, TookReturn, Answered, Took, Terminated, Elsewhere}
 
 abbrev pub ground : Header → Outside → Ground
 ground header outside =
@@ -74,6 +74,8 @@ abbrev pub deed : Header → Outside → ℕ → Event → List Event → Deed
 deed header outside host (event.Line line) past = Line
 deed header outside host (event.RegionMade region object pages) past = Region (made_here host past && outside.paging) region.0 object.0 pages
 deed header outside host (event.RegionCopied region source offset pages) past = Cow region.0 source.0 offset pages
+deed header outside host (event.Delayed region source offset pages copy) past =
+    Delayed region.0 source.0 offset pages copy.0 (λ o. is_newest o (newest_copy source.0 past))
 deed header outside host (event.Entered task address bytes region offset prot inherit) past = Kept (λ r. not (r == region.0) || lives_on host task.0 past)
 deed header outside host (event.Removed task address bytes) past = Kept (λ r. is_kept header r (event.Removed task address bytes ∷ past))
 deed header outside host (event.TaskEnded task) past = Kept (λ r. is_kept header r (event.TaskEnded task ∷ past))

@@ -5,7 +5,7 @@ use Rattle.vm_flat.specs.Words.{SpotEffect, Creates, Requests, Returns, TakesReq
 use Rattle.vm_flat.specs.Words.{StepEnds, Nothing}
 use Rattle.vm_flat.specs.Spot.{spot_after}
 use Rattle.vm_flat.proofs.Deeds.{Ground, is_file, Deed, Line, Region, Cow, Kept, Shadowed, Unmarked, Zeroed, Raised, Stored, Dropped, Created, Asked, Copied}
-use Rattle.vm_flat.proofs.Deeds.{Returned}
+use Rattle.vm_flat.proofs.Deeds.{Delayed, Returned}
 use Rattle.vm_flat.proofs.Deeds.{Merged, TookRequest, TookReturn, Answered, Took, Terminated, Elsewhere, spot, control}
 use Rattle.vm_flat.proofs.MergeEffects.{merged_case}
 use Rattle.vm_flat.proofs.Good.{takes_control}
@@ -32,6 +32,7 @@ control_is z o p (Copied own x y l lp a i k q ∷ past) =
 control_is z o p (Line ∷ past) = control_is z o p past
 control_is z o p (Region own region object count ∷ past) = control_is z o p past
 control_is z o p (Cow region source off count ∷ past) = control_is z o p past
+control_is z o p (Delayed region source off count copy newest ∷ past) = control_is z o p past
 control_is z o p (Kept held ∷ past) = control_is z o p past
 control_is z o p (Shadowed region new ∷ past) = control_is z o p past
 control_is z o p (Unmarked region ∷ past) = control_is z o p past

@@ -30,6 +30,8 @@ pub data Deed : Type 0 where
   -- a region over a new object; it may be in use on the host
   Region : (own : Bool) → (region : ℕ) → (object : ℕ) → (count : ℕ) → Deed
   Cow : (region : ℕ) → (source : ℕ) → (off : ℕ) → (count : ℕ) → Deed
+  -- a region over a new object that is a copy of a file, whose newest copy until then is told
+  Delayed : (region : ℕ) → (source : ℕ) → (off : ℕ) → (count : ℕ) → (copy : ℕ) → (newest : ℕ → Bool) → Deed
   -- of the regions only those that are held stay in use on the host
   Kept : (held : ℕ → Bool) → Deed
   Shadowed : (region : ℕ) → (new : ℕ) → Deed
@@ -84,6 +86,16 @@ cow_row b c off count source old =
       pages = if b then count else old.pages;
     }
 
+abbrev pub delayed_row : Bool → ℕ → ℕ → ℕ → Row → Row → Row
+delayed_row b copy off count source old =
+    record {
+      used = if b then source.used else old.used;
+      mark = if b then true else old.mark;
+      top = if b then copy else old.top;
+      shift = if b then off else old.shift;
+      pages = if b then count else old.pages;
+    }
+
 abbrev pub kept_row : Bool → Row → Row
 kept_row b old = record { used = b && old.used; mark = old.mark; top = old.top; shift = old.shift; pages = old.pages }
 
@@ -103,6 +115,7 @@ unmarked_row b old = record { used = old.used; mark = if b then false else old.m
 abbrev pub row_move : ℕ → Deed → (ℕ → Row) → Row
 row_move r (Region own region object count) rows = made_row (r == region) own object count (rows r)
 row_move r (Cow region source off count) rows = cow_row (r == region) (r == source) off count (rows source) (rows r)
+row_move r (Delayed region source off count copy newest) rows = delayed_row (r == region) copy off count (rows source) (rows r)
 row_move r (Kept held) rows = kept_row (held r) (rows r)
 row_move r (Shadowed region new) rows = shadow_row (r == region) new (rows r)
 row_move r (Unmarked region) rows = unmarked_row (r == region) (rows r)
@@ -117,11 +130,13 @@ abbrev pub regions : Ground → List Deed → ℕ
 regions z [] = z.named
 regions z (Region own region object count ∷ past) = suc (regions z past)
 regions z (Cow region source off count ∷ past) = suc (regions z past)
+regions z (Delayed region source off count copy newest ∷ past) = suc (regions z past)
 regions z (e ∷ past) = regions z past
 
 abbrev pub objects : Ground → List Deed → ℕ
 objects z [] = z.named
 objects z (Region own region object count ∷ past) = suc (objects z past)
+objects z (Delayed region source off count copy newest ∷ past) = suc (objects z past)
 objects z (Shadowed region new ∷ past) = suc (objects z past)
 objects z (e ∷ past) = objects z past
 
@@ -140,8 +155,18 @@ joined b lower was =
       shift = if b then lower.shift + was.shift else was.shift;
     }
 
+-- a new copy of a file stands over the file, and under the copy that was the newest until then
+abbrev pub pushed : Bool → Bool → ℕ → ℕ → Link → Link
+pushed b newest file copy was =
+    record {
+      backed = if b then true else (if newest then true else was.backed);
+      under = if b then file else (if newest then copy else was.under);
+      shift = if b then 0 else (if newest then 0 else was.shift);
+    }
+
 abbrev pub link : Ground → ℕ → List Deed → Link
 link z o [] = record { backed = false; under = 0; shift = 0 }
+link z o (Delayed region source off count copy newest ∷ past) = pushed (o == copy) (newest o) source copy (link z o past)
 link z o (Shadowed region new ∷ past) =
     record {
       backed = if o == new then true else (link z o past).backed;
@@ -155,6 +180,7 @@ link z o (e ∷ past) = link z o past
 abbrev pub pages : Ground → ℕ → List Deed → ℕ
 pages z o [] = z.length o
 pages z o (Region own region object count ∷ past) = if o == object then count else pages z o past
+pages z o (Delayed region source off count copy newest ∷ past) = if o == copy then pages z source past else pages z o past
 pages z o (Shadowed region new ∷ past) = if o == new then (row z region past).pages else pages z o past
 pages z o (e ∷ past) = pages z o past
 
@@ -204,6 +230,7 @@ abbrev pub flat : Ground → ℕ → ℕ → List Deed → List ℕ
 flat z r i [] = if is_file z r then z.start r i else z.zeros
 flat z r i (Region own region object count ∷ past) = if r == region then z.zeros else flat z r i past
 flat z r i (Cow region source off count ∷ past) = if r == region then flat z source (off + i) past else flat z r i past
+flat z r i (Delayed region source off count copy newest ∷ past) = if r == region then flat z source (off + i) past else flat z r i past
 flat z r i (Copied own source index object page region j upper upper_page ∷ past) = if r == region && i == j then flat z source index past else flat z r i past
 flat z r i (Stored own region index object page at bytes ∷ past) = if r == region && i == index then with_bytes at bytes (flat z r i past) else flat z r i past
 flat z r i (Answered own tells object page word ∷ past) = if tells && (r == object && i == page) then said z.zeros word (flat z r i past) else flat z r i past

@@ -290,6 +290,7 @@ filling_next header outside (event.RegionMade region object pages) past n entrie
     made_filling header outside region object pages past n entries c.0 c.1 filling task host address bytes to t lives waits target
 filling_next header outside (event.RegionCopied region source offset pages) past n entries c filling task host address bytes to t lives waits target =
     copied_filling header outside region source offset pages past c filling task host address bytes to t lives waits target
+filling_next header outside (event.Delayed region source offset pages copy) past n entries c filling task host address bytes to t lives waits target = absurd c
 filling_next header outside (event.Shadowed region new old) past n entries c filling task host address bytes to t lives waits target =
     shadowed_filling header outside region new old past c filling task host address bytes to t lives waits target
 filling_next header outside (event.Unmarked region) past n entries c filling task host address bytes to t lives waits target =

@@ -145,6 +145,7 @@ regions_next header outside (event.RegionMade region object pages) past c was r 
     if_no region.0 r (first_of (home_of r past) (copying_host past)) (home_of r past) (λ same. omega (arith, same, c.0, high))
     ∙ was.regions r (omega (arith, high))
 regions_next header outside (event.RegionCopied region source offset pages) past c was r high = was.regions r (omega (arith, high))
+regions_next header outside (event.Delayed region source offset pages copy) past c was r high = absurd c
 regions_next header outside e past c was r high = was.regions r high
 
 objects_next : (header : Header) (outside : Outside) (e : Event) (past : List Event) → Sustained header outside e past → Housed header outside past → (o : ℕ)
@@ -155,6 +156,7 @@ objects_next header outside (event.RegionMade region object pages) past c was o 
 objects_next header outside (event.Shadowed region new old) past c was o high =
     if_no new.0 o (first_of (region_for o past) (Some region.0)) (region_for o past) (λ same. omega (arith, same, c.next, high))
     ∙ was.objects o (omega (arith, high))
+objects_next header outside (event.Delayed region source offset pages copy) past c was o high = absurd c
 objects_next header outside e past c was o high = was.objects o high
 
 -- a region that is made, in use on this host
@@ -193,6 +195,7 @@ stay_next header outside (event.RegionCopied region source offset pages) past c 
   | yes e ↦ no_some h (sym (was.regions r (omega (arith, e, c.next))) ∙ home)
   | no apart ↦ was.stay g h r (sym (if_no r region.0 (in_use header outside g source.0 past) (in_use header outside g r past) apart) ∙ used) home
 ]
+stay_next header outside (event.Delayed region source offset pages copy) past c was g h r used home = absurd c
 stay_next header outside (event.Entered task address bytes region offset prot inherit) past c was g h r used home = elim (ℕ_discrete r region.0) [
   | yes e ↦ entered_home g h (home_of r past) (host_of task.0 past) (entered_here header outside task region.0 g r past e used)
       (sym (if_yes region.0 r (first_of (home_of r past) (host_of task.0 past)) (home_of r past) (sym e)) ∙ home)
@@ -313,6 +316,7 @@ reached_next header outside (event.RegionMade region object pages) past c m entr
 reached_next header outside (event.RegionCopied region source offset pages) past c m entries was g r n u used below above =
     reached_copied header outside region source offset pages g r n u past (λ none. (found_row (OwnedAt header outside past c.at.host) c.address _ c.at.entry
     (entries c.task c.at.host c.at.lives) c.at.found).is.homed (ap (λ k. home_of k past) (sym c.source_is) ∙ none)) was used below above
+reached_next header outside (event.Delayed region source offset pages copy) past c m entries was g r n u used below above = absurd c
 reached_next header outside (event.Entered task address bytes region offset prot inherit) past c m entries was g r n u used below above =
     reached_entered header outside task address bytes region offset prot inherit g r n u past was used below above
 reached_next header outside (event.Shadowed region new old) past c m entries was g r n u used below above =

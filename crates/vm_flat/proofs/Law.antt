@@ -96,6 +96,7 @@ flats_next : (header : Header) (outside : Outside) (e : Event) (past : List Even
 flats_next header outside (event.RegionMade region object pages) past filling flats c host r i = two (r == region.0) _ _ _ _ refl (flats host r i)
 flats_next header outside (event.RegionCopied region source offset pages) past filling flats c host r i =
     two (r == region.0) _ _ _ _ (flats host source.0 (offset + i)) (flats host r i)
+flats_next header outside (event.Delayed region source offset pages copy) past filling flats c host r i = absurd c
 flats_next header outside (event.Stored task object page at size value) past filling flats c host r i =
     flat_stored header outside host r i (lives_on host task.0 past) task.0 object.0 page.0 at size value past flats c
 flats_next header outside (event.CopiedPage task page object object_page target) past filling flats c host r i =
@@ -141,6 +142,7 @@ private_next header outside (event.RegionCopied region source offset pages) past
     new_private header outside r region.0 (in_use header outside host source.0 past) (in_use header outside host r past)
     (λ e. later_alike header outside region.0 source.0 (omega (arith, c.next, h.numbered.later_regions)) c.temporary ∙ h.private_used host source.0 e)
     (h.private_used host r) used
+private_next header outside (event.Delayed region source offset pages copy) past h c host r used = absurd c
 private_next header outside (event.Entered task address bytes region offset prot inherit) past h c host r used =
     h.private_used host r (second (not (r == region.0) || lives_on host task.0 past) (in_use header outside host r past) used)
 private_next header outside (event.Removed task address bytes) past h c host r used =
@@ -170,6 +172,7 @@ entries_next header outside (event.RegionMade region object pages) past h c task
     entries_region_made header outside region object pages past c.0 h.entries task host lives
 entries_next header outside (event.RegionCopied region source offset pages) past h c task host lives =
     entries_region_copied header outside region source offset pages past c.next h.entries task host lives
+entries_next header outside (event.Delayed region source offset pages copy) past h c task host lives = absurd c
 entries_next header outside (event.Entered owner address bytes region offset prot inherit) past h c task host lives =
     entries_entered header outside owner address bytes region offset prot inherit past c h.entries task host lives
 entries_next header outside e past h c task host lives = h.entries task host lives
@@ -224,6 +227,7 @@ homes_next header outside (event.RegionMade region object pages) past w c g o le
 homes_next header outside (event.RegionCopied region source offset pages) past w c g o less ours live h apart =
     if_no o region.0 (in_use header outside h source.0 past) (in_use header outside h o past) (λ e. omega (arith, less, e, c.next, w.numbered.later_regions))
     ∙ w.homes g o less ours live h apart
+homes_next header outside (event.Delayed region source offset pages copy) past w c g o less ours live h apart = absurd c
 homes_next header outside (event.Entered task address bytes region offset prot inherit) past w c g o less ours live h apart =
     never (not (o == region.0) || lives_on h task.0 past) (in_use header outside h o past) (w.homes g o less ours live h apart)
 homes_next header outside (event.Removed task address bytes) past w c g o less ours live h apart =
@@ -246,6 +250,7 @@ numbered_next header outside (event.RegionMade region object pages) past h c = n
 numbered_next header outside (event.RegionCopied region source offset pages) past h c =
     numbered_region_copied header region source offset pages past h.numbered c.next c.temporary
     (source_made header outside region.0 source.0 offset pages past h c)
+numbered_next header outside (event.Delayed region source offset pages copy) past h c = absurd c
 numbered_next header outside (event.Shadowed region new old) past h c =
     numbered_shadowed header region new old past h.numbered c.next c.marked (shadowed_made header outside region.0 new.0 old.0 past h c)
 numbered_next header outside (event.Unmarked region) past h c = numbered_unmarked header region past h.numbered

@@ -4,7 +4,7 @@ use Rattle.std.proofs.lemmas.Bool.Decides.{nat_tests}
 use Rattle.std.specs.Prelude.{◌⊎◌, ◌==◌, ◌&&◌}
 use native.Mathlib.Decide.{ℕ_discrete}
 use Rattle.vm_flat.proofs.Deeds.{pages, Ground, Deed, Region, Cow, Kept, Shadowed, Row, made_row, cow_row, shadow_row, row, regions, objects, Link, link, spot}
-use Rattle.vm_flat.proofs.Deeds.{flat, covered}
+use Rattle.vm_flat.proofs.Deeds.{Delayed, flat, covered}
 use Rattle.vm_flat.proofs.Causes.{Below, Reach, Cause}
 use Rattle.vm_flat.proofs.Good.{good_again, fits_blank}
 use Rattle.vm_flat.proofs.World.{ReachAt, ShapeOf, World, GoodAt, view, tops_below, path_small, reach_small, under_view, Barren}
@@ -52,6 +52,7 @@ below_old links new m (suc n) o u small same born is =
 pub named_objects : (z : Ground) (past : List Deed) → z.named ≤ objects z past
 named_objects z [] = omega arith
 named_objects z (Region own region object count ∷ past) = omega (arith, named_objects z past)
+named_objects z (Delayed region source off count copy newest ∷ past) = omega (arith, named_objects z past)
 named_objects z (Shadowed region new ∷ past) = omega (arith, named_objects z past)
 named_objects z (e ∷ past) = named_objects z past
 

@@ -50,6 +50,8 @@ pages_declared header outside r (event.RegionCopied new source offset pages ∷ 
     by_cause header outside (event.RegionCopied new source offset pages) past caused.0
     (λ doing c. if_no r new.0 pages (region_of header r past).pages (λ same. omega (arith, same, below, c.next, named_regions header past))
     ∙ pages_declared header outside r past caused.1 below)
+pages_declared header outside r (event.Delayed new source offset pages copy ∷ past) caused below =
+    by_cause header outside (event.Delayed new source offset pages copy) past caused.0 (λ doing c. absurd c)
 pages_declared header outside r (e ∷ past) caused below = pages_declared header outside r past caused.1 below
 
 -- unless a changed page is here, its content is what was returned last

@@ -160,6 +160,7 @@ pub record Drops (header : Header) (outside : Outside) (host object page : ℕ) 
 abbrev pub Sustained : Header → Outside → Event → List Event → Type 0
 Sustained header outside (event.RegionMade region object pages) past = (region.0 ≡ next_region header past) × (object.0 ≡ next_object header past)
 Sustained header outside (event.RegionCopied region source offset pages) past = L.CopiesRegion header region.0 source.0 offset pages past
+Sustained header outside (event.Delayed region source offset pages copy) past = ⊥
 Sustained header outside (event.Entered task address bytes region offset prot inherit) past = Enters header outside task.0 bytes region.0 offset past
 Sustained header outside (event.Shadowed region new old) past = L.Shadows header region.0 new.0 old.0 past
 Sustained header outside (event.Unmarked region) past = L.Unmarks header region.0 past

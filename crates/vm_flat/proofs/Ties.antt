@@ -11,7 +11,7 @@ use Rattle.vm_legal.specs.Outside.{zeros, is_said}
 use Rattle.vm_legal.specs.Living.{lives_on}
 use Rattle.vm_model.specs.Homes.{object_home}
 use Rattle.vm_model.specs.Local.{is_on}
-use Rattle.vm_model.specs.Regions.{next_region, next_object, Region, region_of, Backing, backing_of, object_pages}
+use Rattle.vm_model.specs.Regions.{next_region, next_object, Region, region_of, Backing, backing_of, is_newest, newest_copy, object_pages}
 use Rattle.vm_legal.specs.Used.{made_here}
 use Rattle.vm_flat.proofs.Uses.{in_use}
 use Rattle.vm_flat.specs.Words.{SpotEffect, Raises, Nothing}
@@ -38,6 +38,11 @@ row_is header outside host r (event.RegionCopied region source offset pages ∷ 
     ap (λ w. D.cow_row (r == region.0) (r == source.0) offset pages w (D.row (ground header outside) r (deeds header outside host past)))
     (row_is header outside host source.0 past)
     ∙ ap (λ w. D.cow_row (r == region.0) (r == source.0) offset pages (as_row (in_use header outside host source.0 past) (region_of header source.0 past)) w)
+    (row_is header outside host r past)
+row_is header outside host r (event.Delayed region source offset pages copy ∷ past) =
+    ap (λ w. D.delayed_row (r == region.0) copy.0 offset pages w (D.row (ground header outside) r (deeds header outside host past)))
+    (row_is header outside host source.0 past)
+    ∙ ap (λ w. D.delayed_row (r == region.0) copy.0 offset pages (as_row (in_use header outside host source.0 past) (region_of header source.0 past)) w)
     (row_is header outside host r past)
 row_is header outside host r (event.Entered task address bytes region offset prot inherit ∷ past) =
     ap (λ w. D.row_move r (deed header outside host (event.Entered task address bytes region offset prot inherit) past) (λ k. w))
@@ -73,6 +78,7 @@ pub regions_is : (header : Header) (outside : Outside) (host : ℕ) (past : List
 regions_is header outside host [] = refl
 regions_is header outside host (event.RegionMade region object pages ∷ past) = omega (arith, regions_is header outside host past)
 regions_is header outside host (event.RegionCopied region source offset pages ∷ past) = omega (arith, regions_is header outside host past)
+regions_is header outside host (event.Delayed region source offset pages copy ∷ past) = omega (arith, regions_is header outside host past)
 regions_is header outside host (event.Sent (Up at object) m ∷ past) =
     up_case (λ d. D.regions (ground header outside) (d ∷ deeds header outside host past) ≡ D.regions (ground header outside) (deeds header outside host past))
     (λ own o. refl) (λ own lives o p. refl) (λ own o p keep bytes. refl) (λ own o. refl) refl (at.0 == host) (live_control host object.0 past) object.0 m
@@ -95,6 +101,7 @@ pub objects_is : (header : Header) (outside : Outside) (host : ℕ) (past : List
     → D.objects (ground header outside) (deeds header outside host past) ≡ next_object header past
 objects_is header outside host [] = refl
 objects_is header outside host (event.RegionMade region object pages ∷ past) = omega (arith, objects_is header outside host past)
+objects_is header outside host (event.Delayed region source offset pages copy ∷ past) = omega (arith, objects_is header outside host past)
 objects_is header outside host (event.Shadowed region new old ∷ past) = omega (arith, objects_is header outside host past)
 objects_is header outside host (event.Sent (Up at object) m ∷ past) =
     up_case (λ d. D.objects (ground header outside) (d ∷ deeds header outside host past) ≡ D.objects (ground header outside) (deeds header outside host past))
@@ -120,6 +127,8 @@ over b row was = record { backed = if b then true else was.backed; under = if b 
 pub link_is : (header : Header) (outside : Outside) (host o : ℕ) (past : List Event)
     → D.link (ground header outside) o (deeds header outside host past) ≡ as_link (backing_of header o past)
 link_is header outside host o [] = refl
+link_is header outside host o (event.Delayed region source offset pages copy ∷ past) =
+    ap (λ (l : D.Link). D.pushed (o == copy.0) (is_newest o (newest_copy source.0 past)) source.0 copy.0 l) (link_is header outside host o past)
 link_is header outside host o (event.Shadowed region new old ∷ past) =
     ap (λ (w : D.Row). over (o == new.0) w (D.link (ground header outside) o (deeds header outside host past))) (row_is header outside host region.0 past)
     ∙ ap (λ (l : D.Link). over (o == new.0) (as_row (in_use header outside host region.0 past) (region_of header region.0 past)) l)
@@ -151,6 +160,9 @@ pub pages_is : (header : Header) (outside : Outside) (host o : ℕ) (past : List
 pages_is header outside host o [] = refl
 pages_is header outside host o (event.RegionMade region object pages ∷ past) =
     ap (λ (n : ℕ). if o == object.0 then pages else n) (pages_is header outside host o past)
+pages_is header outside host o (event.Delayed region source offset pages copy ∷ past) =
+    ap (λ (n : ℕ). if o == copy.0 then n else D.pages (ground header outside) o (deeds header outside host past)) (pages_is header outside host source.0 past)
+    ∙ ap (λ (n : ℕ). if o == copy.0 then object_pages header source.0 past else n) (pages_is header outside host o past)
 pages_is header outside host o (event.Shadowed region new old ∷ past) =
     ap (λ (w : D.Row). if o == new.0 then w.pages else D.pages (ground header outside) o (deeds header outside host past))
     (row_is header outside host region.0 past)

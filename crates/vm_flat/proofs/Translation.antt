@@ -187,6 +187,7 @@ sustains : (header : Header) (outside : Outside) (doing : Command) (e : Event) (
     → Caused header outside doing e past → Sustained header outside e past
 sustains header outside doing (event.RegionMade region object pages) past caused c = c
 sustains header outside doing (event.RegionCopied region source offset pages) past caused c = c
+sustains header outside doing (event.Delayed region source offset pages copy) past caused c = c
 sustains header outside doing (event.Entered task address bytes region offset prot inherit) past caused c =
     entered header outside task.0 bytes region.0 offset past caused c
 sustains header outside doing (event.Shadowed region new old) past caused c = c

@@ -14,6 +14,8 @@ in_use header outside host region (event.RegionMade new object pages ∷ past) =
     if region == new.0 then made_here host past && outside.paging else in_use header outside host region past
 in_use header outside host region (event.RegionCopied new source offset pages ∷ past) =
     if region == new.0 then in_use header outside host source.0 past else in_use header outside host region past
+in_use header outside host region (event.Delayed new source offset pages copy ∷ past) =
+    if region == new.0 then in_use header outside host source.0 past else in_use header outside host region past
 in_use header outside host region (event.Entered task address bytes entered offset prot inherit ∷ past) =
     (not (region == entered.0) || lives_on host task.0 past) && in_use header outside host region past
 in_use header outside host region (event.Removed task address bytes ∷ past) =

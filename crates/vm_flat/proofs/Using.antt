@@ -51,6 +51,9 @@ used header outside host r (event.RegionMade new object pages ∷ past) is =
 used header outside host r (event.RegionCopied new source offset pages ∷ past) is =
     weaker_if (r == new.0) (U.in_use header outside host source.0 past) (U.in_use header outside host r past) (V.in_use header host source.0 past)
     (V.in_use header host r past) (λ same. used header outside host source.0 past) (used header outside host r past) is
+used header outside host r (event.Delayed new source offset pages copy ∷ past) is =
+    weaker_if (r == new.0) (U.in_use header outside host source.0 past) (U.in_use header outside host r past) (V.in_use header host source.0 past)
+    (V.in_use header host r past) (λ same. used header outside host source.0 past) (used header outside host r past) is
 used header outside host r (event.Entered task address bytes entered offset prot inherit ∷ past) is =
     weaker_and (not (r == entered.0) || lives_on host task.0 past) _ _ (used header outside host r past) is
 used header outside host r (event.Removed task address bytes ∷ past) is =
@@ -85,6 +88,8 @@ counted header outside host r (event.RegionCopied new source offset pages ∷ pa
     told same =
         by_cause header outside (event.RegionCopied new source offset pages) past caused.0
         (λ doing c. later_alike header outside source.0 r c.temporary (omega (arith, number_is r new.0 same, c.next, named_regions header past)) ∙ ours)
+counted header outside host r (event.Delayed new source offset pages copy ∷ past) caused ours is =
+    by_cause header outside (event.Delayed new source offset pages copy) past caused.0 (λ doing c. absurd c)
 counted header outside host r (event.Entered task address bytes entered offset prot inherit ∷ past) caused ours is =
     weaker_and (not (r == entered.0) || lives_on host task.0 past) _ _ (counted header outside host r past caused.1 ours) is
 counted header outside host r (event.Removed task address bytes ∷ past) caused ours is =

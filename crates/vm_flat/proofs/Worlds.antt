@@ -2,7 +2,7 @@
 use Rattle.std.proofs.Common.{subst, ◌≡◌, ℕ, List, [], ◌∷◌, arith, Bool, true, false, ap, sym, ◌∙◌, zero, suc, refl, if◌then◌else◌, ◌+◌}
 use Rattle.std.proofs.lemmas.Bool.Decides.{nat_tests}
 use Rattle.vm_flat.proofs.Deeds.{Ground, is_file, Deed, Line, Region, Cow, Kept, Shadowed, Unmarked, Zeroed, Raised, Stored, Dropped, Created, Asked, Copied}
-use Rattle.vm_flat.proofs.Deeds.{Returned}
+use Rattle.vm_flat.proofs.Deeds.{Delayed, Returned}
 use Rattle.vm_flat.proofs.Deeds.{Merged, TookRequest, TookReturn, Answered, Took, Terminated, Elsewhere}
 use Rattle.vm_flat.proofs.Causes.{Cause, AllCaused}
 use Rattle.vm_flat.specs.Spot.{first_spot}
@@ -22,6 +22,7 @@ pub after : (z : Ground) (e : Deed) (past : List Deed) → World z past → Caus
 after z Line past w c = after_line z past w
 after z (Region own region object count) past w c = after_region z own region object count past w c
 after z (Cow region source off count) past w c = after_cow z region source off count past w c
+after z (Delayed region source off count copy newest) past w c = absurd c
 after z (Kept held) past w c = after_kept z held past w
 after z (Shadowed region new) past w c = after_shadowed z region new past w c
 after z (Unmarked region) past w c = after_unmarked z region past w c

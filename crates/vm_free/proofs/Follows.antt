@@ -173,5 +173,6 @@ follows part (event.Sent (Up host object) m ∷ past) set_up goes =
     follows part past set_up (goes_before part (event.Sent (Up host object) m) past goes.reads goes)
 follows part (event.RegionMade region object pages ∷ past) set_up goes = never_plain goes.plain.0
 follows part (event.RegionCopied region source offset pages ∷ past) set_up goes = never_plain goes.plain.0
+follows part (event.Delayed region source offset pages copy ∷ past) set_up goes = never_plain goes.plain.0
 follows part (event.CopiedPage task page object object_page target ∷ past) set_up goes = never_plain goes.plain.0
 follows part (e ∷ past) set_up goes = follows part past set_up (goes_before part e past goes.reads goes)

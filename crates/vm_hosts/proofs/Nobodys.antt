@@ -99,6 +99,7 @@ pub record SameTables (header : Header) (past new : List Event) : Type 0 where
 same_tables : (header : Header) (e : Event) (past : List Event) → IsNobodys e → SameTables header past (e ∷ past)
 same_tables header (event.RegionMade region object pages) past nobodys = absurd nobodys
 same_tables header (event.RegionCopied region source offset pages) past nobodys = absurd nobodys
+same_tables header (event.Delayed region source offset pages copy) past nobodys = absurd nobodys
 same_tables header (event.Shadowed region new old) past nobodys = absurd nobodys
 same_tables header (event.Unmarked region) past nobodys = absurd nobodys
 same_tables header (event.Entered task address bytes region offset prot inherit) past nobodys = absurd nobodys

@@ -23,6 +23,7 @@ home_stays r h other past is = is
 pub region_stays : (o r : ℕ) (e : Event) (past : List Event) → region_for o past ≡ Some r → region_for o (e ∷ past) ≡ Some r
 region_stays o r (event.RegionMade region object pages) past is = first_stays (object.0 == o) r (region_for o past) (Some region.0) is
 region_stays o r (event.Shadowed region new old) past is = first_stays (new.0 == o) r (region_for o past) (Some region.0) is
+region_stays o r (event.Delayed region source offset pages copy) past is = first_stays (copy.0 == o) r (region_for o past) (Some source.0) is
 region_stays o r other past is = is
 
 pub object_stays : (o h : ℕ) (e : Event) (past : List Event) → object_home o past ≡ Some h → object_home o (e ∷ past) ≡ Some h

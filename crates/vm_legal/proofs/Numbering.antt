@@ -10,4 +10,5 @@ pub named_regions : (header : Header) (past : List Event) → named header ≤ n
 named_regions header [] = omega arith
 named_regions header (event.RegionMade region object pages ∷ past) = omega (arith, named_regions header past)
 named_regions header (event.RegionCopied region source offset pages ∷ past) = omega (arith, named_regions header past)
+named_regions header (event.Delayed region source offset pages copy ∷ past) = omega (arith, named_regions header past)
 named_regions header (e ∷ past) = named_regions header past

@@ -61,6 +61,8 @@ flat_page header outside region page (event.RegionMade made object pages ∷ pas
     if region == made.0 then zeros header else flat_page header outside region page past
 flat_page header outside region page (event.RegionCopied made source offset pages ∷ past) =
     if region == made.0 then flat_page header outside source.0 (offset + page) past else flat_page header outside region page past
+flat_page header outside region page (event.Delayed made source offset pages copy ∷ past) =
+    if region == made.0 then flat_page header outside source.0 (offset + page) past else flat_page header outside region page past
 flat_page header outside region page (event.Stored task object in_object at size value ∷ past) =
     bytes_after_store region page (change_of header.size task.0 past) (flat_page header outside region page past)
 flat_page header outside region page (event.CopiedPage task index object object_page target ∷ past) =

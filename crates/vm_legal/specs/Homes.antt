@@ -31,6 +31,7 @@ is_home header h (event.TaskMade task host) past = host.0 == h || lives_on h tas
 is_home header h (event.TaskEnded task) past = lives_on h task.0 past
 is_home header h (event.RegionMade region object pages) past = begins_here h past
 is_home header h (event.RegionCopied region source offset pages) past = in_use header h source.0 past
+is_home header h (event.Delayed region source offset pages copy) past = in_use header h source.0 past
 is_home header h (event.Entered task address bytes region offset prot inherit) past = lives_on h task.0 past
 is_home header h (event.Removed task address bytes) past = lives_on h task.0 past
 is_home header h (event.Protected task address bytes prot) past = lives_on h task.0 past

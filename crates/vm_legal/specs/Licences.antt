@@ -599,6 +599,8 @@ IsOwed e past = MatchOption (owed past) ⊥ (λ due. Pays due e)
 abbrev pub Caused : Header → Outside → Command → Event → List Event → Type 0
 Caused header outside why (event.RegionMade region object pages) past = (region.0 ≡ next_region header past) × (object.0 ≡ next_object header past)
 Caused header outside why (event.RegionCopied region source offset pages) past = CopiesRegion header region.0 source.0 offset pages past
+-- nothing makes a delayed copy yet
+Caused header outside why (event.Delayed region source offset pages copy) past = ⊥
 Caused header outside why (event.Entered task address bytes region offset prot inherit) past = Enters header task.0 bytes region.0 offset past
 Caused header outside why (event.Shadowed region new old) past = Shadows header region.0 new.0 old.0 past
 Caused header outside why (event.Unmarked region) past = Unmarks header region.0 past

@@ -36,6 +36,8 @@ in_use header host region [] = is_file header region
 in_use header host region (event.RegionMade new object pages ∷ past) = if region == new.0 then made_here host past else in_use header host region past
 in_use header host region (event.RegionCopied new source offset pages ∷ past) =
     if region == new.0 then in_use header host source.0 past else in_use header host region past
+in_use header host region (event.Delayed new source offset pages copy ∷ past) =
+    if region == new.0 then in_use header host source.0 past else in_use header host region past
 in_use header host region (event.Entered task address bytes entered offset prot inherit ∷ past) =
     (not (region == entered.0) || lives_on host task.0 past) && in_use header host region past
 in_use header host region (event.Removed task address bytes ∷ past) =

@@ -42,6 +42,8 @@ operations_alike a b there here same (event.Stored task object page at bytes val
 operations_alike a b there here same (event.RegionMade region object pages ∷ past) = ap (λ z. Make region.0 ∷ z) (operations_alike a b there here same past)
 operations_alike a b there here same (event.RegionCopied region source offset pages ∷ past) =
     ap (λ z. Copy region.0 source.0 offset ∷ z) (operations_alike a b there here same past)
+operations_alike a b there here same (event.Delayed region source offset pages copy ∷ past) =
+    ap (λ z. Copy region.0 source.0 offset ∷ z) (operations_alike a b there here same past)
 operations_alike a b there here same (event.CopiedPage task page object object_page target ∷ past) =
     ap (λ z. page_copied (made_over target.0 past) page.0 object.0 object_page.0 ++ z) (operations_alike a b there here same past)
 operations_alike a b there here same (event.Sent (Down host object control) m ∷ past) =

@@ -22,10 +22,11 @@ home_of r (event.Entered task address bytes region offset prot inherit ∷ past)
     if region.0 == r then first_of (home_of r past) (host_of task.0 past) else home_of r past
 home_of r (e ∷ past) = home_of r past
 
--- the region that an object was made for; None where it wasn't made
+-- the region that an object was made for, of a copy of a file the file's; None where it wasn't made
 abbrev pub region_for : ℕ → List Event → Option ℕ
 region_for o [] = None
 region_for o (event.RegionMade region object pages ∷ past) = if object.0 == o then first_of (region_for o past) (Some region.0) else region_for o past
+region_for o (event.Delayed region source offset pages copy ∷ past) = if copy.0 == o then first_of (region_for o past) (Some source.0) else region_for o past
 region_for o (event.Shadowed region new old ∷ past) = if new.0 == o then first_of (region_for o past) (Some region.0) else region_for o past
 region_for o (e ∷ past) = region_for o past
 

@@ -37,6 +37,7 @@ about (event.TaskMade task host) = Tasks
 about (event.TaskEnded task) = Tasks
 about (event.RegionMade region object pages) = Regions
 about (event.RegionCopied region source offset pages) = Regions
+about (event.Delayed region source offset pages copy) = Regions
 about (event.Entered task address bytes region offset prot inherit) = Entries
 about (event.Removed task address bytes) = Entries
 about (event.Protected task address bytes prot) = Entries

@@ -1,5 +1,5 @@
 -- Regions and objects: their numbers, and what stands on what.
-use Rattle.std.specs.Prelude.{ℕ, zero, suc, ◌+◌, List, [], ◌∷◌, if◌then◌else◌, ◌==◌, Bool, true, false}
+use Rattle.std.specs.Prelude.{ℕ, zero, suc, ◌+◌, List, [], ◌∷◌, if◌then◌else◌, ◌==◌, Bool, true, false, Option, Some, None}
 use Rattle.vm_model.specs.declared.event.Event.{Event}
 use Rattle.vm_model.specs.declared.event.Event.TheVariants as event
 use Rattle.vm_model.specs.declared.script.Header.{Header}
@@ -10,12 +10,14 @@ abbrev pub next_region : Header → List Event → ℕ
 next_region header [] = named header
 next_region header (event.RegionMade region object pages ∷ past) = next_region header past + 1
 next_region header (event.RegionCopied region source offset pages ∷ past) = next_region header past + 1
+next_region header (event.Delayed region source offset pages copy ∷ past) = next_region header past + 1
 next_region header (e ∷ past) = next_region header past
 
 -- the number of the next object: the declared ones come first
 abbrev pub next_object : Header → List Event → ℕ
 next_object header [] = named header
 next_object header (event.RegionMade region object pages ∷ past) = next_object header past + 1
+next_object header (event.Delayed region source offset pages copy ∷ past) = next_object header past + 1
 next_object header (event.Shadowed region new old ∷ past) = next_object header past + 1
 next_object header (e ∷ past) = next_object header past
 
@@ -46,6 +48,16 @@ copied this source offset pages from was =
       pages = if this then pages else was.pages;
     }
 
+-- a region over a delayed copy of a file is marked
+abbrev pub delayed : Bool → ℕ → ℕ → ℕ → Region → Region
+delayed this copy offset pages was =
+    record {
+      mark = if this then true else was.mark;
+      top = if this then copy else was.top;
+      shift = if this then offset else was.shift;
+      pages = if this then pages else was.pages;
+    }
+
 -- a region that gets an object of its own above the old top
 abbrev pub shadowed : Bool → ℕ → Region → Region
 shadowed this new was =
@@ -66,6 +78,8 @@ region_of header region (event.RegionMade new object pages ∷ past) =
     made (region == new.0) object.0 pages (region_of header region past)
 region_of header region (event.RegionCopied new source offset pages ∷ past) =
     copied (region == new.0) (region == source.0) offset pages (region_of header source.0 past) (region_of header region past)
+region_of header region (event.Delayed new source offset pages copy ∷ past) =
+    delayed (region == new.0) copy.0 offset pages (region_of header region past)
 region_of header region (event.Shadowed changed new old ∷ past) =
     shadowed (region == changed.0) new.0 (region_of header region past)
 region_of header region (event.Unmarked changed ∷ past) = unmarked (region == changed.0) (region_of header region past)
@@ -104,18 +118,41 @@ joined this lower was =
       shift = if this then lower.shift + was.shift else was.shift;
     }
 
+-- the newest of the copies of a file that were delayed, if there is one
+abbrev pub newest_copy : ℕ → List Event → Option ℕ
+newest_copy file [] = None
+newest_copy file (event.Delayed region source offset pages copy ∷ past) = if file == source.0 then Some copy.0 else newest_copy file past
+newest_copy file (e ∷ past) = newest_copy file past
+
+abbrev pub is_newest : ℕ → Option ℕ → Bool
+is_newest object None = false
+is_newest object (Some newest) = object == newest
+
+-- a new copy of a file stands over the file, and under the copy that was the newest until then
+abbrev pub pushed : Bool → Bool → ℕ → ℕ → Backing → Backing
+pushed this newest file copy was =
+    record {
+      backed = if this then true else (if newest then true else was.backed);
+      under = if this then file else (if newest then copy else was.under);
+      shift = if this then 0 else (if newest then 0 else was.shift);
+    }
+
 abbrev pub backing_of : Header → ℕ → List Event → Backing
 backing_of header object [] = record { backed = false; under = 0; shift = 0 }
+backing_of header object (event.Delayed region source offset pages copy ∷ past) =
+    pushed (object == copy.0) (is_newest object (newest_copy source.0 past)) source.0 copy.0 (backing_of header object past)
 backing_of header object (event.Shadowed region new old ∷ past) =
     over (object == new.0) (region_of header region.0 past) (backing_of header object past)
 backing_of header object (event.Merged upper lower ∷ past) =
     joined (object == upper.0) (backing_of header lower.0 past) (backing_of header object past)
 backing_of header object (e ∷ past) = backing_of header object past
 
--- the pages of an object: those of the region that it was made for
+-- the pages of an object: those of the region that it was made for, or of the file that it is a copy of
 abbrev pub object_pages : Header → ℕ → List Event → ℕ
 object_pages header object [] = declared_pages header object
 object_pages header object (event.RegionMade region new pages ∷ past) = if object == new.0 then pages else object_pages header object past
+object_pages header object (event.Delayed region source offset pages copy ∷ past) =
+    if object == copy.0 then object_pages header source.0 past else object_pages header object past
 object_pages header object (event.Shadowed region new old ∷ past) =
     if object == new.0 then (region_of header region.0 past).pages else object_pages header object past
 object_pages header object (e ∷ past) = object_pages header object past

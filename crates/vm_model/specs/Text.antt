@@ -103,6 +103,8 @@ line_of (event.RegionMade region object pages) =
     codes "region" ++ field region.0 ++ field object.0 ++ field pages ++ newline
 line_of (event.RegionCopied region source offset pages) =
     codes "cow" ++ field region.0 ++ field source.0 ++ field offset ++ field pages ++ newline
+line_of (event.Delayed region source offset pages copy) =
+    codes "delayed" ++ field region.0 ++ field source.0 ++ field offset ++ field pages ++ field copy.0 ++ newline
 line_of (event.Entered task address bytes region offset prot inherit) =
     codes "entered" ++ field task.0 ++ field address ++ field bytes ++ field region.0 ++ field offset ++ field (prot_number prot) ++ field
     (inherit_number inherit) ++ newline

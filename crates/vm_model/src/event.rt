@@ -50,6 +50,15 @@ pub enum Event {
         offset: u32,
         pages: u32,
     },
+    /// A region of so many pages over the new object `copy`: a copy of the file of the region `source`, from its page `offset` on, that stands over
+    /// the file (this profile; after the delayed copies of Mach's virtual memory).
+    Delayed {
+        region: RegionId,
+        source: RegionId,
+        offset: u32,
+        pages: u32,
+        copy: ObjectId,
+    },
     /// A task gets an entry.
     Entered {
         task: TaskId,

@@ -79,6 +79,10 @@ memory_is_flat header outside (event.RegionCopied made source offset pages ∷ p
     ap (λ z. if region == made.0 then z else memory header outside (operations header outside past) region page)
     (memory_is_flat header outside past source.0 (offset + page))
     ∙ ap (λ z. if region == made.0 then flat_page header outside source.0 (offset + page) past else z) (memory_is_flat header outside past region page)
+memory_is_flat header outside (event.Delayed made source offset pages copy ∷ past) region page =
+    ap (λ z. if region == made.0 then z else memory header outside (operations header outside past) region page)
+    (memory_is_flat header outside past source.0 (offset + page))
+    ∙ ap (λ z. if region == made.0 then flat_page header outside source.0 (offset + page) past else z) (memory_is_flat header outside past region page)
 memory_is_flat header outside (event.CopiedPage task index object object_page target ∷ past) region page =
     copy_is header outside (made_over target.0 past) index.0 object.0 object_page.0 (operations header outside past) region page
     ∙ (ap (λ z. if is_number region (made_over target.0 past) && page == index.0 then z else memory header outside (operations header outside past) region page)

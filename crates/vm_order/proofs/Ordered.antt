@@ -75,6 +75,7 @@ all_read header outside (event.Stored task object page at size value ∷ past) f
     (all_read header outside past flat.1)
 all_read header outside (event.RegionMade region object pages ∷ past) flat = all_read header outside past flat.1
 all_read header outside (event.RegionCopied region source offset pages ∷ past) flat = all_read header outside past flat.1
+all_read header outside (event.Delayed region source offset pages copy ∷ past) flat = all_read header outside past flat.1
 all_read header outside (event.CopiedPage task index object object_page target ∷ past) flat =
     copies_read header outside (made_over target.0 past) index.0 object.0 object_page.0 (operations header outside past) (all_read header outside past flat.1)
 all_read header outside (event.Sent (Down host object control) m ∷ past) flat =

@@ -69,6 +69,7 @@ operations header outside (event.Stored task object page at size value ∷ past)
     store_ends header.size task.0 (entries_of header.size task.0 past) (waiting task.0 past) ++ operations header outside past
 operations header outside (event.RegionMade region object pages ∷ past) = Make region.0 ∷ operations header outside past
 operations header outside (event.RegionCopied region source offset pages ∷ past) = Copy region.0 source.0 offset ∷ operations header outside past
+operations header outside (event.Delayed region source offset pages copy ∷ past) = Copy region.0 source.0 offset ∷ operations header outside past
 operations header outside (event.CopiedPage task page object object_page target ∷ past) =
     page_copied (made_over target.0 past) page.0 object.0 object_page.0 ++ operations header outside past
 operations header outside (event.Sent (Down host object control) m ∷ past) =

@@ -412,6 +412,7 @@ declared_next header outside (event.RegionCopied region source offset pages) pas
     by true s is not = never (sym is)
     by false true is not = never (sym not)
     by false false is not = record { top = was.top; unmarked = was.unmarked }
+declared_next header outside (event.Delayed region source offset pages copy) past c r below was = absurd c.1
 declared_next header outside (event.Shadowed region new old) past c r below was = by (r == region.0) refl
   where
     by : (b : Bool) → (r == region.0) ≡ b → IsDeclaredRegion r (shadowed b new.0 (region_of header r past))

@@ -82,6 +82,7 @@ is_ended other = false
 abbrev pub is_of_regions : Event → Bool
 is_of_regions (event.RegionMade region object pages) = true
 is_of_regions (event.RegionCopied region source offset pages) = true
+is_of_regions (event.Delayed region source offset pages copy) = true
 is_of_regions (event.Shadowed region new old) = true
 is_of_regions (event.Unmarked region) = true
 is_of_regions (event.Merged upper lower) = true

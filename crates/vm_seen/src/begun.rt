@@ -91,6 +91,7 @@ fn is_plain(event: &Event) -> bool
             | Event::TaskEnded { .. }
             | Event::RegionMade { .. }
             | Event::RegionCopied { .. }
+            | Event::Delayed { .. }
             | Event::Entered { .. }
             | Event::Removed { .. }
             | Event::Protected { .. }

@@ -182,6 +182,7 @@ fn same_event(a: &Event, b: &Event) -> bool
         Event::Stored { .. } => same_ended_event(a, b),
         Event::RegionMade { .. } => same_region_event(a, b),
         Event::RegionCopied { .. } => same_region_event(a, b),
+        Event::Delayed { .. } => same_region_event(a, b),
         Event::Shadowed { .. } => same_region_event(a, b),
         Event::Unmarked { .. } => same_region_event(a, b),
         Event::Merged { .. } => same_region_event(a, b),
@@ -366,6 +367,16 @@ fn same_region_event(a: &Event, b: &Event) -> bool
             pages,
         } => {
             matches!(b, Event::RegionCopied { region: r, source: s, offset: o, pages: n } if region == r && source == s && offset == o && pages == n)
+        }
+        Event::Delayed {
+            region,
+            source,
+            offset,
+            pages,
+            copy,
+        } => {
+            matches!(b, Event::Delayed { region: r, source: s, offset: o, pages: n, copy: c }
+                if region == r && source == s && offset == o && pages == n && copy == c)
         }
         Event::Shadowed { region, new, old } => {
             matches!(b, Event::Shadowed { region: r, new: n, old: o } if region == r && new == n && old == o)

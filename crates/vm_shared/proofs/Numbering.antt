@@ -71,6 +71,7 @@ made_next header outside (event.RegionMade region object pages) past all c task 
     more_made (next_region header past) (next_region header past + 1) (entries_of header.size task past) (omega arith) (all task)
 made_next header outside (event.RegionCopied region source offset pages) past all c task =
     more_made (next_region header past) (next_region header past + 1) (entries_of header.size task past) (omega arith) (all task)
+made_next header outside (event.Delayed region source offset pages copy) past all c task = absurd c.1
 made_next header outside (event.Entered owner address bytes region offset prot inherit) past all c task =
     entered_if (owner.0 == task) (next_region header past) _ (entries_of header.size task past) c.1.made (all task)
 made_next header outside (event.Removed owner address bytes) past all c task =
@@ -89,6 +90,7 @@ numbered_next header outside (event.RegionMade region object pages) past n all c
 numbered_next header outside (event.RegionCopied region source offset pages) past n all c =
     numbered_region_copied header region source offset pages past n c.1.next c.1.temporary
     (subst (λ k. k < next_region header past) (sym c.1.source_is) (at_made header c.1.task c.1.address past all c.1.at))
+numbered_next header outside (event.Delayed region source offset pages copy) past n all c = absurd c.1
 numbered_next header outside (event.Shadowed region new old) past n all c =
     numbered_shadowed header region new old past n c.1.next c.1.marked (subst (λ k. k < next_region header past) (sym c.1.region_is)
     (at_made header c.1.task _ past all c.1.waits.at))

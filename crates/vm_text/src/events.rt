@@ -47,6 +47,7 @@ pub fn put_event(text: &mut Line, event: &Event) -> Result<(), NoMemory>
         Event::Wired { host, count } => wired(text, *host, *count),
         Event::RegionMade { .. }
         | Event::RegionCopied { .. }
+        | Event::Delayed { .. }
         | Event::Shadowed { .. }
         | Event::Unmarked { .. } => region_event(text, event),
         Event::Merged { upper, lower } => merged(text, *upper, *lower),
@@ -86,6 +87,13 @@ fn region_event(text: &mut Line, event: &Event) -> Result<(), NoMemory>
             offset,
             pages,
         } => region_copied(text, *region, *source, *offset, *pages),
+        Event::Delayed {
+            region,
+            source,
+            offset,
+            pages,
+            copy,
+        } => delayed(text, *region, *source, *offset, *pages, *copy),
         Event::Shadowed { region, new, old } => shadowed(text, *region, *new, *old),
         Event::Unmarked { region } => unmarked(text, *region),
         _ => unreachable!(),
@@ -267,6 +275,28 @@ fn region_copied(
             u64::from(source.0),
             u64::from(offset),
             u64::from(pages),
+        ],
+    )
+}
+
+fn delayed(
+    text: &mut Line,
+    region: RegionId,
+    source: RegionId,
+    offset: u32,
+    pages: u32,
+    copy: ObjectId,
+) -> Result<(), NoMemory>
+    ensures { OnOk result (text.new ≡ text.old ++ line_of (Event.Delayed region source offset pages copy)) }
+{
+    text.put_line(
+        b"delayed",
+        &[
+            u64::from(region.0),
+            u64::from(source.0),
+            u64::from(offset),
+            u64::from(pages),
+            u64::from(copy.0),
         ],
     )
 }
