@@ -127,7 +127,8 @@ was_ours header outside h r (event.RegionMade new object pages) past cause ours 
     ours_made header h r new.0 (r == new.0) (made_here h past) past refl cause.1.0 ours
 was_ours header outside h r (event.RegionCopied new source offset pages) past cause ours =
     ours_made header h r new.0 (r == new.0) (in_use header h source.0 past) past refl cause.1.next ours
-was_ours header outside h r (event.Delayed new source offset pages copy) past cause ours = absurd cause.1
+was_ours header outside h r (event.Delayed new source offset pages copy) past cause ours =
+    ours_made header h r new.0 (r == new.0) (in_use header h source.0 past) past refl cause.1.next ours
 was_ours header outside h r (event.Entered task address bytes region offset prot inherit) past cause ours =
     ours_kept header h r (not (r == region.0) || lives_on h task.0 past) past ours
 was_ours header outside h r (event.Removed task address bytes) past cause ours =

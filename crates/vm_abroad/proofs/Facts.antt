@@ -17,9 +17,9 @@ use Rattle.vm_legal.specs.Walks.{Below}
 use Rattle.vm_abroad.specs.Same.{SameFacts, SameForHost, SamePages, SameTask}
 use Rattle.vm_abroad.specs.Sound.{IsAbroad, IsAmong, IsHeldOn, IsMade, IsRegionOf, Knows, Sound}
 use Rattle.vm_abroad.proofs.Chains.{below_was}
-use Rattle.vm_abroad.proofs.Home.{home_on}
+use Rattle.vm_abroad.proofs.Home.{home_abroad, home_on}
 use Rattle.vm_abroad.proofs.Pages.{pages_abroad}
-use Rattle.vm_abroad.proofs.Regions.{backing_abroad, region_abroad, sizes_abroad, used_abroad}
+use Rattle.vm_abroad.proofs.Regions.{backing_abroad, copies_abroad, newest_abroad, region_abroad, sizes_abroad, used_abroad}
 use Rattle.vm_abroad.proofs.Sounds.{objects_rise, regions_rise, sound_next, use_of}
 use Rattle.vm_abroad.proofs.Tasks.{lives_abroad, more_tasks, task_abroad}
 
@@ -39,13 +39,27 @@ same_one header outside h e past sound knows abroad = record {
   home = λ o own temporary. home_on h o e past (own temporary);
   backing = backing_abroad header outside h e past sound abroad;
   sizes = sizes_abroad header outside h e past abroad;
+  files = λ r. home_abroad header h r e past abroad.foreign;
+  newest = newest_abroad header outside h e past sound abroad;
+  copies = copies_abroad header outside h e past abroad;
 }
 
 -- and behind several
 
 pub same_none : (header : Header) (h : ℕ) (past : List Event) → SameFacts header h past past
 same_none header h past = record {
-  pages = record { local = λ place. refl; live = λ o. refl; last = λ o. refl; ready = λ o. refl; cached = λ o. refl; held = refl; wired = refl; out = refl };
+  pages =
+      record {
+        local = λ place. refl;
+        live = λ o. refl;
+        last = λ o. refl;
+        ready = λ o. refl;
+        cached = λ o. refl;
+        held = refl;
+        wired = refl;
+        out = refl;
+        pushed = λ o page. refl;
+      };
   lives = λ task. refl;
   task = λ task own. record { host = refl; entries = refl; waiting = refl; next = refl; begun = refl; target = refl };
   made = record { made = []; is = refl };
@@ -56,6 +70,9 @@ same_none header h past = record {
   home = λ o own. own;
   backing = λ o small own. refl;
   sizes = λ o small. refl;
+  files = λ r. refl;
+  newest = λ file on. refl;
+  copies = λ o small. refl;
 }
 
 more_pages : (header : Header) (h : ℕ) (old mid new : List Event) → SamePages header h old mid → SamePages header h mid new → SamePages header h old new
@@ -68,6 +85,7 @@ more_pages header h old mid new one two = record {
   held = two.held ∙ one.held;
   wired = two.wired ∙ one.wired;
   out = two.out ∙ one.out;
+  pushed = λ o page. two.pushed o page ∙ one.pushed o page;
 }
 
 more_task : (size task : ℕ) (old mid new : List Event) → SameTask size task old mid → SameTask size task mid new → SameTask size task old new
@@ -102,6 +120,9 @@ same_more header h old mid new one two = record {
   home = λ o own. two.home o (one.home o own);
   backing = λ o small own. two.backing o (let first = one.objects in omega (arith, first, small)) (one.home o own) ∙ one.backing o small own;
   sizes = λ o small. two.sizes o (let first = one.objects in omega (arith, first, small)) ∙ one.sizes o small;
+  files = λ r. two.files r ∙ one.files r;
+  newest = λ file on. two.newest file (one.files file ∙ on) ∙ one.newest file on;
+  copies = λ o small. two.copies o (let first = one.objects in omega (arith, first, small)) ∙ one.copies o small;
 }
 
 -- a host's tables say as much as before

@@ -1,6 +1,7 @@
 -- The home of a region stays what it is, and so does that of an object; what wasn't made has none; and a region is in use on its home alone.
-use Rattle.std.proofs.Common.{◌≡◌, ◌+◌, ◌≤◌, ◌<◌, ◌&&◌, ◌||◌, not, ℕ, ◌==◌, Bool, true, false, List, [], ◌∷◌, ◌++◌, Option, Some, None, ap, refl, subst, sym, ◌∙◌}
-use Rattle.std.proofs.Common.{arith, ◌⊎◌, inl, inr}
+use Rattle.std.proofs.Common.{◌≡◌, ◌+◌, ◌≤◌, ◌<◌, ◌&&◌, ◌||◌, not, ℕ, ◌==◌, Bool, true, false, List, [], ◌∷◌, ◌++◌, Option, Some, None, ap, refl, subst, sym}
+use Rattle.std.proofs.Common.{◌∙◌, arith, ◌⊎◌, inl, inr}
+use Rattle.std.proofs.lemmas.Bool.{cases_lt}
 use Rattle.std.proofs.lemmas.Bool.Decides.{eqb_tells, nat_tests}
 use Rattle.std.specs.Prelude.{if◌then◌else◌, nat_lt, unwrap_or}
 use Rattle.vm_base.specs.declared.ids.Inherit.{Inherit}
@@ -14,7 +15,7 @@ use Rattle.vm_model.specs.declared.script.Header.{Header}
 use Rattle.vm_model.specs.Homes.{copying_host, first_of, home_in, home_of, object_home, region_for}
 use Rattle.vm_model.specs.Local.{is_on}
 use Rattle.vm_model.specs.Named.{declared_pages, named}
-use Rattle.vm_model.specs.Regions.{backing_of, joined, next_object, next_region, over, region_of}
+use Rattle.vm_model.specs.Regions.{Backing, backing_of, is_newest, joined, newest_copy, next_object, next_region, over, pushed, region_of}
 use Rattle.vm_model.specs.Tasks.{host_of}
 use Rattle.vm_model.specs.Waiting.{Target, begins_copy, copy_target}
 use Rattle.vm_legal.specs.Homes.{begins_here, is_home}
@@ -24,13 +25,13 @@ use Rattle.vm_legal.specs.Merges.{Merges}
 use Rattle.vm_legal.specs.Outside.{Outside, is_file}
 use Rattle.vm_legal.specs.Stretches.{EachIn}
 use Rattle.vm_legal.specs.Used.{in_use, is_held, is_kept, made_here}
-use Rattle.vm_abroad.specs.Home.{HaveHomes}
+use Rattle.vm_abroad.specs.Home.{HaveHomes, IsCopyOf}
 use Rattle.vm_abroad.specs.Sound.{IsAbroad}
-use Rattle.vm_abroad.proofs.Sounds.{objects_rise, unlike}
-use Rattle.vm_legal.proofs.Homes.{first_stays, made_there}
+use Rattle.vm_abroad.proofs.Numbers.{unlike}
+use Rattle.vm_legal.proofs.Homes.{first_stays, made_there, region_stays}
 pub use Rattle.vm_legal.proofs.Files.{file_named}
 pub use Rattle.vm_legal.proofs.Homes.{home_stays, object_stays, on_host, same_some}
-pub use Rattle.vm_legal.proofs.Numbering.{named_regions}
+pub use Rattle.vm_legal.proofs.Numbering.{named_objects, named_regions}
 
 pub homes_stay : (r h : ℕ) (events past : List Event) → home_of r past ≡ Some h → home_of r (events ++ past) ≡ Some h
 homes_stay r h [] past is = is
@@ -169,7 +170,10 @@ objects_next header outside (event.Shadowed region new old) past o cause high no
     let number = cause.1.next in
     let apart : (new.0 == o) ≡ false = unlike new.0 o (λ same. omega (arith, same, number, high)) in
     ap (λ b. if b then first_of (region_for o past) (Some region.0) else region_for o past) apart ∙ none
-objects_next header outside (event.Delayed new source offset pages copy) past o cause high none = absurd cause.1
+objects_next header outside (event.Delayed new source offset pages copy) past o cause high none =
+    let number = cause.1.new in
+    let apart : (copy.0 == o) ≡ false = unlike copy.0 o (λ same. omega (arith, same, number, high)) in
+    ap (λ b. if b then first_of (region_for o past) (Some source.0) else region_for o past) apart ∙ none
 objects_next header outside other past o cause high none = none
 
 -- a region that has a home is in use nowhere else
@@ -217,7 +221,8 @@ stay_next header outside (event.RegionMade new object pages) past cause homes g 
     made_where header g h r new.0 (r == new.0) (new.0 == r) past refl refl cause.1.0 homes used home
 stay_next header outside (event.RegionCopied new source offset pages) past cause homes g h r used home =
     new_homeless header g h r new.0 (r == new.0) (in_use header g source.0 past) past refl cause.1.next homes used home (λ now. homes.stay g h r now home)
-stay_next header outside (event.Delayed new source offset pages copy) past cause homes g h r used home = absurd cause.1
+stay_next header outside (event.Delayed new source offset pages copy) past cause homes g h r used home =
+    new_homeless header g h r new.0 (r == new.0) (in_use header g source.0 past) past refl cause.1.next homes used home (λ now. homes.stay g h r now home)
 stay_next header outside (event.Entered task address bytes region offset prot inherit) past cause homes g h r used home =
     home_first header g h r region.0 (lives_on g task.0 past) (region.0 == r) (home_of r past) (host_of task.0 past) past refl used
     (on_host g (host_of task.0 past)) home (λ was now. homes.stay g h r now was)
@@ -243,10 +248,6 @@ home_used header h task address bytes region offset prot inherit past homes used
         ∙ ap (λ (n : ℕ). Some n) (sym (homes.stay h g region.0 used some))
 
 -- what is declared stays as it was
-
-pub named_objects : (header : Header) (past : List Event) → named header ≤ next_object header past
-named_objects header [] = omega arith
-named_objects header (e ∷ past) = let rise = objects_rise header e past in let was = named_objects header past in omega (arith, rise, was)
 
 -- a file's region is in use everywhere until it has a home, and then there
 
@@ -288,7 +289,8 @@ files_next header outside (event.RegionMade new object pages) past cause homes r
     rw other (homes.files r h file before)
 files_next header outside (event.RegionCopied new source offset pages) past cause homes r h file home =
     rw (file_other header r new.0 past file cause.1.next) (homes.files r h file home)
-files_next header outside (event.Delayed new source offset pages copy) past cause homes r h file home = absurd cause.1
+files_next header outside (event.Delayed new source offset pages copy) past cause homes r h file home =
+    rw (file_other header r new.0 past file cause.1.next) (homes.files r h file home)
 files_next header outside (event.Entered task address bytes region offset prot inherit) past cause homes r h file home = elim (eqb_tells r region.0) [
   | inl same ↦
       let turned : (region.0 == r) ≡ true = let is = same.1 in grind (arith, nat_tests) in
@@ -330,7 +332,11 @@ whole_next header outside (event.RegionCopied new source offset pages) past caus
     let other : (r == new.0) ≡ false = unlike r new.0 (λ same. omega (arith, same, number, more, declared)) in
     let apart : (r == source.0) ≡ false = unlike r source.0 (λ same. omega (arith, same, temporary, declared)) in
     rw (other, apart) (homes.whole r declared)
-whole_next header outside (event.Delayed new source offset pages copy) past cause homes r declared = absurd cause.1
+whole_next header outside (event.Delayed new source offset pages copy) past cause homes r declared =
+    let number = cause.1.next in
+    let more = named_regions header past in
+    let other : (r == new.0) ≡ false = unlike r new.0 (λ same. omega (arith, same, number, more, declared)) in
+    rw other (homes.whole r declared)
 whole_next header outside (event.Shadowed changed new old) past cause homes r declared =
     let marked = cause.1.marked in
     let other : (r == changed.0) ≡ false = unlike r changed.0 (λ same. absurd (let plain : (region_of header changed.0 past).mark ≡ false = ap
@@ -349,6 +355,16 @@ not_upper : (header : Header) (o upper lower : ℕ) (past : List Event) → Merg
 not_upper header o upper lower past merges bare = unlike o upper (λ same. absurd (let bad : false ≡ true = sym bare
     ∙ (ap (λ z. (backing_of header z past).backed) same ∙ merges.pair.backed) in cc))
 
+-- nor a file's newest copy
+pub not_newest : (header : Header) (o file : ℕ) (past : List Event) → HaveHomes header past → (backing_of header o past).backed ≡ false
+    → is_newest o (newest_copy file past) ≡ false
+not_newest header o file past homes bare = by (newest_copy file past) refl
+  where
+    by : (x : Option ℕ) → newest_copy file past ≡ x → is_newest o x ≡ false
+    by None is = refl
+    by (Some copy) is = unlike o copy (λ same. absurd (let bad : false ≡ true = sym bare
+        ∙ (ap (λ z. (backing_of header z past).backed) same ∙ ap (λ (b : Backing). b.backed) (homes.copies file copy is).stands) in cc))
+
 bare_next : (header : Header) (outside : Outside) (e : Event) (past : List Event) → HasCause header outside e past → HaveHomes header past → (o : ℕ)
     → o < named header → (backing_of header o (e ∷ past)).backed ≡ false
 bare_next header outside (event.Shadowed changed new old) past cause homes o declared =
@@ -358,7 +374,11 @@ bare_next header outside (event.Shadowed changed new old) past cause homes o dec
     rw other (homes.bare o declared)
 bare_next header outside (event.Merged upper lower) past cause homes o declared =
     rw (not_upper header o upper.0 lower.0 past cause.1 (homes.bare o declared)) (homes.bare o declared)
-bare_next header outside (event.Delayed new source offset pages copy) past cause homes o declared = absurd cause.1
+bare_next header outside (event.Delayed new source offset pages copy) past cause homes o declared =
+    let number = cause.1.new in
+    let more = named_objects header past in
+    let other : (o == copy.0) ≡ false = unlike o copy.0 (λ same. omega (arith, same, number, more, declared)) in
+    rw (other, not_newest header o source.0 past homes (homes.bare o declared)) (homes.bare o declared)
 bare_next header outside other past cause homes o declared = homes.bare o declared
 
 -- an object that isn't made yet stands on nothing
@@ -371,7 +391,11 @@ unmade_next header outside (event.Shadowed changed new old) past cause homes o h
     rw other (homes.unmade o (omega (arith, high)))
 unmade_next header outside (event.Merged upper lower) past cause homes o high =
     rw (not_upper header o upper.0 lower.0 past cause.1 (homes.unmade o high)) (homes.unmade o high)
-unmade_next header outside (event.Delayed new source offset pages copy) past cause homes o high = absurd cause.1
+unmade_next header outside (event.Delayed new source offset pages copy) past cause homes o high =
+    let number = cause.1.new in
+    let bare = homes.unmade o (omega (arith, high)) in
+    let other : (o == copy.0) ≡ false = unlike o copy.0 (λ same. omega (arith, same, number, high)) in
+    rw (other, not_newest header o source.0 past homes bare) bare
 unmade_next header outside other past cause homes o high = homes.unmade o high
 
 -- a slow copy fills the region that was made for it
@@ -414,7 +438,8 @@ target_made_next header outside (event.RegionMade region object pages) past caus
     by_test false was = let less = homes.target_made task target was in omega (arith, less)
 target_made_next header outside (event.Shadowed changed new old) past cause homes task target is =
     let less = homes.target_made task target is in omega (arith, less)
-target_made_next header outside (event.Delayed new source offset pages copy) past cause homes task target is = absurd cause.1
+target_made_next header outside (event.Delayed new source offset pages copy) past cause homes task target is =
+    let less = homes.target_made task target is in omega (arith, less)
 target_made_next header outside other past cause homes task target is = homes.target_made task target is
 
 target_bare_next : (header : Header) (outside : Outside) (e : Event) (past : List Event) → HasCause header outside e past → HaveHomes header past
@@ -443,8 +468,105 @@ target_bare_next header outside (event.Merged upper lower) past cause homes task
     let other : (target.object == upper.0) ≡ false = unlike target.object upper.0
     (λ same. (let bad : false ≡ true = sym bare ∙ (ap (λ z. (backing_of header z past).backed) same ∙ cause.1.pair.backed) in cc)) in
     ap (λ b. (joined b (backing_of header lower.0 past) (backing_of header target.object past)).backed) other ∙ bare
-target_bare_next header outside (event.Delayed new source offset pages copy) past cause homes task target is = absurd cause.1
+target_bare_next header outside (event.Delayed new source offset pages copy) past cause homes task target is =
+    let number = cause.1.new in
+    let less = homes.target_made task target is in
+    let bare = homes.target_bare task target is in
+    let other : (target.object == copy.0) ≡ false = unlike target.object copy.0 (λ same. omega (arith, same, number, less)) in
+    let plain = not_newest header target.object source.0 past homes bare in
+    ap (λ b. (pushed b (is_newest target.object (newest_copy source.0 past)) source.0 copy.0 (backing_of header target.object past)).backed) other
+    ∙ (ap (λ b. (pushed false b source.0 copy.0 (backing_of header target.object past)).backed) plain ∙ bare)
 target_bare_next header outside other past cause homes task target is = homes.target_bare task target is
+
+-- the newest copies of files were made, and stand on them
+
+pub copy_made : (header : Header) (file copy : ℕ) (past : List Event) → HaveHomes header past → newest_copy file past ≡ Some copy
+    → copy < next_object header past
+copy_made header file copy past homes is = elim (cases_lt copy (next_object header past)) [
+  | inl less ↦ less
+  | inr high ↦ absurd (let bad : false ≡ true = sym (homes.unmade copy high) ∙ ap (λ (b : Backing). b.backed) (homes.copies file copy is).stands in cc)
+]
+
+pub copy_temporary : (header : Header) (file copy : ℕ) (past : List Event) → HaveHomes header past → newest_copy file past ≡ Some copy → named header ≤ copy
+copy_temporary header file copy past homes is = elim (cases_lt copy (named header)) [
+  | inl declared ↦ absurd (let bad : false ≡ true = sym (homes.bare copy declared) ∙ ap (λ (b : Backing). b.backed) (homes.copies file copy is).stands in cc)
+  | inr temporary ↦ temporary
+]
+
+abbrev CopyNow : Header → List Event → ℕ → ℕ → Type 0
+CopyNow header past file copy = IsCopyOf header (λ o. region_for o past) (λ o. backing_of header o past) file copy
+
+-- one more copy of a file
+copy_new : (header : Header) (region source : RegionId) (offset pages : ℕ) (copy : ObjectId) (past : List Event) → HaveHomes header past
+    → copy.0 ≡ next_object header past → is_file header source.0 ≡ true
+    → CopyNow header (event.Delayed region source offset pages copy ∷ past) source.0 copy.0
+copy_new header region source offset pages copy past homes number file = record {
+  file = file;
+  made =
+      ap (λ b. if b then first_of (region_for copy.0 past) (Some source.0) else region_for copy.0 past) (itself copy.0)
+      ∙ ap (λ z. first_of z (Some source.0)) (homes.objects copy.0 (omega (arith, number)));
+  stands =
+      ap (λ b. pushed b (is_newest copy.0 (newest_copy source.0 past)) source.0 copy.0 (backing_of header copy.0 past)) (itself copy.0);
+}
+
+-- another file's stands where it stood
+copy_apart : (header : Header) (region source : RegionId) (offset pages : ℕ) (copy : ObjectId) (past : List Event) → HaveHomes header past
+    → copy.0 ≡ next_object header past → (file other : ℕ) → (file == source.0) ≡ false → newest_copy file past ≡ Some other
+    → CopyNow header (event.Delayed region source offset pages copy ∷ past) file other
+copy_apart header region source offset pages copy past homes number file other apart is =
+    let was = homes.copies file other is in
+    let less = copy_made header file other past homes is in
+    let old : (other == copy.0) ≡ false = unlike other copy.0 (λ same. omega (arith, same, number, less)) in
+    record {
+      file = was.file;
+      made = region_stays other file (event.Delayed region source offset pages copy) past was.made;
+      stands =
+          ap (λ b. pushed b (is_newest other (newest_copy source.0 past)) source.0 copy.0 (backing_of header other past)) old
+          ∙ (ap (λ b. pushed false b source.0 copy.0 (backing_of header other past)) (not_its was.made (newest_copy source.0 past) refl) ∙ was.stands);
+    }
+  where
+    not_its : region_for other past ≡ Some file → (x : Option ℕ) → newest_copy source.0 past ≡ x → is_newest other x ≡ false
+    not_its made None none = refl
+    not_its made (Some newest) some = unlike other newest (λ same. absurd (let one : file ≡ source.0 = same_some file source.0 (sym made
+        ∙ (ap (λ z. region_for z past) same ∙ (homes.copies source.0 newest some).made)) in
+        let bad : true ≡ false = sym (itself source.0) ∙ (ap (λ z. z == source.0) (sym one) ∙ apart) in cc))
+
+copies_next : (header : Header) (outside : Outside) (e : Event) (past : List Event) → HasCause header outside e past → HaveHomes header past
+    → (file copy : ℕ) → newest_copy file (e ∷ past) ≡ Some copy → CopyNow header (e ∷ past) file copy
+copies_next header outside (event.Delayed region source offset pages new) past cause homes file copy is = by_test (file == source.0) refl is
+  where
+    by_test : (b : Bool) → (file == source.0) ≡ b → (if b then Some new.0 else newest_copy file past) ≡ Some copy
+        → CopyNow header (event.Delayed region source offset pages new ∷ past) file copy
+    by_test true same now =
+        let one : source.0 ≡ file = grind (arith, nat_tests) in
+        subst (λ (z : ℕ). CopyNow header (event.Delayed region source offset pages new ∷ past) z copy) one
+        (subst (λ (z : ℕ). CopyNow header (event.Delayed region source offset pages new ∷ past) source.0 z) (same_some new.0 copy now)
+        (copy_new header region source offset pages new past homes cause.1.new cause.1.file))
+    by_test false apart was = copy_apart header region source offset pages new past homes cause.1.new file copy apart was
+copies_next header outside (event.Shadowed changed new old) past cause homes file copy is =
+    let was = homes.copies file copy is in
+    let number = cause.1.next in
+    let less = copy_made header file copy past homes is in
+    let other : (copy == new.0) ≡ false = unlike copy new.0 (λ same. omega (arith, same, number, less)) in
+    record {
+      file = was.file;
+      made = region_stays copy file (event.Shadowed changed new old) past was.made;
+      stands = ap (λ b. over b (region_of header changed.0 past) (backing_of header copy past)) other ∙ was.stands;
+    }
+copies_next header outside (event.Merged upper lower) past cause homes file copy is =
+    let was = homes.copies file copy is in
+    let pair = cause.1.pair in
+    let temporary = pair.temporary in
+    let declared = file_named header file was.file in
+    let other : (copy == upper.0) ≡ false = unlike copy upper.0 (λ same. (let one : file ≡ lower.0 = ap (λ (b : Backing). b.under) (sym was.stands)
+    ∙ (ap (λ z. (backing_of header z past).under) same ∙ pair.under) in omega (arith, one, temporary, declared))) in
+    record {
+      file = was.file;
+      made = region_stays copy file (event.Merged upper lower) past was.made;
+      stands = ap (λ b. joined b (backing_of header lower.0 past) (backing_of header copy past)) other ∙ was.stands;
+    }
+copies_next header outside e past cause homes file copy is =
+    let was = homes.copies file copy is in record { file = was.file; made = region_stays copy file e past was.made; stands = was.stands }
 
 -- what has a home was made, whatever is added with its cause
 pub homes_next : (header : Header) (outside : Outside) (e : Event) (past : List Event) → HasCause header outside e past → HaveHomes header past
@@ -461,6 +583,7 @@ homes_next header outside e past cause homes =
       fills = fills_next header outside e past cause homes;
       target_made = target_made_next header outside e past cause homes;
       target_bare = target_bare_next header outside e past cause homes;
+      copies = copies_next header outside e past cause homes;
     }
 
 pub homes_start : (header : Header) → HaveHomes header []
@@ -476,4 +599,5 @@ homes_start header =
       fills = λ task target is. absurd (let bad : None ≡ Some target = is in cc);
       target_made = λ task target is. absurd (let bad : None ≡ Some target = is in cc);
       target_bare = λ task target is. absurd (let bad : None ≡ Some target = is in cc);
+      copies = λ file copy is. absurd (let bad : None ≡ Some copy = is in cc);
     }

@@ -3,6 +3,7 @@ pub mod Elsewhere
 pub mod Facts
 pub mod Heads
 pub mod Home
+pub mod Numbers
 pub mod Own
 pub mod Pages
 pub mod Regions

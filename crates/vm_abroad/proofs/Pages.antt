@@ -15,6 +15,7 @@ use Rattle.vm_legal.specs.Cached.{is_cached}
 use Rattle.vm_legal.specs.Frames.{Keeps, change, frames_after, frames_held, frames_wired, given_at_end, returns_out, sent_up_change, taken_down_change}
 use Rattle.vm_legal.specs.Frames.{taken_up_change}
 use Rattle.vm_legal.specs.Homes.{gives_frame, is_home}
+use Rattle.vm_legal.specs.Pushes.{is_pushed}
 use Rattle.vm_abroad.specs.Same.{SamePages}
 
 -- places
@@ -160,6 +161,11 @@ out_abroad header h (event.Taken (Up at object) m) past is = out_taken h at obje
 out_abroad header h (event.Taken (Down at object control) m) past is = refl
 out_abroad header h other past is = refl
 
+pub pushed_abroad : (header : Header) (h : ℕ) (e : Event) (past : List Event) → is_home header h e past ≡ false → (o page : ℕ)
+    → is_pushed h o page (e ∷ past) ≡ is_pushed h o page past
+pushed_abroad header h (event.Raised at lower lower_page upper upper_page) past is o page = rw is refl
+pushed_abroad header h other past is o page = refl
+
 pub pages_abroad : (header : Header) (h : ℕ) (e : Event) (past : List Event) → is_home header h e past ≡ false → SamePages header h past (e ∷ past)
 pages_abroad header h e past is = record {
   local = local_abroad header h e past is;
@@ -170,4 +176,5 @@ pages_abroad header h e past is = record {
   held = held_abroad header h e past is;
   wired = wired_abroad header h e past is;
   out = out_abroad header h e past is;
+  pushed = pushed_abroad header h e past is;
 }

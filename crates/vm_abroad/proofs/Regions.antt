@@ -1,23 +1,25 @@
 -- The regions and objects of a host, under an event that is nothing to it.
 use Rattle.std.proofs.Common.{◌≡◌, ℕ, ◌<◌, ◌≤◌, ◌==◌, ◌&&◌, ◌||◌, Bool, true, false, not, List, [], ◌∷◌, refl, ap, sym, ◌∙◌, subst, arith, inl, inr}
+use Rattle.std.proofs.Common.{Option, Some, None}
 use Rattle.std.proofs.lemmas.Bool.Decides.{nat_tests}
 use Rattle.std.specs.Prelude.{◌⊎◌, if◌then◌else◌, nat_lt}
 use Rattle.std.proofs.lemmas.Bool.{cases_lt}
 use Rattle.vm_model.specs.declared.event.Event.{Event}
 use Rattle.vm_model.specs.declared.event.Event.TheVariants as event
 use Rattle.vm_model.specs.declared.script.Header.{Header}
-use Rattle.vm_model.specs.Homes.{object_home}
+use Rattle.vm_model.specs.Homes.{home_in, home_of, object_home, region_for}
 use Rattle.vm_model.specs.Local.{is_on}
 use Rattle.vm_model.specs.Named.{named}
-use Rattle.vm_model.specs.Regions.{backing_of, next_object, next_region, object_pages, region_of}
+use Rattle.vm_model.specs.Regions.{backing_of, is_copy, is_newest, newest_copy, next_object, next_region, object_pages, region_of}
 use Rattle.vm_model.specs.Tasks.{entries_of, has_entry}
 use Rattle.vm_model.specs.Waiting.{copy_target, fills, waiting}
 use Rattle.vm_legal.specs.Homes.{EntersNext, begins_here, enters, is_home, is_open, is_used, starts_copy}
 use Rattle.vm_legal.specs.Licences.{Enters}
 use Rattle.vm_legal.specs.Living.{lives_on, tasks}
-use Rattle.vm_legal.specs.Outside.{Outside}
+use Rattle.vm_legal.specs.Outside.{Outside, is_file}
 use Rattle.vm_legal.specs.Used.{in_use, is_held, is_kept, made_here}
 use Rattle.vm_abroad.specs.Sound.{IsAbroad, IsAmong, IsHeldOn, IsObjectOf, IsRegionOf, Knows, Sound}
+use Rattle.vm_abroad.proofs.Home.{copy_temporary, on_host}
 use Rattle.vm_abroad.proofs.Sounds.{no_shadow, shut_before, shut_of, unlike, use_of, used_of}
 use Rattle.vm_abroad.proofs.Tasks.{task_abroad}
 
@@ -131,7 +133,14 @@ used_abroad header outside h (event.RegionCopied new source offset pages) past s
         let number = abroad.cause.1.next in
         ap (λ z. z && true) abroad.foreign ∙ sym (fresh_unused header h r past sound temporary (omega (arith, it, number)))
     by_test false is = was_shut (in_use header h r past) r past (shut_before r (event.RegionCopied new source offset pages) past abroad.enters refl)
-used_abroad header outside h (event.Delayed new source offset pages copy) past sound knows abroad r temporary = absurd abroad.cause.1
+used_abroad header outside h (event.Delayed new source offset pages copy) past sound knows abroad r temporary = by_test (r == new.0) refl
+  where
+    by_test : (b : Bool) → (r == new.0) ≡ b → ((if b then in_use header h source.0 past else in_use header h r past) && true) ≡ is_used header h r past
+    by_test true is =
+        let it : r ≡ new.0 = grind (arith, nat_tests) in
+        let number = abroad.cause.1.next in
+        ap (λ z. z && true) abroad.foreign ∙ sym (fresh_unused header h r past sound temporary (omega (arith, it, number)))
+    by_test false is = was_shut (in_use header h r past) r past (shut_before r (event.Delayed new source offset pages copy) past abroad.enters refl)
 used_abroad header outside h (event.Entered task address bytes entered offset prot inherit) past sound knows abroad r temporary = by_test (r == entered.0) refl
   where
     by_test : (b : Bool) → (r == entered.0) ≡ b → (((not b || lives_on h task.0 past) && in_use header h r past) && true) ≡ is_used header h r past
@@ -181,7 +190,10 @@ region_abroad header outside h (event.RegionCopied new source offset pages) past
       | inr temporary ↦ not_elsewhere header h r source.0 past own temporary abroad.foreign
     ] in
     rw (other, away) refl
-region_abroad header outside h (event.Delayed new source offset pages copy) past sound abroad r small own = absurd abroad.cause.1
+region_abroad header outside h (event.Delayed new source offset pages copy) past sound abroad r small own =
+    let number = abroad.cause.1.next in
+    let other : (r == new.0) ≡ false = unlike r new.0 (λ same. omega (arith, same, number, small)) in
+    rw other refl
 region_abroad header outside h (event.Shadowed changed new old) past sound abroad r small own =
     let away : (r == changed.0) ≡ false = elim (kind_cases header r) [
       | inl declared ↦ no_shadow header r changed.0 past sound declared abroad.cause.1.marked
@@ -195,6 +207,26 @@ region_abroad header outside h (event.Unmarked changed) past sound abroad r smal
     ] in
     rw away refl
 region_abroad header outside h other past sound abroad r small own = refl
+
+-- a file that isn't in use on the host isn't at home there
+file_away : (header : Header) (h file : ℕ) (past : List Event) → Sound header past → is_file header file ≡ true → in_use header h file past ≡ false
+    → is_on h (home_of file past) ≡ true → ⊥
+file_away header h file past sound is_one away on =
+    let used : in_use header h file past ≡ true = sound.homes.files file h is_one (inr (on_host h (home_of file past) on)) in
+    let bad : true ≡ false = sym used ∙ away in
+    cc
+
+-- and its newest copy is none of the host's objects
+copy_away : (header : Header) (h o file : ℕ) (past : List Event) → Sound header past → is_file header file ≡ true → in_use header h file past ≡ false
+    → IsObjectOf header h o past → is_newest o (newest_copy file past) ≡ false
+copy_away header h o file past sound is_one away own = by (newest_copy file past) refl
+  where
+    by : (x : Option ℕ) → newest_copy file past ≡ x → is_newest o x ≡ false
+    by None none = refl
+    by (Some copy) is = unlike o copy (λ same.
+        let temporary : named header ≤ o = subst (λ (z : ℕ). named header ≤ z) (sym same) (copy_temporary header file copy past sound.homes is) in
+        let made : region_for o past ≡ Some file = ap (λ z. region_for z past) same ∙ (sound.homes.copies file copy is).made in
+        file_away header h file past sound is_one away (ap (λ z. is_on h (home_in (λ r. home_of r past) z)) (sym made) ∙ own temporary))
 
 pub backing_abroad : (header : Header) (outside : Outside) (h : ℕ) (e : Event) (past : List Event) → Sound header past → IsAbroad header outside h e past
     → (o : ℕ) → o < next_object header past → IsObjectOf header h o past → backing_of header o (e ∷ past) ≡ backing_of header o past
@@ -211,7 +243,10 @@ backing_abroad header outside h (event.Merged upper lower) past sound abroad o s
           ∙ (ap (λ z. is_on h (object_home z past)) same ∙ abroad.foreign) in cc))
     ] in
     rw other refl
-backing_abroad header outside h (event.Delayed new source offset pages copy) past sound abroad o small own = absurd abroad.cause.1
+backing_abroad header outside h (event.Delayed new source offset pages copy) past sound abroad o small own =
+    let number = abroad.cause.1.new in
+    let other : (o == copy.0) ≡ false = unlike o copy.0 (λ same. omega (arith, same, number, small)) in
+    rw (other, copy_away header h o source.0 past sound abroad.cause.1.file abroad.foreign own) refl
 backing_abroad header outside h other past sound abroad o small own = refl
 
 -- objects have the pages that they were made with
@@ -225,5 +260,26 @@ sizes_abroad header outside h (event.Shadowed region new old) past abroad o smal
     let number = abroad.cause.1.next in
     let other : (o == new.0) ≡ false = unlike o new.0 (λ same. omega (arith, same, number, small)) in
     rw other refl
-sizes_abroad header outside h (event.Delayed new source offset pages copy) past abroad o small = absurd abroad.cause.1
+sizes_abroad header outside h (event.Delayed new source offset pages copy) past abroad o small =
+    let number = abroad.cause.1.new in
+    let other : (o == copy.0) ≡ false = unlike o copy.0 (λ same. omega (arith, same, number, small)) in
+    rw other refl
 sizes_abroad header outside h other past abroad o small = refl
+
+-- a file at home on the host gets no copy
+pub newest_abroad : (header : Header) (outside : Outside) (h : ℕ) (e : Event) (past : List Event) → Sound header past → IsAbroad header outside h e past
+    → (file : ℕ) → is_on h (home_of file past) ≡ true → newest_copy file (e ∷ past) ≡ newest_copy file past
+newest_abroad header outside h (event.Delayed new source offset pages copy) past sound abroad file on =
+    let other : (file == source.0) ≡ false = unlike file source.0 (λ same. file_away header h source.0 past sound abroad.cause.1.file abroad.foreign
+    (ap (λ z. is_on h (home_of z past)) (sym same) ∙ on)) in
+    rw other refl
+newest_abroad header outside h other past sound abroad file on = refl
+
+-- what was made is a copy or not as before
+pub copies_abroad : (header : Header) (outside : Outside) (h : ℕ) (e : Event) (past : List Event) → IsAbroad header outside h e past
+    → (o : ℕ) → o < next_object header past → is_copy o (e ∷ past) ≡ is_copy o past
+copies_abroad header outside h (event.Delayed new source offset pages copy) past abroad o small =
+    let number = abroad.cause.1.new in
+    let other : (o == copy.0) ≡ false = unlike o copy.0 (λ same. omega (arith, same, number, small)) in
+    rw other refl
+copies_abroad header outside h other past abroad o small = refl

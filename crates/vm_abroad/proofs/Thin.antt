@@ -9,6 +9,7 @@ use Rattle.vm_legal.specs.Homes.{is_open}
 use Rattle.vm_legal.specs.Merges.{IsPair, IsThin}
 use Rattle.vm_legal.specs.Used.{in_use}
 use Rattle.vm_legal.specs.Walks.{Below, Reach}
+use Rattle.vm_legal.proofs.Below.{below_next}
 use Rattle.vm_abroad.specs.Same.{SameFacts}
 use Rattle.vm_abroad.specs.Sound.{IsObjectOf, IsRegionOf, Knows, Sound}
 use Rattle.vm_abroad.proofs.Chains.{below_was}
@@ -16,10 +17,11 @@ use Rattle.vm_abroad.proofs.Facts.{small_region, use_same}
 use Rattle.vm_abroad.proofs.Sounds.{use_of, used_of}
 use Rattle.vm_abroad.proofs.Waits.{reach_declared, reach_now, region_now}
 
--- an object of the host that was made, and that a region led to
+-- an object of the host that was made, and that a region led to; and what is under it was made
 record WasReached (header : Header) (h o : ℕ) (old : List Event) : Type 0 where
   reach : Reach header h o old
   small : o < next_object header old
+  under : (backing_of header o old).backed ≡ true → (backing_of header o old).under < next_object header old
   own : IsObjectOf header h o old
 
 module _ (header : Header) (h : ℕ) (old new : List Event) (sound : Sound header old) (knows : Knows header h old) (same : SameFacts header h old new)
@@ -67,7 +69,13 @@ module _ (header : Header) (h : ℕ) (old new : List Event) (sound : Sound heade
           let below : Below (λ k. backing_of header k old) reach.1 (region_of header reach.0 old).top o =
           below_was header h old new same.backing reach.1 (region_of header reach.0 old).top o made
           (subst (λ (z : Region). Below (λ k. backing_of header k new) reach.1 z.top o) (region_now header h old new sound knows same reach.0 own) reach.3) in
-          record { reach = (reach.0, reach.1, used, below); small = (made reach.1 o below).0; own = (made reach.1 o below).1 }
+          record {
+            reach = (reach.0, reach.1, used, below);
+            small = (made reach.1 o below).0;
+            under = λ on. (made (suc reach.1) (backing_of header o old).under (below_next (λ k. backing_of header k old) reach.1
+                (region_of header reach.0 old).top o below on)).0;
+            own = (made reach.1 o below).1;
+          }
 
   backed_temporary : (o : ℕ) → (backing_of header o old).backed ≡ true → named header ≤ o
   backed_temporary o backed = elim (cases_lt o (named header)) [
@@ -79,8 +87,11 @@ module _ (header : Header) (h : ℕ) (old new : List Event) (sound : Sound heade
   pair_was upper lower pair =
       let was = reach_was upper pair.reached pair.backed in
       let link : backing_of header upper new ≡ backing_of header upper old = same.backing upper was.small was.own in
+      let small : lower < next_object header old = subst (λ (z : ℕ). z < next_object header old) (ap (λ (z : Backing). z.under) (sym link) ∙ pair.under)
+      (was.under (ap (λ (z : Backing). z.backed) (sym link) ∙ pair.backed)) in
       record {
         temporary = pair.temporary;
+        plain = sym (same.copies lower small) ∙ pair.plain;
         reached = was.reach;
         backed = ap (λ (z : Backing). z.backed) (sym link) ∙ pair.backed;
         under = ap (λ (z : Backing). z.under) (sym link) ∙ pair.under;

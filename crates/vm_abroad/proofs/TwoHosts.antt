@@ -56,6 +56,7 @@ zeros_below = record {
   is_top = record { object = refl; page = refl };
   steps = 0;
   sinks = (record { away = refl; unasked = refl; without = refl }, refl);
+  plain = λ depth below is. omega arith;
 }
 
 begun_caused : EachEvent (HasCause header outside) begun
@@ -198,6 +199,7 @@ zeros_stored = record {
   is_top = record { object = refl; page = refl };
   steps = 0;
   sinks = (record { away = refl; unasked = refl; without = refl }, refl);
+  plain = λ depth below is. omega arith;
 }
 
 stored_abroad : EachIn abroad_0 stored past
@@ -212,6 +214,7 @@ stored_abroad = (
         unmarked = refl;
         here = refl;
         place = refl;
+        paid = λ copy owes. absurd (let bad : false ≡ true = owes.file in cc);
       },
     );
     enters = λ r is. is;

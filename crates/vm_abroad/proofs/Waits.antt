@@ -1,5 +1,5 @@
 -- Whoever waits on a host waits as before, and for the same, where the host's facts read the same.
-use Rattle.std.proofs.Common.{◌≡◌, ℕ, zero, suc, ◌<◌, ◌≤◌, ◌==◌, ◌&&◌, Bool, true, false, not, List, Option, Some, ap, sym, ◌∙◌, subst, arith, inl, inr}
+use Rattle.std.proofs.Common.{◌≡◌, ℕ, zero, suc, ◌<◌, ◌≤◌, ◌==◌, ◌&&◌, Bool, true, false, not, List, Option, Some, ap, refl, sym, ◌∙◌, subst, arith, inl, inr}
 use Rattle.std.proofs.lemmas.Bool.Decides.{nat_tests}
 use Rattle.std.specs.Prelude.{is_some}
 use Rattle.std.proofs.lemmas.Bool.{cases_lt}
@@ -10,22 +10,26 @@ use Rattle.vm_model.specs.declared.script.Header.{Header}
 use Rattle.vm_model.specs.Controls.{live_control}
 use Rattle.vm_model.specs.Local.{is_known_absent, is_on}
 use Rattle.vm_model.specs.Named.{named}
-use Rattle.vm_model.specs.Regions.{Region, backing_of, region_of}
+use Rattle.vm_model.specs.Homes.{home_in, home_of}
+use Rattle.vm_model.specs.Regions.{Backing, Region, backing_of, newest_copy, region_of}
 use Rattle.vm_model.specs.Rows.{found_row}
 use Rattle.vm_model.specs.Tasks.{entries_of, has_entry, host_of}
 use Rattle.vm_model.specs.Waiting.{Access, address_of, is_store, next_page}
-use Rattle.vm_legal.specs.Accesses.{Comes, Copies, Elsewhere, HasPageLeft, HasPlace, Nowhere, Raises, Waits, WaitsUnlocked, WantsFrame, names, page_of}
+use Rattle.vm_legal.specs.Accesses.{Comes, Copies, Elsewhere, HasPageLeft, HasPlace, Nowhere, Pushes, Raises, Waits, WaitsUnlocked, WantsFrame, names, page_of}
 use Rattle.vm_legal.specs.Frames.{frames_free}
 use Rattle.vm_legal.specs.Homes.{is_open, is_used}
 use Rattle.vm_legal.specs.Living.{lives_on}
 use Rattle.vm_legal.proofs.Exhausted.{exhausted_still}
-use Rattle.vm_legal.specs.Prompt.{AReady, AnAnswer, AnUnlock, Awaits, EachLeads, HostIsFull, IsExhausted, IsSource, NoneInVain, WaitsForPager}
+use Rattle.vm_legal.specs.Pushes.{OwesPush}
+use Rattle.vm_legal.specs.Prompt.{AReady, AnAnswer, AnUnlock, AtPlace, Awaits, AwaitsPage, EachLeads, ForPush, HostIsFull, IsExhausted, IsSource, NoneInVain}
+use Rattle.vm_legal.specs.Prompt.{WaitsForPager}
 use Rattle.vm_legal.specs.Swept.{IsSwept, IsUnheld}
 use Rattle.vm_legal.specs.Walks.{Below, IsTop, Reach, Sight, Sinks, Walks, page_on, sight}
 use Rattle.vm_abroad.specs.Same.{SameFacts}
 use Rattle.vm_abroad.specs.Sound.{IsMade, IsRegionOf, Knows, Sound}
 use Rattle.vm_abroad.proofs.Chains.{below_is, leads_is, sinks_is, walks_is}
 use Rattle.vm_abroad.proofs.Facts.{small_region}
+use Rattle.vm_abroad.proofs.Home.{copy_temporary}
 use Rattle.vm_abroad.proofs.Sounds.{use_of, used_of}
 
 lives_at : (h task : ℕ) (past : List Event) (x : Option ℕ) (host : ℕ) → x ≡ Some host → host ≡ h → is_on h x ≡ true
@@ -97,6 +101,34 @@ module _ (header : Header) (h : ℕ) (old new : List Event) (sound : Sound heade
     walks = walks_now r page is.top is.top_page is.steps object object_page own is.is_top is.walks;
   }
 
+  -- what is reached
+
+  pub reach_declared : (r n object : ℕ) → r < named header → named header ≤ object → Below (λ o. backing_of header o old) n r object → ⊥
+  reach_declared r zero object declared temporary is = omega (arith, is, declared, temporary)
+  reach_declared r (suc n) object declared temporary is = let bad : true ≡ false = sym is.0 ∙ sound.bare r declared in absurd (cc)
+
+  below_now : (r n object : ℕ) → IsRegionOf header h r old → Below (λ o. backing_of header o old) n (region_of header r old).top object
+      → Below (λ o. backing_of header o new) n (region_of header r new).top object
+  below_now r n object own is =
+      subst (λ (z : Region). Below (λ o. backing_of header o new) n z.top object) (sym (region_now r own))
+      (below_is header h old new same.backing n (region_of header r old).top object (knows.chains r (small_region header h r old sound own) own) is)
+
+  reach_shut : (object : ℕ) → named header ≤ object → (reach : Reach header h object old) → is_open reach.0 old ≡ false → Reach header h object new
+  reach_shut object temporary reach shut = elim (cases_lt reach.0 (named header)) [
+    | inl declared ↦ absurd (reach_declared reach.0 reach.1 object declared temporary
+        (subst (λ (z : ℕ). Below (λ o. backing_of header o old) reach.1 z object) (sound.tops reach.0 declared) reach.3))
+    | inr ours ↦
+        let used : is_used header h reach.0 old ≡ true = used_of header h reach.0 old shut reach.2 in (
+          reach.0,
+          reach.1,
+          use_of header h reach.0 new (same.used reach.0 ours ∙ used),
+          below_now reach.0 reach.1 object (λ is. used) reach.3,
+        )
+  ]
+
+  pub reach_now : ((r : ℕ) → is_open r old ≡ false) → (object : ℕ) → named header ≤ object → Reach header h object old → Reach header h object new
+  reach_now shut object temporary reach = reach_shut object temporary reach (shut reach.0)
+
   -- accesses
 
   abbrev waits_now : (task : ℕ) (access : Access) (w : Waits header task access old) → w.at.host ≡ h → Waits header task access new
@@ -147,6 +179,38 @@ module _ (header : Header) (h : ℕ) (old new : List Event) (sound : Sound heade
   index_now task access w on entry =
       ap (λ z. page_at header.size (address_of header.size z access) entry) (sym (same.task task (lives_at h task old _ w.at.host w.at.lives on)).next)
 
+  -- a copy of a file stands on it, so no region that was made just now leads to it
+  copy_shut : (file copy : ℕ) → newest_copy file old ≡ Some copy → (reach : Reach header h copy old) → is_open reach.0 old ≡ false
+  copy_shut file copy newest reach = by_test (is_open reach.0 old) refl
+    where
+      stands : (backing_of header copy old).backed ≡ true
+      stands = ap (λ (z : Backing). z.backed) (sound.homes.copies file copy newest).stands
+
+      nothing_under : (n top : ℕ) → (backing_of header top old).backed ≡ false → Below (λ k. backing_of header k old) n top copy → ⊥
+      nothing_under zero top bare is = let bad : false ≡ true = sym bare ∙ (ap (λ z. (backing_of header z old).backed) is ∙ stands) in cc
+      nothing_under (suc n) top bare is = let bad : false ≡ true = sym bare ∙ is.0 in cc
+
+      by_test : (b : Bool) → is_open reach.0 old ≡ b → b ≡ false
+      by_test false is = refl
+      by_test true is = absurd (nothing_under reach.1 (region_of header reach.0 old).top (sound.opens reach.0 is) reach.3)
+
+  -- so it is at home on the host, and so is its file
+  copy_home : (file copy : ℕ) → newest_copy file old ≡ Some copy → Reach header h copy old → is_on h (home_of file old) ≡ true
+  copy_home file copy newest reach =
+      let temporary = copy_temporary header file copy old sound.homes newest in
+      let own : IsRegionOf header h reach.0 old = λ is. used_of header h reach.0 old (copy_shut file copy newest reach) reach.2 in
+      let made = knows.chains reach.0 (small_region header h reach.0 old sound own) own reach.1 copy reach.3 in
+      ap (λ z. is_on h (home_in (λ r. home_of r old) z)) (sym (sound.homes.copies file copy newest).made) ∙ made.1 temporary
+
+  pub owes_now : (object page copy : ℕ) → OwesPush header h object page copy old → OwesPush header h object page copy new
+  owes_now object page copy is = record {
+    file = is.file;
+    newest = same.newest object (copy_home object copy is.newest is.lives) ∙ is.newest;
+    lives =
+        reach_shut copy (copy_temporary header object copy old sound.homes is.newest) is.lives (copy_shut object copy is.newest is.lives);
+    unpushed = same.pages.pushed copy page ∙ is.unpushed;
+  }
+
   wants_now : (task : ℕ) (access : Access) (r page : ℕ) → IsRegionOf header h r old → WantsFrame header h task access r page old
       → WantsFrame header h task access r page new
   wants_now task access r page own (Nowhere served top top_page steps is sinks) =
@@ -161,6 +225,9 @@ module _ (header : Header) (h : ℕ) (old new : List Event) (sound : Sound heade
   wants_now task access r page own (Raises top top_page steps object object_page is walks here store) =
       Raises top top_page steps object object_page (top_now r page top top_page own is)
       (walks_now r page top top_page (suc steps) object object_page own is walks) (ap (λ z. z.here) (page_now object object_page) ∙ here) store
+  wants_now task access r page own (Pushes object object_page copy is here store owes unasked) =
+      Pushes object object_page copy (top_now r page object object_page own is) (ap (λ z. z.here) (page_now object object_page) ∙ here) store
+      (owes_now object object_page copy owes) (ap (λ z. z.asked) (page_now copy object_page) ∙ unasked)
 
   awaits_now : (store : Bool) (object page : ℕ) → Awaits header h store object page old → Awaits header h store object page new
   awaits_now store object page (AnAnswer asked) = AnAnswer (ap (λ z. z.asked) (page_now object page) ∙ asked)
@@ -168,6 +235,13 @@ module _ (header : Header) (h : ℕ) (old new : List Event) (sound : Sound heade
   awaits_now store object page (AnUnlock here named unlocking) =
       AnUnlock (ap (λ z. z.here) (page_now object page) ∙ here) (ap (λ z. names z.lock store) (page_now object page) ∙ named)
       (ap (λ z. z.unlocking) (page_now object page) ∙ unlocking)
+
+  awaits_page_now : (access : Access) (r page : ℕ) → IsRegionOf header h r old → AwaitsPage header h access r page old → AwaitsPage header h access r page new
+  awaits_page_now access r page own (AtPlace object object_page place what) =
+      AtPlace object object_page (place_now r page object object_page own place) (awaits_now (is_store access) object object_page what)
+  awaits_page_now access r page own (ForPush object object_page copy store is owes asked) =
+      ForPush object object_page copy store (top_now r page object object_page own is) (owes_now object object_page copy owes)
+      (ap (λ z. z.asked) (page_now copy object_page) ∙ asked)
 
   place_of_wait : (task : ℕ) (access : Access) (w : Waits header task access old) → w.at.host ≡ h → (object page : ℕ)
       → HasPlace header w.at.entry.region.0 (page_of header task access old w.at.entry) object page old
@@ -182,10 +256,10 @@ module _ (header : Header) (h : ℕ) (old new : List Event) (sound : Sound heade
   for_pager_now task access is = record {
     waits = waits_now task access is.waits is.on_host;
     on_host = is.on_host;
-    object = is.object;
-    page = is.page;
-    place = place_of_wait task access is.waits is.on_host is.object is.page is.place;
-    what = awaits_now (is_store access) is.object is.page is.what;
+    what =
+        subst (λ (z : ℕ). AwaitsPage header h access is.waits.at.entry.region.0 z new) (index_now task access is.waits is.on_host is.waits.at.entry)
+        (awaits_page_now access is.waits.at.entry.region.0 (page_of header task access old is.waits.at.entry) (own_region task access is.waits is.on_host)
+        is.what);
   }
 
   unlocked_now : (object page : ℕ) → WaitsUnlocked header h object page old → WaitsUnlocked header h object page new
@@ -236,34 +310,15 @@ module _ (header : Header) (h : ℕ) (old new : List Event) (sound : Sound heade
   vain_now none task access waits on =
       elim (none task access (waits_was task access waits on) on) [ inl pager ↦ inl (for_pager_now task access pager) | inr full ↦ inr (full_now full) ]
 
-  -- what is left of temporary objects
+  -- what is left of temporary objects, and of declared ones
 
-  pub reach_declared : (r n object : ℕ) → r < named header → named header ≤ object → Below (λ o. backing_of header o old) n r object → ⊥
-  reach_declared r zero object declared temporary is = omega (arith, is, declared, temporary)
-  reach_declared r (suc n) object declared temporary is = let bad : true ≡ false = sym is.0 ∙ sound.bare r declared in absurd (cc)
-
-  pub reach_now : ((r : ℕ) → is_open r old ≡ false) → (object : ℕ) → named header ≤ object → Reach header h object old → Reach header h object new
-  reach_now shut object temporary reach = elim (cases_lt reach.0 (named header)) [
-    | inl declared ↦ absurd (reach_declared reach.0 reach.1 object declared temporary
-        (subst (λ (z : ℕ). Below (λ o. backing_of header o old) reach.1 z object) (sound.tops reach.0 declared) reach.3))
-    | inr ours ↦
-        let used : is_used header h reach.0 old ≡ true = used_of header h reach.0 old (shut reach.0) reach.2 in
-        let own : IsRegionOf header h reach.0 old = λ is. used in (
-          reach.0,
-          reach.1,
-          use_of header h reach.0 new (same.used reach.0 ours ∙ used),
-          subst (λ (z : Region). Below (λ o. backing_of header o new) reach.1 z.top object) (sym (region_now reach.0 own))
-              (below_is header h old new same.backing reach.1 (region_of header reach.0 old).top object
-              (knows.chains reach.0 (small_region header h reach.0 old sound own) own) reach.3),
-        )
-  ]
-
-  -- what is left of declared ones
-
-  unheld_was : (object : ℕ) → IsUnheld header h object new → IsUnheld header h object old
-  unheld_was object none = record {
+  unheld_was : ((r : ℕ) → is_open r old ≡ false) → (object : ℕ) → IsUnheld header h object new → IsUnheld header h object old
+  unheld_was shut object none = record {
     unmapped = λ task lives. sym (ap (has_entry object) (same.task task lives).entries) ∙ none.unmapped task (same.lives task ∙ lives);
     uncached = sym (same.pages.cached object) ∙ none.uncached;
+    unreached = λ r depth temporary used below.
+        let there : is_used header h r old ≡ true = used_of header h r old (shut r) used in
+        none.unreached r depth temporary (use_of header h r new (same.used r temporary ∙ there)) (below_now r depth object (λ is. there) below);
   }
 
   pub swept_now : ((r : ℕ) → is_open r old ≡ false) → IsSwept header h old → IsSwept header h new
@@ -272,6 +327,7 @@ module _ (header : Header) (h : ℕ) (old new : List Event) (sound : Sound heade
         λ object page temporary away. ap (λ z. z.here) (page_now object page)
         ∙ is.pages object page temporary (λ reach. away (reach_now shut object temporary reach));
     controls = λ object temporary away. same.pages.live object ∙ is.controls object temporary (λ reach. away (reach_now shut object temporary reach));
-    declared_pages = λ object page declared none. ap (λ z. z.here) (page_now object page) ∙ is.declared_pages object page declared (unheld_was object none);
-    declared_controls = λ object declared none. same.pages.live object ∙ is.declared_controls object declared (unheld_was object none);
+    declared_pages =
+        λ object page declared none. ap (λ z. z.here) (page_now object page) ∙ is.declared_pages object page declared (unheld_was shut object none);
+    declared_controls = λ object declared none. same.pages.live object ∙ is.declared_controls object declared (unheld_was shut object none);
   }

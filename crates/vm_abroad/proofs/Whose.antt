@@ -18,7 +18,7 @@ use Rattle.vm_legal.specs.Stretches.{EachIn}
 use Rattle.vm_abroad.specs.Sound.{IsAbroad, Sound}
 use Rattle.vm_abroad.specs.Whose.{IsNewTask, IsOfHost}
 use Rattle.vm_abroad.proofs.Home.{on_host, same_some}
-use Rattle.vm_abroad.proofs.Sounds.{both_left, one_home, shut_before, used_of}
+use Rattle.vm_abroad.proofs.Sounds.{both_left, copied_on, one_home, shut_before, used_of}
 
 one_number : (a g h : ℕ) → (a == g) ≡ true → (a == h) ≡ true → h ≡ g
 one_number a g h one two = grind (arith, nat_tests)
@@ -46,7 +46,9 @@ own_of_home header outside g (event.RegionMade region object pages) past sound c
 own_of_home header outside g (event.RegionCopied region source offset pages) past sound cause next new home h there =
     let shut = shut_before source.0 (event.RegionCopied region source offset pages) past next refl in
     sound.apart h g source.0 cause.1.temporary (used_of header h source.0 past shut there) (used_of header g source.0 past shut home)
-own_of_home header outside g (event.Delayed region source offset pages copy) past sound cause next new home h there = absurd cause.1
+own_of_home header outside g (event.Delayed region source offset pages copy) past sound cause next new home h there =
+    copied_on header h region.0 source.0 offset pages copy.0 past sound cause.1 there
+    ∙ sym (copied_on header g region.0 source.0 offset pages copy.0 past sound cause.1 home)
 own_of_home header outside g (event.Entered task address bytes region offset prot inherit) past sound cause next new home h there =
     one_task g h task.0 past home there
 own_of_home header outside g (event.Removed task address bytes) past sound cause next new home h there = one_task g h task.0 past home there

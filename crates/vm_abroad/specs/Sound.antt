@@ -1,22 +1,28 @@
 -- Where regions are in use, and what the tables of a host lead to.
-use Rattle.std.specs.Prelude.{ℕ, ◌<◌, ◌≤◌, ◌≡◌, ◌⊎◌, ◌||◌, Bool, true, false, List, [], ◌∷◌}
+use Rattle.std.specs.Prelude.{ℕ, ◌<◌, ◌≤◌, ◌≡◌, ◌⊎◌, ◌||◌, Bool, true, false, List, [], ◌∷◌, Some}
 use Rattle.vm_model.specs.declared.event.Event.{Event}
 use Rattle.vm_model.specs.declared.script.Header.{Header}
-use Rattle.vm_model.specs.Homes.{object_home}
+use Rattle.vm_model.specs.Homes.{home_of, object_home}
 use Rattle.vm_model.specs.Local.{is_on}
 use Rattle.vm_model.specs.Named.{named}
 use Rattle.vm_model.specs.Regions.{backing_of, next_object, next_region, region_of}
 use Rattle.vm_model.specs.Rows.{AllRows}
-use Rattle.vm_model.specs.Tasks.{entries_of, has_entry}
+use Rattle.vm_model.specs.Tasks.{entries_of, has_entry, host_of}
 use Rattle.vm_model.specs.Waiting.{copy_target, fills, waiting}
-use Rattle.vm_legal.specs.Homes.{EntersNext, is_home, is_used}
+use Rattle.vm_legal.specs.Homes.{EntersNext, is_home, is_open, is_used}
 use Rattle.vm_legal.specs.Licences.{HasCause}
 use Rattle.vm_legal.specs.Living.{lives_on, tasks}
-use Rattle.vm_legal.specs.Outside.{Outside}
+use Rattle.vm_legal.specs.Outside.{Outside, is_file}
 use Rattle.vm_legal.specs.Used.{in_use}
 use Rattle.vm_legal.specs.Walks.{Below}
+use Rattle.vm_abroad.specs.Home.{HaveHomes}
 
--- a temporary region that is in use was made, and is used on one host; the declared regions and objects are as they were declared
+-- an entry on a file is on the host where the file is at home
+abbrev pub IsFiled : Header → ℕ → ℕ → List Event → Type 0
+IsFiled header host region past = is_file header region ≡ true → home_of region past ≡ Some host
+
+-- A temporary region that is in use was made, and is used on one host; the declared regions and objects are as they were declared. Entries on
+-- a file are on one host. A region that was made just now is over an object that stands on nothing.
 pub record Sound (header : Header) (past : List Event) : Type 0 where
   pub named_regions : named header ≤ next_region header past
   pub named_objects : named header ≤ next_object header past
@@ -25,6 +31,9 @@ pub record Sound (header : Header) (past : List Event) : Type 0 where
   pub unmarked : (r : ℕ) → r < named header → (region_of header r past).mark ≡ false
   pub tops : (r : ℕ) → r < named header → (region_of header r past).top ≡ r
   pub bare : (o : ℕ) → o < named header → (backing_of header o past).backed ≡ false
+  pub homes : HaveHomes header past
+  pub filed : (task host : ℕ) → host_of task past ≡ Some host → AllRows (λ row. IsFiled header host row.region.0 past) (entries_of header.size task past)
+  pub opens : (r : ℕ) → is_open r past ≡ true → (backing_of header (region_of header r past).top past).backed ≡ false
 
 -- one of the numbers is this
 abbrev pub IsAmong : ℕ → List ℕ → Type 0

@@ -7,7 +7,8 @@ use Rattle.vm_flat.specs.Words.{SpotDownWord, Answers, Nothing}
 use Rattle.vm_flat.specs.Spot.{spot_after}
 use Rattle.vm_flat.proofs.Allowed.{May}
 use Rattle.vm_flat.proofs.Deeds.{is_file, covered, Ground, Deed, Answered, said, row, objects, link, spot, flat}
-use Rattle.vm_flat.proofs.Causes.{Cause, Ours, OwnRegion, Foreign}
+use Rattle.vm_flat.proofs.Marked.{Marked, marked_nothing, marked_saved, marked_plain, copy_plain}
+use Rattle.vm_flat.proofs.Causes.{Reach, Cause, Ours, OwnRegion, Foreign}
 use Rattle.vm_flat.proofs.Good.{Good, good_answers, good_tells, good_again}
 use Rattle.vm_flat.proofs.World.{ReachAt, World, view, GoodAt, path_covered, under_view, Barren, each_place}
 use Rattle.vm_flat.proofs.Traffic.{After, rest_nothing}
@@ -15,7 +16,7 @@ use Rattle.vm_flat.proofs.Stored.{and_no, and_yes, page_no, page_yes, no_if, not
 
 -- it says what was known
 after_plain : (z : Ground) (own : Bool) (o p : ℕ) (word : SpotDownWord) (past : List Deed) → World z past
-    → (Ours z own o → May z.zeros (spot z o p past) (Answers false word)) → World z (Answered own false o p word ∷ past)
+    → (Ours z own o past → May z.zeros (spot z o p past) (Answers false word)) → World z (Answered own false o p word ∷ past)
 after_plain z own o p word past w c =
     record {
       shape = w.shape;
@@ -24,13 +25,23 @@ after_plain z own o p word past w c =
           (λ is ours. good_answers z.zeros (ReachAt z o p past) (objects z past ≤ o) (Barren z o p past) (view z o p past) (link z o past).backed
           (under_view z o p past) (spot z o p past) word (w.places o p ours) (c (record { on_host = is; covered = ours })))
           (rest_nothing z past w);
+      stems = w.stems;
+      marks = each_place (Marked z past) o p own (Answers false word) Nothing
+          (λ is. marked_saved z past w o p (Answers false word) (λ ours. (c (record { on_host = is; covered = ours }), λ r. tt))) (marked_nothing z past w);
     }
 
 -- it says what the file has
 after_told : (z : Ground) (k q : ℕ) (word : SpotDownWord) (past : List Deed) → World z past → May z.zeros (spot z k q past) (Answers true word)
     → OwnRegion z k past → World z (Answered true true k q word ∷ past)
 after_told z k q word past w may c =
-    record { shape = w.shape; regional = regional; places = λ o p ours. places_if o p ours (k == o && q == p) refl }
+    record {
+      shape = w.shape;
+      regional = regional;
+      places = λ o p ours. places_if o p ours (k == o && q == p) refl;
+      stems = w.stems;
+      marks = each_place (Marked z past) k q true (Answers true word) Nothing
+          (λ is. marked_plain z past w k q (Answers true word) (λ copy. copy_plain z k past w copy c.file)) (marked_nothing z past w);
+    }
   where
     view_else : (o p : ℕ) → (o ≡ k → p ≡ q → ⊥) → view z o p (Answered true true k q word ∷ past) ≡ view z o p past
     view_else o p apart = and_no o p k q (said z.zeros word (view z o p past)) (view z o p past) apart
@@ -71,10 +82,10 @@ after_told z k q word past w may c =
     barren_else o p apart barren n l lp path =
         (view_else l lp (λ e f. clash (is_file z l) (barren n l lp path).1 (ap (is_file z) e ∙ c.file)) ∙ (barren n l lp path).0, (barren n l lp path).1)
 
-    under_same : (o p : ℕ) → (link z o past).backed ≡ true → under_view z o p (Answered true true k q word ∷ past) ≡ under_view z o p past
-    under_same o p backed = view_else (link z o past).under ((link z o past).shift + p) (λ e f. c.bare o backed e)
+    under_same : (o p : ℕ) → Reach z o past → (link z o past).backed ≡ true → under_view z o p (Answered true true k q word ∷ past) ≡ under_view z o p past
+    under_same o p reach backed = view_else (link z o past).under ((link z o past).shift + p) (λ e f. c.bare o reach backed e)
 
-    own : (o p : ℕ) → covered z o ≡ true → o ≡ k → p ≡ q
+    own : (o p : ℕ) → covered z o past ≡ true → o ≡ k → p ≡ q
         → Good z.zeros (ReachAt z o p past) (objects z past ≤ o) (Barren z o p (Answered true true k q word ∷ past)) (said z.zeros word (view z o p past))
         (link z o past).backed (under_view z o p (Answered true true k q word ∷ past)) (spot_after z.zeros (spot z o p past) (Answers true word))
     own o p ours e f =
@@ -86,19 +97,19 @@ after_told z k q word past w may c =
         (spot_after z.zeros (spot z o p past) (Answers true word))
         (good_tells z.zeros (ReachAt z o p past) (objects z past ≤ o) (Barren z o p past) (view z o p past) (link z o past).backed (under_view z o p past)
         (spot z o p past) word (w.places o p ours) may_here)
-        (λ x. x) (λ x. x) (λ x. refl) (λ reach none backed. under_same o p backed)
+        (λ x. x) (λ x. x) (λ x. refl) (λ reach none backed. under_same o p reach.0 backed)
         (λ reach barren. absurd (clash (is_file z o) (barren 0 o p (refl, refl)).1 (ap (is_file z) e ∙ c.file)))
 
-    other : (o p : ℕ) → covered z o ≡ true → (o ≡ k → p ≡ q → ⊥)
+    other : (o p : ℕ) → covered z o past ≡ true → (o ≡ k → p ≡ q → ⊥)
         → Good z.zeros (ReachAt z o p past) (objects z past ≤ o) (Barren z o p (Answered true true k q word ∷ past)) (view z o p past) (link z o past).backed
         (under_view z o p (Answered true true k q word ∷ past)) (spot z o p past)
     other o p ours apart =
         good_again z.zeros (ReachAt z o p past) (ReachAt z o p past) (objects z past ≤ o) (objects z past ≤ o) (Barren z o p past)
         (Barren z o p (Answered true true k q word ∷ past)) (view z o p past) (view z o p past) (link z o past).backed (under_view z o p past)
         (under_view z o p (Answered true true k q word ∷ past)) (spot z o p past)
-        (w.places o p ours) (λ x. x) (λ x. x) (λ x. refl) (λ reach none backed. under_same o p backed) (λ reach barren. barren_else o p apart barren)
+        (w.places o p ours) (λ x. x) (λ x. x) (λ x. refl) (λ reach none backed. under_same o p reach.0 backed) (λ reach barren. barren_else o p apart barren)
 
-    places_if : (o p : ℕ) → covered z o ≡ true → (b : Bool) → (k == o && q == p) ≡ b
+    places_if : (o p : ℕ) → covered z o past ≡ true → (b : Bool) → (k == o && q == p) ≡ b
         → Good z.zeros (ReachAt z o p past) (objects z past ≤ o) (Barren z o p (Answered true true k q word ∷ past))
         (if b then said z.zeros word (view z o p past) else view z o p past) (link z o past).backed (under_view z o p (Answered true true k q word ∷ past))
         (spot_after z.zeros (spot z o p past) (if b then Answers true word else Nothing))
@@ -109,9 +120,16 @@ after_told z k q word past w may c =
 after_away : (z : Ground) (own : Bool) (k q : ℕ) (word : SpotDownWord) (past : List Deed) → World z past → Foreign z own k k past
     → World z (Answered own true k q word ∷ past)
 after_away z own k q word past w f =
-    record { shape = w.shape; regional = regional; places = places }
+    record {
+      shape = w.shape;
+      regional = regional;
+      places = places;
+      stems = w.stems;
+      marks = each_place (Marked z past) k q own (Answers true word) Nothing (λ is ours. absurd (not_ours z own k k past f k ours is refl))
+          (marked_nothing z past w);
+    }
   where
-    view_is : (o p : ℕ) → covered z o ≡ true → view z o p (Answered own true k q word ∷ past) ≡ view z o p past
+    view_is : (o p : ℕ) → covered z o past ≡ true → view z o p (Answered own true k q word ∷ past) ≡ view z o p past
     view_is o p ours = no_if own o p k q (said z.zeros word (view z o p past)) (view z o p past) (not_ours z own k k past f o ours)
 
     clash : (b : Bool) → b ≡ false → b ≡ true → ⊥
@@ -125,7 +143,7 @@ after_away z own k q word past w f =
         ∙ w.regional g j used inside
         ∙ sym (view_is (row z g past).top ((row z g past).shift + j) (w.shape.covers_tops g used))
 
-    places : (o p : ℕ) → covered z o ≡ true → GoodAt z (Answered own true k q word ∷ past) o p (spot z o p (Answered own true k q word ∷ past))
+    places : (o p : ℕ) → covered z o past ≡ true → GoodAt z (Answered own true k q word ∷ past) o p (spot z o p (Answered own true k q word ∷ past))
     places o p ours =
         subst (λ e. GoodAt z (Answered own true k q word ∷ past) o p (spot_after z.zeros (spot z o p past) e))
         (sym (no_if own o p k q (Answers true word) Nothing (not_ours z own k k past f o ours)))

@@ -1,7 +1,6 @@
 -- Nothing of a file is asked, or here, or returned that lies past the object's pages.
-use Rattle.std.proofs.Common.{ℕ, zero, suc, ◌≡◌, ◌+◌, ◌<◌, ◌≤◌, inl, inr, List, [], ◌∷◌, Bool, true, false, Some, None, refl, sym, ap, subst, ◌∙◌, arith}
-use Rattle.std.proofs.Common.{if◌then◌else◌, ⊎_elim}
-use Rattle.std.proofs.lemmas.Bool.{cases_lt}
+use Rattle.std.proofs.Common.{ℕ, ◌≡◌, ◌+◌, ◌<◌, ◌≤◌, inl, inr, List, [], ◌∷◌, Bool, true, false, Some, None, refl, sym, ap, subst, ◌∙◌, arith}
+use Rattle.std.proofs.Common.{if◌then◌else◌}
 use Rattle.std.proofs.lemmas.Bool.Decides.{nat_tests}
 use Rattle.std.specs.Prelude.{◌==◌, ◌&&◌}
 use Rattle.vm_base.specs.declared.ids.HostId.{HostId}
@@ -13,8 +12,8 @@ use Rattle.vm_model.specs.declared.message.Message.{Message}
 use Rattle.vm_model.specs.declared.message.Message.TheVariants as message
 use Rattle.vm_model.specs.declared.script.Header.{Header}
 use Rattle.vm_model.specs.Moments.{EachEvent}
-use Rattle.vm_model.specs.Named.{declared_pages, named}
-use Rattle.vm_model.specs.Regions.{backing_of, region_of}
+use Rattle.vm_model.specs.Named.{declared_pages}
+use Rattle.vm_model.specs.Regions.{object_pages, region_of}
 use Rattle.vm_model.specs.Server.{first}
 use Rattle.vm_model.specs.Side.{rest}
 use Rattle.vm_legal.specs.Accesses.{page_of}
@@ -22,12 +21,14 @@ use Rattle.vm_legal.specs.Bytes.{CopiesCurrent}
 use Rattle.vm_legal.specs.Licences.{Asks, HasCause}
 use Rattle.vm_legal.specs.Outside.{Outside, is_file as declared_file}
 use Rattle.vm_legal.specs.Pagers.{last_return, newer}
-use Rattle.vm_legal.specs.Walks.{Sight, sight}
-use Rattle.vm_legal.specs.Walks as W
+use Rattle.vm_legal.specs.Walks.{sight}
 use Rattle.vm_flat.specs.Spot.{Spot, spot_after}
 use Rattle.vm_flat.specs.Words.{Requesting, Returning, SpotUpWord, SpotDownWord, Supplying, Unavailing, Erring, SpotEffect, Creates, Requests, Returns}
 use Rattle.vm_flat.specs.Words.{TakesRequest, TakesReturn, Answers, Takes, Zeroes, Raises, Stores, Drops, Moves, Ends, StepEnds, Nothing}
-use Rattle.vm_flat.proofs.Causes.{Cause, Ours}
+use Rattle.vm_legal.proofs.Files.{file_named}
+use Rattle.vm_flat.proofs.Causes.{Cause, Ours, Pushes}
+use Rattle.vm_flat.proofs.Covered.{covered_file, file_declared}
+use Rattle.vm_flat.proofs.Fits.{walk_inside}
 use Rattle.vm_flat.proofs.Classes.{deed, deeds, ground}
 use Rattle.vm_flat.proofs.Deeds.{Ground, Deed, Line, Zeroed, Raised, Stored, Dropped, Created, Asked, Copied, Returned, TookRequest, TookReturn, Answered, Took}
 use Rattle.vm_flat.proofs.Deeds.{Merged, Terminated, covered, is_file, spot}
@@ -36,12 +37,10 @@ use Rattle.vm_flat.proofs.File.{file_is}
 use Rattle.vm_flat.proofs.Holds.{Holds, led}
 use Rattle.vm_flat.proofs.Law.{holds}
 use Rattle.vm_flat.proofs.Merges.{of_other}
-use Rattle.vm_flat.proofs.Numbers.{NumberedAt}
 use Rattle.vm_flat.proofs.Queues.{returns}
-use Rattle.vm_flat.proofs.Settled.{pages_declared}
 use Rattle.vm_flat.proofs.Translation.{sustained}
 use Rattle.vm_flat.proofs.Using.{by_cause}
-use Rattle.vm_flat.proofs.World.{each_object, each_place, sinks_passed}
+use Rattle.vm_flat.proofs.World.{World, each_object, each_place, sinks_passed}
 
 -- a place of which nothing was ever asked
 pub record Bare (s : Spot) : Type 0 where
@@ -123,130 +122,107 @@ abbrev AsksInside : Ground → Deed → Type 0
 AsksInside z (Asked own lives object page) = own ≡ true → is_file z object ≡ true → page < z.length object
 AsksInside z other = Unit {0}
 
-file_covered : (z : Ground) (o : ℕ) → is_file z o ≡ true → covered z o ≡ true
-file_covered z o file = grind (arith, nat_tests)
+ours : (z : Ground) (own : Bool) (o : ℕ) (past : List Deed) → own ≡ true → is_file z o ≡ true → Ours z own o past
+ours z own o past is file = record { on_host = is; covered = covered_file z o past file }
 
-ours : (z : Ground) (own : Bool) (o : ℕ) → own ≡ true → is_file z o ≡ true → Ours z own o
-ours z own o is file = record { on_host = is; covered = file_covered z o file }
+-- what a store pushes comes into a copy, and no copy is a file
+pushed_never : {A : Type 0} (z : Ground) (lower lower_page upper upper_page : ℕ) (past : List Deed) → World z past
+    → Pushes z lower lower_page upper upper_page past → is_file z upper ≡ true → A
+pushed_never z lower lower_page upper upper_page past w pushes file =
+    absurd (omega (arith, (w.stems.sources upper lower (w.stems.newest_is lower upper pushes.newest).source).late, file_declared z upper file))
 
 plain_never : {A : Type 0} (z : Ground) (o p : ℕ) (past : List Deed) → is_file z o ≡ true → (spot z o p past).file ≡ false → A
 plain_never z o p past file plain = clash (spot z o p past).file plain (file_is z o p past ∙ file)
 
-bare_next : (z : Ground) (o p : ℕ) (d : Deed) (past : List Deed) → Cause z d past → AsksInside z d → is_file z o ≡ true → z.length o ≤ p
+bare_next : (z : Ground) (o p : ℕ) (d : Deed) (past : List Deed) → World z past → Cause z d past → AsksInside z d → is_file z o ≡ true → z.length o ≤ p
     → Bare (spot z o p past) → Bare (spot z o p (d ∷ past))
-bare_next z o p Line past c i file past_end b = rest_step z past o p file past_end b
-bare_next z o p (Zeroed own object page) past c i file past_end b =
+bare_next z o p Line past w c i file past_end b = rest_step z past o p file past_end b
+bare_next z o p (Zeroed own object page) past w c i file past_end b =
     each_place (After z past) object page own Zeroes Nothing
-    (λ is f e was. elim (c (ours z own object is f)) [
+    (λ is f e was. elim (c (ours z own object past is f)) [
       | inl void ↦ bare_after z.zeros (spot z object page past) Zeroes void.1.void was
       | inr bottoms ↦ plain_never z object page past f (sinks_passed z bottoms.steps object page past bottoms.sinks).plain
     ])
     (rest_same z past) o p file past_end b
-bare_next z o p (Raised own lower lower_page upper upper_page) past c i file past_end b =
+bare_next z o p (Raised own lower lower_page upper upper_page) past w c i file past_end b =
     each_place (After z past) upper upper_page own (Raises (spot z lower lower_page past).bytes) Nothing
-    (λ is f e was. let finds = c (ours z own upper is f) in plain_never z upper upper_page past f finds.walks.0.plain)
+    (λ is f e was. elim (c (ours z own upper past is f)) [
+      | inl finds ↦ plain_never z upper upper_page past f finds.walks.0.plain
+      | inr pushes ↦ pushed_never z lower lower_page upper upper_page past w pushes f
+    ])
     (rest_same z past) o p file past_end b
-bare_next z o p (Stored own region index object page at bytes) past c i file past_end b =
+bare_next z o p (Stored own region index object page at bytes) past w c i file past_end b =
     each_place (After z past) object page own (Stores at bytes) Nothing
     (λ is f e was. elim c [
       | inl there ↦ bare_after z.zeros (spot z object page past) (Stores at bytes) there.1.here was
-      | inr away ↦ clash (covered z object) (away.apart is) (file_covered z object f)
+      | inr away ↦ clash (covered z object past) (away.apart is) (covered_file z object past f)
     ])
     (rest_same z past) o p file past_end b
-bare_next z o p (Copied own source index object page region j upper upper_page) past c i file past_end b =
+bare_next z o p (Copied own source index object page region j upper upper_page) past w c i file past_end b =
     each_place (After z past) upper upper_page own (Raises (spot z object page past).bytes) Nothing
     (λ is f e was. elim c [
       | inl there ↦ plain_never z upper upper_page past f there.1.plain
-      | inr away ↦ clash (covered z upper) (away.apart is) (file_covered z upper f)
+      | inr away ↦ clash (covered z upper past) (away.apart is) (covered_file z upper past f)
     ])
     (rest_same z past) o p file past_end b
-bare_next z o p (Dropped own object page) past c i file past_end b =
+bare_next z o p (Dropped own object page) past w c i file past_end b =
     each_place (After z past) object page own Drops Nothing (λ is f e was. bare_after z.zeros (spot z object page past) Drops tt was) (rest_same z past) o p
     file past_end b
-bare_next z o p (Created own object) past c i file past_end b =
-    each_object (After z past) object own Creates Nothing (λ is q f e was. bare_after z.zeros (spot z object q past) Creates tt was) (rest_same z past) o p file
+bare_next z o p (Created own object) past w c i file past_end b =
+    each_object (After z past) object own Creates Nothing (λ is q f e was. bare_after z.zeros (spot z object q past) Creates tt was)
+    (rest_same z past) o p file
     past_end b
-bare_next z o p (Asked own lives object page) past c i file past_end b =
+bare_next z o p (Asked own lives object page) past w c i file past_end b =
     each_place (After z past) object page own (Requests lives) Nothing (λ is f e was. absurd (let inside = i is f in omega (arith, inside, e)))
     (rest_same z past) o p file past_end b
-bare_next z o p (Returned own object page keep bytes) past c i file past_end b =
-    each_place (After z past) object page own (Returns keep bytes) Nothing (λ is f e was. let may = c (ours z own object is f) in bare_after z.zeros
+bare_next z o p (Returned own object page keep bytes) past w c i file past_end b =
+    each_place (After z past) object page own (Returns keep bytes) Nothing (λ is f e was. let may = c (ours z own object past is f) in bare_after z.zeros
     (spot z object page past) (Returns keep bytes) may.1 was) (rest_same z past) o p file past_end b
-bare_next z o p (TookRequest own object page) past c i file past_end b =
+bare_next z o p (TookRequest own object page) past w c i file past_end b =
     each_place (After z past) object page own TakesRequest StepEnds (λ is f e was. bare_after z.zeros (spot z object page past) TakesRequest tt was)
     (rest_step z past) o p file past_end b
-bare_next z o p (TookReturn own object page bytes) past c i file past_end b =
+bare_next z o p (TookReturn own object page bytes) past w c i file past_end b =
     each_place (After z past) object page own (TakesReturn bytes) StepEnds (λ is f e was. bare_after z.zeros (spot z object page past) (TakesReturn bytes)
-    (c (ours z own object is f)) was) (rest_step z past) o p file past_end b
-bare_next z o p (Answered own tells object page word) past c i file past_end b =
+    (c (ours z own object past is f)) was) (rest_step z past) o p file past_end b
+bare_next z o p (Answered own tells object page word) past w c i file past_end b =
     each_place (After z past) object page own (Answers tells word) Nothing (λ is f e was. bare_after z.zeros (spot z object page past) (Answers tells word) tt
     was) (rest_same z past) o p file past_end b
-bare_next z o p (Took own object page word) past c i file past_end b =
+bare_next z o p (Took own object page word) past w c i file past_end b =
     each_place (After z past) object page own (Takes word) StepEnds (λ is f e was. bare_after z.zeros (spot z object page past) (Takes word) tt was)
     (rest_step z past) o p file past_end b
-bare_next z o p (Terminated own object) past c i file past_end b =
+bare_next z o p (Terminated own object) past w c i file past_end b =
     each_object (After z past) object own Ends Nothing (λ is q f e was. bare_after z.zeros (spot z object q past) Ends tt was) (rest_same z past) o p file
     past_end b
-bare_next z o p (Merged true upper lower shift upper_pages lower_pages) past c i file past_end b =
+bare_next z o p (Merged true upper lower shift upper_pages lower_pages) past w c i file past_end b =
     subst (λ (e : SpotEffect). Bare (spot_after z.zeros (spot z o p past) e))
     (sym (of_other o p upper lower shift upper_pages lower_pages (spot z o p past) (spot z lower (shift + p) past)
     (λ e. clash (is_file z o) (ap (λ k. is_file z k) e ∙ c.upper_plain) file) (λ e. clash (is_file z o) (ap (λ k. is_file z k) e ∙ c.lower_plain) file))) b
-bare_next z o p d past c i file past_end b = b
+bare_next z o p d past w c i file past_end b = b
 
 bare_start : (z : Ground) (o p : ℕ) → Bare (spot z o p [])
 bare_start z o p = record { away = refl; unasked = refl; known = refl; none = refl }
 
 -- what is asked of a file is a page of the object
 
--- a walk ends at a declared object only where it begins
-walk_later : (header : Header) (sights : ℕ → ℕ → Sight) (past : List Event) → NumberedAt header past → (n o p l lp : ℕ) → named header ≤ o
-    → W.Walks sights (λ k. backing_of header k past) n o p l lp → named header ≤ l
-walk_later header sights past num zero o p l lp above walk = omega (arith, above, walk.0)
-walk_later header sights past num (suc n) o p l lp above walk =
-    walk_later header sights past num n (backing_of header o past).under ((backing_of header o past).shift + p) l lp (num.lower o walk.1) walk.2
-
-record AtOnce (o p l lp : ℕ) : Type 0 where
-  object : o ≡ l
-  page : p ≡ lp
-
-at_once : (header : Header) (sights : ℕ → ℕ → Sight) (past : List Event) → NumberedAt header past → (n o p l lp : ℕ) → l < named header
-    → W.Walks sights (λ k. backing_of header k past) n o p l lp → AtOnce o p l lp
-at_once header sights past num zero o p l lp below walk = record { object = walk.0; page = walk.1 }
-at_once header sights past num (suc n) o p l lp below walk =
-    let above = walk_later header sights past num n (backing_of header o past).under ((backing_of header o past).shift + p) l lp (num.lower o walk.1) walk.2 in
-    absurd (omega (arith, above, below))
-
-declared_region : (header : Header) (r next : ℕ) (past : List Event) → NumberedAt header past
-    → (named header ≤ r → named header ≤ (region_of header r past).top) → (region_of header r past).top < named header → r < named header
-declared_region header r next past num temporary below =
-    ⊎_elim (λ less. less) (λ above. absurd (let more = temporary above in omega (arith, more, below))) (cases_lt r (named header))
-
-asks_inside : (header : Header) (outside : Outside) (host control object page wanted : ℕ) (past : List Event) → EachEvent (HasCause header outside) past
-    → Holds header outside past → declared_file header object ≡ true → Asks header host control object page wanted past
-    → page < declared_pages header object
-asks_inside header outside host control object page wanted past caused h file c =
-    let num : NumberedAt header past = h.numbered in
-    let below : object < named header = grind (arith, nat_tests) in
+asks_inside : (header : Header) (outside : Outside) (host control object page wanted : ℕ) (past : List Event) → Holds header outside past
+    → declared_file header object ≡ true → Asks header host control object page wanted past → page < declared_pages header object
+asks_inside header outside host control object page wanted past h file c =
     let r : ℕ = c.waits.at.entry.region.0 in
     let i : ℕ = page_of header c.task c.access past c.waits.at.entry in
     let row = led header outside c.task _ past h.entries c.waits.at in
-    let end : AtOnce c.comes.top c.comes.top_page object page = at_once header (λ k q. sight header host k q past) past num c.comes.steps c.comes.top
-    c.comes.top_page object page below c.comes.walks in
-    let top : (region_of header r past).top ≡ object = c.comes.is_top.object ∙ end.object in
-    let declared : r < named header = declared_region header r 0 past num (λ above. num.temporary r above row.is.made) (omega (arith, top, below)) in
-    let own : r ≡ object = sym (num.declared_top r declared) ∙ top in
-    let shift : (region_of header r past).shift ≡ 0 = num.declared_shift r declared in
-    let index : i ≡ page = let turned = c.comes.is_top.page in let same = end.page in omega (arith, shift, turned, same) in
     let inside : i < (region_of header r past).pages = row.is.inside.each _ row.from row.below in
-    let pages : (region_of header r past).pages ≡ declared_pages header object = pages_declared header outside r past caused declared
-    ∙ ap (λ (k : ℕ). declared_pages header k) own in
-    omega (arith, inside, pages, index)
+    let at : (region_of header r past).shift + i < object_pages header (region_of header r past).top past = h.fits.tops r i row.is.made inside in
+    let top : c.comes.top_page < object_pages header c.comes.top past = subst (λ (k : ℕ). c.comes.top_page < object_pages header k past)
+    c.comes.is_top.object (omega (arith, at, c.comes.is_top.page)) in
+    let end : page < object_pages header object past = walk_inside header (λ k q. sight header host k q past) past h.fits c.comes.steps c.comes.top
+    c.comes.top_page object page top c.comes.walks in
+    subst (λ (n : ℕ). page < n) (h.fits.declared object (file_named header object file)) end
 
 asks_deed : (header : Header) (outside : Outside) (host : ℕ) (e : Event) (past : List Event) → EachEvent (HasCause header outside) past
     → Holds header outside past → HasCause header outside e past → AsksInside (ground header outside) (deed header outside host e past)
 asks_deed header outside host (event.Sent (Up at object) (message.Request control page access)) past caused h c = λ is file.
     by_cause header outside (event.Sent (Up at object) (message.Request control page access)) past c
-    (λ doing asks. asks_inside header outside at.0 control object.0 page.0 access past caused h file asks)
+    (λ doing asks. asks_inside header outside at.0 control object.0 page.0 access past h file asks)
 asks_deed header outside host (event.Sent (Up at object) (message.Init control size)) past caused h c = tt
 asks_deed header outside host (event.Sent (Up at object) (message.Create control size)) past caused h c = tt
 asks_deed header outside host (event.Sent (Up at object) (message.Return control page dirty keep bytes)) past caused h c = tt
@@ -282,7 +258,8 @@ takes_none header outside host o p at object (message.Return control page dirty 
         let object_is : object.0 ≡ o = grind (arith, nat_tests) in
         let page_is : page.0 ≡ p = grind (arith, nat_tests) in
         let may : first (spot (ground header outside) object.0 page.0 (deeds header outside host past)).up ≡ Some (Returning bytes) = c
-        (ours (ground header outside) (at.0 == host) object.0 own (subst (λ (k : ℕ). declared_file header k ≡ true) (sym object_is) file)) in
+        (ours (ground header outside) (at.0 == host) object.0 (deeds header outside host past) own (subst (λ (k : ℕ). declared_file header k ≡ true)
+        (sym object_is) file)) in
         let there : first (spot (ground header outside) o p (deeds header outside host past)).up ≡ Some (Returning bytes) =
         subst (λ (k : ℕ). first (spot (ground header outside) k p (deeds header outside host past)).up ≡ Some (Returning bytes)) object_is
         (subst (λ (q : ℕ). first (spot (ground header outside) object.0 q (deeds header outside host past)).up ≡ Some (Returning bytes)) page_is may) in
@@ -321,7 +298,7 @@ beyond header outside (e ∷ past) caused current host o p file past_end =
     (sustained header outside (e ∷ past) caused).0 current.0 in
     record {
       bare =
-          bare_next (ground header outside) o p (deed header outside host e past) (deeds header outside host past) c
+          bare_next (ground header outside) o p (deed header outside host e past) (deeds header outside host past) (h.worlds host) c
           (asks_deed header outside host e past caused.1 h caused.0) file past_end was.bare;
       none = none_next header outside host o p e past file c was.bare was.none;
     }

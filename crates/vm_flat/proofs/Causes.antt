@@ -1,8 +1,9 @@
 -- Why a deed may happen, as far as one host's temporary and file memory goes.
-use Rattle.std.specs.Prelude.{ℕ, zero, suc, ◌+◌, ◌<◌, ◌≤◌, ◌≡◌, ◌≢◌, ◌⊎◌, List, [], ◌∷◌, Bool, true, false, None}
+use Rattle.std.specs.Prelude.{ℕ, zero, suc, ◌+◌, ◌<◌, ◌≤◌, ◌≡◌, ◌≢◌, ◌⊎◌, ◌&&◌, List, [], ◌∷◌, Bool, true, false, Some, None}
 use Rattle.vm_flat.specs.Words.{Requests, Returns, TakesRequest, TakesReturn, Answers, Takes}
 use Rattle.vm_flat.specs.Spot.{Spot}
 use Rattle.vm_flat.proofs.Allowed.{Passed, May, content}
+use Rattle.vm_flat.proofs.Deeds.{is_copy, is_pushed, newest, told}
 use Rattle.vm_flat.proofs.Deeds.{Ground, is_file, covered, Deed, Line, Region, Cow, Kept, Shadowed, Unmarked, Zeroed, Raised, Stored, Dropped, Created, Asked}
 use Rattle.vm_flat.proofs.Deeds.{Copied, Delayed, Merged, pages}
 use Rattle.vm_flat.proofs.Deeds.{Returned, TookRequest, TookReturn, Answered, Took, Terminated, Elsewhere, Row, row, regions, objects, Link, link, spot}
@@ -44,9 +45,9 @@ pub record Tops (z : Ground) (r i o p : ℕ) (past : List Deed) : Type 0 where
   pub inside : i < (row z r past).pages
 
 -- the place's object is on the host, and is a file or temporary
-pub record Ours (z : Ground) (own : Bool) (object : ℕ) : Type 0 where
+pub record Ours (z : Ground) (own : Bool) (object : ℕ) (past : List Deed) : Type 0 where
   pub on_host : own ≡ true
-  pub covered : covered z object ≡ true
+  pub covered : covered z object past ≡ true
 
 -- the step took the pager's word that a file has no such page
 pub record Void (s : Spot) : Type 0 where
@@ -71,6 +72,19 @@ pub record Finds (z : Ground) (lower lower_page upper upper_page : ℕ) (past : 
   pub walks : Walks z (suc steps) upper upper_page lower lower_page past
   pub here : (spot z lower lower_page past).here ≡ true
 
+-- a file's page that is here comes into the newest copy of the file, into which it didn't come yet
+pub record Pushes (z : Ground) (lower lower_page upper upper_page : ℕ) (past : List Deed) : Type 0 where
+  pub file : is_file z lower ≡ true
+  pub region : ℕ
+  pub index : ℕ
+  pub tops : Tops z region index lower lower_page past
+  pub newest : newest z lower past ≡ Some upper
+  pub same_page : upper_page ≡ lower_page
+  pub here : (spot z lower lower_page past).here ≡ true
+  pub away : (spot z upper upper_page past).here ≡ false
+  pub unasked : (spot z upper upper_page past).asked ≡ false
+  pub unpushed : is_pushed z upper upper_page past ≡ false
+
 pub record StoresThere (z : Ground) (region index object page : ℕ) (past : List Deed) : Type 0 where
   pub tops : Tops z region index object page past
   pub unmarked : (row z region past).mark ≡ false
@@ -85,13 +99,14 @@ pub record CopiesThere (z : Ground) (source index object page region i upper upp
   pub away : (spot z upper upper_page past).here ≡ false
   pub unasked : (spot z upper upper_page past).asked ≡ false
   pub plain : (spot z upper upper_page past).file ≡ false
+  pub no_copy : is_copy z upper past ≡ false
   -- the page that is copied is the source's
   pub same : flat z source index past ≡ (spot z object page past).bytes
 
 -- a region that is not in use here, and a place that is not ours
 pub record Foreign (z : Ground) (own : Bool) (region object : ℕ) (past : List Deed) : Type 0 where
   pub unused : (row z region past).used ≡ false
-  pub apart : own ≡ true → covered z object ≡ false
+  pub apart : own ≡ true → covered z object past ≡ false
 
 -- a file's region is the file's alone
 pub record OwnRegion (z : Ground) (object : ℕ) (past : List Deed) : Type 0 where
@@ -99,7 +114,7 @@ pub record OwnRegion (z : Ground) (object : ℕ) (past : List Deed) : Type 0 whe
   pub top : (row z object past).top ≡ object
   pub shift : (row z object past).shift ≡ 0
   pub alone : (r : ℕ) → (row z r past).used ≡ true → r ≢ object → (row z r past).top ≢ object
-  pub bare : (o : ℕ) → (link z o past).backed ≡ true → (link z o past).under ≢ object
+  pub bare : (o : ℕ) → Reach z o past → (link z o past).backed ≡ true → (link z o past).under ≢ object
 
 -- a region's top is no other's, and nothing stands on it
 pub record TopAlone (z : Ground) (region : ℕ) (past : List Deed) : Type 0 where
@@ -122,38 +137,50 @@ pub record Joins (z : Ground) (own : Bool) (upper lower shift upper_pages lower_
   pub lower_pages_is : pages z lower past ≡ lower_pages
   pub upper_plain : is_file z upper ≡ false
   pub lower_plain : is_file z lower ≡ false
+  pub no_copy : is_copy z lower past ≡ false
   pub pair : own ≡ true → Pair z upper lower past
   pub foreign : own ≡ false → Reach z upper past → ⊥
 
+-- a copy of a file stands over it, and is of pages of its region
+pub record Delays (z : Ground) (tells : Bool) (region source off count copy : ℕ) (past : List Deed) : Type 0 where
+  pub next : region ≡ regions z past
+  pub new : copy ≡ objects z past
+  pub file : is_file z source ≡ true
+  pub top : (row z source past).top ≡ source
+  pub shift : (row z source past).shift ≡ 0
+  pub inside : off + count ≤ (row z source past).pages
+  pub told : tells ≡ true → (z.paging && told z (Some source)) ≡ true
+
 abbrev pub Cause : Ground → Deed → List Deed → Type 0
 Cause z Line past = Unit {0}
-Cause z (Region own region object count) past = (region ≡ regions z past) × (object ≡ objects z past) × (own ≡ true → covered z object ≡ true)
+Cause z (Region own region object count) past = (region ≡ regions z past) × (object ≡ objects z past) × (own ≡ true → z.paging ≡ true)
 Cause z (Cow region source off count) past = (region ≡ regions z past) × (source < regions z past) × (off + count ≤ (row z source past).pages)
-Cause z (Delayed region source off count copy newest) past = ⊥
+Cause z (Delayed tells region source off count copy) past = Delays z tells region source off count copy past
 Cause z (Kept held) past = Unit {0}
 Cause z (Shadowed region new) past =
-    (new ≡ objects z past) × (region < regions z past) × ((row z region past).mark ≡ true) × (covered z (row z region past).top ≡ covered z new)
+    (new ≡ objects z past) × (region < regions z past) × ((row z region past).mark ≡ true) × (z.named ≤ (row z region past).top)
 Cause z (Unmarked region) past = (row z region past).used ≡ true → TopAlone z region past
 Cause z (Merged own upper lower shift upper_pages lower_pages) past = Joins z own upper lower shift upper_pages lower_pages past
-Cause z (Zeroed own object page) past = Ours z own object → ((is_file z object ≡ true) × Void (spot z object page past)) ⊎ Bottoms z object page past
-Cause z (Raised own lower lower_page upper upper_page) past = Ours z own upper → Finds z lower lower_page upper upper_page past
+Cause z (Zeroed own object page) past = Ours z own object past → ((is_file z object ≡ true) × Void (spot z object page past)) ⊎ Bottoms z object page past
+Cause z (Raised own lower lower_page upper upper_page) past =
+    Ours z own upper past → Finds z lower lower_page upper upper_page past ⊎ Pushes z lower lower_page upper upper_page past
 Cause z (Stored own region index object page at bytes) past =
-    (Ours z own object × StoresThere z region index object page past) ⊎ Foreign z own region object past
+    (Ours z own object past × StoresThere z region index object page past) ⊎ Foreign z own region object past
 Cause z (Copied own source index object page region i upper upper_page) past =
-    (Ours z own upper × CopiesThere z source index object page region i upper upper_page past) ⊎ Foreign z own region upper past
+    (Ours z own upper past × CopiesThere z source index object page region i upper upper_page past) ⊎ Foreign z own region upper past
 Cause z (Dropped own object page) past =
-    Ours z own object → ((spot z object page past).here ≡ true) × (((spot z object page past).dirty ≡ false) ⊎ (Reach z object past → ⊥))
-Cause z (Created own object) past = Ours z own object → (object < objects z past) × (control z object past ≡ 0)
-Cause z (Asked own lives object page) past = Ours z own object → May z.zeros (spot z object page past) (Requests lives)
-Cause z (Returned own object page keep bytes) past = Ours z own object → May z.zeros (spot z object page past) (Returns keep bytes)
-Cause z (TookRequest own object page) past = Ours z own object → May z.zeros (spot z object page past) TakesRequest
-Cause z (TookReturn own object page bytes) past = Ours z own object → May z.zeros (spot z object page past) (TakesReturn bytes)
+    Ours z own object past → ((spot z object page past).here ≡ true) × (((spot z object page past).dirty ≡ false) ⊎ (Reach z object past → ⊥))
+Cause z (Created own object) past = Ours z own object past → (object < objects z past) × (control z object past ≡ 0)
+Cause z (Asked own lives object page) past = Ours z own object past → May z.zeros (spot z object page past) (Requests lives)
+Cause z (Returned own object page keep bytes) past = Ours z own object past → May z.zeros (spot z object page past) (Returns keep bytes)
+Cause z (TookRequest own object page) past = Ours z own object past → May z.zeros (spot z object page past) TakesRequest
+Cause z (TookReturn own object page bytes) past = Ours z own object past → May z.zeros (spot z object page past) (TakesReturn bytes)
 Cause z (Answered own tells object page word) past =
-    (Ours z own object → May z.zeros (spot z object page past) (Answers tells word))
-    × (tells ≡ true → (Ours z own object × OwnRegion z object past) ⊎ Foreign z own object object past)
-Cause z (Took own object page word) past = Ours z own object → May z.zeros (spot z object page past) (Takes word)
+    (Ours z own object past → May z.zeros (spot z object page past) (Answers tells word))
+    × (tells ≡ true → (Ours z own object past × OwnRegion z object past) ⊎ Foreign z own object object past)
+Cause z (Took own object page word) past = Ours z own object past → May z.zeros (spot z object page past) (Takes word)
 Cause z (Terminated own object) past =
-    Ours z own object
+    Ours z own object past
     → ((Reach z object past → ⊥) ⊎ (is_file z object ≡ true)) × (control z object past ≡ 1)
     × ((p : ℕ) → ((spot z object p past).here ≡ false) × ((spot z object p past).asked ≡ false))
 Cause z Elsewhere past = Unit {0}

@@ -12,8 +12,11 @@ use Rattle.vm_model.specs.Moments.{EachEvent}
 use Rattle.vm_model.specs.Waiting.{Storing}
 use Rattle.vm_legal.specs.Outside.{Outside, Told}
 use Rattle.vm_legal.specs.Bytes.{OwnBytes, CopiesCurrent, FlatBytes}
-use Rattle.vm_legal.specs.Licences.{HasCause}
+use Rattle.vm_legal.specs.Licences.{Finding, HasCause}
 use Rattle.vm_legal.proofs.Unshared.{NoneIsShared, loads_unshared, none_shared}
+use Rattle.vm_flat.proofs.Bottom.{bottom_plain, no_copy}
+use Rattle.vm_model.specs.Named.{named}
+use Rattle.vm_model.specs.Regions.{backing_of}
 use Rattle.vm_flat.proofs.Loads.{answers}
 
 abbrev header : Header
@@ -209,6 +212,7 @@ caused_7 = (
       is_top = record { object = refl; page = refl };
       steps = 0;
       sinks = (record { away = refl; unasked = refl; without = refl }, refl);
+      plain = bottom_plain (λ k. backing_of header k past_6) (named header) _ refl (omega arith);
     }),
   ),
   caused_6,
@@ -225,6 +229,7 @@ caused_8 = (
       unmarked = refl;
       here = refl;
       place = refl;
+      paid = λ copy owes. no_copy copy owes.newest;
     },
   ),
   caused_7,
@@ -250,6 +255,7 @@ caused_11 = (
       is_top = record { object = refl; page = refl };
       steps = 0;
       sinks = (record { away = refl; unasked = refl; without = refl }, refl);
+      plain = bottom_plain (λ k. backing_of header k past_10) (named header) _ refl (omega arith);
     }),
   ),
   caused_10,
@@ -266,6 +272,7 @@ caused_12 = (
       unmarked = refl;
       here = refl;
       place = refl;
+      paid = λ copy owes. no_copy copy owes.newest;
     },
   ),
   caused_11,
@@ -343,7 +350,7 @@ caused_20 : EachEvent (HasCause header outside) past_20
 caused_20 = (
   (
     settling,
-    record {
+    Finding (record {
       task = 1;
       address = 0;
       bytes = 1;
@@ -355,7 +362,7 @@ caused_20 = (
       steps = 0;
       walks = (record { away = refl; unasked = refl; without = refl }, refl, (refl, refl));
       here = refl;
-    },
+    }),
   ),
   caused_19,
 )
@@ -371,6 +378,7 @@ caused_21 = (
       unmarked = refl;
       here = refl;
       place = refl;
+      paid = λ copy owes. no_copy copy owes.newest;
     },
   ),
   caused_20,
@@ -448,7 +456,7 @@ caused_29 : EachEvent (HasCause header outside) past_29
 caused_29 = (
   (
     settling,
-    record {
+    Finding (record {
       task = 2;
       address = 1;
       bytes = 1;
@@ -460,7 +468,7 @@ caused_29 = (
       steps = 0;
       walks = (record { away = refl; unasked = refl; without = refl }, refl, (refl, refl));
       here = refl;
-    },
+    }),
   ),
   caused_28,
 )
@@ -476,6 +484,7 @@ caused_30 = (
       unmarked = refl;
       here = refl;
       place = refl;
+      paid = λ copy owes. no_copy copy owes.newest;
     },
   ),
   caused_29,

@@ -9,13 +9,13 @@ use Rattle.vm_model.specs.declared.message.Message.{Message}
 use Rattle.vm_model.specs.declared.message.Message.TheVariants as message
 use Rattle.vm_model.specs.declared.script.Header.{Header}
 use Rattle.vm_model.specs.Named.{named, declared, declared_pages}
-use Rattle.vm_legal.specs.Outside.{is_file_kept, zeros, is_said, start_page}
+use Rattle.vm_legal.specs.Outside.{are_untold, is_file_kept, is_from_told, zeros, is_said, start_page}
 use Rattle.vm_legal.specs.Living.{lives_on}
 use Rattle.vm_legal.specs.Used.{is_kept, made_here}
 use Rattle.vm_model.specs.Controls.{is_control, last_control, live_control}
 use Rattle.vm_model.specs.Homes.{object_home}
 use Rattle.vm_model.specs.Local.{is_on}
-use Rattle.vm_model.specs.Regions.{backing_of, is_newest, newest_copy, object_pages}
+use Rattle.vm_model.specs.Regions.{backing_of, object_pages}
 use Rattle.vm_legal.specs.Flat.{StoreChange, change_of, made_over}
 use Rattle.vm_flat.specs.Words.{SpotDownWord, Supplying, Unavailing, Erring}
 use Rattle.vm_legal.specs.Outside.{Outside}
@@ -29,6 +29,7 @@ ground header outside =
       named = named header;
       file = λ o. is_file_kept (declared header o);
       paging = outside.paging;
+      untold = are_untold outside.files;
       start = λ o p. start_page header outside o p;
       length = λ o. declared_pages header o;
     }
@@ -75,7 +76,7 @@ deed header outside host (event.Line line) past = Line
 deed header outside host (event.RegionMade region object pages) past = Region (made_here host past && outside.paging) region.0 object.0 pages
 deed header outside host (event.RegionCopied region source offset pages) past = Cow region.0 source.0 offset pages
 deed header outside host (event.Delayed region source offset pages copy) past =
-    Delayed region.0 source.0 offset pages copy.0 (λ o. is_newest o (newest_copy source.0 past))
+    Delayed (outside.paging && is_from_told header outside (Some source.0)) region.0 source.0 offset pages copy.0
 deed header outside host (event.Entered task address bytes region offset prot inherit) past = Kept (λ r. not (r == region.0) || lives_on host task.0 past)
 deed header outside host (event.Removed task address bytes) past = Kept (λ r. is_kept header r (event.Removed task address bytes ∷ past))
 deed header outside host (event.TaskEnded task) past = Kept (λ r. is_kept header r (event.TaskEnded task ∷ past))

@@ -1,13 +1,18 @@
 -- Symmetric copies and shadows.
-use Rattle.std.proofs.Common.{◌≡◌, ℕ, zero, suc, ◌+◌, ◌<◌, ◌≤◌, List, ◌∷◌, arith, Bool, true, false, refl, if◌then◌else◌, ◌∙◌, sym, subst, ap, ◌≢◌, inl, inr}
+use Rattle.std.proofs.Common.{◌≡◌, ℕ, zero, suc, ◌+◌, ◌<◌, ◌≤◌, List, ◌∷◌, arith, Bool, true, false, Option, Some, None, refl, if◌then◌else◌, ◌∙◌, sym, subst}
+use Rattle.std.proofs.Common.{ap, ◌≢◌, inl, inr}
 use Rattle.std.proofs.lemmas.Bool.Decides.{nat_tests}
 use Rattle.std.specs.Prelude.{◌⊎◌, ◌==◌}
 use native.Mathlib.Decide.{ℕ_discrete}
 use Rattle.vm_flat.proofs.Deeds.{pages, Ground, Deed, Cow, Shadowed, Unmarked, Row, cow_row, row, regions, objects, Link, link, spot, flat, covered}
+use Rattle.vm_flat.proofs.Deeds.{is_file, newest, is_copy, is_pushed, stem}
 use Rattle.vm_flat.proofs.Causes.{Path, Below, Reach, Cause}
 use Rattle.vm_flat.proofs.Good.{Good, good_again, fits_blank}
 use Rattle.vm_flat.proofs.World.{ReachAt, ShapeOf, World, GoodAt, view, tops_below, path_small, path_old, reach_small, under_view, Barren}
-use Rattle.vm_flat.proofs.Regions.{eq_no, if_no, if_yes, cow_other, shadow_other, below_old}
+use Rattle.vm_flat.proofs.Regions.{eq_no, if_no, if_yes, cow_other, shadow_other, below_old, named_objects, unmade_copy}
+use Rattle.vm_flat.proofs.Covered.{covered_same, covered_alike, covered_fresh, covered_paging, file_declared}
+use Rattle.vm_flat.proofs.Stems.{Newest, Source, Copy, StemsOf}
+use Rattle.vm_flat.proofs.Marked.{mark_again}
 
 -- cow
 
@@ -66,9 +71,9 @@ shape_cow z region source off count past sh is from within =
       falls = sh.falls;
       made = sh.made;
       covers_tops = λ r used. elim (ℕ_discrete r region) [
-        | yes e ↦ subst (λ (k : ℕ). covered z k ≡ true) (sym (if_yes r region (row z source past).top (row z r past).top e))
+        | yes e ↦ subst (λ (k : ℕ). covered z k past ≡ true) (sym (if_yes r region (row z source past).top (row z r past).top e))
             (sh.covers_tops source (cow_from z r region source off count past e used))
-        | no apart ↦ subst (λ (k : ℕ). covered z k ≡ true) (sym (cow_top z r region source off count past apart))
+        | no apart ↦ subst (λ (k : ℕ). covered z k past ≡ true) (sym (cow_top z r region source off count past apart))
             (sh.covers_tops r (cow_used z r region source off count past apart used))
       ];
       covers_under = sh.covers_under;
@@ -135,6 +140,11 @@ after_cow z region source off count past w c =
           (spot z o p past)
           (w.places o p ours) (λ reach. (reach_cow z region source off count o past reach.0, reach.1)) (λ u. u) (λ reach. refl) (λ reach none backed. refl)
           (λ reach barren. barren);
+      stems = w.stems;
+      marks = λ o p ours.
+          mark_again (objects z past ≤ o) (objects z past ≤ o) (is_copy z o past ≡ true) (is_copy z o past ≡ true) (Reach z o past)
+          (Reach z o (Cow region source off count ∷ past)) (is_pushed z o p past) (spot z o p past) (λ u. u) (λ copy. copy)
+          (λ copy. reach_cow z region source off count o past) (w.marks o p ours);
     }
   where
     regional : (r i : ℕ) → (row z r (Cow region source off count ∷ past)).used ≡ true → i < (row z r (Cow region source off count ∷ past)).pages
@@ -222,9 +232,125 @@ reach_new z region new past sh is reach = elim (ℕ_discrete reach.0 region) [
       absurd (omega (arith, small, is))
 ]
 
+-- the new object's pages come from where its old top's do
+stem_old : (z : Ground) (o region new : ℕ) (past : List Deed) → o ≢ new → stem z o (Shadowed region new ∷ past) ≡ stem z o past
+stem_old z o region new past apart = if_no o new (stem z (row z region past).top past) (stem z o past) apart
+
+covered_old : (z : Ground) (o region new : ℕ) (past : List Deed) → o ≢ new → covered z o (Shadowed region new ∷ past) ≡ covered z o past
+covered_old z o region new past apart = covered_same z o past (Shadowed region new ∷ past) (stem_old z o region new past apart)
+
+covered_new : (z : Ground) (region new : ℕ) (past : List Deed) → new ≡ objects z past → z.named ≤ (row z region past).top
+    → covered z new (Shadowed region new ∷ past) ≡ covered z (row z region past).top past
+covered_new z region new past is late =
+    covered_alike z new (row z region past).top (Shadowed region new ∷ past) past (omega (arith, is, named_objects z past)) late
+    (if_yes new new (stem z (row z region past).top past) (stem z new past) refl)
+
+covered_before : (z : Ground) (o region new : ℕ) (past : List Deed) → StemsOf z past → new ≡ objects z past
+    → covered z o (Shadowed region new ∷ past) ≡ true → covered z o past ≡ true
+covered_before z o region new past s is ours = elim (ℕ_discrete o new) [
+  | no apart ↦ sym (covered_old z o region new past apart) ∙ ours
+  | yes e ↦
+      let late : z.named ≤ o = omega (arith, e, is, named_objects z past) in
+      covered_fresh z o past late (s.unmade o (omega (arith, e, is))).0 (covered_paging z o (Shadowed region new ∷ past) late ours)
+]
+
+stems_shadowed : (z : Ground) (region new : ℕ) (past : List Deed) → StemsOf z past → ShapeOf z past → new ≡ objects z past → region < regions z past
+    → z.named ≤ (row z region past).top → StemsOf z (Shadowed region new ∷ past)
+stems_shadowed z region new past s sh is from late =
+    record { stands = stands; newest_is = newest_is; sources = sources; copy_is = copy_is; unmade = unmade }
+  where
+    now : List Deed
+    now = Shadowed region new ∷ past
+
+    apart : (k : ℕ) → k < objects z past → k ≢ new
+    apart k small e = omega (arith, small, e, is)
+
+    pages_old : (k : ℕ) → k < objects z past → pages z k now ≡ pages z k past
+    pages_old k small = if_no k new (row z region past).pages (pages z k past) (apart k small)
+
+    stem_made : (o f : ℕ) → stem z o past ≡ Some f → o ≢ new
+    stem_made o f has e = some_none f (sym has ∙ (s.unmade o (omega (arith, e, is))).0)
+      where
+        some_none : (f : ℕ) → ◌≡◌ {A = Option ℕ} (Some f) None → ⊥
+        some_none f e = cc
+
+    stem_kept : (o f : ℕ) → stem z o past ≡ Some f → stem z o now ≡ Some f
+    stem_kept o f has = stem_old z o region new past (stem_made o f has) ∙ has
+
+    stands : (v f : ℕ) → f < z.named → (link z v now).backed ≡ true → (link z v now).under ≡ f → newest z f past ≡ Some v
+    stands v f declared backed under = elim (ℕ_discrete v new) [
+      | yes e ↦ absurd (omega (arith, declared, late, under, if_yes v new (row z region past).top (link z v past).under e))
+      | no other ↦
+          let same : link z v now ≡ link z v past = link_old z v region new past other in
+          s.stands v f declared (subst (λ (l : Link). l.backed ≡ true) same backed) (subst (λ (l : Link). l.under ≡ f) same under)
+    ]
+
+    newest_is : (f c : ℕ) → newest z f past ≡ Some c
+        → Newest (λ o. is_file z o) (λ o. link z o now) (λ o. pages z o now) (suc (objects z past)) (λ o. is_copy z o past) (λ o. stem z o now) f c
+    newest_is f c has =
+        let n = s.newest_is f c has in
+        let same : link z c now ≡ link z c past = link_old z c region new past (apart c n.made) in
+        record {
+          file = n.file;
+          copy = n.copy;
+          source = stem_kept c f n.source;
+          backed = subst (λ (l : Link). l.backed ≡ true) (sym same) n.backed;
+          under = subst (λ (l : Link). l.under ≡ f) (sym same) n.under;
+          shift = subst (λ (l : Link). l.shift ≡ 0) (sym same) n.shift;
+          made = omega (arith, n.made);
+          same_pages =
+              pages_old c n.made
+              ∙ n.same_pages
+              ∙ sym (pages_old f (omega (arith, file_declared z f n.file, named_objects z past)));
+        }
+
+    source_new : (o f : ℕ) → o ≡ new → stem z o now ≡ Some f → Source z.named (λ k. is_file z k) (λ k. link z k now) (λ k. stem z k now) o f
+    source_new o f e has =
+        let top : stem z (row z region past).top past ≡ Some f = sym (if_yes o new (stem z (row z region past).top past) (stem z o past) e) ∙ has in
+        record {
+          late = omega (arith, e, is, named_objects z past);
+          file = (s.sources (row z region past).top f top).file;
+          backed = if_yes o new true (link z o past).backed e;
+          under = inr (subst (λ (k : ℕ). stem z k now ≡ Some f) (sym (if_yes o new (row z region past).top (link z o past).under e))
+              (stem_kept (row z region past).top f top));
+        }
+
+    under_old : (o f : ℕ) → ((link z o past).under ≡ f) ⊎ (stem z (link z o past).under past ≡ Some f)
+        → ((link z o past).under ≡ f) ⊎ (stem z (link z o past).under now ≡ Some f)
+    under_old o f (inl stands) = inl stands
+    under_old o f (inr has) = inr (stem_kept (link z o past).under f has)
+
+    sources : (o f : ℕ) → stem z o now ≡ Some f → Source z.named (λ k. is_file z k) (λ k. link z k now) (λ k. stem z k now) o f
+    sources o f has = elim (ℕ_discrete o new) [
+      | yes e ↦ source_new o f e has
+      | no other ↦
+          let x = s.sources o f (sym (stem_old z o region new past other) ∙ has) in
+          let same : link z o now ≡ link z o past = link_old z o region new past other in
+          record {
+            late = x.late;
+            file = x.file;
+            backed = subst (λ (l : Link). l.backed ≡ true) (sym same) x.backed;
+            under = subst (λ (l : Link). (l.under ≡ f) ⊎ (stem z l.under now ≡ Some f)) (sym same) (under_old o f x.under);
+          }
+    ]
+
+    copy_is : (o : ℕ) → is_copy z o past ≡ true → Copy (λ k. is_file z k) (λ k. link z k now) (λ k. is_copy z k past) (λ k. stem z k now) o
+    copy_is o copy =
+        let c = s.copy_is o copy in
+        record {
+          file = c.file;
+          source = stem_kept o c.file c.source;
+          under = subst (λ (l : Link). (is_file z l.under ≡ true) ⊎ (is_copy z l.under past ≡ true))
+              (sym (link_old z o region new past (stem_made o c.file c.source))) c.under;
+        }
+
+    unmade : (o : ℕ) → suc (objects z past) ≤ o → (stem z o now ≡ None) × (is_copy z o past ≡ false)
+    unmade o u =
+        let was = s.unmade o (omega (arith, u)) in (stem_old z o region new past (λ e. omega (arith, e, u, is)) ∙ was.0, was.1)
+
 shape_shadowed : (z : Ground) (region new : ℕ) (past : List Deed) → ShapeOf z past → new ≡ objects z past → region < regions z past
-    → covered z (row z region past).top ≡ covered z new → ShapeOf z (Shadowed region new ∷ past)
-shape_shadowed z region new past sh is from ours =
+    → z.named ≤ (row z region past).top → ShapeOf z (Shadowed region new ∷ past)
+shape_shadowed z region new past sh is from late =
     record {
       rows_below = sh.rows_below;
       tops_made = λ r less. grind (arith, nat_tests, sh.tops_made r less);
@@ -233,14 +359,21 @@ shape_shadowed z region new past sh is from ours =
       falls = falls;
       made = λ o backed. grind (arith, nat_tests, sh.made o);
       covers_tops = λ r used. elim (ℕ_discrete r region) [
-        | yes e ↦ subst (λ (k : ℕ). covered z k ≡ true) (sym (if_yes r region new (row z r past).top e))
-            (sym ours ∙ sh.covers_tops region (subst (λ (k : ℕ). (row z k past).used ≡ true) e used))
-        | no apart ↦ subst (λ (x : Row). covered z x.top ≡ true) (sym (shadow_other z r region new past apart)) (sh.covers_tops r used)
+        | yes e ↦ subst (λ (k : ℕ). covered z k (Shadowed region new ∷ past) ≡ true) (sym (if_yes r region new (row z r past).top e))
+            (covered_new z region new past is late ∙ sh.covers_tops region (subst (λ (k : ℕ). (row z k past).used ≡ true) e used))
+        | no apart ↦ subst (λ (x : Row). covered z x.top (Shadowed region new ∷ past) ≡ true) (sym (shadow_other z r region new past apart))
+            (covered_old z (row z r past).top region new past (λ e. omega (arith, e, is, tops_below sh r used)) ∙ sh.covers_tops r used)
       ];
       covers_under = λ o mine backed. elim (ℕ_discrete o new) [
-        | yes e ↦ subst (λ (k : ℕ). covered z k ≡ true) (sym (if_yes o new (row z region past).top (link z o past).under e))
-            (ours ∙ subst (λ (k : ℕ). covered z k ≡ true) e mine)
-        | no apart ↦ subst (λ (l : Link). l.backed ≡ true → covered z l.under ≡ true) (sym (link_old z o region new past apart)) (sh.covers_under o mine) backed
+        | yes e ↦ subst (λ (k : ℕ). covered z k (Shadowed region new ∷ past) ≡ true) (sym (if_yes o new (row z region past).top (link z o past).under e))
+            (covered_old z (row z region past).top region new past (λ f. omega (arith, f, is, sh.tops_made region from))
+            ∙ sym (covered_new z region new past is late)
+            ∙ subst (λ (k : ℕ). covered z k (Shadowed region new ∷ past) ≡ true) e mine)
+        | no apart ↦
+            let was : (link z o past).backed ≡ true = subst (λ (l : Link). l.backed ≡ true) (link_old z o region new past apart) backed in
+            subst (λ (l : Link). covered z l.under (Shadowed region new ∷ past) ≡ true) (sym (link_old z o region new past apart))
+            (covered_old z (link z o past).under region new past (λ e. omega (arith, e, is, sh.born o was))
+            ∙ sh.covers_under o (sym (covered_old z o region new past apart) ∙ mine) was)
       ];
       tops_inside = tops_inside;
       inside = inside;
@@ -349,6 +482,15 @@ after_shadowed z region new past w c =
       shape = shape_shadowed z region new past w.shape c.0 c.1 c.3;
       regional = regional;
       places = places;
+      stems = stems_shadowed z region new past w.stems w.shape c.0 c.1 c.3;
+      marks = λ o p ours.
+          mark_again (objects z past ≤ o) (suc (objects z past) ≤ o) (is_copy z o past ≡ true) (is_copy z o past ≡ true) (Reach z o past)
+          (Reach z o (Shadowed region new ∷ past)) (is_pushed z o p past) (spot z o p past) (λ u. omega (arith, u)) (λ copy. copy)
+          (λ copy reach. elim (reach_shadowed z region new o past w.shape c.0 c.1 reach) [
+            | inl was ↦ was
+            | inr e ↦ absurd (unmade_copy z o past w (omega (arith, e, c.0)) copy)
+          ])
+          (w.marks o p (covered_before z o region new past w.stems c.0 ours));
     }
   where
     under_region : ℕ → List ℕ
@@ -397,17 +539,21 @@ after_shadowed z region new past w c =
         small (λ k le. link_old z k region new past (λ e. omega (arith, e, le, c.0))) w.shape.born path in
         (view_old l lp (path_small (λ k. link z k past) (objects z past) n o p l lp w.shape.born small was) ∙ (barren n l lp was).0, (barren n l lp was).1)
 
-    places : (o p : ℕ) → covered z o ≡ true → GoodAt z (Shadowed region new ∷ past) o p (spot z o p past)
+    before : (o : ℕ) → covered z o (Shadowed region new ∷ past) ≡ true → covered z o past ≡ true
+    before o ours = covered_before z o region new past w.stems c.0 ours
+
+    places : (o p : ℕ) → covered z o (Shadowed region new ∷ past) ≡ true → GoodAt z (Shadowed region new ∷ past) o p (spot z o p past)
     places o p ours = elim (ℕ_discrete o new) [
       | yes e ↦
           record {
-            sound = (w.places o p ours).sound;
+            sound = (w.places o p (before o ours)).sound;
             fits =
                 λ r. fits_blank z.zeros (Barren z o p (Shadowed region new ∷ past)) (view z o p (Shadowed region new ∷ past))
-                (link z o (Shadowed region new ∷ past)).backed (under_view z o p (Shadowed region new ∷ past)) (spot z o p past) (w.places o p ours).sound
-                ((w.places o p ours).blank (omega (arith, e, c.0))) (λ backed. stands o p e)
+                (link z o (Shadowed region new ∷ past)).backed (under_view z o p (Shadowed region new ∷ past)) (spot z o p past)
+                (w.places o p (before o ours)).sound
+                ((w.places o p (before o ours)).blank (omega (arith, e, c.0))) (λ backed. stands o p e)
                 (λ bare. absurd (true_false (sym (if_yes o new true (link z o past).backed e) ∙ bare)));
-            blank = λ u. (w.places o p ours).blank (omega (arith, u));
+            blank = λ u. (w.places o p (before o ours)).blank (omega (arith, u));
           }
       | no apart ↦
           let link_is : link z o (Shadowed region new ∷ past) ≡ link z o past = link_old z o region new past apart in
@@ -416,7 +562,7 @@ after_shadowed z region new past w c =
           (good_again z.zeros (ReachAt z o p past) (ReachAt z o p (Shadowed region new ∷ past)) (objects z past ≤ o) (suc (objects z past) ≤ o)
           (Barren z o p past) (Barren z o p (Shadowed region new ∷ past)) (view z o p past) (view z o p (Shadowed region new ∷ past)) (link z o past).backed
           (under_view z o p past) (view z (link z o past).under ((link z o past).shift + p) (Shadowed region new ∷ past)) (spot z o p past)
-          (w.places o p ours)
+          (w.places o p (before o ours))
           (λ reach. (
             elim (reach_shadowed z region new o past w.shape c.0 c.1 reach.0) [ inl was ↦ was | inr e ↦ absurd (apart (sym e)) ],
             subst (λ (m : ℕ). p < m) (if_no o new (row z region past).pages (pages z o past) apart) reach.1,
@@ -449,6 +595,8 @@ after_unmarked z region past w c =
           };
       regional = w.regional;
       places = w.places;
+      stems = w.stems;
+      marks = w.marks;
     }
   where
     own : (r v : ℕ) → (row z r past).used ≡ true → (row z r (Unmarked region ∷ past)).mark ≡ false → z.named ≤ (row z r past).top → Reach z v past

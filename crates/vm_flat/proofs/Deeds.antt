@@ -1,27 +1,30 @@
 -- What events are to the temporary and file memory of one host, and what they leave there: regions,
 -- objects, places, and the flat map. Lists have the newest first.
-use Rattle.std.specs.Prelude.{not, nat_lt, ℕ, suc, ◌+◌, ◌==◌, List, [], ◌∷◌, Bool, true, false, if◌then◌else◌, ◌&&◌, ◌||◌}
+use Rattle.std.specs.Prelude.{not, nat_lt, ℕ, suc, ◌+◌, ◌==◌, List, [], ◌∷◌, Bool, true, false, if◌then◌else◌, ◌&&◌, ◌||◌, Option, Some, None}
 use Rattle.vm_base.specs.Pages.{with_bytes}
+use Rattle.vm_model.specs.Regions.{is_newest}
 use Rattle.vm_flat.specs.Words.{SpotDownWord, Supplying, Unavailing, Erring, SpotEffect, Creates, Requests, Returns, TakesRequest, TakesReturn, Answers, Takes}
 use Rattle.vm_flat.specs.Words.{Zeroes, Raises, Stores, Drops, Ends, StepEnds, Nothing}
 use Rattle.vm_flat.specs.Spot.{Spot, first_spot, merged_effect, spot_after}
 
 -- What does not change: the page of zeros; how many objects are declared, and which of them are
--- files; the bytes of the files' pages at the start, and the pages of the declared objects.
+-- files; whether these are told; the bytes of the files' pages at the start, and the pages of the declared objects.
 pub record Ground : Type 0 where
   pub zeros : List ℕ
   pub named : ℕ
   pub file : ℕ → Bool
   pub paging : Bool
+  pub untold : Bool
   pub start : ℕ → ℕ → List ℕ
   pub length : ℕ → ℕ
 
 abbrev pub is_file : Ground → ℕ → Bool
 is_file z o = nat_lt o z.named && z.file o
 
--- a file, or a temporary object where the paging area tells
-abbrev pub covered : Ground → ℕ → Bool
-covered z o = (not (nat_lt o z.named) && z.paging) || (nat_lt o z.named && z.file o)
+-- the file tells what it holds at the start, if there is one
+abbrev pub told : Ground → Option ℕ → Bool
+told z None = true
+told z (Some f) = not (z.untold && is_file z f)
 
 -- `own` says that it happens on the host; on other hosts it changes regions, what stands on what, and the flat map alone
 pub data Deed : Type 0 where
@@ -30,8 +33,8 @@ pub data Deed : Type 0 where
   -- a region over a new object; it may be in use on the host
   Region : (own : Bool) → (region : ℕ) → (object : ℕ) → (count : ℕ) → Deed
   Cow : (region : ℕ) → (source : ℕ) → (off : ℕ) → (count : ℕ) → Deed
-  -- a region over a new object that is a copy of a file, whose newest copy until then is told
-  Delayed : (region : ℕ) → (source : ℕ) → (off : ℕ) → (count : ℕ) → (copy : ℕ) → (newest : ℕ → Bool) → Deed
+  -- a region over a new object that is a copy of a file; `tells`: the outside tells what it holds
+  Delayed : (tells : Bool) → (region : ℕ) → (source : ℕ) → (off : ℕ) → (count : ℕ) → (copy : ℕ) → Deed
   -- of the regions only those that are held stay in use on the host
   Kept : (held : ℕ → Bool) → Deed
   Shadowed : (region : ℕ) → (new : ℕ) → Deed
@@ -86,10 +89,10 @@ cow_row b c off count source old =
       pages = if b then count else old.pages;
     }
 
-abbrev pub delayed_row : Bool → ℕ → ℕ → ℕ → Row → Row → Row
-delayed_row b copy off count source old =
+abbrev pub delayed_row : Bool → Bool → ℕ → ℕ → ℕ → Row → Row → Row
+delayed_row b tells copy off count source old =
     record {
-      used = if b then source.used else old.used;
+      used = if b then source.used && tells else old.used;
       mark = if b then true else old.mark;
       top = if b then copy else old.top;
       shift = if b then off else old.shift;
@@ -115,7 +118,7 @@ unmarked_row b old = record { used = old.used; mark = if b then false else old.m
 abbrev pub row_move : ℕ → Deed → (ℕ → Row) → Row
 row_move r (Region own region object count) rows = made_row (r == region) own object count (rows r)
 row_move r (Cow region source off count) rows = cow_row (r == region) (r == source) off count (rows source) (rows r)
-row_move r (Delayed region source off count copy newest) rows = delayed_row (r == region) copy off count (rows source) (rows r)
+row_move r (Delayed tells region source off count copy) rows = delayed_row (r == region) tells copy off count (rows source) (rows r)
 row_move r (Kept held) rows = kept_row (held r) (rows r)
 row_move r (Shadowed region new) rows = shadow_row (r == region) new (rows r)
 row_move r (Unmarked region) rows = unmarked_row (r == region) (rows r)
@@ -130,13 +133,13 @@ abbrev pub regions : Ground → List Deed → ℕ
 regions z [] = z.named
 regions z (Region own region object count ∷ past) = suc (regions z past)
 regions z (Cow region source off count ∷ past) = suc (regions z past)
-regions z (Delayed region source off count copy newest ∷ past) = suc (regions z past)
+regions z (Delayed tells region source off count copy ∷ past) = suc (regions z past)
 regions z (e ∷ past) = regions z past
 
 abbrev pub objects : Ground → List Deed → ℕ
 objects z [] = z.named
 objects z (Region own region object count ∷ past) = suc (objects z past)
-objects z (Delayed region source off count copy newest ∷ past) = suc (objects z past)
+objects z (Delayed tells region source off count copy ∷ past) = suc (objects z past)
 objects z (Shadowed region new ∷ past) = suc (objects z past)
 objects z (e ∷ past) = objects z past
 
@@ -164,9 +167,21 @@ pushed b newest file copy was =
       shift = if b then 0 else (if newest then 0 else was.shift);
     }
 
+-- the newest of the copies of a file, if there is one
+abbrev pub newest : Ground → ℕ → List Deed → Option ℕ
+newest z f [] = None
+newest z f (Delayed tells region source off count copy ∷ past) = if f == source then Some copy else newest z f past
+newest z f (e ∷ past) = newest z f past
+
+-- an object that was made as the copy of a file
+abbrev pub is_copy : Ground → ℕ → List Deed → Bool
+is_copy z o [] = false
+is_copy z o (Delayed tells region source off count copy ∷ past) = o == copy || is_copy z o past
+is_copy z o (e ∷ past) = is_copy z o past
+
 abbrev pub link : Ground → ℕ → List Deed → Link
 link z o [] = record { backed = false; under = 0; shift = 0 }
-link z o (Delayed region source off count copy newest ∷ past) = pushed (o == copy) (newest o) source copy (link z o past)
+link z o (Delayed tells region source off count copy ∷ past) = pushed (o == copy) (is_newest o (newest z source past)) source copy (link z o past)
 link z o (Shadowed region new ∷ past) =
     record {
       backed = if o == new then true else (link z o past).backed;
@@ -180,11 +195,28 @@ link z o (e ∷ past) = link z o past
 abbrev pub pages : Ground → ℕ → List Deed → ℕ
 pages z o [] = z.length o
 pages z o (Region own region object count ∷ past) = if o == object then count else pages z o past
-pages z o (Delayed region source off count copy newest ∷ past) = if o == copy then pages z source past else pages z o past
+pages z o (Delayed tells region source off count copy ∷ past) = if o == copy then pages z source past else pages z o past
 pages z o (Shadowed region new ∷ past) = if o == new then (row z region past).pages else pages z o past
 pages z o (e ∷ past) = pages z o past
 
+-- the file from which an object's pages come, by way of the objects under it
+abbrev pub stem : Ground → ℕ → List Deed → Option ℕ
+stem z o [] = None
+stem z o (Delayed tells region source off count copy ∷ past) = if o == copy then Some source else stem z o past
+stem z o (Shadowed region new ∷ past) = if o == new then stem z (row z region past).top past else stem z o past
+stem z o (e ∷ past) = stem z o past
+
+-- a file, or a temporary object of which the outside tells what it holds
+abbrev pub covered : Ground → ℕ → List Deed → Bool
+covered z o past = (not (nat_lt o z.named) && (z.paging && told z (stem z o past))) || (nat_lt o z.named && z.file o)
+
 -- places
+
+-- a page was copied up into the place
+abbrev pub is_pushed : Ground → ℕ → ℕ → List Deed → Bool
+is_pushed z o p [] = false
+is_pushed z o p (Raised own lower lower_page upper upper_page ∷ past) = (own && (upper == o && upper_page == p)) || is_pushed z o p past
+is_pushed z o p (e ∷ past) = is_pushed z o p past
 
 abbrev pub at_place : ℕ → ℕ → Bool → ℕ → ℕ → SpotEffect → SpotEffect → SpotEffect
 at_place o p own object page mine other = if own && (object == o && page == p) then mine else other
@@ -230,7 +262,7 @@ abbrev pub flat : Ground → ℕ → ℕ → List Deed → List ℕ
 flat z r i [] = if is_file z r then z.start r i else z.zeros
 flat z r i (Region own region object count ∷ past) = if r == region then z.zeros else flat z r i past
 flat z r i (Cow region source off count ∷ past) = if r == region then flat z source (off + i) past else flat z r i past
-flat z r i (Delayed region source off count copy newest ∷ past) = if r == region then flat z source (off + i) past else flat z r i past
+flat z r i (Delayed tells region source off count copy ∷ past) = if r == region then flat z source (off + i) past else flat z r i past
 flat z r i (Copied own source index object page region j upper upper_page ∷ past) = if r == region && i == j then flat z source index past else flat z r i past
 flat z r i (Stored own region index object page at bytes ∷ past) = if r == region && i == index then with_bytes at bytes (flat z r i past) else flat z r i past
 flat z r i (Answered own tells object page word ∷ past) = if tells && (r == object && i == page) then said z.zeros word (flat z r i past) else flat z r i past

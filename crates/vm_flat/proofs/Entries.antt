@@ -17,11 +17,11 @@ use Rattle.vm_model.specs.declared.event.Event.{Event}
 use Rattle.vm_model.specs.declared.event.Event.TheVariants as event
 use Rattle.vm_model.specs.declared.script.Header.{Header}
 use Rattle.vm_model.specs.Tasks.{host_of, entries_of, has_entry}
-use Rattle.vm_legal.specs.Outside.{Outside, is_private}
+use Rattle.vm_legal.specs.Outside.{Outside, is_from_told, is_private, is_private_from}
 use Rattle.vm_model.specs.Homes.{copying_host, first_of, home_of}
 use Rattle.vm_model.specs.Local.{is_on}
 use Rattle.vm_legal.specs.Living.{lives_on}
-use Rattle.vm_model.specs.Regions.{next_region, region_of}
+use Rattle.vm_model.specs.Regions.{comes_from, next_region, region_of}
 use Rattle.vm_legal.specs.Used.{made_here, is_kept}
 use Rattle.vm_flat.proofs.Uses.{in_use}
 use Rattle.vm_flat.proofs.Sustained.{Enters}
@@ -39,14 +39,14 @@ pub record Owned (size : ℕ) (private : ℕ → Bool) (used : ℕ → ℕ → B
 
 abbrev pub OwnedAt : Header → Outside → List Event → ℕ → Entry → Type 0
 OwnedAt header outside past host row =
-    Owned header.size (λ r. is_private header outside r) (λ h r. in_use header outside h r past) (λ r. (region_of header r past).pages)
+    Owned header.size (λ r. is_private header outside r past) (λ h r. in_use header outside h r past) (λ r. (region_of header r past).pages)
     (λ r. home_of r past) (next_region header past) host row
 
 abbrev pub Entries : Header → Outside → List Event → Type 0
 Entries header outside past = (task host : ℕ) → host_of task past ≡ Some host → AllRows (OwnedAt header outside past host) (entries_of header.size task past)
 
 abbrev pub PrivateUsed : Header → Outside → List Event → Type 0
-PrivateUsed header outside past = (h r : ℕ) → in_use header outside h r past ≡ true → is_private header outside r ≡ true
+PrivateUsed header outside past = (h r : ℕ) → in_use header outside h r past ≡ true → is_private header outside r past ≡ true
 
 both : (a b : Bool) → a ≡ true → b ≡ true → (a && b) ≡ true
 both true b is also = also
@@ -124,7 +124,7 @@ owned_inherit header outside past host inherit row is = (
 
 abbrev pub OwnedKept : Header → Outside → Event → List Event → ℕ → Entry → Type 0
 OwnedKept header outside e past host row =
-    Owned header.size (λ r. is_private header outside r) (λ h r. is_kept header r (e ∷ past) && in_use header outside h r past)
+    Owned header.size (λ r. is_private header outside r past) (λ h r. is_kept header r (e ∷ past) && in_use header outside h r past)
     (λ r. (region_of header r past).pages) (λ r. home_of r past) (next_region header past) host row
 
 keep_rows : (header : Header) (outside : Outside) (e : Event) (past : List Event) (task host : ℕ) → host_of task (e ∷ past) ≡ Some host
@@ -224,6 +224,12 @@ entries_region_made header outside region object pages past is all task host liv
     })
     (entries_of header.size task past) (all task host lives)
 
+-- a region that was there before is private as it was
+private_before : (header : Header) (outside : Outside) (r new : ℕ) (from was : Option ℕ) → r ≢ new
+    → is_private_from header outside r (if r == new then from else was) ≡ true → is_private_from header outside r was ≡ true
+private_before header outside r new from was apart ours =
+    subst (λ (x : Option ℕ). is_private_from header outside r x ≡ true) (if_no r new from was apart) ours
+
 pub entries_region_copied : (header : Header) (outside : Outside) (region source : RegionId) (offset pages : ℕ) (past : List Event)
     → region.0 ≡ next_region header past → Entries header outside past → Entries header outside (event.RegionCopied region source offset pages ∷ past)
 entries_region_copied header outside region source offset pages past is all task host lives =
@@ -235,13 +241,37 @@ entries_region_copied header outside region source offset pages past is all task
       inside = subst (λ (n : ℕ). Inside header.size n row) (sym (if_no row.region.0 region.0 pages (region_of header row.region.0 past).pages apart)) ok.inside;
       used_here =
           λ ours. if_no row.region.0 region.0 (in_use header outside host source.0 past) (in_use header outside host row.region.0 past) apart
-          ∙ ok.used_here ours;
+          ∙ ok.used_here (private_before header outside row.region.0 region.0 (comes_from source.0 past)
+          (comes_from row.region.0 past) apart ours);
       alone =
           λ other else_. if_no row.region.0 region.0 (in_use header outside other source.0 past) (in_use header outside other row.region.0 past) apart
           ∙ ok.alone other else_;
       homed = ok.homed;
     })
     (entries_of header.size task past) (all task host lives)
+
+pub entries_delayed : (header : Header) (outside : Outside) (region source : RegionId) (offset pages : ℕ) (copy : ObjectId) (past : List Event)
+    → region.0 ≡ next_region header past → Entries header outside past → Entries header outside (event.Delayed region source offset pages copy ∷ past)
+entries_delayed header outside region source offset pages copy past is all task host lives =
+    rows_map (OwnedAt header outside past host) (OwnedAt header outside (event.Delayed region source offset pages copy ∷ past) host)
+    (λ row ok.
+    let apart : row.region.0 ≢ region.0 = λ e. omega (arith, e, ok.made, is) in
+    record {
+      made = omega (arith, ok.made);
+      inside = subst (λ (n : ℕ). Inside header.size n row) (sym (if_no row.region.0 region.0 pages (region_of header row.region.0 past).pages apart)) ok.inside;
+      used_here =
+          λ ours. if_no row.region.0 region.0 (told host) (in_use header outside host row.region.0 past) apart
+          ∙ ok.used_here (private_before header outside row.region.0 region.0 (Some source.0)
+          (comes_from row.region.0 past) apart ours);
+      alone =
+          λ other else_. if_no row.region.0 region.0 (told other) (in_use header outside other row.region.0 past) apart
+          ∙ ok.alone other else_;
+      homed = ok.homed;
+    })
+    (entries_of header.size task past) (all task host lives)
+  where
+    told : ℕ → Bool
+    told h = in_use header outside h source.0 past && (outside.paging && is_from_told header outside (Some source.0))
 
 -- an entry comes
 
@@ -271,11 +301,11 @@ entries_entered header outside owner address bytes region offset prot inherit pa
           homed = λ none. ok.homed (unhomed (region.0 == row.region.0) (home_of row.region.0 past) (host_of owner.0 past) none);
         }
       where
-        same : is_private header outside row.region.0 ≡ true → region.0 ≡ row.region.0 → lives_on host owner.0 past ≡ true
+        same : is_private header outside row.region.0 past ≡ true → region.0 ≡ row.region.0 → lives_on host owner.0 past ≡ true
         same ours e = elim (ℕ_discrete c.host host) [
           | yes h ↦ lives_here owner.0 host past (subst (λ (k : ℕ). host_of owner.0 past ≡ Some k) h c.lives)
           | no apart ↦ absurd (clash (in_use header outside c.host row.region.0 past) (ok.alone c.host apart)
-              (subst (λ (k : ℕ). is_private header outside k ≡ true → in_use header outside c.host k past ≡ true) e c.used ours))
+              (subst (λ (k : ℕ). is_private header outside k past ≡ true → in_use header outside c.host k past ≡ true) e c.used ours))
         ]
 
     by_test : (b : Bool) → (owner.0 == task) ≡ b → AllRows (OwnedAt header outside (event.Entered owner address bytes region offset prot inherit ∷ past) host)

@@ -18,6 +18,9 @@ use Rattle.vm_legal.specs.Licences.{ByError, Created, HasCause, Reclaimed}
 use Rattle.vm_flat.proofs.FileStart.{all, mapped, past_0, past_1, past_10, past_11, past_12, past_13, past_14, past_15, past_16, past_2, past_3, past_4, past_5}
 use Rattle.vm_flat.proofs.FileStart.{past_6, past_7, past_8, past_9, settling}
 use Rattle.vm_legal.proofs.Unshared.{NoneIsShared, loads_unshared, none_shared}
+use Rattle.vm_flat.proofs.Bottom.{bottom_plain, no_copy}
+use Rattle.vm_model.specs.Named.{named}
+use Rattle.vm_model.specs.Regions.{backing_of}
 use Rattle.vm_flat.proofs.Loads.{answers}
 
 abbrev header : Header
@@ -303,6 +306,7 @@ caused_18 = (
       unmarked = refl;
       here = refl;
       place = refl;
+      paid = λ copy owes. no_copy copy owes.newest;
     },
   ),
   caused_17,
@@ -353,6 +357,7 @@ caused_24 = (
       is_top = record { object = refl; page = refl };
       steps = 0;
       sinks = (record { away = refl; unasked = refl; without = refl }, refl);
+      plain = bottom_plain (λ k. backing_of header k past_23) (named header) _ refl (omega arith);
     }),
   ),
   caused_23,
@@ -369,6 +374,7 @@ caused_25 = (
       unmarked = refl;
       here = refl;
       place = refl;
+      paid = λ copy owes. no_copy copy owes.newest;
     },
   ),
   caused_24,

@@ -11,11 +11,11 @@ use Rattle.vm_model.specs.declared.event.Event.TheVariants as event
 use Rattle.vm_model.specs.declared.script.Header.{Header}
 use Rattle.vm_model.specs.Tasks.{host_of, entries_of}
 use Rattle.vm_model.specs.Named.{named}
-use Rattle.vm_legal.specs.Outside.{Outside}
+use Rattle.vm_legal.specs.Outside.{Outside, is_from_told}
 use Rattle.vm_model.specs.Local.{is_on}
 use Rattle.vm_legal.specs.Living.{lives_on, tasks}
 use Rattle.vm_model.specs.Waiting.{Access, Loading, Storing, Copying, waiting, begins_copy, Target, copy_target, fills}
-use Rattle.vm_model.specs.Regions.{next_region, next_object, Region, region_of}
+use Rattle.vm_model.specs.Regions.{next_region, next_object, Region, is_copy, region_of}
 use Rattle.vm_legal.specs.Used.{made_here, is_kept, is_filled}
 use Rattle.vm_flat.proofs.Uses.{in_use}
 use Rattle.vm_legal.specs.Flat.{made_over}
@@ -32,12 +32,14 @@ use Rattle.vm_flat.proofs.Numbers.{NumberedAt}
 abbrev pub NoEntry : (ℕ → Option ℕ) → (ℕ → List Entry) → ℕ → Type 0
 NoEntry hosts entries region = (task host : ℕ) → hosts task ≡ Some host → AllRows (λ row. row.region.0 ≢ region) (entries task)
 
-pub record Filled (paging : Bool) (first next_region next_object : ℕ) (over : ℕ → Option ℕ) (regions : ℕ → Region) (used : ℕ → ℕ → Bool) (hosts : ℕ → Option ℕ)
+pub record Filled (paging : Bool) (first next_region next_object : ℕ) (over : ℕ → Option ℕ) (copies : ℕ → Bool) (regions : ℕ → Region) (used : ℕ → ℕ
+    → Bool) (hosts : ℕ → Option ℕ)
     (entries : ℕ → List Entry) (host : ℕ) (t : Target) : Type 0 where
   pub later : first ≤ t.region
   pub made : t.region < next_region
   pub object_made : t.object < next_object
   pub is_over : over t.object ≡ Some t.region
+  pub no_copy : copies t.object ≡ false
   pub top : (regions t.region).top ≡ t.object
   pub shift : (regions t.region).shift ≡ 0
   pub mark : (regions t.region).mark ≡ false
@@ -47,7 +49,8 @@ pub record Filled (paging : Bool) (first next_region next_object : ℕ) (over : 
 
 abbrev pub FilledAt : Header → Outside → List Event → ℕ → Target → Type 0
 FilledAt header outside past host t =
-    Filled outside.paging (named header) (next_region header past) (next_object header past) (λ o. made_over o past) (λ r. region_of header r past)
+    Filled outside.paging (named header) (next_region header past) (next_object header past) (λ o. made_over o past) (λ o. is_copy o past)
+    (λ r. region_of header r past)
     (λ h r. in_use header outside h r past) (λ task. host_of task past) (λ task. entries_of header.size task past) host t
 
 abbrev pub Filling : Header → Outside → List Event → Type 0
@@ -97,7 +100,8 @@ never false b is = refl
 kept_still : (header : Header) (outside : Outside) (e : Event) (past : List Event) (task host address bytes to : ℕ) (t : Target)
     → host_of task (e ∷ past) ≡ Some host → waiting task (e ∷ past) ≡ Some (Copying address bytes to) → copy_target task (e ∷ past) ≡ Some t
     → (hosts : ℕ → Option ℕ) (entries : ℕ → List Entry) → FilledAt header outside past host t → NoEntry hosts entries t.region
-    → Filled outside.paging (named header) (next_region header past) (next_object header past) (λ o. made_over o past) (λ r. region_of header r past)
+    → Filled outside.paging (named header) (next_region header past) (next_object header past) (λ o. made_over o past) (λ o. is_copy o past)
+    (λ r. region_of header r past)
     (λ h r. is_kept header r (e ∷ past) && in_use header outside h r past) hosts entries host t
 kept_still header outside e past task host address bytes to t lives waits target hosts entries f none =
     record {
@@ -105,6 +109,7 @@ kept_still header outside e past task host address bytes to t lives waits target
       made = f.made;
       object_made = f.object_made;
       is_over = f.is_over;
+      no_copy = f.no_copy;
       top = f.top;
       shift = f.shift;
       mark = f.mark;
@@ -117,7 +122,8 @@ kept_still header outside e past task host address bytes to t lives waits target
 
 with_entries : (header : Header) (outside : Outside) (past : List Event) (host : ℕ) (t : Target) (hosts : ℕ → Option ℕ) (entries : ℕ → List Entry)
     → FilledAt header outside past host t → NoEntry hosts entries t.region
-    → Filled outside.paging (named header) (next_region header past) (next_object header past) (λ o. made_over o past) (λ r. region_of header r past)
+    → Filled outside.paging (named header) (next_region header past) (next_object header past) (λ o. made_over o past) (λ o. is_copy o past)
+    (λ r. region_of header r past)
     (λ h r. in_use header outside h r past) hosts entries host t
 with_entries header outside past host t hosts entries f none =
     record {
@@ -125,6 +131,7 @@ with_entries header outside past host t hosts entries f none =
       made = f.made;
       object_made = f.object_made;
       is_over = f.is_over;
+      no_copy = f.no_copy;
       top = f.top;
       shift = f.shift;
       mark = f.mark;
@@ -165,6 +172,7 @@ made_filling header outside region object pages past n entries is new filling ta
           made = omega (arith, is);
           object_made = omega (arith, new);
           is_over = if_yes object.0 object.0 (Some region.0) (made_over object.0 past) refl;
+          no_copy = unmade (is_copy object.0 past) refl;
           top = if_yes region.0 region.0 object.0 (region_of header region.0 past).top refl;
           shift = if_yes region.0 region.0 0 (region_of header region.0 past).shift refl;
           mark = if_yes region.0 region.0 false (region_of header region.0 past).mark refl;
@@ -182,6 +190,10 @@ made_filling header outside region object pages past n entries is new filling ta
         same : (h : ℕ) → (h == h) ≡ true
         same h = grind (arith, nat_tests)
 
+        unmade : (b : Bool) → is_copy object.0 past ≡ b → b ≡ false
+        unmade false isnt = refl
+        unmade true copy = absurd (omega (arith, n.copied object.0 copy, new))
+
         off : (a b : Bool) → a ≡ false → (a && b) ≡ false
         off true b is = absurd (cc)
         off false b is = refl
@@ -198,6 +210,7 @@ made_filling header outside region object pages past n entries is new filling ta
           made = omega (arith, f.made);
           object_made = omega (arith, f.object_made);
           is_over = if_no t.object object.0 (Some region.0) (made_over t.object past) (λ e. omega (arith, e, f.object_made, new)) ∙ f.is_over;
+          no_copy = f.no_copy;
           top = if_no t.region region.0 object.0 (region_of header t.region past).top apart ∙ f.top;
           shift = if_no t.region region.0 0 (region_of header t.region past).shift apart ∙ f.shift;
           mark = if_no t.region region.0 false (region_of header t.region past).mark apart ∙ f.mark;
@@ -226,6 +239,7 @@ copied_filling header outside region source offset pages past c filling task hos
       made = omega (arith, f.made);
       object_made = f.object_made;
       is_over = f.is_over;
+      no_copy = f.no_copy;
       top = if_no t.region region.0 (region_of header source.0 past).top (region_of header t.region past).top apart ∙ f.top;
       shift = if_no t.region region.0 ((region_of header source.0 past).shift + offset) (region_of header t.region past).shift apart ∙ f.shift;
       mark =
@@ -239,6 +253,35 @@ copied_filling header outside region source offset pages past c filling task hos
       no_entry = f.no_entry;
     }
 
+delayed_filling : (header : Header) (outside : Outside) (region source : RegionId) (offset pages : ℕ) (copy : ObjectId) (past : List Event)
+    → L.CopiesFile header region.0 source.0 offset pages copy.0 past → Filling header outside past
+    → Filling header outside (event.Delayed region source offset pages copy ∷ past)
+delayed_filling header outside region source offset pages copy past c filling task host address bytes to t lives waits target =
+    let f : FilledAt header outside past host t = filling task host address bytes to t lives waits target in
+    let apart : t.region ≢ region.0 = λ e. omega (arith, e, f.made, c.next) in
+    record {
+      later = f.later;
+      made = omega (arith, f.made);
+      object_made = omega (arith, f.object_made);
+      is_over = f.is_over;
+      no_copy = neither (t.object == copy.0) (is_copy t.object past) (differ t.object copy.0 (λ e. omega (arith, e, f.object_made, c.new))) f.no_copy;
+      top = if_no t.region region.0 copy.0 (region_of header t.region past).top apart ∙ f.top;
+      shift = if_no t.region region.0 offset (region_of header t.region past).shift apart ∙ f.shift;
+      mark = if_no t.region region.0 true (region_of header t.region past).mark apart ∙ f.mark;
+      used_here = λ paging. if_no t.region region.0 (told host) (in_use header outside host t.region past) apart ∙ f.used_here paging;
+      alone = λ other away. if_no t.region region.0 (told other) (in_use header outside other t.region past) apart ∙ f.alone other away;
+      no_entry = f.no_entry;
+    }
+  where
+    told : ℕ → Bool
+    told h = in_use header outside h source.0 past && (outside.paging && is_from_told header outside (Some source.0))
+
+    neither : (a b : Bool) → a ≡ false → b ≡ false → (a || b) ≡ false
+    neither a b one two = rw (one, two) refl
+
+    differ : (a b : ℕ) → a ≢ b → (a == b) ≡ false
+    differ a b apart = grind (arith, nat_tests)
+
 shadowed_filling : (header : Header) (outside : Outside) (region : RegionId) (new old : ObjectId) (past : List Event)
     → L.Shadows header region.0 new.0 old.0 past → Filling header outside past → Filling header outside (event.Shadowed region new old ∷ past)
 shadowed_filling header outside region new old past c filling task host address bytes to t lives waits target =
@@ -249,6 +292,7 @@ shadowed_filling header outside region new old past c filling task host address 
       made = f.made;
       object_made = omega (arith, f.object_made);
       is_over = f.is_over;
+      no_copy = f.no_copy;
       top = if_no t.region region.0 new.0 (region_of header t.region past).top apart ∙ f.top;
       shift = if_no t.region region.0 0 (region_of header t.region past).shift apart ∙ f.shift;
       mark = if_no t.region region.0 false (region_of header t.region past).mark apart ∙ f.mark;
@@ -266,6 +310,7 @@ unmarked_filling header outside region past filling task host address bytes to t
       made = f.made;
       object_made = f.object_made;
       is_over = f.is_over;
+      no_copy = f.no_copy;
       top = f.top;
       shift = f.shift;
       mark = plain (t.region == region.0) (region_of header t.region past).mark f.mark;
@@ -290,7 +335,8 @@ filling_next header outside (event.RegionMade region object pages) past n entrie
     made_filling header outside region object pages past n entries c.0 c.1 filling task host address bytes to t lives waits target
 filling_next header outside (event.RegionCopied region source offset pages) past n entries c filling task host address bytes to t lives waits target =
     copied_filling header outside region source offset pages past c filling task host address bytes to t lives waits target
-filling_next header outside (event.Delayed region source offset pages copy) past n entries c filling task host address bytes to t lives waits target = absurd c
+filling_next header outside (event.Delayed region source offset pages copy) past n entries c filling task host address bytes to t lives waits target =
+    delayed_filling header outside region source offset pages copy past c filling task host address bytes to t lives waits target
 filling_next header outside (event.Shadowed region new old) past n entries c filling task host address bytes to t lives waits target =
     shadowed_filling header outside region new old past c filling task host address bytes to t lives waits target
 filling_next header outside (event.Unmarked region) past n entries c filling task host address bytes to t lives waits target =
@@ -384,13 +430,15 @@ filling_next header outside (event.Entered owner a size region offset prot inher
       made = f.made;
       object_made = f.object_made;
       is_over = f.is_over;
+      no_copy = f.no_copy;
       top = f.top;
       shift = f.shift;
       mark = f.mark;
       used_here =
           λ told. both (not (t.region == region.0) || lives_on host owner.0 past) (in_use header outside host t.region past)
           (differs t.region region.0 (lives_on host owner.0 past) apart) (f.used_here told);
-      alone = λ other away. never (not (t.region == region.0) || lives_on other owner.0 past) (in_use header outside other t.region past) (f.alone other away);
+      alone = λ other away. never (not (t.region == region.0) || lives_on other owner.0 past) (in_use header outside other t.region past)
+          (f.alone other away);
       no_entry =
           λ k h living. rows_if (λ row. row.region.0 ≢ t.region) (owner.0 == k) (entered
           (record { address = a; bytes = size; region = region; offset = offset; prot = prot; inherit = inherit }) (entries_of header.size k past))

@@ -11,6 +11,7 @@ use Rattle.vm_legal.specs.Licences.{HasCause, Reclaimed}
 use Rattle.vm_legal.specs.Pagers.{last_return}
 use Rattle.vm_flat.specs.Forgets.{asked, header, history, mapped, outside, seven, zero_page}
 use Rattle.vm_flat.specs.Told.{AnswersTold}
+use Rattle.vm_flat.proofs.Bottom.{no_copy}
 
 never : {A : Type 0} → false ≡ true → A
 never is = absurd (let bad : false ≡ true = is in cc)
@@ -108,6 +109,7 @@ forgets_causes = (
                               unmarked = refl;
                               here = refl;
                               place = refl;
+                              paid = λ copy owes. no_copy copy owes.newest;
                             },
                           ),
                           (

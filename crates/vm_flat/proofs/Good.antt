@@ -213,13 +213,13 @@ good_zeroes z R U B v b w s g passed reach born is =
     }
 
 pub good_raises : (z : List ℕ) (R U B : Type 0) (v : List ℕ) (b : Bool) (w : List ℕ) (s : Spot) (bytes : List ℕ) → Good z R U B v b w s → May z s (Raises bytes)
-    → (U → ⊥) → v ≡ bytes → Good z R U B v b w (spot_after z s (Raises bytes))
+    → (U → ⊥) → (R → v ≡ bytes) → Good z R U B v b w (spot_after z s (Raises bytes))
 good_raises z R U B v b w s bytes g may born is =
     record {
       sound = keep_raises z s bytes g.sound may;
       fits =
           λ r. record {
-            solid = λ c e. grind arith;
+            solid = λ c e. let same : v ≡ bytes = is r in grind arith;
             through = λ e. absurd (cc);
             bottom = λ e. absurd (cc);
             zeros = λ e. absurd (cc);

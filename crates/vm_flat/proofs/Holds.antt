@@ -6,8 +6,8 @@ use Rattle.std.proofs.lemmas.Bool.{cases_lt}
 use Rattle.vm_model.specs.declared.event.Event.{Event}
 use Rattle.vm_model.specs.declared.script.Header.{Header}
 use Rattle.vm_model.specs.Named.{named}
-use Rattle.vm_legal.specs.Outside.{Outside, is_private, is_file}
-use Rattle.vm_model.specs.Regions.{next_region, region_of, backing_of}
+use Rattle.vm_legal.specs.Outside.{Outside, is_file}
+use Rattle.vm_model.specs.Regions.{region_of, backing_of}
 use Rattle.vm_flat.proofs.Uses.{in_use}
 use Rattle.vm_flat.specs.Spot.{Spot}
 use Rattle.vm_flat.proofs.Allowed.{Passed}
@@ -28,9 +28,11 @@ use Rattle.vm_flat.proofs.Ties.{as_row, as_link, row_is, link_is, spot_is}
 use Rattle.vm_model.specs.Rows.{FoundRow, found_row}
 use Rattle.vm_flat.proofs.Entries.{Entries, OwnedAt, PrivateUsed}
 use Rattle.vm_flat.proofs.Filling.{Filling}
+use Rattle.vm_flat.proofs.Fits.{Fits}
 use Rattle.vm_flat.proofs.Housed.{Housed}
 use Rattle.vm_flat.proofs.Locals.{spot_is_local}
-use Rattle.vm_flat.proofs.Numbers.{NumberedAt, later_alike}
+use Rattle.vm_flat.proofs.Numbers.{NumberedAt}
+use Rattle.vm_flat.proofs.Origins.{Origins}
 use Rattle.vm_flat.proofs.Ports.{Worlds, Ups, UpNumbers, AskedBy, Downs, Locks}
 use Rattle.vm_legal.proofs.Files.{not_file}
 
@@ -40,13 +42,15 @@ Flats header outside past = (host r i : ℕ) → D.flat (ground header outside) 
 -- a file with a live control on a host is in use on no other
 abbrev pub Homes : Header → Outside → List Event → Type 0
 Homes header outside past =
-    (g o : ℕ) → o < named header → is_private header outside o ≡ true → control header g o past ≡ 1 → (h : ℕ) → (h ≡ g → ⊥)
+    (g o : ℕ) → is_file header o ≡ true → control header g o past ≡ 1 → (h : ℕ) → (h ≡ g → ⊥)
     → in_use header outside h o past ≡ false
 
 pub record Holds (header : Header) (outside : Outside) (past : List Event) : Type 0 where
   pub worlds : Worlds header outside past
   pub flats : Flats header outside past
   pub numbered : NumberedAt header past
+  pub origins : Origins header past
+  pub fits : Fits header past
   pub private_used : PrivateUsed header outside past
   pub entries : Entries header outside past
   pub filling : Filling header outside past
@@ -83,14 +87,6 @@ pub mark_is : (header : Header) (outside : Outside) (host r : ℕ) (past : List 
     → (D.row (ground header outside) r (deeds header outside host past)).mark ≡ false
 mark_is header outside host r past plain = ap (λ (w : D.Row). w.mark) (row_is header outside host r past) ∙ plain
 
--- a region is private where its top object is
-pub region_private : (header : Header) (outside : Outside) (r i o p : ℕ) (past : List Event) → NumberedAt header past → r < next_region header past
-    → IsTop (region_of header r past) i o p → is_private header outside o ≡ true → is_private header outside r ≡ true
-region_private header outside r i o p past n made top ours = ⊎_elim
-    (λ less. subst (λ (k : ℕ). is_private header outside k ≡ true) (sym top.object ∙ n.declared_top r less) ours)
-    (λ le. later_alike header outside r o le (omega (arith, n.temporary r le made, top.object)) ∙ ours)
-    (cases_lt r (named header))
-
 -- a region over a temporary object is no declared one
 pub region_later : (header : Header) (r i o p : ℕ) (past : List Event) → NumberedAt header past → IsTop (region_of header r past) i o p → named header ≤ o
     → named header ≤ r
@@ -102,6 +98,27 @@ region_later header r i o p past n top above = ⊎_elim
 pub plain_spot : (header : Header) (outside : Outside) (host o p : ℕ) (past : List Event) → named header ≤ o
     → (D.spot (ground header outside) o p (deeds header outside host past)).file ≡ false
 plain_spot header outside host o p past above = file_is (ground header outside) o p (deeds header outside host past) ∙ not_file header o above
+
+-- places
+
+pub here_is : (header : Header) (outside : Outside) (host o p : ℕ) (b : Bool) (past : List Event) → (page_on header host o p past).here ≡ b
+    → (D.spot (ground header outside) o p (deeds header outside host past)).here ≡ b
+here_is header outside host o p b past is =
+    ap (λ (s : Spot). s.here) (spot_is header outside host o p past) ∙ (spot_is_local header outside past host o p).here ∙ is
+
+pub asked_is : (header : Header) (outside : Outside) (host o p : ℕ) (b : Bool) (past : List Event) → (page_on header host o p past).asked ≡ b
+    → (D.spot (ground header outside) o p (deeds header outside host past)).asked ≡ b
+asked_is header outside host o p b past is =
+    ap (λ (s : Spot). s.asked) (spot_is header outside host o p past) ∙ (spot_is_local header outside past host o p).asked ∙ is
+
+pub dirty_is : (header : Header) (outside : Outside) (host o p : ℕ) (b : Bool) (past : List Event) → (page_on header host o p past).dirty ≡ b
+    → (D.spot (ground header outside) o p (deeds header outside host past)).dirty ≡ b
+dirty_is header outside host o p b past is =
+    ap (λ (s : Spot). s.dirty) (spot_is header outside host o p past) ∙ (spot_is_local header outside past host o p).dirty ∙ is
+
+pub bytes_are : (header : Header) (outside : Outside) (host o p : ℕ) (past : List Event)
+    → (D.spot (ground header outside) o p (deeds header outside host past)).bytes ≡ (page_on header host o p past).bytes
+bytes_are header outside host o p past = ap (λ (s : Spot). s.bytes) (spot_is header outside host o p past) ∙ (spot_is_local header outside past host o p).bytes
 
 -- walks
 
@@ -144,17 +161,19 @@ walks header outside host past num (suc n) o p l lp walk =
           (walks header outside host past num n (backing_of header o past).under ((backing_of header o past).shift + p) l lp walk.2),
     )
 
-pub sinks : (header : Header) (outside : Outside) (host : ℕ) (past : List Event) → NumberedAt header past → (n o p : ℕ) → named header ≤ o
+pub sinks : (header : Header) (outside : Outside) (host : ℕ) (past : List Event) → (n o p : ℕ)
+    → ((depth u : ℕ) → W.Below (λ k. backing_of header k past) depth o u → named header ≤ u)
     → W.Sinks (λ k q. sight header host k q past) (λ k. backing_of header k past) n o p
     → C.Sinks (ground header outside) n o p (deeds header outside host past)
-sinks header outside host past num zero o p above walk =
-    (passed header outside host o p past above walk.0, ap (λ (x : D.Link). x.backed) (link_is header outside host o past) ∙ walk.1)
-sinks header outside host past num (suc n) o p above walk =
+sinks header outside host past zero o p plain walk =
+    (passed header outside host o p past (plain 0 o refl) walk.0, ap (λ (x : D.Link). x.backed) (link_is header outside host o past) ∙ walk.1)
+sinks header outside host past (suc n) o p plain walk =
     let same : D.link (ground header outside) o (deeds header outside host past) ≡ as_link (backing_of header o past) = link_is header outside host o past in (
-      passed header outside host o p past above walk.0,
+      passed header outside host o p past (plain 0 o refl) walk.0,
       ap (λ (x : D.Link). x.backed) same ∙ walk.1,
       subst (λ (x : D.Link). C.Sinks (ground header outside) n x.under (x.shift + p) (deeds header outside host past)) (sym same)
-          (sinks header outside host past num n (backing_of header o past).under ((backing_of header o past).shift + p) (num.lower o walk.1) walk.2),
+          (sinks header outside host past n (backing_of header o past).under ((backing_of header o past).shift + p)
+          (λ depth u is. plain (suc depth) u (walk.1, is)) walk.2),
     )
 
 -- chains

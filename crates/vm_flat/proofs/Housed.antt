@@ -1,7 +1,7 @@
 -- A temporary object is reached on its home alone, but while no task has an entry on the region that it was made for.
 use Rattle.std.proofs.Common.{◌≡◌, ◌≤◌, ◌<◌, ℕ, zero, suc, Bool, true, false, List, [], ◌∷◌, Option, Some, None, ap, refl, subst, sym, ◌∙◌, arith, inl, inr}
 use Rattle.std.proofs.lemmas.Bool.Decides.{nat_tests}
-use Rattle.std.specs.Prelude.{◌==◌, ◌&&◌, ◌||◌, ◌⊎◌, not}
+use Rattle.std.specs.Prelude.{◌==◌, ◌&&◌, ◌||◌, ◌⊎◌, if◌then◌else◌, not}
 use native.Mathlib.Decide.{ℕ_discrete}
 use Rattle.vm_base.specs.declared.ids.Inherit.{Inherit}
 use Rattle.vm_base.specs.declared.ids.ObjectId.{ObjectId}
@@ -13,17 +13,19 @@ use Rattle.vm_model.specs.declared.event.Event.TheVariants as event
 use Rattle.vm_model.specs.declared.script.Header.{Header}
 use Rattle.vm_model.specs.Homes.{copying_host, first_of, home_in, home_of, object_home, region_for}
 use Rattle.vm_model.specs.Named.{named}
-use Rattle.vm_model.specs.Regions.{Backing, backing_of, joined, next_object, next_region, over, region_of}
+use Rattle.vm_model.specs.Regions.{Backing, backing_of, is_newest, joined, newest_copy, next_object, next_region, over, pushed, region_of}
 use Rattle.vm_model.specs.Rows.{found_row}
 use Rattle.vm_model.specs.Tasks.{host_of}
+use Rattle.vm_legal.proofs.Files.{file_named}
 use Rattle.vm_legal.proofs.Homes.{made_there, object_stays, on_host, region_stays, same_some}
 use Rattle.vm_legal.specs.Living.{lives_on}
-use Rattle.vm_legal.specs.Outside.{Outside}
+use Rattle.vm_legal.specs.Outside.{Outside, is_from_told}
 use Rattle.vm_legal.specs.Used.{is_kept, made_here}
 use Rattle.vm_legal.specs.Walks.{Below}
 use Rattle.vm_flat.proofs.Classes.{deeds, ground}
 use Rattle.vm_flat.proofs.Deeds as D
 use Rattle.vm_flat.proofs.Entries.{Entries, OwnedAt}
+use Rattle.vm_flat.proofs.Numbers.{NumberedAt, numbered_delayed}
 use Rattle.vm_flat.proofs.Ports.{Worlds}
 use Rattle.vm_flat.proofs.Regions.{eq_no, eq_yes, if_no, if_yes}
 use Rattle.vm_flat.proofs.Sustained.{Sustained}
@@ -40,15 +42,16 @@ pub record Housed (header : Header) (outside : Outside) (past : List Event) : Ty
   pub stay : (g h r : ℕ) → in_use header outside g r past ≡ true → home_of r past ≡ Some h → g ≡ h
   pub reached : (g r n u : ℕ) → in_use header outside g r past ≡ true → Below (λ k. backing_of header k past) n (region_of header r past).top u
       → named header ≤ u → IsHoused g r u past
+  pub copies : (f v : ℕ) → newest_copy f past ≡ Some v → region_for v past ≡ Some f
 
 -- what is in use, or stands on something, was made
-record Made (header : Header) (outside : Outside) (past : List Event) : Type 0 where
-  used : (g r : ℕ) → in_use header outside g r past ≡ true → r < next_region header past
-  tops : (r : ℕ) → r < next_region header past → (region_of header r past).top < next_object header past
-  backed : (o : ℕ) → (backing_of header o past).backed ≡ true → o < next_object header past
-  under : (o : ℕ) → (backing_of header o past).backed ≡ true → (backing_of header o past).under < next_object header past
+pub record Made (header : Header) (outside : Outside) (past : List Event) : Type 0 where
+  pub used : (g r : ℕ) → in_use header outside g r past ≡ true → r < next_region header past
+  pub tops : (r : ℕ) → r < next_region header past → (region_of header r past).top < next_object header past
+  pub backed : (o : ℕ) → (backing_of header o past).backed ≡ true → o < next_object header past
+  pub under : (o : ℕ) → (backing_of header o past).backed ≡ true → (backing_of header o past).under < next_object header past
 
-made_of : (header : Header) (outside : Outside) (past : List Event) → Worlds header outside past → Made header outside past
+pub made_of : (header : Header) (outside : Outside) (past : List Event) → Worlds header outside past → Made header outside past
 made_of header outside past w =
     record {
       used = λ g r is. omega (
@@ -145,7 +148,7 @@ regions_next header outside (event.RegionMade region object pages) past c was r 
     if_no region.0 r (first_of (home_of r past) (copying_host past)) (home_of r past) (λ same. omega (arith, same, c.0, high))
     ∙ was.regions r (omega (arith, high))
 regions_next header outside (event.RegionCopied region source offset pages) past c was r high = was.regions r (omega (arith, high))
-regions_next header outside (event.Delayed region source offset pages copy) past c was r high = absurd c
+regions_next header outside (event.Delayed region source offset pages copy) past c was r high = was.regions r (omega (arith, high))
 regions_next header outside e past c was r high = was.regions r high
 
 objects_next : (header : Header) (outside : Outside) (e : Event) (past : List Event) → Sustained header outside e past → Housed header outside past → (o : ℕ)
@@ -156,7 +159,9 @@ objects_next header outside (event.RegionMade region object pages) past c was o 
 objects_next header outside (event.Shadowed region new old) past c was o high =
     if_no new.0 o (first_of (region_for o past) (Some region.0)) (region_for o past) (λ same. omega (arith, same, c.next, high))
     ∙ was.objects o (omega (arith, high))
-objects_next header outside (event.Delayed region source offset pages copy) past c was o high = absurd c
+objects_next header outside (event.Delayed region source offset pages copy) past c was o high =
+    if_no copy.0 o (first_of (region_for o past) (Some source.0)) (region_for o past) (λ same. omega (arith, same, c.new, high))
+    ∙ was.objects o (omega (arith, high))
 objects_next header outside e past c was o high = was.objects o high
 
 -- a region that is made, in use on this host
@@ -184,6 +189,10 @@ entered_home : (g h : ℕ) (was x : Option ℕ) → x ≡ Some g → first_of wa
 entered_home g h None x here home stays = same_some g h (sym here ∙ home)
 entered_home g h (Some f) x here home stays = stays home
 
+-- a copy of a file that is in use there, and told
+abbrev told_there : Header → Outside → ℕ → ℕ → List Event → Bool
+told_there header outside g source past = in_use header outside g source past && (outside.paging && is_from_told header outside (Some source))
+
 stay_next : (header : Header) (outside : Outside) (e : Event) (past : List Event) → Sustained header outside e past → Housed header outside past → (g h r : ℕ)
     → in_use header outside g r (e ∷ past) ≡ true → home_of r (e ∷ past) ≡ Some h → g ≡ h
 stay_next header outside (event.RegionMade region object pages) past c was g h r used home = elim (ℕ_discrete r region.0) [
@@ -195,7 +204,10 @@ stay_next header outside (event.RegionCopied region source offset pages) past c 
   | yes e ↦ no_some h (sym (was.regions r (omega (arith, e, c.next))) ∙ home)
   | no apart ↦ was.stay g h r (sym (if_no r region.0 (in_use header outside g source.0 past) (in_use header outside g r past) apart) ∙ used) home
 ]
-stay_next header outside (event.Delayed region source offset pages copy) past c was g h r used home = absurd c
+stay_next header outside (event.Delayed region source offset pages copy) past c was g h r used home = elim (ℕ_discrete r region.0) [
+  | yes e ↦ no_some h (sym (was.regions r (omega (arith, e, c.next))) ∙ home)
+  | no apart ↦ was.stay g h r (sym (if_no r region.0 (told_there header outside g source.0 past) (in_use header outside g r past) apart) ∙ used) home
+]
 stay_next header outside (event.Entered task address bytes region offset prot inherit) past c was g h r used home = elim (ℕ_discrete r region.0) [
   | yes e ↦ entered_home g h (home_of r past) (host_of task.0 past) (entered_here header outside task region.0 g r past e used)
       (sym (if_yes region.0 r (first_of (home_of r past) (host_of task.0 past)) (home_of r past) (sym e)) ∙ home)
@@ -308,42 +320,169 @@ reached_shadowed header outside region new old g r n u past number m was used be
         (if_yes new.0 new.0 (region_of header region.0 past).top (backing_of header new.0 past).under refl
         ∙ ap (λ k. (region_of header k past).top) (sym e)) is.1)
 
-reached_next : (header : Header) (outside : Outside) (e : Event) (past : List Event) → Sustained header outside e past → Made header outside past
-    → Entries header outside past → Housed header outside past → (g r n u : ℕ) → in_use header outside g r (e ∷ past) ≡ true
+-- copies of files
+
+-- a region that is in use, and has a home, is at home there
+home_there : (header : Header) (outside : Outside) (g r : ℕ) (past : List Event) → Housed header outside past → (home_of r past ≡ None → ⊥)
+    → in_use header outside g r past ≡ true → home_of r past ≡ Some g
+home_there header outside g r past was homed used = by (home_of r past) refl
+  where
+    by : (x : Option ℕ) → home_of r past ≡ x → home_of r past ≡ Some g
+    by None none = absurd (homed none)
+    by (Some h) is = is ∙ ap (λ (k : ℕ). Some k) (sym (was.stay g h r used is))
+
+-- the newest copy of a file is at home where the file is
+newest_home : (header : Header) (outside : Outside) (g r f v : ℕ) (past : List Event) → Housed header outside past → newest_copy f past ≡ Some v
+    → (home_of f past ≡ None → ⊥) → IsHoused g r v past → home_of f past ≡ Some g
+newest_home header outside g r f v past was is homed (inl fresh) =
+    absurd (homed (ap (λ k. home_of k past) (same_some f r (sym (was.copies f v is) ∙ fresh.1)) ∙ fresh.0))
+newest_home header outside g r f v past was is homed (inr home) = sym (ap (home_in (λ k. home_of k past)) (was.copies f v is)) ∙ home
+
+copy_home : (g r : ℕ) (region source : RegionId) (offset pages : ℕ) (copy : ObjectId) (past : List Event) → region_for copy.0 past ≡ None
+    → home_of source.0 past ≡ Some g → IsHoused g r copy.0 (event.Delayed region source offset pages copy ∷ past)
+copy_home g r region source offset pages copy past fresh home =
+    inr (ap (home_in (λ k. home_of k past)) (if_yes copy.0 copy.0 (first_of (region_for copy.0 past) (Some source.0)) (region_for copy.0 past) refl
+    ∙ ap (λ x. first_of x (Some source.0)) fresh) ∙ home)
+
+below_step : (backings : ℕ → Backing) (n o u : ℕ) → Below backings n o u → (backings u).backed ≡ true → Below backings (suc n) o (backings u).under
+below_step backings zero o u is backed =
+    subst (λ (k : ℕ). Below backings 1 o (backings k).under) is (subst (λ (k : ℕ). (backings k).backed ≡ true) (sym is) backed, refl)
+below_step backings (suc n) o u is backed = (is.0, below_step backings n (backings o).under u is.1 backed)
+
+reached_delayed : (header : Header) (outside : Outside) (region source : RegionId) (offset pages : ℕ) (copy : ObjectId) (g r n u : ℕ) (past : List Event)
+    → copy.0 ≡ next_object header past → source.0 < named header → (home_of source.0 past ≡ None → ⊥) → NumberedAt header past
+    → NumberedAt header (event.Delayed region source offset pages copy ∷ past) → Made header outside past → Housed header outside past
+    → in_use header outside g r (event.Delayed region source offset pages copy ∷ past) ≡ true
+    → Below (λ k. backing_of header k (event.Delayed region source offset pages copy ∷ past)) n
+    (region_of header r (event.Delayed region source offset pages copy ∷ past)).top u → named header ≤ u
+    → IsHoused g r u (event.Delayed region source offset pages copy ∷ past)
+reached_delayed header outside region source offset pages copy g r n u past new file homed numbers later m was used below above =
+    elim (ℕ_discrete r region.0) [
+      | yes e ↦ copied n (subst (λ (t : ℕ). Below after n t u) (if_yes r region.0 copy.0 (region_of header r past).top e) below)
+          (home_there header outside g source.0 past was homed (first (in_use header outside g source.0 past) _
+          (sym (if_yes r region.0 (told_there header outside g source.0 past) (in_use header outside g r past) e) ∙ used)))
+      | no apart ↦
+          let here : in_use header outside g r past ≡ true = sym (if_no r region.0 (told_there header outside g source.0 past)
+          (in_use header outside g r past) apart) ∙ used in
+          down here n (region_of header r past).top 0 (m.tops r (m.used g r here)) refl
+          (subst (λ (t : ℕ). Below after n t u) (if_no r region.0 copy.0 (region_of header r past).top apart) below)
+    ]
+  where
+    after : ℕ → Backing
+    after k = backing_of header k (event.Delayed region source offset pages copy ∷ past)
+
+    -- below the copy is the file alone
+    copied : (n : ℕ) → Below after n copy.0 u → home_of source.0 past ≡ Some g → IsHoused g r u (event.Delayed region source offset pages copy ∷ past)
+    copied zero is home =
+        subst (λ (k : ℕ). IsHoused g r k (event.Delayed region source offset pages copy ∷ past)) is
+        (copy_home g r region source offset pages copy past (was.objects copy.0 (omega (arith, new))) home)
+    copied (suc n) is home =
+        let from : Below after n source.0 u = subst (λ (t : ℕ). Below after n t u) (if_yes copy.0 copy.0 source.0
+        (if is_newest copy.0 (newest_copy source.0 past) then copy.0 else (backing_of header copy.0 past).under) refl) is.1 in
+        let same : source.0 ≡ u = below_bare after n source.0 u (λ on. absurd (omega (arith, file, later.upper source.0 on))) from in
+        absurd (omega (arith, same, file, above))
+
+    old : (k : ℕ) → k < next_object header past → is_newest k (newest_copy source.0 past) ≡ false → after k ≡ backing_of header k past
+    old k less other =
+        ap (λ (b : Bool). pushed b (is_newest k (newest_copy source.0 past)) source.0 copy.0 (backing_of header k past))
+        (eq_no k copy.0 (λ e. omega (arith, e, less, new)))
+        ∙ ap (λ (b : Bool). pushed false b source.0 copy.0 (backing_of header k past)) other
+
+    turned : (k : ℕ) → k < next_object header past → is_newest k (newest_copy source.0 past) ≡ true → (after k).under ≡ copy.0
+    turned k less is =
+        ap (λ (b : Bool). (pushed b (is_newest k (newest_copy source.0 past)) source.0 copy.0 (backing_of header k past)).under)
+        (eq_no k copy.0 (λ e. omega (arith, e, less, new)))
+        ∙ ap (λ (b : Bool). (pushed false b source.0 copy.0 (backing_of header k past)).under) is
+
+    newest_is : (k : ℕ) (x : Option ℕ) → is_newest k x ≡ true → x ≡ Some k
+    newest_is k None is = absurd (let bad : false ≡ true = is in cc)
+    newest_is k (Some v) is = let same : k ≡ v = grind (arith, nat_tests) in ap (λ (z : ℕ). Some z) (sym same)
+
+    -- at the copy that was the newest the chain goes by way of the new one
+    turn : in_use header outside g r past ≡ true → (n o k : ℕ) → o < next_object header past
+        → Below (λ j. backing_of header j past) k (region_of header r past).top o → Below after (suc n) o u
+        → (is_newest o (newest_copy source.0 past) ≡ false → (backing_of header o past).backed ≡ true
+        → IsHoused g r u (event.Delayed region source offset pages copy ∷ past))
+        → IsHoused g r u (event.Delayed region source offset pages copy ∷ past)
+    turn here n o k less chain is more = by (is_newest o (newest_copy source.0 past)) refl
+      where
+        by : (b : Bool) → is_newest o (newest_copy source.0 past) ≡ b → IsHoused g r u (event.Delayed region source offset pages copy ∷ past)
+        by true on =
+            let newest : newest_copy source.0 past ≡ Some o = newest_is o (newest_copy source.0 past) on in
+            copied n (subst (λ (t : ℕ). Below after n t u) (turned o less on) is.1) (newest_home header outside g r source.0 o past was newest homed
+            (was.reached g r k o here chain (numbers.newest source.0 o newest)))
+        by false off = more off (subst (λ (x : Backing). x.backed ≡ true) (old o less off) is.0)
+
+    down : in_use header outside g r past ≡ true → (n o k : ℕ) → o < next_object header past
+        → Below (λ j. backing_of header j past) k (region_of header r past).top o → Below after n o u
+        → IsHoused g r u (event.Delayed region source offset pages copy ∷ past)
+    down here zero o k less chain is =
+        housed_stays g r u (event.Delayed region source offset pages copy) past refl (was.reached g r k u here
+        (subst (λ (t : ℕ). Below (λ j. backing_of header j past) k (region_of header r past).top t) is chain) above)
+    down here (suc n) o k less chain is =
+        turn here n o k less chain is
+        (λ off backed. down here n (backing_of header o past).under (suc k) (m.under o backed)
+        (below_step (λ j. backing_of header j past) k (region_of header r past).top o chain backed)
+        (subst (λ (x : Backing). Below after n x.under u) (old o less off) is.1))
+
+copies_next : (header : Header) (outside : Outside) (e : Event) (past : List Event) → Sustained header outside e past → Housed header outside past
+    → (f v : ℕ) → newest_copy f (e ∷ past) ≡ Some v → region_for v (e ∷ past) ≡ Some f
+copies_next header outside (event.Delayed region source offset pages copy) past c was f v is = by (f == source.0) refl is
+  where
+    by : (b : Bool) → (f == source.0) ≡ b → (if b then Some copy.0 else newest_copy f past) ≡ Some v
+        → region_for v (event.Delayed region source offset pages copy ∷ past) ≡ Some f
+    by true same e =
+        let there : copy.0 ≡ v = same_some copy.0 v e in
+        let file : source.0 ≡ f = grind (arith, nat_tests, same) in
+        if_yes copy.0 v (first_of (region_for v past) (Some source.0)) (region_for v past) there
+        ∙ ap (λ x. first_of x (Some source.0)) (was.objects v (omega (arith, there, c.new))) ∙ ap (λ (k : ℕ). Some k) file
+    by false other e = region_stays v f (event.Delayed region source offset pages copy) past (was.copies f v e)
+copies_next header outside (event.RegionMade region object pages) past c was f v is =
+    region_stays v f (event.RegionMade region object pages) past (was.copies f v is)
+copies_next header outside (event.Shadowed region new old) past c was f v is = region_stays v f (event.Shadowed region new old) past (was.copies f v is)
+copies_next header outside e past c was f v is = was.copies f v is
+
+reached_next : (header : Header) (outside : Outside) (e : Event) (past : List Event) → NumberedAt header past → Sustained header outside e past
+    → Made header outside past → Entries header outside past → Housed header outside past → (g r n u : ℕ) → in_use header outside g r (e ∷ past) ≡ true
     → Below (λ k. backing_of header k (e ∷ past)) n (region_of header r (e ∷ past)).top u → named header ≤ u → IsHoused g r u (e ∷ past)
-reached_next header outside (event.RegionMade region object pages) past c m entries was g r n u used below above =
+reached_next header outside (event.RegionMade region object pages) past numbers c m entries was g r n u used below above =
     reached_made header outside region object pages g r n u past c.0 c.1 m was used below above
-reached_next header outside (event.RegionCopied region source offset pages) past c m entries was g r n u used below above =
+reached_next header outside (event.RegionCopied region source offset pages) past numbers c m entries was g r n u used below above =
     reached_copied header outside region source offset pages g r n u past (λ none. (found_row (OwnedAt header outside past c.at.host) c.address _ c.at.entry
     (entries c.task c.at.host c.at.lives) c.at.found).is.homed (ap (λ k. home_of k past) (sym c.source_is) ∙ none)) was used below above
-reached_next header outside (event.Delayed region source offset pages copy) past c m entries was g r n u used below above = absurd c
-reached_next header outside (event.Entered task address bytes region offset prot inherit) past c m entries was g r n u used below above =
+reached_next header outside (event.Delayed region source offset pages copy) past numbers c m entries was g r n u used below above =
+    reached_delayed header outside region source offset pages copy g r n u past c.new (file_named header source.0 c.file)
+    (λ none. (found_row (OwnedAt header outside past c.at.host) c.address _ c.at.entry (entries c.task c.at.host c.at.lives) c.at.found).is.homed
+    (ap (λ k. home_of k past) (sym c.source_is) ∙ none)) numbers (numbered_delayed header region source offset pages copy past numbers c.next c.new) m was used
+    below above
+reached_next header outside (event.Entered task address bytes region offset prot inherit) past numbers c m entries was g r n u used below above =
     reached_entered header outside task address bytes region offset prot inherit g r n u past was used below above
-reached_next header outside (event.Shadowed region new old) past c m entries was g r n u used below above =
+reached_next header outside (event.Shadowed region new old) past numbers c m entries was g r n u used below above =
     reached_shadowed header outside region new old g r n u past c.next m was used below above
-reached_next header outside (event.Merged upper lower) past c m entries was g r n u used below above =
+reached_next header outside (event.Merged upper lower) past numbers c m entries was g r n u used below above =
     let before : (k : ℕ) × Below (λ k. backing_of header k past) k (region_of header r past).top u = below_merged (λ k. backing_of header k past) upper.0
     lower.0 n (region_of header r past).top u c.pair.backed c.pair.under below in
     housed_stays g r u (event.Merged upper lower) past refl (was.reached g r before.0 u used before.1 above)
-reached_next header outside (event.Removed task address bytes) past c m entries was g r n u used below above =
+reached_next header outside (event.Removed task address bytes) past numbers c m entries was g r n u used below above =
     housed_stays g r u (event.Removed task address bytes) past refl
     (was.reached g r n u (second (is_kept header r (event.Removed task address bytes ∷ past)) (in_use header outside g r past) used) below above)
-reached_next header outside (event.TaskEnded task) past c m entries was g r n u used below above =
+reached_next header outside (event.TaskEnded task) past numbers c m entries was g r n u used below above =
     housed_stays g r u (event.TaskEnded task) past refl
     (was.reached g r n u (second (is_kept header r (event.TaskEnded task ∷ past)) (in_use header outside g r past) used) below above)
-reached_next header outside (event.Failed task object page) past c m entries was g r n u used below above =
+reached_next header outside (event.Failed task object page) past numbers c m entries was g r n u used below above =
     housed_stays g r u (event.Failed task object page) past refl
     (was.reached g r n u (second (is_kept header r (event.Failed task object page ∷ past)) (in_use header outside g r past) used) below above)
-reached_next header outside e past c m entries was g r n u used below above = was.reached g r n u used below above
+reached_next header outside e past numbers c m entries was g r n u used below above = was.reached g r n u used below above
 
-pub housed_next : (header : Header) (outside : Outside) (e : Event) (past : List Event) → Worlds header outside past → Entries header outside past
-    → Sustained header outside e past → Housed header outside past → Housed header outside (e ∷ past)
-housed_next header outside e past w entries c was =
+pub housed_next : (header : Header) (outside : Outside) (e : Event) (past : List Event) → NumberedAt header past → Worlds header outside past
+    → Entries header outside past → Sustained header outside e past → Housed header outside past → Housed header outside (e ∷ past)
+housed_next header outside e past numbers w entries c was =
     record {
       regions = regions_next header outside e past c was;
       objects = objects_next header outside e past c was;
       stay = stay_next header outside e past c was;
-      reached = reached_next header outside e past c (made_of header outside past w) entries was;
+      reached = reached_next header outside e past numbers c (made_of header outside past w) entries was;
+      copies = copies_next header outside e past c was;
     }
 
 pub housed_start : (header : Header) (outside : Outside) → Housed header outside []
@@ -357,4 +496,5 @@ housed_start header outside =
           let less : r < named header = grind (arith, nat_tests) in
           omega (arith, same, less, above)
           );
+      copies = λ f v is. no_some v is;
     }

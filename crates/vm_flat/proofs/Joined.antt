@@ -19,7 +19,7 @@ use Rattle.vm_flat.proofs.Holds.{Holds, reach}
 use Rattle.vm_flat.proofs.Housed.{IsHoused}
 use Rattle.vm_flat.proofs.Sustained as S
 use Rattle.vm_flat.proofs.Sustained.{control}
-use Rattle.vm_flat.proofs.Ties.{control_tie, link_is, pages_is, row_is}
+use Rattle.vm_flat.proofs.Ties.{control_tie, copy_is, link_is, pages_is, row_is}
 use Rattle.vm_flat.proofs.Uses.{in_use}
 use Rattle.vm_flat.proofs.Using.{used as in_legal_use, reached as legally}
 
@@ -75,6 +75,7 @@ merge_cause header outside host upper lower past h c =
       lower_pages_is = pages_is header outside host lower past;
       upper_plain = not_file header upper later;
       lower_plain = not_file header lower c.pair.temporary;
+      no_copy = copy_is header outside host lower past ∙ c.pair.plain;
       pair = λ own. merge_pair header outside host upper lower past h (subst (λ (g : ℕ). IsPair header g upper lower past) (on own) c.pair)
           (subst (λ (g : ℕ). control header g upper past ≡ 0) (on own) c.upper_none) (subst (λ (g : ℕ). control header g lower past ≡ 0) (on own) c.lower_none);
       foreign = foreign;

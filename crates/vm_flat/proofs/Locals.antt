@@ -23,8 +23,9 @@ use Rattle.vm_model.specs.Local.{Local, Elsewhere, is_known_absent, is_on, local
 use Rattle.vm_model.specs.Moments.{EachEvent}
 use Rattle.vm_model.specs.Words.{in_range}
 use Rattle.vm_model.specs.Named.{declared, named}
+use Rattle.vm_legal.specs.Licences as licence
 use Rattle.vm_legal.specs.Licences.{Caused, HasCause, MaySendUp}
-use Rattle.vm_legal.specs.Outside.{Outside, is_file, is_file_kept, is_private, is_said, zeros}
+use Rattle.vm_legal.specs.Outside.{Outside, is_file, is_file_kept, is_from_told, is_private_from, is_said, zeros}
 use Rattle.vm_legal.specs.Living.{lives_on}
 use Rattle.vm_flat.specs.Words.{SpotDownWord, Supplying, Unavailing, Erring, SpotEffect, Creates, Requests, Returns, TakesRequest, TakesReturn, Answers, Takes}
 use Rattle.vm_flat.specs.Words.{Zeroes, Raises, Stores, Drops, Moves, Ends, StepEnds, Nothing}
@@ -493,7 +494,8 @@ sent_founded header doing at object m past c = tt
 
 event_founded : (header : Header) (outside : Outside) (doing : Command) (e : Event) (past : List Event) → Caused header outside doing e past
     → IsFounded header e past
-event_founded header outside doing (event.Raised at lower lower_page upper upper_page) past c = c.here
+event_founded header outside doing (event.Raised at lower lower_page upper upper_page) past (licence.Finding c) = c.here
+event_founded header outside doing (event.Raised at lower lower_page upper upper_page) past (licence.Pushing c) = c.here
 event_founded header outside doing (event.CopiedPage task page object object_page target) past c = (c.waits.at.host, c.waits.at.lives, c.here)
 event_founded header outside doing (event.Stored task object page at bytes value) past c = (c.waits.at.host, c.waits.at.lives)
 event_founded header outside doing (event.Sent (Up at object) m) past c = sent_founded header doing at object m past c
@@ -505,13 +507,14 @@ each_founded header outside [] caused = tt
 each_founded header outside (e ∷ past) caused = (event_founded header outside caused.0.0 e past caused.0.1, each_founded header outside past caused.1)
 
 -- of a private object a page is known absent where the host knows that
-pub known_absent : (header : Header) (outside : Outside) (past : List Event) (host o p : ℕ) → is_private header outside o ≡ true
+pub known_absent : (header : Header) (outside : Outside) (past : List Event) (host o p : ℕ) (from : Option ℕ)
+    → is_private_from header outside o from ≡ true
     → (spot header outside host o p past).absent ≡ is_known_absent header (record { object = o; page = p })
     (local header host (record { object = o; page = p }) past)
-known_absent header outside past host o p ours =
+known_absent header outside past host o p from ours =
     (spot_is_local header outside past host o p).absent
     ∙ ap (λ (b : Bool). b && (local header host (record { object = o; page = p }) past).absent)
-    (by_kind (nat_lt o (named header)) (is_file_kept (declared header o)) outside.paging ours)
+    (by_kind (nat_lt o (named header)) (is_file_kept (declared header o)) (outside.paging && is_from_told header outside from) ours)
   where
     by_kind : (below kept paging : Bool) → ((not below && paging) || (below && kept)) ≡ true → not (below && kept) ≡ not below
     by_kind true true paging is = refl

@@ -1,6 +1,6 @@
 -- What a merge leaves: each object shows what it showed, and the lower object is reached no more.
-use Rattle.std.proofs.Common.{◌≡◌, ℕ, zero, suc, ◌+◌, ◌<◌, ◌≤◌, List, ◌∷◌, arith, Bool, true, false, None, refl, if◌then◌else◌, ◌∙◌, sym, subst, ap, ◌≢◌, inl}
-use Rattle.std.proofs.Common.{inr}
+use Rattle.std.proofs.Common.{◌≡◌, ℕ, zero, suc, ◌+◌, ◌<◌, ◌≤◌, List, ◌∷◌, arith, Bool, true, false, Some, None, refl, if◌then◌else◌, ◌∙◌, sym, subst, ap}
+use Rattle.std.proofs.Common.{◌≢◌, inl, inr}
 use Rattle.std.proofs.lemmas.Bool.Decides.{nat_tests}
 use Rattle.std.specs.Prelude.{◌⊎◌, ◌==◌, ◌&&◌, not, nat_lt}
 use native.Mathlib.Decide.{ℕ_discrete}
@@ -8,13 +8,19 @@ use Rattle.vm_flat.specs.Words.{SpotEffect, Moves, Drops, Nothing}
 use Rattle.vm_flat.specs.Spot.{Spot, merged_effect, spot_after}
 use Rattle.vm_flat.proofs.Allowed.{May, content}
 use Rattle.vm_flat.proofs.Deeds.{Ground, is_file, covered, Deed, Merged, Row, row, pages, objects, Link, joined, link, spot}
+use Rattle.vm_flat.proofs.Deeds.{newest, is_copy, is_pushed, stem}
+use Rattle.vm_flat.proofs.Stems.{Newest, Source, Copy, StemsOf}
+use Rattle.vm_flat.proofs.Marked.{mark_plain, mark_again}
 use Rattle.vm_flat.proofs.Causes.{Path, Below, Reaches, Reach, Cause, Joins, Pair}
 use Rattle.vm_flat.proofs.Sound.{Sound, keep_moves, keep_gone}
 use Rattle.vm_flat.proofs.Good.{Fits, Good, good_again}
-use Rattle.vm_flat.proofs.World.{ReachAt, reach_under, ShapeOf, World, GoodAt, below_next, under_view, view, Barren, barren_top}
+use Rattle.vm_flat.proofs.World.{ReachAt, reach_under, ShapeOf, World, GoodAt, MarkAt, below_next, under_view, view, Barren, barren_top}
 use Rattle.vm_flat.proofs.File.{file_is}
 use Rattle.vm_flat.proofs.Control.{control_is}
 use Rattle.vm_flat.proofs.Regions.{eq_no, eq_yes}
+
+clash : (b : Bool) → b ≡ false → b ≡ true → ⊥
+clash b isnt is = cc
 
 -- links
 
@@ -130,7 +136,7 @@ shape_merged z own upper lower shift upper_pages lower_pages past sh c =
       falls = λ o. by_link o (λ x. x.backed ≡ true → sh.rank x.under < sh.rank o) (λ e. falls o e) (λ other. sh.falls o);
       made = λ o. by_link o (λ x. x.backed ≡ true → o < objects z past) (λ e backed. omega (arith, e, sh.made upper c.backed)) (λ other. sh.made o);
       covers_tops = sh.covers_tops;
-      covers_under = λ o ours. by_link o (λ x. x.backed ≡ true → covered z x.under ≡ true) (λ e. sh.covers_under lower (covers o e ours))
+      covers_under = λ o ours. by_link o (λ x. x.backed ≡ true → covered z x.under past ≡ true) (λ e. sh.covers_under lower (covers o e ours))
           (λ other. sh.covers_under o ours);
       tops_inside = sh.tops_inside;
       inside = λ o p reach backed less. by_link o (λ x. x.backed ≡ true → x.shift + p < pages z x.under past) (λ e on. inside o p e (reached o reach) less on)
@@ -161,8 +167,8 @@ shape_merged z own upper lower shift upper_pages lower_pages past sh c =
         let mine : sh.rank o ≡ sh.rank upper = ap sh.rank e in
         omega (arith, one, two, same, mine)
 
-    covers : (o : ℕ) → o ≡ upper → covered z o ≡ true → covered z lower ≡ true
-    covers o e ours = subst (λ (k : ℕ). covered z k ≡ true) c.under (sh.covers_under upper (subst (λ (k : ℕ). covered z k ≡ true) e ours) c.backed)
+    covers : (o : ℕ) → o ≡ upper → covered z o past ≡ true → covered z lower past ≡ true
+    covers o e ours = subst (λ (k : ℕ). covered z k past ≡ true) c.under (sh.covers_under upper (subst (λ (k : ℕ). covered z k past ≡ true) e ours) c.backed)
 
     inside : (o p : ℕ) → o ≡ upper → Reach z o past → p < pages z o past → (link z lower past).backed ≡ true
         → ((link z lower past).shift + (link z upper past).shift) + p < pages z (link z lower past).under past
@@ -224,7 +230,7 @@ may_move z s t is ok low plain never low_plain low_never =
 
 -- on another host
 foreign_places : (z : Ground) (upper lower shift upper_pages lower_pages : ℕ) (past : List Deed) → World z past
-    → Joins z false upper lower shift upper_pages lower_pages past → (o p : ℕ) → covered z o ≡ true
+    → Joins z false upper lower shift upper_pages lower_pages past → (o p : ℕ) → covered z o past ≡ true
     → GoodAt z (Merged false upper lower shift upper_pages lower_pages ∷ past) o p (spot z o p past)
 foreign_places z upper lower shift upper_pages lower_pages past w c o p ours = elim (ℕ_discrete o upper) [
   | yes e ↦ record {
@@ -288,7 +294,7 @@ last_of a b m is = grind arith
 
 -- a place of the upper object
 upper_place : (z : Ground) (upper lower shift upper_pages lower_pages : ℕ) (past : List Deed) → World z past
-    → Joins z true upper lower shift upper_pages lower_pages past → (p : ℕ) → covered z upper ≡ true
+    → Joins z true upper lower shift upper_pages lower_pages past → (p : ℕ) → covered z upper past ≡ true
     → GoodAt z (Merged true upper lower shift upper_pages lower_pages ∷ past) upper p
     (spot z upper p (Merged true upper lower shift upper_pages lower_pages ∷ past))
 upper_place z upper lower shift upper_pages lower_pages past w c p ours =
@@ -317,8 +323,8 @@ upper_place z upper lower shift upper_pages lower_pages past w c p ours =
     far : (link z lower past).shift + (shift + p) ≡ ((link z lower past).shift + (link z upper past).shift) + p
     far = omega (arith, c.shift_is)
 
-    too : covered z lower ≡ true
-    too = subst (λ (k : ℕ). covered z k ≡ true) c.under (w.shape.covers_under upper ours c.backed)
+    too : covered z lower past ≡ true
+    too = subst (λ (k : ℕ). covered z k past ≡ true) c.under (w.shape.covers_under upper ours c.backed)
 
     above_control : above.control ≡ 0
     above_control = control_is z upper p past ∙ (c.pair refl).upper_never
@@ -395,7 +401,7 @@ upper_place z upper lower shift upper_pages lower_pages past w c p ours =
 
 -- a place of another object
 other_place : (z : Ground) (upper lower shift upper_pages lower_pages : ℕ) (past : List Deed) → World z past
-    → Joins z true upper lower shift upper_pages lower_pages past → (o p : ℕ) → covered z o ≡ true → o ≢ upper
+    → Joins z true upper lower shift upper_pages lower_pages past → (o p : ℕ) → covered z o past ≡ true → o ≢ upper
     → GoodAt z (Merged true upper lower shift upper_pages lower_pages ∷ past) o p
     (spot z o p (Merged true upper lower shift upper_pages lower_pages ∷ past))
 other_place z upper lower shift upper_pages lower_pages past w c o p ours apart = elim (ℕ_discrete o lower) [
@@ -425,15 +431,137 @@ other_place z upper lower shift upper_pages lower_pages past w c o p ours apart 
     before reach = reach_own z true upper lower shift upper_pages lower_pages o past w.shape c (c.pair refl) reach
 
 own_places : (z : Ground) (upper lower shift upper_pages lower_pages : ℕ) (past : List Deed) → World z past
-    → Joins z true upper lower shift upper_pages lower_pages past → (o p : ℕ) → covered z o ≡ true
+    → Joins z true upper lower shift upper_pages lower_pages past → (o p : ℕ) → covered z o past ≡ true
     → GoodAt z (Merged true upper lower shift upper_pages lower_pages ∷ past) o p
     (spot z o p (Merged true upper lower shift upper_pages lower_pages ∷ past))
 own_places z upper lower shift upper_pages lower_pages past w c o p ours = elim (ℕ_discrete o upper) [
   | yes e ↦ subst (λ (k : ℕ). GoodAt z (Merged true upper lower shift upper_pages lower_pages ∷ past) k p
       (spot z k p (Merged true upper lower shift upper_pages lower_pages ∷ past))) (sym e)
-      (upper_place z upper lower shift upper_pages lower_pages past w c p (subst (λ (k : ℕ). covered z k ≡ true) e ours))
+      (upper_place z upper lower shift upper_pages lower_pages past w c p (subst (λ (k : ℕ). covered z k past ≡ true) e ours))
   | no apart ↦ other_place z upper lower shift upper_pages lower_pages past w c o p ours apart
 ]
+
+-- copies
+
+-- neither of the two is a copy
+lower_copy : (z : Ground) (own : Bool) (upper lower shift upper_pages lower_pages : ℕ) (past : List Deed)
+    → Joins z own upper lower shift upper_pages lower_pages past → (k : ℕ) → k ≡ lower → is_copy z k past ≡ true → ⊥
+lower_copy z own upper lower shift upper_pages lower_pages past c k e copy =
+    clash (is_copy z lower past) c.no_copy (subst (λ (h : ℕ). is_copy z h past ≡ true) e copy)
+
+lower_file : (z : Ground) (own : Bool) (upper lower shift upper_pages lower_pages : ℕ) (past : List Deed)
+    → Joins z own upper lower shift upper_pages lower_pages past → (k : ℕ) → k ≡ lower → is_file z k ≡ true → ⊥
+lower_file z own upper lower shift upper_pages lower_pages past c k e file =
+    clash (is_file z lower) c.lower_plain (subst (λ (h : ℕ). is_file z h ≡ true) e file)
+
+upper_copy : (z : Ground) (own : Bool) (upper lower shift upper_pages lower_pages : ℕ) (past : List Deed) → StemsOf z past
+    → Joins z own upper lower shift upper_pages lower_pages past → (k : ℕ) → k ≡ upper → is_copy z k past ≡ true → ⊥
+upper_copy z own upper lower shift upper_pages lower_pages past s c k e copy =
+    elim (s.copy_is upper (subst (λ (h : ℕ). is_copy z h past ≡ true) e copy)).under [
+      | inl file ↦ lower_file z own upper lower shift upper_pages lower_pages past c (link z upper past).under c.under file
+      | inr more ↦ lower_copy z own upper lower shift upper_pages lower_pages past c (link z upper past).under c.under more
+    ]
+
+stems_merged : (z : Ground) (own : Bool) (upper lower shift upper_pages lower_pages : ℕ) (past : List Deed) → StemsOf z past
+    → Joins z own upper lower shift upper_pages lower_pages past → StemsOf z (Merged own upper lower shift upper_pages lower_pages ∷ past)
+stems_merged z own upper lower shift upper_pages lower_pages past s c =
+    record { stands = stands; newest_is = newest_is; sources = sources; copy_is = copy_is; unmade = s.unmade }
+  where
+    now : List Deed
+    now = Merged own upper lower shift upper_pages lower_pages ∷ past
+
+    kept : (o : ℕ) → o ≢ upper → link z o now ≡ link z o past
+    kept o apart = link_other (λ k. link z k past) o upper lower apart
+
+    joins : (o : ℕ) → o ≡ upper → link z o now ≡ joined true (link z lower past) (link z upper past)
+    joins o e = link_own (λ k. link z k past) o upper lower e
+
+    apart : (o : ℕ) → is_copy z o past ≡ true → o ≢ upper
+    apart o copy e = upper_copy z own upper lower shift upper_pages lower_pages past s c o e copy
+
+    stands : (v f : ℕ) → f < z.named → (link z v now).backed ≡ true → (link z v now).under ≡ f → newest z f past ≡ Some v
+    stands v f declared backed under = elim (ℕ_discrete v upper) [
+      | yes e ↦
+          let low : newest z f past ≡ Some lower = s.stands lower f declared (subst (λ (l : Link). l.backed ≡ true) (joins v e) backed)
+          (subst (λ (l : Link). l.under ≡ f) (joins v e) under) in
+          absurd (lower_copy z own upper lower shift upper_pages lower_pages past c lower refl (s.newest_is f lower low).copy)
+      | no other ↦
+          s.stands v f declared (subst (λ (l : Link). l.backed ≡ true) (kept v other) backed) (subst (λ (l : Link). l.under ≡ f) (kept v other) under)
+    ]
+
+    newest_is : (f k : ℕ) → newest z f past ≡ Some k
+        → Newest (λ o. is_file z o) (λ o. link z o now) (λ o. pages z o past) (objects z past) (λ o. is_copy z o past) (λ o. stem z o past) f k
+    newest_is f k has =
+        let n = s.newest_is f k has in
+        let same : link z k now ≡ link z k past = kept k (apart k n.copy) in
+        record {
+          file = n.file;
+          copy = n.copy;
+          source = n.source;
+          backed = subst (λ (l : Link). l.backed ≡ true) (sym same) n.backed;
+          under = subst (λ (l : Link). l.under ≡ f) (sym same) n.under;
+          shift = subst (λ (l : Link). l.shift ≡ 0) (sym same) n.shift;
+          made = n.made;
+          same_pages = n.same_pages;
+        }
+
+    low_stem : (f : ℕ) → stem z upper past ≡ Some f → stem z lower past ≡ Some f
+    low_stem f has = let x = s.sources upper f has in elim x.under [
+      | inl on ↦ absurd (lower_file z own upper lower shift upper_pages lower_pages past c f (sym on ∙ c.under) x.file)
+      | inr low ↦ subst (λ (k : ℕ). stem z k past ≡ Some f) c.under low
+    ]
+
+    sources : (o f : ℕ) → stem z o past ≡ Some f → Source z.named (λ k. is_file z k) (λ k. link z k now) (λ k. stem z k past) o f
+    sources o f has = elim (ℕ_discrete o upper) [
+      | yes e ↦
+          let y = s.sources lower f (low_stem f (subst (λ (k : ℕ). stem z k past ≡ Some f) e has)) in
+          record {
+            late = (s.sources o f has).late;
+            file = y.file;
+            backed = subst (λ (l : Link). l.backed ≡ true) (sym (joins o e)) y.backed;
+            under = subst (λ (l : Link). (l.under ≡ f) ⊎ (stem z l.under past ≡ Some f)) (sym (joins o e)) y.under;
+          }
+      | no other ↦
+          let x = s.sources o f has in
+          record {
+            late = x.late;
+            file = x.file;
+            backed = subst (λ (l : Link). l.backed ≡ true) (sym (kept o other)) x.backed;
+            under = subst (λ (l : Link). (l.under ≡ f) ⊎ (stem z l.under past ≡ Some f)) (sym (kept o other)) x.under;
+          }
+    ]
+
+    copy_is : (o : ℕ) → is_copy z o past ≡ true → Copy (λ k. is_file z k) (λ k. link z k now) (λ k. is_copy z k past) (λ k. stem z k past) o
+    copy_is o copy =
+        let x = s.copy_is o copy in
+        record {
+          file = x.file;
+          source = x.source;
+          under = subst (λ (l : Link). (is_file z l.under ≡ true) ⊎ (is_copy z l.under past ≡ true)) (sym (kept o (apart o copy))) x.under;
+        }
+
+marks_own : (z : Ground) (upper lower shift upper_pages lower_pages : ℕ) (past : List Deed) → World z past
+    → Joins z true upper lower shift upper_pages lower_pages past → (o p : ℕ) → covered z o past ≡ true
+    → MarkAt z (Merged true upper lower shift upper_pages lower_pages ∷ past) o p
+    (spot z o p (Merged true upper lower shift upper_pages lower_pages ∷ past))
+marks_own z upper lower shift upper_pages lower_pages past w c o p ours = elim (ℕ_discrete o upper) [
+  | yes e ↦ plain (upper_copy z true upper lower shift upper_pages lower_pages past w.stems c o e)
+  | no apart ↦ elim (ℕ_discrete o lower) [
+    | yes e ↦ plain (lower_copy z true upper lower shift upper_pages lower_pages past c o e)
+    | no other ↦ subst (λ (f : SpotEffect). MarkAt z now o p (spot_after z.zeros (spot z o p past) f))
+        (sym (of_other o p upper lower shift upper_pages lower_pages (spot z o p past) (spot z lower (shift + p) past) apart other))
+        (mark_again (objects z past ≤ o) (objects z past ≤ o) (is_copy z o past ≡ true) (is_copy z o past ≡ true) (Reach z o past) (Reach z o now)
+        (is_pushed z o p past) (spot z o p past) (λ u. u) (λ copy. copy)
+        (λ copy. reach_merged z true upper lower shift upper_pages lower_pages o past w.shape c) (w.marks o p ours))
+  ]
+]
+  where
+    now : List Deed
+    now = Merged true upper lower shift upper_pages lower_pages ∷ past
+
+    plain : (is_copy z o past ≡ true → ⊥) → MarkAt z now o p (spot z o p now)
+    plain no_copy =
+        mark_plain (objects z past ≤ o) (is_copy z o past ≡ true) (Reach z o now) (is_pushed z o p past) (spot z o p now) no_copy (w.marks o p ours).fresh
 
 pub after_merged : (z : Ground) (own : Bool) (upper lower shift upper_pages lower_pages : ℕ) (past : List Deed) → World z past
     → Cause z (Merged own upper lower shift upper_pages lower_pages) past → World z (Merged own upper lower shift upper_pages lower_pages ∷ past)
@@ -442,10 +570,17 @@ after_merged z true upper lower shift upper_pages lower_pages past w c =
       shape = shape_merged z true upper lower shift upper_pages lower_pages past w.shape c;
       regional = w.regional;
       places = own_places z upper lower shift upper_pages lower_pages past w c;
+      stems = stems_merged z true upper lower shift upper_pages lower_pages past w.stems c;
+      marks = marks_own z upper lower shift upper_pages lower_pages past w c;
     }
 after_merged z false upper lower shift upper_pages lower_pages past w c =
     record {
       shape = shape_merged z false upper lower shift upper_pages lower_pages past w.shape c;
       regional = w.regional;
       places = foreign_places z upper lower shift upper_pages lower_pages past w c;
+      stems = stems_merged z false upper lower shift upper_pages lower_pages past w.stems c;
+      marks = λ o p ours.
+          mark_again (objects z past ≤ o) (objects z past ≤ o) (is_copy z o past ≡ true) (is_copy z o past ≡ true) (Reach z o past)
+          (Reach z o (Merged false upper lower shift upper_pages lower_pages ∷ past)) (is_pushed z o p past) (spot z o p past) (λ u. u) (λ copy. copy)
+          (λ copy. reach_merged z false upper lower shift upper_pages lower_pages o past w.shape c) (w.marks o p ours);
     }

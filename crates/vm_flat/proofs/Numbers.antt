@@ -1,7 +1,7 @@
 -- Which numbers regions and objects have: the declared ones stay as they are, and nothing stands on a declared object.
-use Rattle.std.proofs.Common.{ℕ, ◌≡◌, ◌≢◌, ◌+◌, ◌<◌, ◌≤◌, List, [], ◌∷◌, Bool, true, false, refl, sym, ◌∙◌, arith, if◌then◌else◌}
+use Rattle.std.proofs.Common.{ℕ, ◌≡◌, ◌≢◌, ◌+◌, ◌<◌, ◌≤◌, List, [], ◌∷◌, Bool, true, false, refl, sym, ◌∙◌, arith, if◌then◌else◌, Option, Some, None}
 use Rattle.std.proofs.lemmas.Bool.Decides.{nat_tests}
-use Rattle.std.specs.Prelude.{◌==◌, nat_lt}
+use Rattle.std.specs.Prelude.{◌==◌, ◌||◌, nat_lt}
 use native.Mathlib.Decide.{ℕ_discrete}
 use Rattle.vm_base.specs.declared.ids.RegionId.{RegionId}
 use Rattle.vm_base.specs.declared.ids.ObjectId.{ObjectId}
@@ -9,11 +9,11 @@ use Rattle.vm_model.specs.declared.event.Event.{Event}
 use Rattle.vm_model.specs.declared.event.Event.TheVariants as event
 use Rattle.vm_model.specs.declared.script.Header.{Header}
 use Rattle.vm_model.specs.Named.{named}
-use Rattle.vm_legal.specs.Outside.{Outside, is_private}
-use Rattle.vm_model.specs.Regions.{next_region, next_object, Region, region_of, Backing, backing_of}
+use Rattle.vm_model.specs.Regions.{next_region, next_object, Region, region_of, Backing, backing_of, is_copy, is_newest, newest_copy}
 use Rattle.vm_flat.proofs.Regions.{if_no, if_yes}
 
-pub record Numbered (first : ℕ) (regions : ℕ → Region) (backings : ℕ → Backing) (next_region next_object : ℕ) : Type 0 where
+pub record Numbered (first : ℕ) (regions : ℕ → Region) (backings : ℕ → Backing) (newests : ℕ → Option ℕ) (copies : ℕ → Bool)
+    (next_region next_object : ℕ) : Type 0 where
   pub later_regions : first ≤ next_region
   pub later_objects : first ≤ next_object
   pub declared_top : (r : ℕ) → r < first → (regions r).top ≡ r
@@ -21,11 +21,13 @@ pub record Numbered (first : ℕ) (regions : ℕ → Region) (backings : ℕ →
   pub declared_mark : (r : ℕ) → r < first → (regions r).mark ≡ false
   pub temporary : (r : ℕ) → first ≤ r → r < next_region → first ≤ (regions r).top
   pub upper : (o : ℕ) → (backings o).backed ≡ true → first ≤ o
-  pub lower : (o : ℕ) → (backings o).backed ≡ true → first ≤ (backings o).under
+  pub newest : (f v : ℕ) → newests f ≡ Some v → first ≤ v
+  pub copied : (o : ℕ) → copies o ≡ true → o < next_object
 
 abbrev pub NumberedAt : Header → List Event → Type 0
 NumberedAt header past =
-    Numbered (named header) (λ r. region_of header r past) (λ o. backing_of header o past) (next_region header past) (next_object header past)
+    Numbered (named header) (λ r. region_of header r past) (λ o. backing_of header o past) (λ f. newest_copy f past)
+    (λ o. is_copy o past) (next_region header past) (next_object header past)
 
 pub numbered_start : (header : Header) → NumberedAt header []
 numbered_start header =
@@ -37,7 +39,8 @@ numbered_start header =
       declared_mark = λ r less. refl;
       temporary = λ r above below. above;
       upper = λ o backed. absurd (cc);
-      lower = λ o backed. absurd (cc);
+      newest = λ f v is. absurd (cc);
+      copied = λ o is. absurd (cc);
     }
 
 pub numbered_region_made : (header : Header) (region : RegionId) (object : ObjectId) (pages : ℕ) (past : List Event) → NumberedAt header past
@@ -54,7 +57,8 @@ numbered_region_made header region object pages past n is new =
         | no other ↦ omega (arith, if_no r region.0 object.0 (region_of header r past).top other, n.temporary r above (omega (arith, below, other, is)))
       ];
       upper = n.upper;
-      lower = n.lower;
+      newest = n.newest;
+      copied = λ o is. omega (arith, n.copied o is);
     }
   where
     apart : (r : ℕ) → r < named header → r ≢ region.0
@@ -82,7 +86,8 @@ numbered_region_copied header region source offset pages past n is temporary mad
         )
       ];
       upper = n.upper;
-      lower = n.lower;
+      newest = n.newest;
+      copied = λ o is. omega (arith, n.copied o is);
     }
   where
     apart : (r : ℕ) → r < named header → r ≢ region.0
@@ -109,7 +114,8 @@ numbered_unmarked header region past n =
       declared_mark = λ r less. plain (r == region.0) (region_of header r past).mark (n.declared_mark r less);
       temporary = n.temporary;
       upper = n.upper;
-      lower = n.lower;
+      newest = n.newest;
+      copied = λ o is. omega (arith, n.copied o is);
     }
   where
     plain : (b mark : Bool) → mark ≡ false → (if b then false else mark) ≡ false
@@ -134,14 +140,8 @@ numbered_shadowed header region new old past n is marked made =
         | yes e ↦ omega (arith, e, is, n.later_objects)
         | no other ↦ n.upper o (sym (if_no o new.0 true (backing_of header o past).backed other) ∙ backed)
       ];
-      lower = λ o backed. elim (ℕ_discrete o new.0) [
-        | yes e ↦ omega (arith, if_yes o new.0 (region_of header region.0 past).top (backing_of header o past).under e, n.temporary region.0 later made)
-        | no other ↦ omega (
-          arith,
-          if_no o new.0 (region_of header region.0 past).top (backing_of header o past).under other,
-          n.lower o (sym (if_no o new.0 true (backing_of header o past).backed other) ∙ backed),
-        )
-      ];
+      newest = n.newest;
+      copied = λ o is. omega (arith, n.copied o is);
     }
   where
     later : named header ≤ region.0
@@ -164,28 +164,55 @@ numbered_merged header upper lower past n on =
         | yes e ↦ omega (arith, e, n.upper upper.0 on)
         | no other ↦ n.upper o (sym (if_no o upper.0 (backing_of header lower.0 past).backed (backing_of header o past).backed other) ∙ backed)
       ];
-      lower = λ o backed. elim (ℕ_discrete o upper.0) [
-        | yes e ↦ omega (
-          arith,
-          if_yes o upper.0 (backing_of header lower.0 past).under (backing_of header o past).under e,
-          n.lower lower.0 (sym (if_yes o upper.0 (backing_of header lower.0 past).backed (backing_of header o past).backed e) ∙ backed),
-        )
-        | no other ↦ omega (
-          arith,
-          if_no o upper.0 (backing_of header lower.0 past).under (backing_of header o past).under other,
-          n.lower o (sym (if_no o upper.0 (backing_of header lower.0 past).backed (backing_of header o past).backed other) ∙ backed),
-        )
-      ];
+      newest = n.newest;
+      copied = λ o is. omega (arith, n.copied o is);
     }
 
--- temporary objects and regions are all alike
-pub later_alike : (header : Header) (outside : Outside) (a b : ℕ) → named header ≤ a → named header ≤ b
-    → is_private header outside a ≡ is_private header outside b
-later_alike header outside a b above also =
-    let x : nat_lt a (named header) ≡ false = grind (arith, nat_tests) in let y : nat_lt b (named header) ≡ false = grind (arith, nat_tests) in grind arith
+pub numbered_delayed : (header : Header) (region source : RegionId) (offset pages : ℕ) (copy : ObjectId) (past : List Event) → NumberedAt header past
+    → region.0 ≡ next_region header past → copy.0 ≡ next_object header past → NumberedAt header (event.Delayed region source offset pages copy ∷ past)
+numbered_delayed header region source offset pages copy past n is new =
+    record {
+      later_regions = omega (arith, n.later_regions);
+      later_objects = omega (arith, n.later_objects);
+      declared_top = λ r less. if_no r region.0 copy.0 (region_of header r past).top (apart r less) ∙ n.declared_top r less;
+      declared_shift = λ r less. if_no r region.0 offset (region_of header r past).shift (apart r less) ∙ n.declared_shift r less;
+      declared_mark = λ r less. if_no r region.0 true (region_of header r past).mark (apart r less) ∙ n.declared_mark r less;
+      temporary = λ r above below. elim (ℕ_discrete r region.0) [
+        | yes e ↦ omega (arith, if_yes r region.0 copy.0 (region_of header r past).top e, new, n.later_objects)
+        | no other ↦ omega (arith, if_no r region.0 copy.0 (region_of header r past).top other, n.temporary r above (omega (arith, below, other, is)))
+      ];
+      upper = λ o backed. elim (ℕ_discrete o copy.0) [
+        | yes e ↦ omega (arith, e, new, n.later_objects)
+        | no other ↦ elsewhere o (newest_copy source.0 past) refl
+            (sym (if_no o copy.0 true (if is_newest o (newest_copy source.0 past) then true else (backing_of header o past).backed) other) ∙ backed)
+      ];
+      newest = λ f v. stands f v;
+      copied = λ o is. made o is;
+    }
+  where
+    apart : (r : ℕ) → r < named header → r ≢ region.0
+    apart r less e = omega (arith, less, e, is, n.later_regions)
 
-pub told_private : (header : Header) (outside : Outside) (r : ℕ) → named header ≤ r → outside.paging ≡ true → is_private header outside r ≡ true
-told_private header outside r above told = let x : nat_lt r (named header) ≡ false = grind (arith, nat_tests) in grind arith
+    elsewhere : (o : ℕ) (x : Option ℕ) → newest_copy source.0 past ≡ x → (if is_newest o x then true else (backing_of header o past).backed) ≡ true
+        → named header ≤ o
+    elsewhere o None was backed = n.upper o backed
+    elsewhere o (Some v) was backed = elim (ℕ_discrete o v) [
+      | yes e ↦ omega (arith, e, n.newest source.0 v was)
+      | no other ↦ n.upper o (sym (if_no o v true (backing_of header o past).backed other) ∙ backed)
+    ]
 
-pub later_told : (header : Header) (outside : Outside) (r : ℕ) → named header ≤ r → is_private header outside r ≡ true → outside.paging ≡ true
-later_told header outside r above private = let x : nat_lt r (named header) ≡ false = grind (arith, nat_tests) in grind arith
+    made : (o : ℕ) → (o == copy.0 || is_copy o past) ≡ true → o < next_object header past + 1
+    made o is = elim (ℕ_discrete o copy.0) [
+      | yes e ↦ omega (arith, e, new)
+      | no other ↦ let old : is_copy o past ≡ true = grind (arith, nat_tests, is, other) in omega (arith, n.copied o old)
+    ]
+
+    stands : (f v : ℕ) → (if f == source.0 then Some copy.0 else newest_copy f past) ≡ Some v → named header ≤ v
+    stands f v now = by (f == source.0) now
+      where
+        some_is : (a b : ℕ) → ◌≡◌ {A = Option ℕ} (Some a) (Some b) → a ≡ b
+        some_is a b e = cc
+
+        by : (b : Bool) → (if b then Some copy.0 else newest_copy f past) ≡ Some v → named header ≤ v
+        by true e = omega (arith, some_is copy.0 v e, new, n.later_objects)
+        by false e = n.newest f v e

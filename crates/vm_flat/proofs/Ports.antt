@@ -1,5 +1,5 @@
 -- What is on the way about a page of one host's memory is what its channels hold.
-use Rattle.std.proofs.Common.{ℕ, ◌≡◌, List, [], ◌∷◌, ◌++◌, length, Bool, true, false, refl, sym, ap, subst, ◌∙◌, arith, Option, Some, None, if◌then◌else◌}
+use Rattle.std.proofs.Common.{ℕ, ◌≡◌, ◌≤◌, List, [], ◌∷◌, ◌++◌, length, Bool, true, false, refl, sym, ap, subst, ◌∙◌, arith, Option, Some, None, if◌then◌else◌}
 use Rattle.std.proofs.lemmas.Bool.Decides.{nat_tests}
 use Rattle.std.proofs.lemmas.Option.{none-some, same_Some}
 use Rattle.std.specs.Prelude.{◌==◌, ◌&&◌}
@@ -7,6 +7,7 @@ use Rattle.vm_base.specs.Pages.{little_endian_bytes}
 use Rattle.vm_base.specs.declared.ids.HostId.{HostId}
 use Rattle.vm_base.specs.declared.ids.ObjectId.{ObjectId}
 use Rattle.vm_base.specs.declared.ids.PageNo.{PageNo}
+use Rattle.vm_base.specs.declared.ids.RegionId.{RegionId}
 use Rattle.vm_model.specs.declared.event.Event.{Event}
 use Rattle.vm_model.specs.declared.event.Event.TheVariants as event
 use Rattle.vm_model.specs.declared.message.Channel.{Channel}
@@ -14,7 +15,7 @@ use Rattle.vm_model.specs.declared.message.Channel.TheVariants.{Up, Down}
 use Rattle.vm_model.specs.declared.message.Message.{Message}
 use Rattle.vm_model.specs.declared.message.Message.TheVariants as message
 use Rattle.vm_model.specs.declared.script.Header.{Header}
-use Rattle.vm_legal.specs.Outside.{Outside, is_private, is_said, zeros}
+use Rattle.vm_legal.specs.Outside.{Outside, is_said, zeros}
 use Rattle.vm_legal.specs.Living.{lives_on}
 use Rattle.vm_model.specs.Channels.{queue, up_port, down_port}
 use Rattle.vm_flat.specs.Words.{SpotUpWord, Requesting, Returning, SpotDownWord, Supplying, Unavailing, Erring, SpotEffect, Creates, Requests, Returns, Answers}
@@ -32,9 +33,11 @@ use Rattle.vm_flat.proofs.Queues.{requests}
 use Rattle.vm_flat.proofs.Sound.{Sound, count}
 use Rattle.vm_flat.proofs.Control.{control_is}
 use Rattle.vm_flat.proofs.MergeEffects.{merge_keeps}
-use Rattle.vm_flat.proofs.World.{World}
+use Rattle.vm_flat.proofs.World.{World, unmade_stem}
+use Rattle.vm_flat.proofs.Covers.{covered_less, is_covered, stem}
+use Rattle.vm_model.specs.Regions.{next_object, region_of}
 use Rattle.vm_flat.proofs.Classes.{ground, deeds}
-use Rattle.vm_flat.proofs.Ties.{spot_is, control_tie}
+use Rattle.vm_flat.proofs.Ties.{control_tie, covered_is, objects_is, spot_is, stem_is}
 use Rattle.vm_flat.proofs.Letters.{up_words, down_words, first_rest, up_place, down_place, up_sent, up_taken, up_sent_down, up_taken_down, down_of, answers}
 use Rattle.vm_flat.proofs.Letters.{down_sent, down_taken, down_sent_up, down_taken_up}
 use Rattle.vm_model.proofs.Ports.{down_port_is, port_is}
@@ -42,10 +45,32 @@ use Rattle.vm_model.proofs.Ports.{down_port_is, port_is}
 abbrev pub Worlds : Header → Outside → List Event → Type 0
 Worlds header outside past = (host : ℕ) → World (ground header outside) (deeds header outside host past)
 
-pub sound_of : (header : Header) (outside : Outside) (host o p : ℕ) (past : List Event) → Worlds header outside past → is_private header outside o ≡ true
+pub sound_of : (header : Header) (outside : Outside) (host o p : ℕ) (past : List Event) → Worlds header outside past → is_covered header outside o past ≡ true
     → Sound (zeros header) (spot header outside host o p past)
 sound_of header outside host o p past w ours =
-    subst (λ (s : Spot). Sound (zeros header) s) (spot_is header outside host o p past) ((w host).places o p ours).sound
+    subst (λ (s : Spot). Sound (zeros header) s) (spot_is header outside host o p past) ((w host).places o p (covered_is header outside host o past
+    ∙ ours)).sound
+
+-- an object that was not made yet comes from no file
+pub unmade : (header : Header) (outside : Outside) (o : ℕ) (past : List Event) → Worlds header outside past → next_object header past ≤ o
+    → stem header o past ≡ None
+unmade header outside o past w high =
+    sym (stem_is header outside 0 o past)
+    ∙ unmade_stem (ground header outside) o (deeds header outside 0 past) (w 0) (omega (arith, high, objects_is header outside 0 past))
+
+-- what is covered was so before
+pub covered_delayed : (header : Header) (outside : Outside) (region source : RegionId) (offset pages : ℕ) (copy : ObjectId) (o : ℕ) (past : List Event)
+    → Worlds header outside past → copy.0 ≡ next_object header past
+    → is_covered header outside o (event.Delayed region source offset pages copy ∷ past) ≡ true → is_covered header outside o past ≡ true
+covered_delayed header outside region source offset pages copy o past w new ours =
+    covered_less header outside o copy.0 (Some source.0) (stem header o past) (λ e. unmade header outside o past w (omega (arith, e, new))) ours
+
+pub covered_shadowed : (header : Header) (outside : Outside) (region : RegionId) (new old : ObjectId) (o : ℕ) (past : List Event)
+    → Worlds header outside past → new.0 ≡ next_object header past
+    → is_covered header outside o (event.Shadowed region new old ∷ past) ≡ true → is_covered header outside o past ≡ true
+covered_shadowed header outside region new old o past w fresh ours =
+    covered_less header outside o new.0 (stem header (region_of header region.0 past).top past) (stem header o past)
+    (λ e. unmade header outside o past w (omega (arith, e, fresh))) ours
 
 pub spot_control : (header : Header) (outside : Outside) (host o p : ℕ) (past : List Event)
     → (spot header outside host o p past).control ≡ control header host o past
@@ -69,7 +94,7 @@ calm_sound z s ok none =
     let long : length s.down ≡ 0 = grind (arith, ok.one) in
     record { up = grind (arith, ok.one); down = none_long s.down long; step = grind (arith, ok.one) }
 
-pub calm : (header : Header) (outside : Outside) (host o p : ℕ) (past : List Event) → Worlds header outside past → is_private header outside o ≡ true
+pub calm : (header : Header) (outside : Outside) (host o p : ℕ) (past : List Event) → Worlds header outside past → is_covered header outside o past ≡ true
     → control header host o past ≡ 0 → Calm (spot header outside host o p past)
 calm header outside host o p past w ours none =
     calm_sound (zeros header) (spot header outside host o p past) (sound_of header outside host o p past w ours)
@@ -112,10 +137,12 @@ ups_next header outside (event.Dropped at object page) past ups c h o p =
 ups_next header outside (event.Sent (Up at object) m) past ups c h o p =
     up_sent (zeros header) (spot header outside h o p past) (queue (up_port h o) past) o p (at.0 == h) (live_control h object.0 past) object.0 m (ups h o p)
 ups_next header outside (event.Sent (Down at object n) m) past ups c h o p =
-    up_sent_down (zeros header) (spot header outside h o p past) o p (at.0 == h && n == last_control h object.0 past) (is_said header outside object.0) object.0
+    up_sent_down (zeros header) (spot header outside h o p past) o p (at.0 == h && n == last_control h object.0 past)
+    (is_said header outside object.0) object.0
     m ∙ ups h o p
 ups_next header outside (event.Taken (Up at object) m) past ups c h o p =
-    up_taken (zeros header) (spot header outside h o p past) (queue (up_port h o) past) o p (at.0 == h) object.0 m (head_up at object m past h o c) (ups h o p)
+    up_taken (zeros header) (spot header outside h o p past) (queue (up_port h o) past) o p (at.0 == h) object.0 m (head_up at object m past h o c)
+    (ups h o p)
 ups_next header outside (event.Taken (Down at object n) m) past ups c h o p =
     up_taken_down (zeros header) (spot header outside h o p past) o p (at.0 == h && n == last_control h object.0 past) object.0 m ∙ ups h o p
 ups_next header outside (event.Merged upper lower) past ups c h o p =
@@ -155,7 +182,7 @@ from_none n (message.Return number page dirty keep bytes ∷ q) none = from_none
 from_none n (other ∷ q) none = from_none n q none
 
 abbrev pub UpNumbers : Header → Outside → List Event → Type 0
-UpNumbers header outside past = (h o : ℕ) → is_private header outside o ≡ true → FromControl (last_control h o past) (queue (up_port h o) past)
+UpNumbers header outside past = (h o : ℕ) → is_covered header outside o past ≡ true → FromControl (last_control h o past) (queue (up_port h o) past)
 
 from_if : (b : Bool) (n : ℕ) (q : List Message) (m : Message) → FromControl n q → (b ≡ true → FromControl n (m ∷ []))
     → FromControl n (if b then q ++ m ∷ [] else q)
@@ -179,37 +206,38 @@ same_object : (a h o b : ℕ) → (a == h && b == o) ≡ true → o ≡ b
 same_object a h o b is = grind (arith, nat_tests)
 
 none_up : (header : Header) (outside : Outside) (past : List Event) → Worlds header outside past → Ups header outside past → (h o : ℕ)
-    → is_private header outside o ≡ true → control header h o past ≡ 0 → (p : ℕ) → requests (up_words p (queue (up_port h o) past)) ≡ 0
+    → is_covered header outside o past ≡ true → control header h o past ≡ 0 → (p : ℕ) → requests (up_words p (queue (up_port h o) past)) ≡ 0
 none_up header outside past w ups h o ours none p = ap (λ x. requests x) (sym (ups h o p)) ∙ (calm header outside h o p past w ours none).up
 
 control_there : (header : Header) (past : List Event) (a b h o : ℕ) → (a == h && b == o) ≡ true → control header a b past ≡ 0 → control header h o past ≡ 0
 control_there header past a b h o is none =
     subst (λ (k : ℕ). control header k o past ≡ 0) (same_host a h o b is) (subst (λ (k : ℕ). control header a k past ≡ 0) (sym (same_object a h o b is)) none)
 
-pub private_there : (header : Header) (outside : Outside) (a b h o : ℕ) → (a == h && b == o) ≡ true → is_private header outside o ≡ true
-    → is_private header outside b ≡ true
-private_there header outside a b h o is ours = subst (λ (k : ℕ). is_private header outside k ≡ true) (same_object a h o b is) ours
+pub private_there : (header : Header) (outside : Outside) (past : List Event) (a b h o : ℕ) → (a == h && b == o) ≡ true
+    → is_covered header outside o past ≡ true → is_covered header outside b past ≡ true
+private_there header outside past a b h o is ours = subst (λ (k : ℕ). is_covered header outside k past ≡ true) (same_object a h o b is) ours
 
 number_there : (past : List Event) (a b h o n : ℕ) → (a == h && b == o) ≡ true → last_control a b past ≡ n → last_control h o past ≡ n
 number_there past a b h o n is e =
     subst (λ (k : ℕ). last_control k o past ≡ n) (same_host a h o b is) (subst (λ (k : ℕ). last_control a k past ≡ n) (sym (same_object a h o b is)) e)
 
 numbers_sent : (header : Header) (outside : Outside) (at : HostId) (object : ObjectId) (m : Message) (past : List Event) → Worlds header outside past
-    → Ups header outside past → UpNumbers header outside past → (is_private header outside object.0 ≡ true → MaySendUp header outside at.0 object.0 m past)
+    → Ups header outside past → UpNumbers header outside past → (is_covered header outside object.0 past ≡ true
+    → MaySendUp header outside at.0 object.0 m past)
     → UpNumbers header outside (event.Sent (Up at object) m ∷ past)
 numbers_sent header outside at object (message.Init number size) past w ups all c h o ours =
     from_new (at.0 == h && object.0 == o) number (last_control h o past) (queue (up_port h o) past) (message.Init number size) tt
     (λ is. none_up header outside past w ups h o ours (control_there header past at.0 object.0 h o is
-    (c (private_there header outside at.0 object.0 h o is ours)).none)) (all h o ours)
+    (c (private_there header outside past at.0 object.0 h o is ours)).none)) (all h o ours)
 numbers_sent header outside at object (message.Create number size) past w ups all c h o ours =
     from_new (at.0 == h && object.0 == o) number (last_control h o past) (queue (up_port h o) past) (message.Create number size) tt
     (λ is. none_up header outside past w ups h o ours (control_there header past at.0 object.0 h o is
-    (c (private_there header outside at.0 object.0 h o is ours)).2)) (all h o ours)
+    (c (private_there header outside past at.0 object.0 h o is ours)).2)) (all h o ours)
 numbers_sent header outside at object (message.Request number page access) past w ups all c h o ours =
     from_if (at.0 == h && object.0 == o) (last_control h o past) (queue (up_port h o) past) (message.Request number page access) (all h o ours)
     (λ is. (
       sym (number_there past at.0 object.0 h o number is (is_newest header at.0 object.0 number past
-          (c (private_there header outside at.0 object.0 h o is ours)).live)),
+          (c (private_there header outside past at.0 object.0 h o is ours)).live)),
       tt,
     ))
 numbers_sent header outside at object m past w ups all c h o ours =
@@ -222,13 +250,17 @@ numbers_next header outside (event.Sent (Down at object n) m) past w ups all c h
 numbers_next header outside (event.Taken (Up at object) m) past w ups all c h o ours =
     from_rest_if (at.0 == h && object.0 == o) (last_control h o past) (queue (up_port h o) past) (all h o ours)
 numbers_next header outside (event.Taken (Down at object n) m) past w ups all c h o ours = all h o ours
+numbers_next header outside (event.Delayed region source offset pages copy) past w ups all c h o ours =
+    all h o (covered_delayed header outside region source offset pages copy o past w c.new ours)
+numbers_next header outside (event.Shadowed region new old) past w ups all c h o ours = all h o
+    (covered_shadowed header outside region new old o past w c.next ours)
 numbers_next header outside e past w ups all c h o ours = all h o ours
 
 -- a request that the step took is of the newest control
 
 abbrev pub AskedBy : Header → Outside → List Event → Type 0
 AskedBy header outside past =
-    (h o n p : ℕ) → is_private header outside o ≡ true → request_taken past ≡ Some (record { host = h; object = o; control_of = n; page = p })
+    (h o n p : ℕ) → is_covered header outside o past ≡ true → request_taken past ≡ Some (record { host = h; object = o; control_of = n; page = p })
     → (spot header outside h o p past).step ≡ true → n ≡ last_control h o past
 
 none_request : (r : Request) → ◌≡◌ {A = Option Request} None (Some r) → ⊥
@@ -276,12 +308,12 @@ number_if true new n k never is = absurd (never refl)
 number_if false new n k never is = is
 
 asked_sent : (header : Header) (outside : Outside) (at : HostId) (object : ObjectId) (m : Message) (past : List Event) → Worlds header outside past
-    → AskedBy header outside past → (is_private header outside object.0 ≡ true → MaySendUp header outside at.0 object.0 m past)
+    → AskedBy header outside past → (is_covered header outside object.0 past ≡ true → MaySendUp header outside at.0 object.0 m past)
     → AskedBy header outside (event.Sent (Up at object) m ∷ past)
 asked_sent header outside at object (message.Init number size) past w all c h o n p ours taken step =
     number_if (at.0 == h && object.0 == o) number (last_control h o past) n
     (λ is. clash (spot header outside h o p past).step (calm header outside h o p past w ours
-    (control_there header past at.0 object.0 h o is (c (private_there header outside at.0 object.0 h o is ours)).none)).step was)
+    (control_there header past at.0 object.0 h o is (c (private_there header outside past at.0 object.0 h o is ours)).none)).step was)
     (all h o n p ours taken was)
   where
     was : (spot header outside h o p past).step ≡ true
@@ -292,7 +324,7 @@ asked_sent header outside at object (message.Init number size) past w all c h o 
 asked_sent header outside at object (message.Create number size) past w all c h o n p ours taken step =
     number_if (at.0 == h && object.0 == o) number (last_control h o past) n
     (λ is. clash (spot header outside h o p past).step (calm header outside h o p past w ours
-    (control_there header past at.0 object.0 h o is (c (private_there header outside at.0 object.0 h o is ours)).2)).step was)
+    (control_there header past at.0 object.0 h o is (c (private_there header outside past at.0 object.0 h o is ours)).2)).step was)
     (all h o n p ours taken was)
   where
     was : (spot header outside h o p past).step ≡ true
@@ -356,13 +388,17 @@ asked_next header outside (event.Taken (Up at object) m) past w numbers all c h 
 asked_next header outside (event.Taken (Down at object k) m) past w numbers all c h o n p ours taken step = absurd (none_request _ taken)
 asked_next header outside (event.Merged upper lower) past w numbers all c h o n p ours taken step =
     all h o n p ours taken (sym (merge_keeps (λ s. s.step) (λ z s bytes dirty. refl) (λ z s. refl) header outside h o p upper lower past) ∙ step)
+asked_next header outside (event.Delayed region source offset pages copy) past w numbers all c h o n p ours taken step =
+    all h o n p (covered_delayed header outside region source offset pages copy o past w c.new ours) taken step
+asked_next header outside (event.Shadowed region new old) past w numbers all c h o n p ours taken step =
+    all h o n p (covered_shadowed header outside region new old o past w c.next ours) taken step
 asked_next header outside e past w numbers all c h o n p ours taken step = all h o n p ours taken step
 
 -- downwards: only the newest control has words on their way
 
 abbrev pub Downs : Header → Outside → List Event → Type 0
 Downs header outside past =
-    (h o : ℕ) → is_private header outside o ≡ true → (k p : ℕ)
+    (h o : ℕ) → is_covered header outside o past ≡ true → (k p : ℕ)
     → down_words p (queue (down_port h o k) past) ≡ down_of (k == last_control h o past) (spot header outside h o p past)
 
 pub downs_start : (header : Header) (outside : Outside) → Downs header outside []
@@ -386,20 +422,20 @@ new_down true new n k s t words same none is = is ∙ nothing (k == n) s (none r
     nothing false s e = refl
 
 downs_sent_up : (header : Header) (outside : Outside) (at : HostId) (object : ObjectId) (m : Message) (past : List Event) → Worlds header outside past
-    → Downs header outside past → (is_private header outside object.0 ≡ true → MaySendUp header outside at.0 object.0 m past)
+    → Downs header outside past → (is_covered header outside object.0 past ≡ true → MaySendUp header outside at.0 object.0 m past)
     → Downs header outside (event.Sent (Up at object) m ∷ past)
 downs_sent_up header outside at object (message.Init number size) past w downs c h o ours k p =
     new_down (at.0 == h && object.0 == o) number (last_control h o past) k (spot header outside h o p past)
     (spot header outside h o p (event.Sent (Up at object) (message.Init number size) ∷ past)) (down_words p (queue (down_port h o k) past))
     (down_sent_up (zeros header) (spot header outside h o p past) o p (at.0 == h) (live_control h object.0 past) object.0 (message.Init number size))
     (λ is. (calm header outside h o p past w ours (control_there header past at.0 object.0 h o is
-    (c (private_there header outside at.0 object.0 h o is ours)).none)).down) (downs h o ours k p)
+    (c (private_there header outside past at.0 object.0 h o is ours)).none)).down) (downs h o ours k p)
 downs_sent_up header outside at object (message.Create number size) past w downs c h o ours k p =
     new_down (at.0 == h && object.0 == o) number (last_control h o past) k (spot header outside h o p past)
     (spot header outside h o p (event.Sent (Up at object) (message.Create number size) ∷ past)) (down_words p (queue (down_port h o k) past))
     (down_sent_up (zeros header) (spot header outside h o p past) o p (at.0 == h) (live_control h object.0 past) object.0 (message.Create number size))
     (λ is. (calm header outside h o p past w ours (control_there header past at.0 object.0 h o is
-    (c (private_there header outside at.0 object.0 h o is ours)).2)).down) (downs h o ours k p)
+    (c (private_there header outside past at.0 object.0 h o is ours)).2)).down) (downs h o ours k p)
 downs_sent_up header outside at object (message.Request number page access) past w downs c h o ours k p =
     downs h o ours k p ∙ move_down_of (k == last_control h o past) (spot header outside h o p past)
     (spot header outside h o p (event.Sent (Up at object) (message.Request number page access) ∷ past))
@@ -418,7 +454,7 @@ downs_sent_up header outside at object m past w downs c h o ours k p = downs h o
 
 -- an answer goes to the newest control
 answers_newest : (header : Header) (outside : Outside) (host object n p : ℕ) (m : Message) (past : List Event) → AskedBy header outside past
-    → is_private header outside object ≡ true → MaySendDown header outside host object n m past → answers p m ≡ true → n ≡ last_control host object past
+    → is_covered header outside object past ≡ true → MaySendDown header outside host object n m past → answers p m ≡ true → n ≡ last_control host object past
 answers_newest header outside host object n p (message.Supply page lock precious bytes) past asked ours c is =
     asked host object n page.0 ours c.0.taken c.0.unanswered
 answers_newest header outside host object n p (message.Unavailable page) past asked ours c is = asked host object n page.0 ours c.0.taken c.0.unanswered
@@ -478,7 +514,7 @@ downs_next header outside (event.Sent (Down at object n) m) past w asked downs c
     newest : (at.0 == h && object.0 == o) ≡ true → answers p m ≡ true → (n == last_control h object.0 past) ≡ true
     newest is to =
         let e : n ≡ last_control at.0 object.0 past = answers_newest header outside at.0 object.0 n p m past asked
-        (private_there header outside at.0 object.0 h o is ours) (c (private_there header outside at.0 object.0 h o is ours)) to in
+        (private_there header outside past at.0 object.0 h o is ours) (c (private_there header outside past at.0 object.0 h o is ours)) to in
         let there : n ≡ last_control h object.0 past = subst (λ (x : ℕ). n ≡ last_control x object.0 past) (same_host at.0 h o object.0 is) e in
         grind (arith, nat_tests)
 downs_next header outside (event.Taken (Down at object n) m) past w asked downs c h o ours k p =
@@ -492,6 +528,10 @@ downs_next header outside (event.Merged upper lower) past w asked downs c h o ou
     downs h o ours k p ∙ move_down_of (k == last_control h o past) (spot header outside h o p past)
     (spot header outside h o p (event.Merged upper lower ∷ past))
     (merge_keeps (λ s. s.down) (λ z s bytes dirty. refl) (λ z s. refl) header outside h o p upper lower past)
+downs_next header outside (event.Delayed region source offset pages copy) past w asked downs c h o ours k p =
+    downs h o (covered_delayed header outside region source offset pages copy o past w c.new ours) k p
+downs_next header outside (event.Shadowed region new old) past w asked downs c h o ours k p =
+    downs h o (covered_shadowed header outside region new old o past w c.next ours) k p
 downs_next header outside e past w asked downs c h o ours k p = downs h o ours k p
 
 -- a lock_request for a private object wants changed pages back
@@ -520,8 +560,8 @@ back_rest_if true q all = back_rest q all
 back_rest_if false q all = all
 
 pub record Locks (header : Header) (outside : Outside) (past : List Event) : Type 0 where
-  pub queued : (h o k : ℕ) → is_private header outside o ≡ true → AllBack (queue (down_port h o k) past)
-  pub taken : (l : LockRequest) → is_private header outside l.object ≡ true → lock_taken past ≡ Some l → l.returns ≡ 2
+  pub queued : (h o k : ℕ) → is_covered header outside o past ≡ true → AllBack (queue (down_port h o k) past)
+  pub taken : (l : LockRequest) → is_covered header outside l.object past ≡ true → lock_taken past ≡ Some l → l.returns ≡ 2
 
 -- it was taken by a control that lived
 living : (b : Bool) (m l : LockRequest) → (if b then Some m else None) ≡ Some l → ◌≡◌ {A = Option LockRequest} (Some m) (Some l)
@@ -540,7 +580,7 @@ down_there : (a h o b k n : ℕ) → (a == h && (b == o && n == k)) ≡ true →
 down_there a h o b k n is = grind arith
 
 taken_lock : (header : Header) (outside : Outside) (at : HostId) (object : ObjectId) (n : ℕ) (m : Message) (past : List Event) → Locks header outside past
-    → first (queue (Down at object n) past) ≡ Some m → (l : LockRequest) → is_private header outside l.object ≡ true
+    → first (queue (Down at object n) past) ≡ Some m → (l : LockRequest) → is_covered header outside l.object past ≡ true
     → lock_taken (event.Taken (Down at object n) m ∷ past) ≡ Some l → l.returns ≡ 2
 taken_lock header outside at object n (message.Lock page count returns flush lock reply) past locks head l ours e =
     let same : record {
@@ -554,27 +594,39 @@ taken_lock header outside at object n (message.Lock page count returns flush loc
       lock = lock;
       reply = reply;
     } ≡ l = same_Some _ _ (living (is_control n (live_control at.0 object.0 past)) _ l e) in
-    let there : is_private header outside object.0 ≡ true = subst (λ (x : LockRequest). is_private header outside x.object ≡ true) (sym same) ours in
+    let there : is_covered header outside object.0 past ≡ true = subst (λ (x : LockRequest). is_covered header outside x.object past ≡ true)
+    (sym same) ours in
     let all : AllBack (queue (Down at object n) past) = locks.queued at.0 object.0 n there in
     sym (ap (λ (x : LockRequest). x.returns) same) ∙ (subst (λ (q : List Message). AllBack q)
     (first_rest (queue (Down at object n) past) (message.Lock page count returns flush lock reply) head) all).0
 taken_lock header outside at object n m past locks head l ours e = absurd (none-some l e)
 
-pub locks_next : (header : Header) (outside : Outside) (e : Event) (past : List Event) → Locks header outside past → Sustained header outside e past
+pub locks_next : (header : Header) (outside : Outside) (e : Event) (past : List Event) → Worlds header outside past → Locks header outside past
+    → Sustained header outside e past
     → Locks header outside (e ∷ past)
-locks_next header outside (event.Line line) past locks c = record { queued = locks.queued; taken = λ l ours e. absurd (none-some l e) }
-locks_next header outside (event.Sent (Up at object) m) past locks c = record { queued = locks.queued; taken = locks.taken }
-locks_next header outside (event.Sent (Down at object n) m) past locks c =
+locks_next header outside (event.Line line) past w locks c = record { queued = locks.queued; taken = λ l ours e. absurd (none-some l e) }
+locks_next header outside (event.Sent (Up at object) m) past w locks c = record { queued = locks.queued; taken = locks.taken }
+locks_next header outside (event.Sent (Down at object n) m) past w locks c =
     record {
       queued = λ h o k ours. back_if (at.0 == h && (object.0 == o && n == k)) (queue (down_port h o k) past) m (locks.queued h o k ours)
-          (λ is. one_back header outside at.0 object.0 n m past (c (private_there header outside at.0 object.0 h o (down_there at.0 h o object.0 k n is)
+          (λ is. one_back header outside at.0 object.0 n m past (c (private_there header outside past at.0 object.0 h o (down_there at.0 h o object.0 k n is)
           ours)));
       taken = locks.taken;
     }
-locks_next header outside (event.Taken (Up at object) m) past locks c = record { queued = locks.queued; taken = λ l ours e. absurd (none-some l e) }
-locks_next header outside (event.Taken (Down at object n) m) past locks c =
+locks_next header outside (event.Taken (Up at object) m) past w locks c = record { queued = locks.queued; taken = λ l ours e. absurd (none-some l e) }
+locks_next header outside (event.Taken (Down at object n) m) past w locks c =
     record {
       queued = λ h o k ours. back_rest_if (at.0 == h && (object.0 == o && n == k)) (queue (down_port h o k) past) (locks.queued h o k ours);
       taken = λ l ours e. taken_lock header outside at object n m past locks c l ours e;
     }
-locks_next header outside e past locks c = record { queued = locks.queued; taken = locks.taken }
+locks_next header outside (event.Delayed region source offset pages copy) past w locks c =
+    record {
+      queued = λ h o k ours. locks.queued h o k (covered_delayed header outside region source offset pages copy o past w c.new ours);
+      taken = λ l ours e. locks.taken l (covered_delayed header outside region source offset pages copy l.object past w c.new ours) e;
+    }
+locks_next header outside (event.Shadowed region new old) past w locks c =
+    record {
+      queued = λ h o k ours. locks.queued h o k (covered_shadowed header outside region new old o past w c.next ours);
+      taken = λ l ours e. locks.taken l (covered_shadowed header outside region new old l.object past w c.next ours) e;
+    }
+locks_next header outside e past w locks c = record { queued = locks.queued; taken = locks.taken }

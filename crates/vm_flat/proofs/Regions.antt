@@ -1,10 +1,14 @@
 -- Events that make, copy, leave and shadow regions.
-use Rattle.std.proofs.Common.{◌≡◌, ℕ, zero, suc, ◌+◌, ◌<◌, ◌≤◌, List, [], ◌∷◌, arith, Bool, true, false, refl, if◌then◌else◌, ◌∙◌, sym, subst, ◌≢◌, inl, inr}
+use Rattle.std.proofs.Common.{◌≡◌, ℕ, zero, suc, ◌+◌, ◌<◌, ◌≤◌, List, [], ◌∷◌, arith, Bool, true, false, Some, refl, if◌then◌else◌, ◌∙◌, sym, subst, ◌≢◌, inl}
+use Rattle.std.proofs.Common.{inr}
 use Rattle.std.proofs.lemmas.Bool.Decides.{nat_tests}
 use Rattle.std.specs.Prelude.{◌⊎◌, ◌==◌, ◌&&◌}
 use native.Mathlib.Decide.{ℕ_discrete}
 use Rattle.vm_flat.proofs.Deeds.{pages, Ground, Deed, Region, Cow, Kept, Shadowed, Row, made_row, cow_row, shadow_row, row, regions, objects, Link, link, spot}
-use Rattle.vm_flat.proofs.Deeds.{Delayed, flat, covered}
+use Rattle.vm_flat.proofs.Deeds.{Delayed, flat, covered, is_file, newest, is_copy, is_pushed, stem}
+use Rattle.vm_flat.proofs.Covered.{covered_fresh, file_declared}
+use Rattle.vm_flat.proofs.Stems.{Newest, StemsOf}
+use Rattle.vm_flat.proofs.Marked.{mark_again}
 use Rattle.vm_flat.proofs.Causes.{Below, Reach, Cause}
 use Rattle.vm_flat.proofs.Good.{good_again, fits_blank}
 use Rattle.vm_flat.proofs.World.{ReachAt, ShapeOf, World, GoodAt, view, tops_below, path_small, reach_small, under_view, Barren}
@@ -52,11 +56,45 @@ below_old links new m (suc n) o u small same born is =
 pub named_objects : (z : Ground) (past : List Deed) → z.named ≤ objects z past
 named_objects z [] = omega arith
 named_objects z (Region own region object count ∷ past) = omega (arith, named_objects z past)
-named_objects z (Delayed region source off count copy newest ∷ past) = omega (arith, named_objects z past)
+named_objects z (Delayed tells region source off count copy ∷ past) = omega (arith, named_objects z past)
 named_objects z (Shadowed region new ∷ past) = omega (arith, named_objects z past)
 named_objects z (e ∷ past) = named_objects z past
 
 -- region
+
+stems_region : (z : Ground) (own : Bool) (region object count : ℕ) (past : List Deed) → StemsOf z past → object ≡ objects z past
+    → StemsOf z (Region own region object count ∷ past)
+stems_region z own region object count past s new =
+    record { stands = s.stands; newest_is = newest_is; sources = s.sources; copy_is = s.copy_is; unmade = λ o u. s.unmade o (omega (arith, u)) }
+  where
+    pages_old : (k : ℕ) → k < objects z past → pages z k (Region own region object count ∷ past) ≡ pages z k past
+    pages_old k small = if_no k object count (pages z k past) (λ e. omega (arith, small, e, new))
+
+    newest_is : (f c : ℕ) → newest z f past ≡ Some c
+        → Newest (λ o. is_file z o) (λ o. link z o past) (λ o. pages z o (Region own region object count ∷ past)) (suc (objects z past))
+        (λ o. is_copy z o past) (λ o. stem z o past) f c
+    newest_is f c is =
+        let n = s.newest_is f c is in
+        record {
+          file = n.file;
+          copy = n.copy;
+          source = n.source;
+          backed = n.backed;
+          under = n.under;
+          shift = n.shift;
+          made = omega (arith, n.made);
+          same_pages =
+              pages_old c n.made
+              ∙ n.same_pages
+              ∙ sym (pages_old f (omega (arith, file_declared z f n.file, named_objects z past)));
+        }
+
+-- what isn't made is no copy
+pub unmade_copy : (z : Ground) (o : ℕ) (past : List Deed) → World z past → objects z past ≤ o → is_copy z o past ≡ true → ⊥
+unmade_copy z o past w unmade copy = clash (is_copy z o past) (w.stems.unmade o unmade).1 copy
+  where
+    clash : (b : Bool) → b ≡ false → b ≡ true → ⊥
+    clash b isnt is = cc
 
 reach_region : (z : Ground) (here : Bool) (region object count o : ℕ) (past : List Deed) → ShapeOf z past → object ≡ objects z past
     → Reach z o (Region here region object count ∷ past) → Reach z o past ⊎ (object ≡ o)
@@ -70,7 +108,7 @@ reach_region z here region object count o past sh new reach = elim (ℕ_discrete
       inl (reach.0, reach.1, subst (λ (x : Row). x.used ≡ true) same reach.2, subst (λ (x : Row). Below (λ k. link z k past) reach.1 x.top o) same reach.3)
 ]
 
-shape_region : (z : Ground) (here : Bool) (region object count : ℕ) (past : List Deed) → ShapeOf z past → (here ≡ true → covered z object ≡ true)
+shape_region : (z : Ground) (here : Bool) (region object count : ℕ) (past : List Deed) → ShapeOf z past → (here ≡ true → covered z object past ≡ true)
     → region ≡ regions z past → object ≡ objects z past → ShapeOf z (Region here region object count ∷ past)
 shape_region z here region object count past sh ours is new =
     record {
@@ -89,12 +127,12 @@ shape_region z here region object count past sh ours is new =
     }
   where
     covers_tops : (r : ℕ) → (row z r (Region here region object count ∷ past)).used ≡ true
-        → covered z (row z r (Region here region object count ∷ past)).top ≡ true
+        → covered z (row z r (Region here region object count ∷ past)).top past ≡ true
     covers_tops r used = elim (ℕ_discrete r region) [
-      | yes e ↦ subst (λ (k : ℕ). covered z k ≡ true) (sym (if_yes r region object (row z r past).top e))
+      | yes e ↦ subst (λ (k : ℕ). covered z k past ≡ true) (sym (if_yes r region object (row z r past).top e))
           (ours (sym (if_yes r region here (row z r past).used e) ∙ used))
-      | no other ↦ subst (λ (x : Row). x.used ≡ true → covered z x.top ≡ true) (sym (made_other z here r region object count past other)) (sh.covers_tops r)
-          used
+      | no other ↦ subst (λ (x : Row). x.used ≡ true → covered z x.top past ≡ true) (sym (made_other z here r region object count past other))
+          (sh.covers_tops r) used
     ]
 
     pages_old : (k : ℕ) → k < objects z past → pages z k (Region here region object count ∷ past) ≡ pages z k past
@@ -128,9 +166,19 @@ pub after_region : (z : Ground) (here : Bool) (region object count : ℕ) (past 
     → World z (Region here region object count ∷ past)
 after_region z here region object count past w c =
     record {
-      shape = shape_region z here region object count past w.shape c.2 c.0 c.1;
+      shape = shape_region z here region object count past w.shape
+          (λ own. covered_fresh z object past (omega (arith, named_objects z past, c.1)) (w.stems.unmade object (omega (arith, c.1))).0 (c.2 own)) c.0 c.1;
       regional = regional;
       places = places;
+      stems = stems_region z here region object count past w.stems c.1;
+      marks = λ o p ours.
+          mark_again (objects z past ≤ o) (suc (objects z past) ≤ o) (is_copy z o past ≡ true) (is_copy z o past ≡ true) (Reach z o past)
+          (Reach z o (Region here region object count ∷ past)) (is_pushed z o p past) (spot z o p past) (λ u. omega (arith, u)) (λ copy. copy)
+          (λ copy reach. elim (reach_region z here region object count o past w.shape c.1 reach) [
+            | inl was ↦ was
+            | inr e ↦ absurd (unmade_copy z o past w (omega (arith, e, c.1)) copy)
+          ])
+          (w.marks o p ours);
     }
   where
     view_old : (o p : ℕ) → o < objects z past → view z o p (Region here region object count ∷ past) ≡ view z o p past
@@ -157,7 +205,7 @@ after_region z here region object count past w c =
     old_small o other reach =
         elim (reach_region z here region object count o past w.shape c.1 reach) [ inl was ↦ reach_small z o past w.shape was | inr e ↦ absurd (other (sym e)) ]
 
-    places : (o p : ℕ) → covered z o ≡ true → GoodAt z (Region here region object count ∷ past) o p (spot z o p past)
+    places : (o p : ℕ) → covered z o past ≡ true → GoodAt z (Region here region object count ∷ past) o p (spot z o p past)
     places o p ours = elim (ℕ_discrete o object) [
       | yes e ↦
           record {
@@ -221,6 +269,10 @@ after_kept z held past w =
           (Barren z o p past) (view z o p past) (view z o p past) (link z o past).backed (under_view z o p past) (under_view z o p past) (spot z o p past)
           (w.places o p ours) (λ reach. (reach_kept z held o past reach.0, reach.1)) (λ u. u) (λ reach. refl) (λ reach none backed. refl)
           (λ reach barren. barren);
+      stems = w.stems;
+      marks = λ o p ours.
+          mark_again (objects z past ≤ o) (objects z past ≤ o) (is_copy z o past ≡ true) (is_copy z o past ≡ true) (Reach z o past)
+          (Reach z o (Kept held ∷ past)) (is_pushed z o p past) (spot z o p past) (λ u. u) (λ copy. copy) (λ copy. reach_kept z held o past) (w.marks o p ours);
     }
   where
     was : (r : ℕ) → (row z r (Kept held ∷ past)).used ≡ true → (row z r past).used ≡ true

@@ -9,7 +9,7 @@ use Rattle.vm_model.specs.Controls.{last_control, live_control}
 use Rattle.vm_model.specs.Local.{Local}
 use Rattle.vm_model.specs.Moments.{EachEvent}
 use Rattle.vm_model.specs.Named.{declared_pages, named}
-use Rattle.vm_model.specs.Regions.{region_of}
+use Rattle.vm_model.specs.Regions.{comes_from, region_of}
 use Rattle.vm_legal.specs.Bytes.{CopiesCurrent}
 use Rattle.vm_legal.specs.Flat.{flat_page}
 use Rattle.vm_legal.specs.Licences.{HasCause, pager_has}
@@ -29,6 +29,7 @@ use Rattle.vm_flat.proofs.Law.{holds}
 use Rattle.vm_flat.proofs.Letters.{up_words}
 use Rattle.vm_flat.proofs.Locals.{spot_is_local}
 use Rattle.vm_flat.proofs.Pagers.{kept_is}
+use Rattle.vm_flat.proofs.Covers.{file_covered, stem}
 use Rattle.vm_flat.proofs.Ports.{sound_of}
 use Rattle.vm_flat.proofs.Queues.{latest}
 use Rattle.vm_flat.proofs.Regions.{if_no}
@@ -51,7 +52,9 @@ pages_declared header outside r (event.RegionCopied new source offset pages ∷ 
     (λ doing c. if_no r new.0 pages (region_of header r past).pages (λ same. omega (arith, same, below, c.next, named_regions header past))
     ∙ pages_declared header outside r past caused.1 below)
 pages_declared header outside r (event.Delayed new source offset pages copy ∷ past) caused below =
-    by_cause header outside (event.Delayed new source offset pages copy) past caused.0 (λ doing c. absurd c)
+    by_cause header outside (event.Delayed new source offset pages copy) past caused.0
+    (λ doing c. if_no r new.0 pages (region_of header r past).pages (λ same. omega (arith, same, below, c.next, named_regions header past))
+    ∙ pages_declared header outside r past caused.1 below)
 pages_declared header outside r (e ∷ past) caused below = pages_declared header outside r past caused.1 below
 
 -- unless a changed page is here, its content is what was returned last
@@ -79,8 +82,8 @@ settled header outside history caused current host o p file silent used inside e
     h : Holds header outside history
     h = holds header outside history (sustained header outside history caused) current
 
-    private : is_private header outside o ≡ true
-    private = grind (arith, nat_tests)
+    private : is_private header outside o history ≡ true
+    private = file_covered header outside o (comes_from o history) file
 
     below : o < named header
     below = grind (arith, nat_tests)
@@ -93,7 +96,8 @@ settled header outside history caused current host o p file silent used inside e
 
     -- all returns were taken
     taken : s.kept ≡ s.returned
-    taken = subst (λ q. latest q s.kept ≡ s.returned) (h.ups host o p ∙ ap (up_words p) empty) (sound_of header outside host o p history h.worlds private).last
+    taken = subst (λ q. latest q s.kept ≡ s.returned) (h.ups host o p ∙ ap (up_words p) empty) (sound_of header outside host o p history h.worlds
+        (file_covered header outside o (stem header o history) file)).last
 
     top : IsTop (region_of header o history) p o p
     top = record { object = h.numbered.declared_top o below; page = let shift = h.numbered.declared_shift o below in omega (arith, shift) }

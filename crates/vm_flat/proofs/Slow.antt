@@ -6,10 +6,11 @@ use native.Mathlib.Decide.{ℕ_discrete}
 use Rattle.vm_flat.specs.Words.{Raises, Nothing}
 use Rattle.vm_flat.specs.Spot.{Spot, spot_after}
 use Rattle.vm_flat.proofs.Allowed.{content}
-use Rattle.vm_flat.proofs.Deeds.{is_file, covered, Ground, Deed, Copied, row, objects, link, spot, flat}
+use Rattle.vm_flat.proofs.Deeds.{is_file, covered, is_copy, Ground, Deed, Copied, row, objects, link, spot, flat}
 use Rattle.vm_flat.proofs.Causes.{Reach, Cause, CopiesThere, Foreign}
 use Rattle.vm_flat.proofs.Good.{Good, good_puts, good_again}
-use Rattle.vm_flat.proofs.World.{ReachAt, World, view, tops_below, GoodAt, path_covered, under_view, Barren}
+use Rattle.vm_flat.proofs.World.{ReachAt, World, view, tops_below, GoodAt, path_covered, under_view, Barren, each_place}
+use Rattle.vm_flat.proofs.Marked.{Marked, marked_nothing, marked_plain}
 use Rattle.vm_flat.proofs.Stored.{and_no, and_yes, page_no, page_yes, path_other, kind, top_covered, no_if, not_ours}
 use Rattle.vm_flat.proofs.File.{file_is}
 
@@ -68,7 +69,7 @@ under_other z x y l lp r i k q past w c o p reach none backed =
     clash b isnt is = cc
 
     by_kind : (link z o past).under ≡ k → (link z o past).shift + p ≡ q → ⊥
-    by_kind e f = elim (kind z k (top_covered z r i k q past w.shape c.tops)) [
+    by_kind e f = elim (kind z k past (top_covered z r i k q past w.shape c.tops)) [
       | inl file ↦ clash (is_file z k) (sym (file_is z k q past) ∙ c.plain) file
       | inr temporary ↦ w.shape.own r o c.tops.used c.unmarked (omega (arith, temporary, c.tops.object)) reach backed (e ∙ sym c.tops.object)
     ]
@@ -77,7 +78,7 @@ under_other z x y l lp r i k q past w c o p reach none backed =
 barren_other : (z : Ground) (x y l lp r i k q : ℕ) (past : List Deed) → World z past → CopiesThere z x y l lp r i k q past
     → (o p : ℕ) → (o ≡ k → p ≡ q → ⊥) → Reach z o past → Barren z o p past → Barren z o p (Copied true x y l lp r i k q ∷ past)
 barren_other z x y l lp r i k q past w c o p apart reach barren n m mp path = (
-  view_other z x y l lp r i k q m mp past (apart_from (kind z k (top_covered z r i k q past w.shape c.tops))) ∙ (barren n m mp path).0,
+  view_other z x y l lp r i k q m mp past (apart_from (kind z k past (top_covered z r i k q past w.shape c.tops))) ∙ (barren n m mp path).0,
   (barren n m mp path).1,
 )
   where
@@ -95,15 +96,21 @@ after_own z x y l lp r i k q past w c =
       shape = w.shape;
       regional = slow_after z x y l lp r i k q past w c;
       places = λ o p ours. places_if o p ours (k == o && q == p) refl;
+      stems = w.stems;
+      marks = each_place (Marked z past) k q true (Raises (spot z l lp past).bytes) Nothing
+          (λ is. marked_plain z past w k q (Raises (spot z l lp past).bytes) (λ copy. clash (is_copy z k past) c.no_copy copy)) (marked_nothing z past w);
     }
   where
+    clash : (b : Bool) → b ≡ false → b ≡ true → ⊥
+    clash b isnt is = cc
+
     page : List ℕ
     page = (spot z l lp past).bytes
 
     born : (o : ℕ) → o ≡ k → objects z past ≤ o → ⊥
     born o e unborn = omega (arith, tops_below w.shape r c.tops.used, c.tops.object, e, unborn)
 
-    own : (o p : ℕ) → covered z o ≡ true → o ≡ k → p ≡ q
+    own : (o p : ℕ) → covered z o past ≡ true → o ≡ k → p ≡ q
         → Good z.zeros (ReachAt z o p past) (objects z past ≤ o) (Barren z o p (Copied true x y l lp r i k q ∷ past)) (flat z x y past) (link z o past).backed
         (under_view z o p (Copied true x y l lp r i k q ∷ past)) (spot_after z.zeros (spot z o p past) (Raises page))
     own o p ours e f =
@@ -118,7 +125,7 @@ after_own z x y l lp r i k q past w c =
         (link z o past).backed (under_view z o p past) (under_view z o p (Copied true x y l lp r i k q ∷ past)) (spot z o p past) page (w.places o p ours)
         at (born o e))
 
-    other : (o p : ℕ) → covered z o ≡ true → (o ≡ k → p ≡ q → ⊥)
+    other : (o p : ℕ) → covered z o past ≡ true → (o ≡ k → p ≡ q → ⊥)
         → Good z.zeros (ReachAt z o p past) (objects z past ≤ o) (Barren z o p (Copied true x y l lp r i k q ∷ past)) (view z o p past) (link z o past).backed
         (under_view z o p (Copied true x y l lp r i k q ∷ past)) (spot z o p past)
     other o p ours apart =
@@ -128,7 +135,7 @@ after_own z x y l lp r i k q past w c =
         (w.places o p ours) (λ x. x) (λ x. x) (λ x. refl) (λ reach. under_other z x y l lp r i k q past w c o p reach.0)
         (λ reach. barren_other z x y l lp r i k q past w c o p apart reach.0)
 
-    places_if : (o p : ℕ) → covered z o ≡ true → (b : Bool) → (k == o && q == p) ≡ b
+    places_if : (o p : ℕ) → covered z o past ≡ true → (b : Bool) → (k == o && q == p) ≡ b
         → Good z.zeros (ReachAt z o p past) (objects z past ≤ o) (Barren z o p (Copied true x y l lp r i k q ∷ past))
         (if b then flat z x y past else view z o p past) (link z o past).backed (under_view z o p (Copied true x y l lp r i k q ∷ past))
         (spot_after z.zeros (spot z o p past) (if b then Raises (spot z l lp past).bytes else Nothing))
@@ -139,9 +146,16 @@ after_own z x y l lp r i k q past w c =
 after_foreign : (z : Ground) (own : Bool) (x y l lp r i k q : ℕ) (past : List Deed) → World z past → Foreign z own r k past
     → World z (Copied own x y l lp r i k q ∷ past)
 after_foreign z own x y l lp r i k q past w f =
-    record { shape = w.shape; regional = regional; places = places }
+    record {
+      shape = w.shape;
+      regional = regional;
+      places = places;
+      stems = w.stems;
+      marks = each_place (Marked z past) k q own (Raises (spot z l lp past).bytes) Nothing (λ is ours. absurd (not_ours z own r k past f k ours is refl))
+          (marked_nothing z past w);
+    }
   where
-    view_is : (o p : ℕ) → covered z o ≡ true → view z o p (Copied own x y l lp r i k q ∷ past) ≡ view z o p past
+    view_is : (o p : ℕ) → covered z o past ≡ true → view z o p (Copied own x y l lp r i k q ∷ past) ≡ view z o p past
     view_is o p ours = no_if own o p k q (flat z x y past) (view z o p past) (not_ours z own r k past f o ours)
 
     clash : (b : Bool) → b ≡ false → b ≡ true → ⊥
@@ -154,7 +168,7 @@ after_foreign z own x y l lp r i k q past w f =
         ∙ w.regional g j used inside
         ∙ sym (view_is (row z g past).top ((row z g past).shift + j) (w.shape.covers_tops g used))
 
-    places : (o p : ℕ) → covered z o ≡ true → GoodAt z (Copied own x y l lp r i k q ∷ past) o p (spot z o p (Copied own x y l lp r i k q ∷ past))
+    places : (o p : ℕ) → covered z o past ≡ true → GoodAt z (Copied own x y l lp r i k q ∷ past) o p (spot z o p (Copied own x y l lp r i k q ∷ past))
     places o p ours =
         subst (λ e. GoodAt z (Copied own x y l lp r i k q ∷ past) o p (spot_after z.zeros (spot z o p past) e))
         (sym (no_if own o p k q (Raises (spot z l lp past).bytes) Nothing (not_ours z own r k past f o ours)))

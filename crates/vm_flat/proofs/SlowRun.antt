@@ -22,6 +22,7 @@ use Rattle.vm_legal.specs.Walks.{page_on}
 use Rattle.vm_flat.proofs.FileStart.{all, mapped, settling, past_0, past_1, past_2, past_3, past_4, past_5, past_6, past_7, past_8, past_9, past_10, past_11}
 use Rattle.vm_flat.proofs.FileStart.{past_12, past_13, past_14, past_15, past_16}
 use Rattle.vm_legal.proofs.Unshared.{NoneIsShared, loads_unshared, none_shared}
+use Rattle.vm_flat.proofs.Bottom.{no_copy}
 use Rattle.vm_flat.proofs.Loads.{answers}
 
 abbrev header : Header
@@ -362,6 +363,7 @@ caused_24 = (
       unmarked = refl;
       here = refl;
       place = refl;
+      paid = λ copy owes. no_copy copy owes.newest;
     },
   ),
   caused_23,

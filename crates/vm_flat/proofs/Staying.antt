@@ -19,7 +19,7 @@ use Rattle.vm_model.specs.Moments.{BeforeSteps, EachEvent}
 use Rattle.vm_model.specs.Named.{named}
 use Rattle.vm_model.specs.Tasks.{host_of}
 use Rattle.vm_legal.specs.Bytes.{CopiesCurrent}
-use Rattle.vm_legal.specs.Licences.{Bottoms, CopiesPage, Fills, HasCause, MaySendUp, Raises as RaisesPage}
+use Rattle.vm_legal.specs.Licences.{Bottoms, CopiesPage, Fills, Finding, HasCause, MaySendUp, Pushing, Raises as RaisesPage}
 use Rattle.vm_legal.specs.Outside.{Outside, is_file}
 use Rattle.vm_legal.specs.Prompt.{Prompt}
 use Rattle.vm_legal.specs.Walks.{page_on}
@@ -128,8 +128,10 @@ zeroed header outside host o p at object page past caused keeps prompt inside be
 
 raised : {A : Type 0} (header : Header) (host lower lower_page upper upper_page o : ℕ) (past : List Event) → NumberedAt header past → o < named header
     → upper ≡ o → RaisesPage header host lower lower_page upper upper_page past → A
-raised header host lower lower_page upper upper_page o past num below same c =
+raised header host lower lower_page upper upper_page o past num below same (Finding c) =
     let above = num.upper upper c.walks.1 in absurd (omega (arith, above, same, below))
+raised header host lower lower_page upper upper_page o past num below same (Pushing c) =
+    let above = num.newest lower upper c.owes.newest in absurd (omega (arith, above, same, below))
 
 -- a slow copy fills a temporary object
 copied : {A : Type 0} (header : Header) (outside : Outside) (task index object page target o : ℕ) (past : List Event) → NumberedAt header past

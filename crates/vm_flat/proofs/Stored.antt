@@ -10,7 +10,9 @@ use Rattle.vm_flat.proofs.Allowed.{content}
 use Rattle.vm_flat.proofs.Deeds.{is_file, covered, Ground, Deed, Stored, row, objects, link, spot, flat}
 use Rattle.vm_flat.proofs.Causes.{Path, Reach, Tops, Cause, StoresThere, Foreign}
 use Rattle.vm_flat.proofs.Good.{Good, good_stores, good_again}
-use Rattle.vm_flat.proofs.World.{ReachAt, ShapeOf, World, view, GoodAt, path_covered, under_view, Barren, barren_top, reach_next}
+use Rattle.vm_flat.proofs.World.{ReachAt, ShapeOf, World, view, GoodAt, path_covered, under_view, Barren, barren_top, reach_next, reach_top}
+use Rattle.vm_flat.proofs.World.{each_place}
+use Rattle.vm_flat.proofs.Marked.{Marked, marked_nothing, marked_stores}
 
 -- two tests, one of which fails
 pub and_no : {A : Type 0} (o p k q : ℕ) (x y : A) → (o ≡ k → p ≡ q → ⊥) → (if k == o && q == p then x else y) ≡ y
@@ -35,15 +37,15 @@ pub page_yes : {A : Type 0} (o p k q : ℕ) (x y : A) → o ≡ k → p ≡ q �
 page_yes o p k q x y e f = and_yes k q o p x y (sym e) (sym f)
 
 -- a file, or a temporary object
-pub kind : (z : Ground) (k : ℕ) → covered z k ≡ true → (is_file z k ≡ true) ⊎ (z.named ≤ k)
-kind z k ours = kind_if (is_file z k) refl
+pub kind : (z : Ground) (k : ℕ) (past : List Deed) → covered z k past ≡ true → (is_file z k ≡ true) ⊎ (z.named ≤ k)
+kind z k past ours = kind_if (is_file z k) refl
   where
     kind_if : (b : Bool) → is_file z k ≡ b → (b ≡ true) ⊎ (z.named ≤ k)
     kind_if true is = inl refl
     kind_if false is = inr (grind (arith, nat_tests))
 
-pub top_covered : (z : Ground) (r i k q : ℕ) (past : List Deed) → ShapeOf z past → Tops z r i k q past → covered z k ≡ true
-top_covered z r i k q past sh tops = subst (λ (o : ℕ). covered z o ≡ true) tops.object (sh.covers_tops r tops.used)
+pub top_covered : (z : Ground) (r i k q : ℕ) (past : List Deed) → ShapeOf z past → Tops z r i k q past → covered z k past ≡ true
+top_covered z r i k q past sh tops = subst (λ (o : ℕ). covered z o past ≡ true) tops.object (sh.covers_tops r tops.used)
 
 -- no path from another reached place leads to the top place of a region without the mark
 pub path_other : (z : Ground) (r i k q : ℕ) (past : List Deed) → ShapeOf z past → Tops z r i k q past → (row z r past).mark ≡ false → z.named ≤ k
@@ -105,7 +107,7 @@ under_other : (z : Ground) (r i k q at : ℕ) (bytes : List ℕ) (past : List De
     → under_view z o p (Stored true r i k q at bytes ∷ past) ≡ under_view z o p past
 under_other z r i k q at bytes past w c o p reach none backed =
     view_other z r i k q at bytes (link z o past).under ((link z o past).shift + p) past
-    (λ e f. elim (kind z k (top_covered z r i k q past w.shape c.tops)) [
+    (λ e f. elim (kind z k past (top_covered z r i k q past w.shape c.tops)) [
       | inl file ↦ c.pushed file o p reach backed e f none
       | inr temporary ↦ w.shape.own r o c.tops.used c.unmarked (omega (arith, temporary, c.tops.object)) reach backed (e ∙ sym c.tops.object)
     ])
@@ -114,7 +116,7 @@ under_other z r i k q at bytes past w c o p reach none backed =
 barren_other : (z : Ground) (r i k q at : ℕ) (bytes : List ℕ) (past : List Deed) → World z past → StoresThere z r i k q past
     → (o p : ℕ) → (o ≡ k → p ≡ q → ⊥) → Reach z o past → Barren z o p past → Barren z o p (Stored true r i k q at bytes ∷ past)
 barren_other z r i k q at bytes past w c o p apart reach barren n l lp path = (
-  view_other z r i k q at bytes l lp past (apart_from (kind z k (top_covered z r i k q past w.shape c.tops))) ∙ (barren n l lp path).0,
+  view_other z r i k q at bytes l lp past (apart_from (kind z k past (top_covered z r i k q past w.shape c.tops))) ∙ (barren n l lp path).0,
   (barren n l lp path).1,
 )
   where
@@ -132,9 +134,12 @@ after_own z r i k q at bytes past w c =
       shape = w.shape;
       regional = regional_after z r i k q at bytes past w c;
       places = λ o p ours. places_if o p ours (k == o && q == p) refl;
+      stems = w.stems;
+      marks = each_place (Marked z past) k q true (Stores at bytes) Nothing
+          (λ is. marked_stores z past w k q at bytes (reach_top z r i k q past w.shape c.tops) c.here) (marked_nothing z past w);
     }
   where
-    own : (o p : ℕ) → covered z o ≡ true → o ≡ k → p ≡ q
+    own : (o p : ℕ) → covered z o past ≡ true → o ≡ k → p ≡ q
         → Good z.zeros (ReachAt z o p past) (objects z past ≤ o) (Barren z o p (Stored true r i k q at bytes ∷ past)) (with_bytes at bytes (view z o p past))
         (link z o past).backed (under_view z o p (Stored true r i k q at bytes ∷ past)) (spot_after z.zeros (spot z o p past) (Stores at bytes))
     own o p ours e f =
@@ -144,7 +149,7 @@ after_own z r i k q at bytes past w c =
         (link z o past).backed (under_view z o p past) (under_view z o p (Stored true r i k q at bytes ∷ past)) (spot z o p past) at bytes
         (w.places o p ours) here (barren_top z o p past)
 
-    other : (o p : ℕ) → covered z o ≡ true → (o ≡ k → p ≡ q → ⊥)
+    other : (o p : ℕ) → covered z o past ≡ true → (o ≡ k → p ≡ q → ⊥)
         → Good z.zeros (ReachAt z o p past) (objects z past ≤ o) (Barren z o p (Stored true r i k q at bytes ∷ past)) (view z o p past) (link z o past).backed
         (under_view z o p (Stored true r i k q at bytes ∷ past)) (spot z o p past)
     other o p ours apart =
@@ -154,7 +159,7 @@ after_own z r i k q at bytes past w c =
         (w.places o p ours) (λ x. x) (λ x. x) (λ x. refl) (λ reach. under_other z r i k q at bytes past w c o p reach.0)
         (λ reach. barren_other z r i k q at bytes past w c o p apart reach.0)
 
-    places_if : (o p : ℕ) → covered z o ≡ true → (b : Bool) → (k == o && q == p) ≡ b
+    places_if : (o p : ℕ) → covered z o past ≡ true → (b : Bool) → (k == o && q == p) ≡ b
         → Good z.zeros (ReachAt z o p past) (objects z past ≤ o) (Barren z o p (Stored true r i k q at bytes ∷ past))
         (if b then with_bytes at bytes (view z o p past) else view z o p past) (link z o past).backed
         (under_view z o p (Stored true r i k q at bytes ∷ past))
@@ -170,10 +175,10 @@ no_if own o p k q x y apart = no_if_so (own && (k == o && q == p)) refl
     no_if_so false is = refl
     no_if_so true is = absurd (apart (grind arith) (grind (arith, nat_tests)))
 
-pub not_ours : (z : Ground) (own : Bool) (r k : ℕ) (past : List Deed) → Foreign z own r k past → (o : ℕ) → covered z o ≡ true → own ≡ true → o ≡ k → ⊥
+pub not_ours : (z : Ground) (own : Bool) (r k : ℕ) (past : List Deed) → Foreign z own r k past → (o : ℕ) → covered z o past ≡ true → own ≡ true → o ≡ k → ⊥
 not_ours z own r k past f o ours is e =
-    let isnt : covered z o ≡ false = ap (covered z) e ∙ f.apart is in
-    clash (covered z o) isnt ours
+    let isnt : covered z o past ≡ false = ap (λ h. covered z h past) e ∙ f.apart is in
+    clash (covered z o past) isnt ours
   where
     clash : (b : Bool) → b ≡ false → b ≡ true → ⊥
     clash b isnt is = cc
@@ -182,9 +187,16 @@ not_ours z own r k past f o ours is e =
 after_foreign : (z : Ground) (own : Bool) (r i k q at : ℕ) (bytes : List ℕ) (past : List Deed) → World z past → Foreign z own r k past
     → World z (Stored own r i k q at bytes ∷ past)
 after_foreign z own r i k q at bytes past w f =
-    record { shape = w.shape; regional = regional; places = places }
+    record {
+      shape = w.shape;
+      regional = regional;
+      places = places;
+      stems = w.stems;
+      marks = each_place (Marked z past) k q own (Stores at bytes) Nothing (λ is ours. absurd (not_ours z own r k past f k ours is refl))
+          (marked_nothing z past w);
+    }
   where
-    view_is : (o p : ℕ) → covered z o ≡ true → view z o p (Stored own r i k q at bytes ∷ past) ≡ view z o p past
+    view_is : (o p : ℕ) → covered z o past ≡ true → view z o p (Stored own r i k q at bytes ∷ past) ≡ view z o p past
     view_is o p ours = no_if own o p k q (with_bytes at bytes (view z o p past)) (view z o p past) (not_ours z own r k past f o ours)
 
     clash : (b : Bool) → b ≡ false → b ≡ true → ⊥
@@ -198,7 +210,7 @@ after_foreign z own r i k q at bytes past w f =
         ∙ w.regional g j used inside
         ∙ sym (view_is (row z g past).top ((row z g past).shift + j) (w.shape.covers_tops g used))
 
-    places : (o p : ℕ) → covered z o ≡ true → GoodAt z (Stored own r i k q at bytes ∷ past) o p (spot z o p (Stored own r i k q at bytes ∷ past))
+    places : (o p : ℕ) → covered z o past ≡ true → GoodAt z (Stored own r i k q at bytes ∷ past) o p (spot z o p (Stored own r i k q at bytes ∷ past))
     places o p ours =
         subst (λ e. GoodAt z (Stored own r i k q at bytes ∷ past) o p (spot_after z.zeros (spot z o p past) e))
         (sym (no_if own o p k q (Stores at bytes) Nothing (not_ours z own r k past f o ours)))

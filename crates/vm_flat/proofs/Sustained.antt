@@ -23,6 +23,7 @@ use Rattle.vm_legal.specs.Used.{is_filled}
 use Rattle.vm_legal.specs.Walks.{Reaches, page_on}
 use Rattle.vm_flat.specs.Places.{spot}
 use Rattle.vm_flat.specs.Spot.{Spot}
+use Rattle.vm_flat.proofs.Covers.{is_covered}
 use Rattle.vm_flat.proofs.Uses.{in_use}
 
 -- in the chain of a region of which the law speaks, and that is in use on the host
@@ -140,7 +141,7 @@ pub record Enters (header : Header) (outside : Outside) (task bytes region offse
   pub whole : bytes % header.size ≡ 0
   pub inside : offset + bytes / header.size ≤ (region_of header region past).pages
   pub made : region < next_region header past
-  pub used : is_private header outside region ≡ true → in_use header outside host region past ≡ true
+  pub used : is_private header outside region past ≡ true → in_use header outside host region past ≡ true
   pub unfilled : is_filled region (tasks past) past ≡ false
 
 -- why a page goes away without a word
@@ -160,7 +161,8 @@ pub record Drops (header : Header) (outside : Outside) (host object page : ℕ) 
 abbrev pub Sustained : Header → Outside → Event → List Event → Type 0
 Sustained header outside (event.RegionMade region object pages) past = (region.0 ≡ next_region header past) × (object.0 ≡ next_object header past)
 Sustained header outside (event.RegionCopied region source offset pages) past = L.CopiesRegion header region.0 source.0 offset pages past
-Sustained header outside (event.Delayed region source offset pages copy) past = ⊥
+Sustained header outside (event.Delayed region source offset pages copy) past =
+    L.CopiesFile header region.0 source.0 offset pages copy.0 past
 Sustained header outside (event.Entered task address bytes region offset prot inherit) past = Enters header outside task.0 bytes region.0 offset past
 Sustained header outside (event.Shadowed region new old) past = L.Shadows header region.0 new.0 old.0 past
 Sustained header outside (event.Unmarked region) past = L.Unmarks header region.0 past
@@ -169,13 +171,15 @@ Sustained header outside (event.Loaded task object page value) past = L.Loads he
 Sustained header outside (event.Stored task object page at bytes value) past = L.Stores header task.0 object.0 page.0 at bytes value past
 Sustained header outside (event.CopiedPage task page object object_page target) past = L.CopiesPage header task.0 page.0 object.0 object_page.0 target.0 past
 Sustained header outside (event.Zeroed host object page) past =
-    is_private header outside object.0 ≡ true → ((object.0 < named header)
+    is_covered header outside object.0 past ≡ true → ((object.0 < named header)
     × Fills (spot header outside host.0 object.0 page.0 past) (page_on header host.0 object.0 page.0 past)) ⊎ L.Bottoms header host.0 object.0 page.0 past
 Sustained header outside (event.Raised host lower lower_page upper upper_page) past = L.Raises header host.0 lower.0 lower_page.0 upper.0 upper_page.0 past
-Sustained header outside (event.Dropped host object page) past = is_private header outside object.0 ≡ true → Drops header outside host.0 object.0 page.0 past
-Sustained header outside (event.Sent (Up host object) m) past = is_private header outside object.0 ≡ true → MaySendUp header outside host.0 object.0 m past
+Sustained header outside (event.Dropped host object page) past = is_covered header outside object.0 past ≡ true
+    → Drops header outside host.0 object.0 page.0 past
+Sustained header outside (event.Sent (Up host object) m) past = is_covered header outside object.0 past ≡ true
+    → MaySendUp header outside host.0 object.0 m past
 Sustained header outside (event.Sent (Down host object number) m) past =
-    is_private header outside object.0 ≡ true → MaySendDown header outside host.0 object.0 number m past
+    is_covered header outside object.0 past ≡ true → MaySendDown header outside host.0 object.0 number m past
 -- each channel is first in, first out
 Sustained header outside (event.Taken channel m) past = first (queue channel past) ≡ Some m
 Sustained header outside other past = Unit {0}

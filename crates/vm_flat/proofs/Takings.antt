@@ -31,7 +31,6 @@ use Rattle.vm_model.specs.Regions.{next_object, next_region}
 use Rattle.vm_model.specs.Server.{first as oldest}
 use Rattle.vm_model.specs.Tasks.{entries_of, has_entry, host_of}
 use Rattle.vm_legal.proofs.Inside.{taken_more}
-use Rattle.vm_legal.proofs.Stretched.{inner_both}
 use Rattle.vm_legal.specs.Cached.{is_cached}
 use Rattle.vm_legal.specs.Follows.{Follows, FollowsAnyCut, IsBegun, IsConsequence, IsGroup, IsRun, cache_head, clean_head, copy_head, fork_head, head, inherits}
 use Rattle.vm_legal.specs.Follows.{inherits_all, map_head, next_behind, opening, say_head, take_head}
@@ -43,9 +42,10 @@ use Rattle.vm_legal.specs.Pagers.{Known, known_below}
 use Rattle.vm_legal.specs.Prompt.{Prompt}
 use Rattle.vm_legal.specs.Refusal.{refusal}
 use Rattle.vm_legal.specs.Steps.{Asked, Letter, absence_taken, before_step, taken_letter}
-use Rattle.vm_legal.specs.Stretches.{AllInner, EachIn}
+use Rattle.vm_legal.specs.Stretches.{AllInner, EachIn, IsInner}
 use Rattle.vm_legal.specs.Walks.{page_on}
 use Rattle.vm_flat.proofs.Pagers.{not_taken}
+use Rattle.vm_flat.proofs.Undelayed.{Undelayed, early_then, early_unreached}
 use Rattle.vm_flat.proofs.Using.{by_cause}
 use Rattle.vm_flat.proofs.Voids.{Came, absent, came, not_absent}
 use Rattle.vm_legal.specs.Destroyed.{destroy_taken}
@@ -60,9 +60,9 @@ KeepsEntries (event.Protected task address bytes prot) = ⊥
 KeepsEntries (event.Inherited task address bytes inherit) = ⊥
 KeepsEntries other = Unit {0}
 
--- where the step took a message
+-- where the step took a message; and no command makes a delayed copy yet
 abbrev pub TakingKeeps : Event → List Event → Type 0
-TakingKeeps e past = (letter : Letter) → taken_letter past ≡ Some letter → KeepsEntries e
+TakingKeeps e past = ((letter : Letter) → taken_letter past ≡ Some letter → KeepsEntries e) × Undelayed e
 
 consequence : (e : Event) (past : List Event) → IsConsequence e past → KeepsEntries e
 consequence (event.TaskMade task host) past is = is
@@ -72,44 +72,86 @@ consequence (event.Protected task address bytes prot) past is = is
 consequence (event.Inherited task address bytes inherit) past is = is
 consequence other past is = tt
 
+undelayed : (e : Event) (past : List Event) → IsConsequence e past → Undelayed e
+undelayed (event.Delayed region source offset pages copy) past is = is
+undelayed other past is = tt
+
 consequences : (events past : List Event) → EachIn IsConsequence events past → EachEvent TakingKeeps past → EachEvent TakingKeeps (events ++ past)
 consequences [] past each was = was
-consequences (e ∷ events) past each was = ((λ letter is. consequence e (events ++ past) each.0), consequences events past each.1 was)
+consequences (e ∷ events) past each was = (
+  (
+    (λ letter is. consequence e (events ++ past) each.0),
+    undelayed e
+        (events ++ past) each.0,
+  ),
+  consequences events past each.1 was,
+)
 
 -- heads
 
--- nothing was taken in front of them
-behind_nothing : (events past : List Event) → AllInner events → taken_letter past ≡ None → EachEvent TakingKeeps past → EachEvent TakingKeeps (events ++ past)
-behind_nothing [] past inner none was = was
-behind_nothing (e ∷ events) past inner none was =
-    ((λ letter is. not_taken letter (sym (taken_more events past inner.1 ∙ none) ∙ is)), behind_nothing events past inner.1 none was)
+-- the event is no line, no taking and no delayed copy
+abbrev IsPlain : Event → Type 0
+IsPlain (event.Line line) = ⊥
+IsPlain (event.Taken channel m) = ⊥
+IsPlain (event.Delayed region source offset pages copy) = ⊥
+IsPlain other = Unit {0}
 
-inner_onto : (events more : List Event) → AllInner events → AllInner more → AllInner (reverse_aux events more)
+abbrev AllPlain : List Event → Type 0
+AllPlain [] = Unit {0}
+AllPlain (e ∷ events) = IsPlain e × AllPlain events
+
+is_inner : (e : Event) → IsPlain e → IsInner e
+is_inner (event.Line line) is = is
+is_inner (event.Taken channel m) is = is
+is_inner other is = tt
+
+is_undelayed : (e : Event) → IsPlain e → Undelayed e
+is_undelayed (event.Delayed region source offset pages copy) is = is
+is_undelayed other is = tt
+
+are_inner : (events : List Event) → AllPlain events → AllInner events
+are_inner [] all = tt
+are_inner (e ∷ events) all = (is_inner e all.0, are_inner events all.1)
+
+plain_both : (events more : List Event) → AllPlain events → AllPlain more → AllPlain (events ++ more)
+plain_both [] more one two = two
+plain_both (e ∷ events) more one two = (one.0, plain_both events more one.1 two)
+
+-- nothing was taken in front of them
+behind_nothing : (events past : List Event) → AllPlain events → taken_letter past ≡ None → EachEvent TakingKeeps past → EachEvent TakingKeeps (events ++ past)
+behind_nothing [] past inner none was = was
+behind_nothing (e ∷ events) past inner none was = (
+  ((λ letter is. not_taken letter (sym (taken_more events past (are_inner events inner.1) ∙ none) ∙ is)), is_undelayed e inner.0),
+  behind_nothing events past inner.1 none was,
+)
+
+inner_onto : (events more : List Event) → AllPlain events → AllPlain more → AllPlain (reverse_aux events more)
 inner_onto [] more one two = two
 inner_onto (e ∷ events) more one two = inner_onto events (e ∷ more) one.1 (one.0, two)
 
 -- a head takes nothing, or it is the taking of one message
 abbrev IsHead : List Event → Type 0
-IsHead first = AllInner first ⊎ ((channel : Channel) × (m : Message) × (event.Taken channel m ∷ [] ≡ first))
+IsHead first = AllPlain first ⊎ ((channel : Channel) × (m : Message) × (event.Taken channel m ∷ [] ≡ first))
 
-plain : (events first : List Event) → AllInner events → Some events ≡ Some first → IsHead first
-plain events first inner is = let same : events ≡ first = cc in inl (subst AllInner same inner)
+plain : (events first : List Event) → AllPlain events → Some events ≡ Some first → IsHead first
+plain events first inner is = let same : events ≡ first = cc in inl (subst AllPlain same inner)
 
 no_head : (first : List Event) → None ≡ Some first → IsHead first
 no_head first is = absurd (cc)
 
-inherits_inner : (kind : Inherit) (size : ℕ) (child : TaskId) (next : ℕ) (row : Entry) → AllInner (inherits kind size child next row)
+inherits_inner : (kind : Inherit) (size : ℕ) (child : TaskId) (next : ℕ) (row : Entry) → AllPlain (inherits kind size child next row)
 inherits_inner Share size child next row = (tt, tt)
 inherits_inner Copy size child next row = (tt, (tt, tt))
 inherits_inner Never size child next row = tt
 
-all_inner : (size : ℕ) (child : TaskId) (next : ℕ) (rows : List Entry) → AllInner (inherits_all size child next rows)
+all_inner : (size : ℕ) (child : TaskId) (next : ℕ) (rows : List Entry) → AllPlain (inherits_all size child next rows)
 all_inner size child next [] = tt
 all_inner size child next (row ∷ rows) =
-    inner_both (inherits row.inherit size child next row) (inherits_all size child (next_behind row.inherit next) rows)
+    plain_both (inherits row.inherit size child next row) (inherits_all size child (next_behind row.inherit next) rows)
     (inherits_inner row.inherit size child next row) (all_inner size child (next_behind row.inherit next) rows)
 
-forked : (size next : ℕ) (child : TaskId) (x : Option ℕ) (rows : List Entry) (first : List Event) → fork_head size next child x rows ≡ Some first → IsHead first
+forked : (size next : ℕ) (child : TaskId) (x : Option ℕ) (rows : List Entry) (first : List Event) → fork_head size next child x rows ≡ Some first
+    → IsHead first
 forked size next child None rows first is = no_head first is
 forked size next child (Some host) rows first is =
     plain (event.TaskMade child (record { 0 = host }) ∷ inherits_all size child next rows) first (tt, all_inner size child next rows) is
@@ -139,7 +181,7 @@ said : (host : HostId) (object : ObjectId) (m : Message) (x : Option ℕ) (first
 said host object m None first is = no_head first is
 said host object m (Some control) first is = plain (event.Sent (Down host object control) m ∷ []) first (tt, tt) is
 
-opened : (host : ℕ) (object : ObjectId) (next size : ℕ) (x : Option ℕ) → AllInner (opening host object next size x)
+opened : (host : ℕ) (object : ObjectId) (next size : ℕ) (x : Option ℕ) → AllPlain (opening host object next size x)
 opened host object next size None = (tt, tt)
 opened host object next size (Some control) = tt
 
@@ -198,9 +240,9 @@ is_head header before (command.Cache object cache) first is = cached object cach
 behind_line : (first : List Event) (line : ℕ) (past : List Event) → IsHead first → EachEvent TakingKeeps past
     → EachEvent TakingKeeps (reverse first ++ event.Line line ∷ past)
 behind_line first line past (inl inner) was =
-    behind_nothing (reverse first) (event.Line line ∷ past) (inner_onto first [] inner tt) refl ((λ letter is. tt), was)
+    behind_nothing (reverse first) (event.Line line ∷ past) (inner_onto first [] inner tt) refl (((λ letter is. tt), tt), was)
 behind_line first line past (inr (channel, m, is)) was =
-    subst (λ (z : List Event). EachEvent TakingKeeps (reverse z ++ event.Line line ∷ past)) is ((λ letter taken. tt), ((λ letter taken. tt), was))
+    subst (λ (z : List Event). EachEvent TakingKeeps (reverse z ++ event.Line line ∷ past)) is (((λ letter taken. tt), tt), (((λ letter taken. tt), tt), was))
 
 -- groups
 
@@ -215,7 +257,10 @@ group_keeps header outside past numbered group None (Some events) is run was =
     subst (EachEvent TakingKeeps) (sym (append_assoc run.more (reverse events) (event.Line numbered.line ∷ past))
     ∙ ap (λ z. z ++ event.Line numbered.line ∷ past) (sym run.is)) whole
 group_keeps header outside past numbered group (Some code) x is made was =
-    subst (λ (g : List Event). EachEvent TakingKeeps (g ++ event.Line numbered.line ∷ past)) (sym made) ((λ letter taken. tt), ((λ letter taken. tt), was))
+    subst (λ (g : List Event). EachEvent TakingKeeps (g ++ event.Line numbered.line ∷ past)) (sym made) (
+      ((λ letter taken. tt), tt),
+      (((λ letter taken. tt), tt), was),
+    )
 
 with_group : (header : Header) (outside : Outside) (past : List Event) (numbered : Numbered) (group history : List Event)
     → history ≡ group ++ event.Line numbered.line ∷ past → IsGroup header outside past numbered group
@@ -244,13 +289,15 @@ begun_keeps : (header : Header) (outside : Outside) (past : List Event) (numbere
     (λ code. (group ≡ []) ⊎ (group ≡ event.Refused code ∷ []))
     → EachEvent TakingKeeps past → EachEvent TakingKeeps (group ++ event.Line numbered.line ∷ past)
 begun_keeps header outside past numbered group None None is made was = absurd made
-begun_keeps header outside past numbered group None (Some first) is (inl run) was = group_keeps header outside past numbered group None (Some first) is run was
+begun_keeps header outside past numbered group None (Some first) is (inl run) was = group_keeps header outside past numbered group None
+    (Some first) is run was
 begun_keeps header outside past numbered group None (Some first) is (inr begun) was =
     let behind = event.Line numbered.line ∷ past in
     let whole = behind_line first numbered.line past (is_head header past numbered.command first is) was in
-    each_behind begun.0.rest (group ++ behind) (subst (EachEvent TakingKeeps) (ap (λ z. z ++ behind) begun.0.is ∙ append_assoc begun.0.rest group behind) whole)
+    each_behind begun.0.rest (group ++ behind) (subst (EachEvent TakingKeeps) (ap (λ z. z ++ behind) begun.0.is
+    ∙ append_assoc begun.0.rest group behind) whole)
 begun_keeps header outside past numbered group (Some code) x is (inl none) was =
-    subst (λ (g : List Event). EachEvent TakingKeeps (g ++ event.Line numbered.line ∷ past)) (sym none) ((λ letter taken. tt), was)
+    subst (λ (g : List Event). EachEvent TakingKeeps (g ++ event.Line numbered.line ∷ past)) (sym none) (((λ letter taken. tt), tt), was)
 begun_keeps header outside past numbered group (Some code) x is (inr made) was = group_keeps header outside past numbered group (Some code) x is made was
 
 pub takings_keep : (header : Header) (outside : Outside) (commands : List Numbered) (history : List Event) → FollowsAnyCut header outside commands history
@@ -287,15 +334,15 @@ unmapped_then : (header : Header) (host region : ℕ) (letter : Letter) (past : 
 unmapped_then header host region letter [] keeps is unmapped = not_taken letter is
 unmapped_then header host region letter (event.Line line ∷ past) keeps is unmapped = not_taken letter is
 unmapped_then header host region letter (event.Taken channel m ∷ past) keeps is unmapped = unmapped
-unmapped_then header host region letter (event.TaskMade task at ∷ past) keeps is unmapped = absurd (keeps.0 letter is)
-unmapped_then header host region letter (event.TaskEnded task ∷ past) keeps is unmapped = absurd (keeps.0 letter is)
+unmapped_then header host region letter (event.TaskMade task at ∷ past) keeps is unmapped = absurd (keeps.0.0 letter is)
+unmapped_then header host region letter (event.TaskEnded task ∷ past) keeps is unmapped = absurd (keeps.0.0 letter is)
 unmapped_then header host region letter (event.Entered task address bytes on offset prot inherit ∷ past) keeps is unmapped =
     unmapped_then header host region letter past keeps.1 is (λ owner lives.
     fewer (task.0 == owner) region (record { address = address; bytes = bytes; region = on; offset = offset; prot = prot; inherit = inherit })
     (entries_of header.size owner past) (unmapped owner lives))
-unmapped_then header host region letter (event.Removed task address bytes ∷ past) keeps is unmapped = absurd (keeps.0 letter is)
-unmapped_then header host region letter (event.Protected task address bytes prot ∷ past) keeps is unmapped = absurd (keeps.0 letter is)
-unmapped_then header host region letter (event.Inherited task address bytes inherit ∷ past) keeps is unmapped = absurd (keeps.0 letter is)
+unmapped_then header host region letter (event.Removed task address bytes ∷ past) keeps is unmapped = absurd (keeps.0.0 letter is)
+unmapped_then header host region letter (event.Protected task address bytes prot ∷ past) keeps is unmapped = absurd (keeps.0.0 letter is)
+unmapped_then header host region letter (event.Inherited task address bytes inherit ∷ past) keeps is unmapped = absurd (keeps.0.0 letter is)
 unmapped_then header host region letter (e ∷ past) keeps is unmapped = unmapped_then header host region letter past keeps.1 is unmapped
 
 prompt_then : (header : Header) (letter : Letter) (past : List Event) → BeforeSteps (Prompt header) past → taken_letter past ≡ Some letter
@@ -320,7 +367,8 @@ absence header host o p [] is = not_absent _ is
 absence header host o p (event.Line line ∷ past) is = not_absent _ is
 absence header host o p (event.Taken (Up at object) m ∷ past) is = not_absent _ is
 absence header host o p (event.Taken (Down at object control) (message.Unavailable page) ∷ past) is =
-    let c : Came host o p at.0 object.0 page.0 (is_control control (live_control at.0 object.0 past) && (page_on header at.0 object.0 page.0 past).asked) = came
+    let c : Came host o p at.0 object.0 page.0 (is_control control (live_control at.0 object.0 past) &&
+    (page_on header at.0 object.0 page.0 past).asked) = came
     host o p at.0 object.0 page.0 _ is in
     record {
       letter = record { channel = Down at object control; message = message.Unavailable page };
@@ -347,17 +395,23 @@ taken_kept header host o p (Up at object) m past is = not_absent _ is
 taken_kept header host o p (Down at object control) (message.Unavailable page) past is = refl
 taken_kept header host o p (Down at object control) other past is = not_absent _ is
 
+each_undelayed : (past : List Event) → EachEvent TakingKeeps past → EachEvent (λ e before. Undelayed e) past
+each_undelayed [] keeps = tt
+each_undelayed (e ∷ past) keeps = (keeps.0.1, each_undelayed past keeps.1)
+
 -- no declared object's control ends in such a step
-ends_never : {A : Type 0} (header : Header) (host o p : ℕ) (past : List Event) → EachEvent TakingKeeps past → BeforeSteps (Prompt header) past
+ends_never : {A : Type 0} (header : Header) (outside : Outside) (host o p : ℕ) (past : List Event) → EachEvent (HasCause header outside) past
+    → EachEvent TakingKeeps past → BeforeSteps (Prompt header) past
     → host < length header.frames.items → o < named header → absence_taken header past ≡ Some (absent host o p)
     → Kept host o past → IsUnheld header host o past → A
-ends_never header host o p past keeps prompt inside below is kept unheld =
+ends_never header outside host o p past caused keeps prompt inside below is kept unheld =
     let was : Absence host o past = absence header host o p past is in
     absurd
     (none_some (live_control host o (before_step past)) ((prompt_then header was.letter past prompt was.taken host inside).swept.declared_controls o below
     (record {
       unmapped = unmapped_then header host o was.letter past keeps was.taken unheld.unmapped;
       uncached = sym kept.cached ∙ unheld.uncached;
+      unreached = early_unreached header host o (before_step past) below (early_then header outside past caused (each_undelayed past keeps));
     })) was.lived)
 
 -- the step took no end of an object
@@ -413,7 +467,7 @@ kept_then header outside host o p (event.Sent (Up at object) (message.Terminate 
     let apart = kept_apart (at.0 == host && object.0 == o) (is_cached host o past) (is_cached host o (before_step past)) (live_control host o past)
     (without_control control (live_control host o past))
     (λ same. by_cause header outside (event.Sent (Up at object) (message.Terminate control)) past caused.0 (λ doing c.
-    ends_never header host o p past keeps.1 prompt inside below is was
+    ends_never header outside host o p past caused.1 keeps.1 prompt inside below is was
     (unheld_by header host o past below (absent_undestroyed header past is)
     (at_place (λ h k. EndCause header h k past) at.0 object.0 host o same c.why))))
     was.lives was.cached in

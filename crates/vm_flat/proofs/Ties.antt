@@ -1,19 +1,22 @@
 -- What the events leave is what their deeds leave.
-use Rattle.std.proofs.Common.{◌≡◌, ℕ, List, [], ◌∷◌, Bool, true, refl, arith, if◌then◌else◌, ◌∙◌, ap, Option, ◌+◌}
-use Rattle.std.specs.Prelude.{◌==◌, ◌&&◌}
+use Rattle.std.proofs.Common.{◌≡◌, ℕ, List, [], ◌∷◌, Bool, true, refl, arith, if◌then◌else◌, ◌∙◌, ap, Option, Some, None, ◌+◌}
+use Rattle.std.specs.Prelude.{◌==◌, ◌&&◌, ◌||◌, nat_lt, not}
 use Rattle.vm_model.specs.declared.event.Event.{Event}
 use Rattle.vm_model.specs.declared.event.Event.TheVariants as event
 use Rattle.vm_model.specs.declared.message.Channel.TheVariants.{Up, Down}
 use Rattle.vm_model.specs.declared.message.Message.{Message}
 use Rattle.vm_model.specs.declared.message.Message.TheVariants as message
 use Rattle.vm_model.specs.declared.script.Header.{Header}
-use Rattle.vm_legal.specs.Outside.{zeros, is_said}
+use Rattle.vm_model.specs.Named.{declared, named}
+use Rattle.vm_legal.specs.Outside.{zeros, is_file_kept, is_from_told, is_said}
+use Rattle.vm_legal.specs.Pushes.{is_pushed}
 use Rattle.vm_legal.specs.Living.{lives_on}
 use Rattle.vm_model.specs.Homes.{object_home}
 use Rattle.vm_model.specs.Local.{is_on}
-use Rattle.vm_model.specs.Regions.{next_region, next_object, Region, region_of, Backing, backing_of, is_newest, newest_copy, object_pages}
+use Rattle.vm_model.specs.Regions.{next_region, next_object, Region, region_of, Backing, backing_of, is_copy, is_newest, newest_copy, object_pages}
 use Rattle.vm_legal.specs.Used.{made_here}
 use Rattle.vm_flat.proofs.Uses.{in_use}
+use Rattle.vm_flat.proofs.Covers.{is_covered, stem}
 use Rattle.vm_flat.specs.Words.{SpotEffect, Raises, Nothing}
 use Rattle.vm_flat.specs.Spot.{Spot, merged_effect, spot_after}
 use Rattle.vm_model.specs.Controls.{is_control, last_control, live_control}
@@ -40,9 +43,11 @@ row_is header outside host r (event.RegionCopied region source offset pages ∷ 
     ∙ ap (λ w. D.cow_row (r == region.0) (r == source.0) offset pages (as_row (in_use header outside host source.0 past) (region_of header source.0 past)) w)
     (row_is header outside host r past)
 row_is header outside host r (event.Delayed region source offset pages copy ∷ past) =
-    ap (λ w. D.delayed_row (r == region.0) copy.0 offset pages w (D.row (ground header outside) r (deeds header outside host past)))
+    ap (λ w. D.delayed_row (r == region.0) (outside.paging && is_from_told header outside (Some source.0)) copy.0 offset pages w (D.row
+    (ground header outside) r (deeds header outside host past)))
     (row_is header outside host source.0 past)
-    ∙ ap (λ w. D.delayed_row (r == region.0) copy.0 offset pages (as_row (in_use header outside host source.0 past) (region_of header source.0 past)) w)
+    ∙ ap (λ w. D.delayed_row (r == region.0) (outside.paging && is_from_told header outside (Some source.0)) copy.0 offset pages (as_row
+    (in_use header outside host source.0 past) (region_of header source.0 past)) w)
     (row_is header outside host r past)
 row_is header outside host r (event.Entered task address bytes region offset prot inherit ∷ past) =
     ap (λ w. D.row_move r (deed header outside host (event.Entered task address bytes region offset prot inherit) past) (λ k. w))
@@ -64,7 +69,8 @@ row_is header outside host r (event.Sent (Down at object number) m ∷ past) =
     (at.0 == host && number == last_control host object.0 past) (is_said header outside object.0) (λ o p word. refl) refl object.0 m
     ∙ row_is header outside host r past
 row_is header outside host r (event.Taken (Up at object) m ∷ past) =
-    taken_up_case (λ d. D.row (ground header outside) r (d ∷ deeds header outside host past) ≡ D.row (ground header outside) r (deeds header outside host past))
+    taken_up_case (λ d. D.row (ground header outside) r (d ∷ deeds header outside host past) ≡ D.row (ground header outside) r
+    (deeds header outside host past))
     (λ own o p. refl) (λ own o p bytes. refl) refl (at.0 == host) object.0 m
     ∙ row_is header outside host r past
 row_is header outside host r (event.Taken (Down at object number) m ∷ past) =
@@ -84,7 +90,8 @@ regions_is header outside host (event.Sent (Up at object) m ∷ past) =
     (λ own o. refl) (λ own lives o p. refl) (λ own o p keep bytes. refl) (λ own o. refl) refl (at.0 == host) (live_control host object.0 past) object.0 m
     ∙ regions_is header outside host past
 regions_is header outside host (event.Sent (Down at object number) m ∷ past) =
-    down_case (λ d. D.regions (ground header outside) (d ∷ deeds header outside host past) ≡ D.regions (ground header outside) (deeds header outside host past))
+    down_case (λ d. D.regions (ground header outside) (d ∷ deeds header outside host past) ≡ D.regions (ground header outside)
+    (deeds header outside host past))
     (at.0 == host && number == last_control host object.0 past) (is_said header outside object.0) (λ o p word. refl) refl object.0 m
     ∙ regions_is header outside host past
 regions_is header outside host (event.Taken (Up at object) m ∷ past) =
@@ -108,7 +115,8 @@ objects_is header outside host (event.Sent (Up at object) m ∷ past) =
     (λ own o. refl) (λ own lives o p. refl) (λ own o p keep bytes. refl) (λ own o. refl) refl (at.0 == host) (live_control host object.0 past) object.0 m
     ∙ objects_is header outside host past
 objects_is header outside host (event.Sent (Down at object number) m ∷ past) =
-    down_case (λ d. D.objects (ground header outside) (d ∷ deeds header outside host past) ≡ D.objects (ground header outside) (deeds header outside host past))
+    down_case (λ d. D.objects (ground header outside) (d ∷ deeds header outside host past) ≡ D.objects (ground header outside)
+    (deeds header outside host past))
     (at.0 == host && number == last_control host object.0 past) (is_said header outside object.0) (λ o p word. refl) refl object.0 m
     ∙ objects_is header outside host past
 objects_is header outside host (event.Taken (Up at object) m ∷ past) =
@@ -124,11 +132,136 @@ objects_is header outside host (e ∷ past) = objects_is header outside host pas
 abbrev over : Bool → D.Row → D.Link → D.Link
 over b row was = record { backed = if b then true else was.backed; under = if b then row.top else was.under; shift = if b then row.shift else was.shift }
 
+pub newest_is : (header : Header) (outside : Outside) (host f : ℕ) (past : List Event)
+    → D.newest (ground header outside) f (deeds header outside host past) ≡ newest_copy f past
+newest_is header outside host f [] = refl
+newest_is header outside host f (event.Delayed region source offset pages copy ∷ past) =
+    ap (λ n. if f == source.0 then Some copy.0 else n) (newest_is header outside host f past)
+newest_is header outside host f (event.Sent (Up at object) m ∷ past) =
+    up_case (λ d. D.newest (ground header outside) f (d ∷ deeds header outside host past)
+    ≡ D.newest (ground header outside) f (deeds header outside host past))
+    (λ own o. refl) (λ own lives o p. refl) (λ own o p keep bytes. refl) (λ own o. refl) refl (at.0 == host) (live_control host object.0 past) object.0 m
+    ∙ newest_is header outside host f past
+newest_is header outside host f (event.Sent (Down at object number) m ∷ past) =
+    down_case (λ d. D.newest (ground header outside) f (d ∷ deeds header outside host past)
+    ≡ D.newest (ground header outside) f (deeds header outside host past))
+    (at.0 == host && number == last_control host object.0 past) (is_said header outside object.0) (λ o p word. refl) refl object.0 m
+    ∙ newest_is header outside host f past
+newest_is header outside host f (event.Taken (Up at object) m ∷ past) =
+    taken_up_case (λ d. D.newest (ground header outside) f (d ∷ deeds header outside host past)
+    ≡ D.newest (ground header outside) f (deeds header outside host past))
+    (λ own o p. refl) (λ own o p bytes. refl) refl (at.0 == host) object.0 m
+    ∙ newest_is header outside host f past
+newest_is header outside host f (event.Taken (Down at object number) m ∷ past) =
+    taken_down_case (λ d. D.newest (ground header outside) f (d ∷ deeds header outside host past)
+    ≡ D.newest (ground header outside) f (deeds header outside host past))
+    (λ own o p word. refl) refl (at.0 == host && number == last_control host object.0 past) object.0 m
+    ∙ newest_is header outside host f past
+newest_is header outside host f (e ∷ past) = newest_is header outside host f past
+
+pub copy_is : (header : Header) (outside : Outside) (host o : ℕ) (past : List Event)
+    → D.is_copy (ground header outside) o (deeds header outside host past) ≡ is_copy o past
+copy_is header outside host o [] = refl
+copy_is header outside host o (event.Delayed region source offset pages copy ∷ past) = ap (λ b. o == copy.0 || b) (copy_is header outside host o past)
+copy_is header outside host o (event.Sent (Up at object) m ∷ past) =
+    up_case (λ d. D.is_copy (ground header outside) o (d ∷ deeds header outside host past)
+    ≡ D.is_copy (ground header outside) o (deeds header outside host past))
+    (λ own o. refl) (λ own lives o p. refl) (λ own o p keep bytes. refl) (λ own o. refl) refl (at.0 == host) (live_control host object.0 past) object.0 m
+    ∙ copy_is header outside host o past
+copy_is header outside host o (event.Sent (Down at object number) m ∷ past) =
+    down_case (λ d. D.is_copy (ground header outside) o (d ∷ deeds header outside host past)
+    ≡ D.is_copy (ground header outside) o (deeds header outside host past))
+    (at.0 == host && number == last_control host object.0 past) (is_said header outside object.0) (λ o p word. refl) refl object.0 m
+    ∙ copy_is header outside host o past
+copy_is header outside host o (event.Taken (Up at object) m ∷ past) =
+    taken_up_case (λ d. D.is_copy (ground header outside) o (d ∷ deeds header outside host past)
+    ≡ D.is_copy (ground header outside) o (deeds header outside host past))
+    (λ own o p. refl) (λ own o p bytes. refl) refl (at.0 == host) object.0 m
+    ∙ copy_is header outside host o past
+copy_is header outside host o (event.Taken (Down at object number) m ∷ past) =
+    taken_down_case (λ d. D.is_copy (ground header outside) o (d ∷ deeds header outside host past)
+    ≡ D.is_copy (ground header outside) o (deeds header outside host past))
+    (λ own o p word. refl) refl (at.0 == host && number == last_control host object.0 past) object.0 m
+    ∙ copy_is header outside host o past
+copy_is header outside host o (e ∷ past) = copy_is header outside host o past
+
+pub pushed_is : (header : Header) (outside : Outside) (host o p : ℕ) (past : List Event)
+    → D.is_pushed (ground header outside) o p (deeds header outside host past) ≡ is_pushed host o p past
+pushed_is header outside host o p [] = refl
+pushed_is header outside host o p (event.Raised at lower lower_page upper upper_page ∷ past) =
+    ap (λ b. (at.0 == host && (upper.0 == o && upper_page.0 == p)) || b) (pushed_is header outside host o p past)
+pushed_is header outside host o p (event.Sent (Up at object) m ∷ past) =
+    up_case (λ d. D.is_pushed (ground header outside) o p (d ∷ deeds header outside host past)
+    ≡ D.is_pushed (ground header outside) o p (deeds header outside host past))
+    (λ own o. refl) (λ own lives o p. refl) (λ own o p keep bytes. refl) (λ own o. refl) refl (at.0 == host) (live_control host object.0 past) object.0 m
+    ∙ pushed_is header outside host o p past
+pushed_is header outside host o p (event.Sent (Down at object number) m ∷ past) =
+    down_case (λ d. D.is_pushed (ground header outside) o p (d ∷ deeds header outside host past)
+    ≡ D.is_pushed (ground header outside) o p (deeds header outside host past))
+    (at.0 == host && number == last_control host object.0 past) (is_said header outside object.0) (λ o p word. refl) refl object.0 m
+    ∙ pushed_is header outside host o p past
+pushed_is header outside host o p (event.Taken (Up at object) m ∷ past) =
+    taken_up_case (λ d. D.is_pushed (ground header outside) o p (d ∷ deeds header outside host past)
+    ≡ D.is_pushed (ground header outside) o p (deeds header outside host past))
+    (λ own o p. refl) (λ own o p bytes. refl) refl (at.0 == host) object.0 m
+    ∙ pushed_is header outside host o p past
+pushed_is header outside host o p (event.Taken (Down at object number) m ∷ past) =
+    taken_down_case (λ d. D.is_pushed (ground header outside) o p (d ∷ deeds header outside host past)
+    ≡ D.is_pushed (ground header outside) o p (deeds header outside host past))
+    (λ own o p word. refl) refl (at.0 == host && number == last_control host object.0 past) object.0 m
+    ∙ pushed_is header outside host o p past
+pushed_is header outside host o p (e ∷ past) = pushed_is header outside host o p past
+
+pub stem_is : (header : Header) (outside : Outside) (host o : ℕ) (past : List Event)
+    → D.stem (ground header outside) o (deeds header outside host past) ≡ stem header o past
+stem_is header outside host o [] = refl
+stem_is header outside host o (event.Delayed region source offset pages copy ∷ past) =
+    ap (λ s. if o == copy.0 then Some source.0 else s) (stem_is header outside host o past)
+stem_is header outside host o (event.Shadowed region new old ∷ past) =
+    ap (λ (w : D.Row). if o == new.0 then D.stem (ground header outside) w.top (deeds header outside host past) else D.stem (ground header outside) o
+    (deeds header outside host past)) (row_is header outside host region.0 past)
+    ∙ ap (λ s. if o == new.0 then s else D.stem (ground header outside) o (deeds header outside host past))
+    (stem_is header outside host (region_of header region.0 past).top past)
+    ∙ ap (λ s. if o == new.0 then stem header (region_of header region.0 past).top past else s) (stem_is header outside host o past)
+stem_is header outside host o (event.Sent (Up at object) m ∷ past) =
+    up_case (λ d. D.stem (ground header outside) o (d ∷ deeds header outside host past)
+    ≡ D.stem (ground header outside) o (deeds header outside host past))
+    (λ own o. refl) (λ own lives o p. refl) (λ own o p keep bytes. refl) (λ own o. refl) refl (at.0 == host) (live_control host object.0 past) object.0 m
+    ∙ stem_is header outside host o past
+stem_is header outside host o (event.Sent (Down at object number) m ∷ past) =
+    down_case (λ d. D.stem (ground header outside) o (d ∷ deeds header outside host past)
+    ≡ D.stem (ground header outside) o (deeds header outside host past))
+    (at.0 == host && number == last_control host object.0 past) (is_said header outside object.0) (λ o p word. refl) refl object.0 m
+    ∙ stem_is header outside host o past
+stem_is header outside host o (event.Taken (Up at object) m ∷ past) =
+    taken_up_case (λ d. D.stem (ground header outside) o (d ∷ deeds header outside host past)
+    ≡ D.stem (ground header outside) o (deeds header outside host past))
+    (λ own o p. refl) (λ own o p bytes. refl) refl (at.0 == host) object.0 m
+    ∙ stem_is header outside host o past
+stem_is header outside host o (event.Taken (Down at object number) m ∷ past) =
+    taken_down_case (λ d. D.stem (ground header outside) o (d ∷ deeds header outside host past)
+    ≡ D.stem (ground header outside) o (deeds header outside host past))
+    (λ own o p word. refl) refl (at.0 == host && number == last_control host object.0 past) object.0 m
+    ∙ stem_is header outside host o past
+stem_is header outside host o (e ∷ past) = stem_is header outside host o past
+
+told_is : (header : Header) (outside : Outside) (from : Option ℕ) → D.told (ground header outside) from ≡ is_from_told header outside from
+told_is header outside None = refl
+told_is header outside (Some file) = refl
+
+pub covered_is : (header : Header) (outside : Outside) (host o : ℕ) (past : List Event)
+    → D.covered (ground header outside) o (deeds header outside host past) ≡ is_covered header outside o past
+covered_is header outside host o past =
+    ap (λ b. (not (nat_lt o (named header)) && (outside.paging && b)) || (nat_lt o (named header) && is_file_kept (declared header o)))
+    (ap (λ s. D.told (ground header outside) s) (stem_is header outside host o past) ∙ told_is header outside (stem header o past))
+
 pub link_is : (header : Header) (outside : Outside) (host o : ℕ) (past : List Event)
     → D.link (ground header outside) o (deeds header outside host past) ≡ as_link (backing_of header o past)
 link_is header outside host o [] = refl
 link_is header outside host o (event.Delayed region source offset pages copy ∷ past) =
-    ap (λ (l : D.Link). D.pushed (o == copy.0) (is_newest o (newest_copy source.0 past)) source.0 copy.0 l) (link_is header outside host o past)
+    ap (λ n. D.pushed (o == copy.0) (is_newest o n) source.0 copy.0 (D.link (ground header outside) o (deeds header outside host past)))
+    (newest_is header outside host source.0 past)
+    ∙ ap (λ (l : D.Link). D.pushed (o == copy.0) (is_newest o (newest_copy source.0 past)) source.0 copy.0 l) (link_is header outside host o past)
 link_is header outside host o (event.Shadowed region new old ∷ past) =
     ap (λ (w : D.Row). over (o == new.0) w (D.link (ground header outside) o (deeds header outside host past))) (row_is header outside host region.0 past)
     ∙ ap (λ (l : D.Link). over (o == new.0) (as_row (in_use header outside host region.0 past) (region_of header region.0 past)) l)
@@ -172,7 +305,8 @@ pages_is header outside host o (event.Sent (Up at object) m ∷ past) =
     (λ own o. refl) (λ own lives o p. refl) (λ own o p keep bytes. refl) (λ own o. refl) refl (at.0 == host) (live_control host object.0 past) object.0 m
     ∙ pages_is header outside host o past
 pages_is header outside host o (event.Sent (Down at object number) m ∷ past) =
-    down_case (λ d. D.pages (ground header outside) o (d ∷ deeds header outside host past) ≡ D.pages (ground header outside) o (deeds header outside host past))
+    down_case (λ d. D.pages (ground header outside) o (d ∷ deeds header outside host past) ≡ D.pages (ground header outside) o
+    (deeds header outside host past))
     (at.0 == host && number == last_control host object.0 past) (is_said header outside object.0) (λ o p word. refl) refl object.0 m
     ∙ pages_is header outside host o past
 pages_is header outside host o (event.Taken (Up at object) m ∷ past) =

@@ -1,7 +1,7 @@
 -- An event that has its cause sustains the law.
-use Rattle.std.proofs.Common.{ℕ, ◌≡◌, ◌<◌, ◌≤◌, List, [], ◌∷◌, Bool, true, false, Some, None, if◌then◌else◌, refl, sym, ap, ◌∙◌, arith, inl, inr}
+use Rattle.std.proofs.Common.{ℕ, ◌≡◌, ◌<◌, ◌≤◌, List, [], ◌∷◌, Bool, true, false, Option, Some, None, if◌then◌else◌, refl, sym, ap, ◌∙◌, arith, inl, inr}
 use Rattle.std.proofs.lemmas.Bool.Decides.{nat_tests}
-use Rattle.std.specs.Prelude.{◌⊎◌, not, nat_lt}
+use Rattle.std.specs.Prelude.{◌⊎◌, not}
 use Rattle.vm_model.specs.declared.command.Command.{Command}
 use Rattle.vm_model.specs.declared.event.Event.{Event}
 use Rattle.vm_model.specs.declared.event.Event.TheVariants as event
@@ -12,10 +12,11 @@ use Rattle.vm_model.specs.declared.script.Header.{Header}
 use Rattle.vm_model.specs.Local.{Local}
 use Rattle.vm_model.specs.Moments.{EachEvent}
 use Rattle.vm_model.specs.Named.{named}
+use Rattle.vm_model.specs.Regions.{comes_from}
 use Rattle.vm_legal.proofs.Served.{paged_may}
 use Rattle.vm_legal.specs.Licences as L
 use Rattle.vm_legal.specs.Licences.{Caused, HasCause, is_paged, pager_has, tells}
-use Rattle.vm_legal.specs.Outside.{Outside, is_file, is_private, is_said, start_page, zeros}
+use Rattle.vm_legal.specs.Outside.{Outside, is_file, is_private, is_private_from, is_said, start_page, zeros}
 use Rattle.vm_legal.specs.Pagers.{newer}
 use Rattle.vm_legal.specs.Used as V
 use Rattle.vm_legal.specs.Walks as W
@@ -24,7 +25,7 @@ use Rattle.vm_legal.proofs.Unshared.{paged_tame}
 use Rattle.vm_legal.specs.Walks.{page_on}
 use Rattle.vm_flat.specs.Places.{spot}
 use Rattle.vm_flat.proofs.Locals.{spot_is_local}
-use Rattle.vm_flat.proofs.Numbers.{later_told}
+use Rattle.vm_flat.proofs.Covers.{declared_covered, is_covered, later_told, stem}
 use Rattle.vm_flat.proofs.Opening.{unopened, unmade}
 use Rattle.vm_flat.proofs.Precious.{unprecious}
 use Rattle.vm_flat.proofs.Pagers.{kept_is, request_is, step_is}
@@ -35,26 +36,25 @@ use Rattle.vm_flat.proofs.Voids.{void_is}
 
 -- which objects
 
-private_paged : (header : Header) (outside : Outside) (o : ℕ) → is_private header outside o ≡ true → is_paged header o ≡ true
-private_paged header outside o ours = grind (arith, nat_tests)
-
-declared_file : (header : Header) (outside : Outside) (o : ℕ) → is_private header outside o ≡ true → o < named header → is_file header o ≡ true
-declared_file header outside o ours below = let x : nat_lt o (named header) ≡ true = grind (arith, nat_tests) in grind arith
+private_paged : (header : Header) (outside : Outside) (o : ℕ) (from : Option ℕ) → is_private_from header outside o from ≡ true → is_paged header o ≡ true
+private_paged header outside o from ours = grind (arith, nat_tests)
 
 file_declared : (header : Header) (outside : Outside) (o : ℕ) → is_file header o ≡ true → o < named header
 file_declared header outside o file = grind (arith, nat_tests)
 
-not_below : (header : Header) (outside : Outside) (o : ℕ) → is_private header outside o ≡ true → is_file header o ≡ false → named header ≤ o
-not_below header outside o ours file = grind (arith, nat_tests)
+not_below : (header : Header) (outside : Outside) (o : ℕ) (from : Option ℕ) → is_private_from header outside o from ≡ true
+    → is_file header o ≡ false → named header ≤ o
+not_below header outside o from ours file = grind (arith, nat_tests)
 
 -- of a private object what its pager has tells, but where its answers say what its file has
-private_tells : (header : Header) (outside : Outside) (o : ℕ) → is_private header outside o ≡ true → is_said header outside o ≡ false
+private_tells : (header : Header) (outside : Outside) (o : ℕ) (from : Option ℕ) → is_private_from header outside o from ≡ true
+    → is_said header outside o ≡ false
     → tells header outside o ≡ true
-private_tells header outside o ours silent = by_file (is_file header o) refl
+private_tells header outside o from ours silent = by_file (is_file header o) refl
   where
     by_file : (b : Bool) → is_file header o ≡ b → (if b then not (is_said header outside o) else outside.paging) ≡ true
     by_file true file = ap (λ b. not b) silent
-    by_file false file = later_told header outside o (not_below header outside o ours file) ours
+    by_file false file = later_told header outside o from (not_below header outside o from ours file) ours
 
 -- messages
 
@@ -66,7 +66,7 @@ answers header outside host o control p past c =
       unanswered = step_is header outside host o control p c.access past c.taken c.unanswered;
     }
 
-lacks : (header : Header) (outside : Outside) (host o p : ℕ) (past : List Event) → is_private header outside o ≡ true → is_said header outside o ≡ false
+lacks : (header : Header) (outside : Outside) (host o p : ℕ) (past : List Event) → is_covered header outside o past ≡ true → is_said header outside o ≡ false
     → L.MayLack header outside host o p past
     → S.MayLack (zeros header) (spot header outside host o p past)
 lacks header outside host o p past ours silent c =
@@ -74,17 +74,18 @@ lacks header outside host o p past ours silent c =
     ∙ ap (λ b. if b then Some (zeros header) else None) (sym (spot_is_local header outside past host o p).file)
   where
     by_file : (b : Bool) → is_file header o ≡ b → pager_has header outside host o p past ≡ (if b then Some (zeros header) else None)
-    by_file true file = c.1 (private_tells header outside o ours silent) file
+    by_file true file = c.1 (private_tells header outside o (stem header o past) ours silent) file
     by_file false file =
         ap (λ x. newer x (if is_file header o then Some (start_page header outside o p) else None)) (c.0 file)
         ∙ ap (λ b. newer None (if b then Some (start_page header outside o p) else None)) file
 
-down : (header : Header) (outside : Outside) (doing : Command) (host o control : ℕ) (m : Message) (past : List Event) → is_private header outside o ≡ true
+down : (header : Header) (outside : Outside) (doing : Command) (host o control : ℕ) (m : Message) (past : List Event)
+    → is_covered header outside o past ≡ true
     → L.MaySendDown header outside doing host o control m past → S.MaySendDown header outside host o control m past
 down header outside doing host o control (message.Supply page lock precious bytes) past ours (c, reads, lock_is, precious_is, returned, has) = (
   answers header outside host o control page.0 past c,
   λ silent. kept_is header outside host o page.0 past silent
-      ∙ has (private_tells header outside o ours silent),
+      ∙ has (private_tells header outside o (stem header o past) ours silent),
 )
 down header outside doing host o control (message.Unavailable page) past ours (c, reads, may) =
     (answers header outside host o control page.0 past c, λ silent. lacks header outside host o page.0 past ours silent may)
@@ -94,17 +95,17 @@ down header outside doing host o control (message.Ready cache strategy) past our
 down header outside doing host o control other past ours c = tt
 
 -- no pager destroys a private object
-private_destroyed : {A : Type 0} (header : Header) (outside : Outside) (host o : ℕ) (past : List Event) → is_private header outside o ≡ true
+private_destroyed : {A : Type 0} (header : Header) (outside : Outside) (host o : ℕ) (past : List Event) → is_covered header outside o past ≡ true
     → IsDestroyed header host o past → A
 private_destroyed header outside host o past ours destroyed =
-    absurd (let bad : false ≡ true = sym (paged_tame header o (private_paged header outside o ours)) ∙ destroyed.wild in cc)
+    absurd (let bad : false ≡ true = sym (paged_tame header o (private_paged header outside o (stem header o past) ours)) ∙ destroyed.wild in cc)
 
 -- so one ends because no region leads to it, or nothing holds it
 record EndsUnasked (header : Header) (host o : ℕ) (past : List Event) : Type 0 where
   unreached : named header ≤ o → W.Reach header host o past → ⊥
   unasked : (page : ℕ) → (page_on header host o page past).asked ≡ false
 
-ended : (header : Header) (outside : Outside) (host o : ℕ) (past : List Event) → is_private header outside o ≡ true → L.EndCause header host o past
+ended : (header : Header) (outside : Outside) (host o : ℕ) (past : List Event) → is_covered header outside o past ≡ true → L.EndCause header host o past
     → EndsUnasked header host o past
 ended header outside host o past ours (L.Unreachable above gone unasked) = record { unreached = λ temporary. gone; unasked = unasked }
 ended header outside host o past ours (L.Unheld below unheld unasked) =
@@ -112,11 +113,11 @@ ended header outside host o past ours (L.Unheld below unheld unasked) =
 ended header outside host o past ours (L.Destroyed destroyed) = private_destroyed header outside host o past ours destroyed
 
 up : (header : Header) (outside : Outside) (doing : Command) (host o : ℕ) (m : Message) (past : List Event) → EachEvent (HasCause header outside) past
-    → is_private header outside o ≡ true → L.MaySendUp header doing host o m past → S.MaySendUp header outside host o m past
+    → is_covered header outside o past ≡ true → L.MaySendUp header doing host o m past → S.MaySendUp header outside host o m past
 up header outside doing host o (message.Init number size) past caused ours c =
     record {
       declared = c.declared;
-      none = unopened header host o past (declared_file header outside o ours c.declared) c.none;
+      none = unopened header host o past (declared_covered header outside o (stem header o past) ours c.declared) c.none;
       task = c.task;
       address = c.address;
       at = c.at;
@@ -130,18 +131,25 @@ up header outside doing host o (message.Return number page dirty keep bytes) pas
     record {
       live = c.live;
       here = c.here;
-      dirty = let plain = unprecious header outside host o page.0 past caused (private_paged header outside o ours) in grind (arith, c.due, plain);
+      dirty = let plain = unprecious header outside host o page.0 past caused (private_paged header outside o (stem header o past) ours) in grind
+          (arith, c.due, plain);
       same = c.same;
       flag = c.flag;
     }
 up header outside doing host o (message.Terminate number) past caused ours c =
     let ends = ended header outside host o past ours c.why in
-    record { live = c.live; unreached = λ above reach. ends.unreached above (reached header outside host o past reach); away = c.away; unasked = ends.unasked }
+    record {
+      live = c.live;
+      unreached = λ above reach. ends.unreached above
+          (reached header outside host o past reach);
+      away = c.away;
+      unasked = ends.unasked;
+    }
 up header outside doing host o other past caused ours c = tt
 
 -- pages
 
-leaves : (header : Header) (outside : Outside) (doing : Command) (host o p : ℕ) (past : List Event) (page : Local) → is_private header outside o ≡ true
+leaves : (header : Header) (outside : Outside) (doing : Command) (host o p : ℕ) (past : List Event) (page : Local) → is_covered header outside o past ≡ true
     → L.DropCause header doing host o p page past
     → S.Leaves header outside host o p page.dirty past
 leaves header outside doing host o p past page ours (L.Reclaimed clean plain why) = S.Clean clean
@@ -151,13 +159,13 @@ leaves header outside doing host o p past page ours (L.Discarded destroyed risin
 leaves header outside doing host o p past page ours (L.Ended clean plain below unheld) = S.Clean clean
 
 filled : (header : Header) (outside : Outside) (host o p : ℕ) (past : List Event) → EachEvent (HasCause header outside) past
-    → is_private header outside o ≡ true → (L.Fills header host o p past ⊎ L.Bottoms header host o p past)
+    → is_covered header outside o past ≡ true → (L.Fills header host o p past ⊎ L.Bottoms header host o p past)
     → ((o < named header) × S.Fills (spot header outside host o p past) (page_on header host o p past)) ⊎ L.Bottoms header host o p past
 filled header outside host o p past caused ours (inl c) =
     inl (
       c.declared,
       record {
-        void = void_is header outside host o p past caused (declared_file header outside o ours c.declared) c.void c.once;
+        void = void_is header outside host o p past caused (declared_covered header outside o (stem header o past) ours c.declared) c.void c.once;
         away = c.away;
         unasked = c.unasked;
       },
@@ -177,9 +185,9 @@ entered header outside task bytes region offset past caused c =
       unfilled = c.unfilled;
     }
   where
-    by_file : is_private header outside region ≡ true → (b : Bool) → is_file header region ≡ b → V.in_use header c.host region past ≡ true
+    by_file : is_private header outside region past ≡ true → (b : Bool) → is_file header region ≡ b → V.in_use header c.host region past ≡ true
     by_file ours true file = c.file file
-    by_file ours false file = c.used (not_below header outside region ours file)
+    by_file ours false file = c.used (not_below header outside region (comes_from region past) ours file)
 
 -- events
 
@@ -210,7 +218,7 @@ sustains header outside doing (event.Dropped host object page) past caused c = �
 sustains header outside doing (event.Sent (Up host object) m) past caused c = λ ours. up header outside doing host.0 object.0 m past caused ours c
 sustains header outside doing (event.Sent (Down host object control) m) past caused c = λ ours.
     down header outside doing host.0 object.0 control m past ours (paged_may header outside doing host.0 object.0 control m past
-    (private_paged header outside object.0 ours) c)
+    (private_paged header outside object.0 (stem header object.0 past) ours) c)
 sustains header outside doing (event.Taken channel m) past caused c = c.0
 sustains header outside doing other past caused c = tt
 

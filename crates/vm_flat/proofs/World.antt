@@ -1,22 +1,25 @@
 -- What holds of all regions, objects and places, and what a walk finds.
-use Rattle.std.proofs.Common.{◌≡◌, ℕ, zero, suc, ◌+◌, ◌<◌, ◌≤◌, List, [], ◌∷◌, arith, Bool, true, false, None, refl, if◌then◌else◌, ◌∙◌, sym, subst, ap, ◌≢◌}
+use Rattle.std.proofs.Common.{◌≡◌, ℕ, zero, suc, ◌+◌, ◌<◌, ◌≤◌, List, [], ◌∷◌, arith, Bool, true, false, None, Some, refl, if◌then◌else◌, ◌∙◌, sym, subst, ap}
+use Rattle.std.proofs.Common.{◌≢◌}
 use Rattle.std.proofs.lemmas.Bool.Decides.{nat_tests}
-use Rattle.std.specs.Prelude.{◌==◌, ◌&&◌}
+use Rattle.std.specs.Prelude.{◌⊎◌, ◌==◌, ◌&&◌}
 use Rattle.vm_base.specs.Pages.{with_bytes}
 use Rattle.vm_flat.specs.Words.{SpotEffect}
 use Rattle.vm_flat.specs.Spot.{Spot}
 use Rattle.vm_flat.proofs.Allowed.{Passed, content}
-use Rattle.vm_flat.proofs.Deeds.{pages, is_file, covered, Ground, Deed, Region, Shadowed, Copied, Stored, Answered, said, Row, row, regions, objects, Link}
-use Rattle.vm_flat.proofs.Deeds.{link, at_place, spot, flat}
+use Rattle.vm_flat.proofs.Deeds.{pages, is_file, covered, Ground, Deed, Region, Delayed, Shadowed, Copied, Stored, Answered, said, Row, row, regions}
+use Rattle.vm_flat.proofs.Deeds.{objects, Link, link, at_place, spot, flat, newest, is_copy, is_pushed, stem}
 use Rattle.vm_flat.proofs.Causes.{Below, Path, Reaches, Reach, Walks, Sinks, Tops}
 use Rattle.vm_flat.proofs.Sound.{passed_content}
 use Rattle.vm_flat.proofs.File.{file_is}
 use Rattle.vm_flat.proofs.Good.{Good, shown}
+use Rattle.vm_flat.proofs.Stems.{StemsOf, Marks}
 
 -- what an object shows at a page, with eager copies
 abbrev pub view : Ground → ℕ → ℕ → List Deed → List ℕ
 view z o p [] = if is_file z o then z.start o p else z.zeros
 view z o p (Region own region object count ∷ past) = if o == object then z.zeros else view z o p past
+view z o p (Delayed tells region source off count copy ∷ past) = if o == copy then view z source p past else view z o p past
 view z o p (Shadowed region new ∷ past) = if o == new then view z (row z region past).top ((row z region past).shift + p) past else view z o p past
 view z o p (Copied own source index object page region i upper upper_page ∷ past) =
     if own && (upper == o && upper_page == p) then flat z source index past else view z o p past
@@ -50,7 +53,7 @@ abbrev pub tops_below : {named : ℕ} {covers : ℕ → Bool} {rows : ℕ → Ro
 tops_below sh r used = sh.tops_made r (sh.rows_below r used)
 
 abbrev pub ShapeOf : Ground → List Deed → Type 0
-ShapeOf z past = Shape z.named (λ o. covered z o) (λ r. row z r past) (λ o. link z o past) (λ o. pages z o past) (regions z past) (objects z past)
+ShapeOf z past = Shape z.named (λ o. covered z o past) (λ r. row z r past) (λ o. link z o past) (λ o. pages z o past) (regions z past) (objects z past)
 
 abbrev pub under_view : Ground → ℕ → ℕ → List Deed → List ℕ
 under_view z o p past = view z (link z o past).under ((link z o past).shift + p) past
@@ -69,11 +72,37 @@ abbrev pub GoodAt : Ground → List Deed → ℕ → ℕ → Spot → Type 0
 GoodAt z past o p s =
     Good z.zeros (ReachAt z o p past) (objects z past ≤ o) (Barren z o p past) (view z o p past) (link z o past).backed (under_view z o p past) s
 
+abbrev pub MarkAt : Ground → List Deed → ℕ → ℕ → Spot → Type 0
+MarkAt z past o p s = Marks (objects z past ≤ o) (is_copy z o past ≡ true) (Reach z o past) (is_pushed z o p past) s
+
 pub record World (z : Ground) (past : List Deed) : Type 0 where
   pub shape : ShapeOf z past
   -- a region shows what its top object shows
   pub regional : (r i : ℕ) → (row z r past).used ≡ true → i < (row z r past).pages → flat z r i past ≡ view z (row z r past).top ((row z r past).shift + i) past
-  pub places : (o p : ℕ) → covered z o ≡ true → GoodAt z past o p (spot z o p past)
+  pub places : (o p : ℕ) → covered z o past ≡ true → GoodAt z past o p (spot z o p past)
+  pub stems : StemsOf z past
+  pub marks : (o p : ℕ) → covered z o past ≡ true → MarkAt z past o p (spot z o p past)
+
+-- copies
+
+pub pushed_content : (z : Ground) (o p : ℕ) (past : List Deed) → World z past → covered z o past ≡ true → is_copy z o past ≡ true → is_pushed z o p past ≡ true
+    → Reach z o past → content (spot z o p past) ≢ None
+pushed_content z o p past w ours copy pushed reach = (w.marks o p ours).full copy reach pushed
+
+pub stands_newest : (z : Ground) (f v : ℕ) (past : List Deed) → World z past → f < z.named → (link z v past).backed ≡ true → (link z v past).under ≡ f
+    → newest z f past ≡ Some v
+stands_newest z f v past w declared backed under = w.stems.stands v f declared backed under
+
+pub newest_copy_is : (z : Ground) (f c : ℕ) (past : List Deed) → World z past → newest z f past ≡ Some c
+    → (is_copy z c past ≡ true) × ((link z c past).under ≡ f) × ((link z c past).shift ≡ 0) × (stem z c past ≡ Some f)
+newest_copy_is z f c past w is = let n = w.stems.newest_is f c is in (n.copy, n.under, n.shift, n.source)
+
+pub stem_backed : (z : Ground) (o f : ℕ) (past : List Deed) → World z past → stem z o past ≡ Some f
+    → ((link z o past).backed ≡ true) × (((link z o past).under ≡ f) ⊎ (stem z (link z o past).under past ≡ Some f)) × (is_file z f ≡ true)
+stem_backed z o f past w is = let s = w.stems.sources o f is in (s.backed, s.under, s.file)
+
+pub unmade_stem : (z : Ground) (o : ℕ) (past : List Deed) → World z past → objects z past ≤ o → stem z o past ≡ None
+unmade_stem z o past w unmade = (w.stems.unmade o unmade).0
 
 -- chains
 
@@ -121,13 +150,13 @@ below_covered : (covers : ℕ → Bool) (links : ℕ → Link) (n o u : ℕ) →
 below_covered covers links zero o u under is below = subst (λ (k : ℕ). covers k ≡ true) below is
 below_covered covers links (suc n) o u under is below = below_covered covers links n (links o).under u under (under o is below.0) below.1
 
-pub reach_covered : (z : Ground) (o : ℕ) (past : List Deed) → ShapeOf z past → Reach z o past → covered z o ≡ true
+pub reach_covered : (z : Ground) (o : ℕ) (past : List Deed) → ShapeOf z past → Reach z o past → covered z o past ≡ true
 reach_covered z o past sh reach =
-    below_covered (λ k. covered z k) (λ k. link z k past) reach.1 (row z reach.0 past).top o sh.covers_under (sh.covers_tops reach.0 reach.2) reach.3
+    below_covered (λ k. covered z k past) (λ k. link z k past) reach.1 (row z reach.0 past).top o sh.covers_under (sh.covers_tops reach.0 reach.2) reach.3
 
-pub path_covered : (z : Ground) (n o p l lp : ℕ) (past : List Deed) → ShapeOf z past → covered z o ≡ true → Path (λ k. link z k past) n o p l lp
-    → covered z l ≡ true
-path_covered z zero o p l lp past sh is path = subst (λ (k : ℕ). covered z k ≡ true) path.0 is
+pub path_covered : (z : Ground) (n o p l lp : ℕ) (past : List Deed) → ShapeOf z past → covered z o past ≡ true → Path (λ k. link z k past) n o p l lp
+    → covered z l past ≡ true
+path_covered z zero o p l lp past sh is path = subst (λ (k : ℕ). covered z k past ≡ true) path.0 is
 path_covered z (suc n) o p l lp past sh is path =
     path_covered z n (link z o past).under ((link z o past).shift + p) l lp past sh (sh.covers_under o is path.0) path.1
 

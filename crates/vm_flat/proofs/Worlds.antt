@@ -16,13 +16,14 @@ use Rattle.vm_flat.proofs.Answered.{after_answered}
 use Rattle.vm_flat.proofs.Stored.{after_stored}
 use Rattle.vm_flat.proofs.Regions.{after_region, after_kept}
 use Rattle.vm_flat.proofs.Merges.{after_merged}
+use Rattle.vm_flat.proofs.Delays.{after_delayed}
 use Rattle.vm_flat.proofs.Copies.{after_cow, after_shadowed, after_unmarked}
 
 pub after : (z : Ground) (e : Deed) (past : List Deed) → World z past → Cause z e past → World z (e ∷ past)
 after z Line past w c = after_line z past w
 after z (Region own region object count) past w c = after_region z own region object count past w c
 after z (Cow region source off count) past w c = after_cow z region source off count past w c
-after z (Delayed region source off count copy newest) past w c = absurd c
+after z (Delayed tells region source off count copy) past w c = after_delayed z tells region source off count copy past w c
 after z (Kept held) past w c = after_kept z held past w
 after z (Shadowed region new) past w c = after_shadowed z region new past w c
 after z (Unmarked region) past w c = after_unmarked z region past w c
@@ -87,6 +88,15 @@ start z =
             fits = λ reach. fits_start (is_file z o) z.zeros (Barren z o p []) (z.start o p) (view z 0 (0 + p) []) (barren_start o p);
             blank = λ u. (refl, refl, grind (arith, nat_tests));
           };
+      stems =
+          record {
+            stands = λ v f declared backed. absurd (cc);
+            newest_is = λ f c is. absurd (cc);
+            sources = λ o f is. absurd (cc);
+            copy_is = λ o is. absurd (cc);
+            unmade = λ o unmade. (refl, refl);
+          };
+      marks = λ o p ours. record { fresh = λ u. refl; full = λ copy. absurd (cc); bare = λ copy. absurd (cc) };
     }
   where
     clash : false ≡ true → ⊥

@@ -1,7 +1,7 @@
 //! What loads of temporary and file memory answer: a law of event lists.
 #![tactic(auto)]
 
-ghost use Rattle.std.specs.Prelude.{ℕ, ◌≡◌, ◌≤◌, ◌<◌, false, true, List, [], length, None, Some};
+ghost use Rattle.std.specs.Prelude.{ℕ, ◌≡◌, ◌≤◌, ◌<◌, false, true, List, [], length, None, Option, Some};
 ghost use Rattle.vm_model.specs.Channels.{queue, up_port};
 ghost use Rattle.vm_model.specs.Controls.{last_control, live_control};
 ghost use Rattle.vm_model.specs.Founded.{IsFounded};
@@ -15,7 +15,7 @@ ghost use Rattle.vm_legal.specs.Bytes.{CopiesCurrent, FlatBytes, LoadsCurrent, O
 ghost use Rattle.vm_legal.specs.Flat.{flat_page};
 ghost use Rattle.vm_legal.specs.Follows.{FollowsAnyCut};
 ghost use Rattle.vm_legal.specs.Licences.{HasCause, pager_has};
-ghost use Rattle.vm_legal.specs.Outside.{Outside, is_file, is_private, is_said};
+ghost use Rattle.vm_legal.specs.Outside.{Outside, is_file, is_private_from, is_said};
 ghost use Rattle.vm_legal.specs.Pagers.{last_return};
 ghost use Rattle.vm_legal.specs.Prompt.{Prompt};
 ghost use Rattle.vm_legal.specs.Used.{in_use};
@@ -31,9 +31,9 @@ ghost use Rattle.vm_flat.specs.Told.{AnswersTold, told, untold};
 ///
 /// `outside` tells what the files hold at the start, if that is told: else their pages are what
 /// their pagers' answers said last. Where it says that the paging area does not tell, nothing is
-/// said of temporary regions. Of a slow copy from a shared object it is supposed that it takes that
-/// object's flat page, and of a load of shared memory that it answers the flat page: the law of shared
-/// memory says so.
+/// said of temporary regions; and where the files aren't told, nothing of those that come from one by
+/// delayed copies. Of a slow copy from a shared object it is supposed that it takes that object's flat
+/// page, and of a load of shared memory that it answers the flat page: the law of shared memory says so.
 #[tactic(auto, using(crate::proofs::Loads::answers))]
 pub fn loads_answer()
     ensures { (header : Header) (outside : Outside) (history : List Event) → EachEvent (HasCause header outside) history → EachEvent (OwnBytes header) history
@@ -49,7 +49,8 @@ pub fn places_are_local()
     ensures page { (header : Header) (outside : Outside) (history : List Event) (host o p : ℕ)
         → SpotIsLocal (is_file header o) (last_control host o history) (live_control host o history) (spot header outside host o p history)
         (local header host (record { object = o; page = p }) history) }
-    ensures known_absent { (header : Header) (outside : Outside) (history : List Event) (host o p : ℕ) → is_private header outside o ≡ true
+    ensures known_absent { (header : Header) (outside : Outside) (history : List Event) (host o p : ℕ) (from : Option ℕ)
+        → is_private_from header outside o from ≡ true
         → (spot header outside host o p history).absent ≡ is_known_absent header (record { object = o; page = p })
         (local header host (record { object = o; page = p }) history) }
     ensures founded { (header : Header) (outside : Outside) (history : List Event)

@@ -1,11 +1,13 @@
 -- What a free part did to memory, and what its loads gave, is what its order says.
-use Rattle.std.proofs.Common.{Bool, List, Some, [], ap, append_assoc, false, refl, subst, sym, ℕ, ◌++◌, ◌==◌, ◌∙◌, ◌∷◌, ◌≡◌}
-use Rattle.std.specs.Prelude.{if◌then◌else◌}
+use Rattle.std.proofs.Common.{Bool, List, None, Option, Some, [], ap, append_assoc, false, refl, subst, sym, true, ℕ, ◌++◌, ◌==◌, ◌∙◌, ◌∷◌, ◌≡◌}
+use Rattle.std.specs.Prelude.{◌&&◌, ◌||◌, if◌then◌else◌, nat_lt, not}
 use Rattle.vm_base.specs.Entries.{entry_at}
 use Rattle.vm_base.specs.declared.ids.ObjectId.{ObjectId}
 use Rattle.vm_base.specs.declared.ids.PageNo.{PageNo}
 use Rattle.vm_base.specs.declared.ids.TaskId.{TaskId}
 use Rattle.vm_model.specs.Moments.{EachEvent}
+use Rattle.vm_model.specs.Named.{declared, named}
+use Rattle.vm_model.specs.Regions.{comes_from}
 use Rattle.vm_model.specs.Tasks.{entries_of}
 use Rattle.vm_model.specs.Waiting.{Access, Loading, Storing, waiting}
 use Rattle.vm_model.specs.declared.event.Event.{Event}
@@ -14,9 +16,9 @@ use Rattle.vm_model.specs.declared.message.Channel.TheVariants.{Down, Up}
 use Rattle.vm_model.specs.declared.message.Message.{Message}
 use Rattle.vm_model.specs.declared.message.Message.TheVariants as message
 use Rattle.vm_model.specs.declared.script.Header.{Header}
-use Rattle.vm_legal.specs.Outside.{is_said}
-use Rattle.vm_order.specs.OneMemory.{EndsAccess, IsOneAtATime, LoadsRead}
-use Rattle.vm_order.specs.Operations.{Load, Operation, load_ends, loaded_at, said, store_ends, stored_at}
+use Rattle.vm_legal.specs.Outside.{Outside, is_file_kept, is_flat, is_private_from, is_said, is_shared}
+use Rattle.vm_order.specs.OneMemory.{EndsAccess, IsOneAtATime, LoadsRead, is_read}
+use Rattle.vm_order.specs.Operations.{Load, Operation, copied_from, load_ends, loaded_at, said, store_ends, stored_at}
 use Rattle.vm_free.specs.Free.{AreOldest, NobodyWaits, accesses_of, begins, begun}
 use Rattle.vm_free.specs.Orders.{occurrences, order_of}
 use Rattle.vm_free.specs.Outcomes.{AllFlat, NothingIsSaid, loaded}
@@ -95,6 +97,21 @@ store_is part past task address bytes value ends =
     ap (store_ends part.header.size task (entries_of part.header.size task (past ++ part.start))) ends.waits
     ∙ ap (stored_at part.header.size task address bytes value) ends.found
 
+-- where nothing is said, it doesn't matter of which file a region was copied
+from_any : (header : Header) (outside : Outside) → NothingIsSaid header outside → (region : ℕ) (from : Option ℕ)
+    → is_private_from header outside region from ≡ is_private_from header outside region None
+from_any header outside told region None = refl
+from_any header outside told region (Some file) =
+    ap (λ b. (not (nat_lt region (named header)) && (outside.paging && not b)) || (nat_lt region (named header) && is_file_kept (declared header region)))
+    (told file)
+
+is_read_now : (part : FreePart) → IsSetUp part → (region : ℕ) (ops : List Operation) → is_flat part.header part.outside region part.start ≡ true
+    → is_read part.header part.outside region ops ≡ true
+is_read_now part set_up region ops flat =
+    ap (λ b. b || is_shared part.header region) (from_any part.header part.outside set_up.told region (copied_from part.header region ops)
+    ∙ sym (from_any part.header part.outside set_up.told region (comes_from region part.start)))
+    ∙ flat
+
 -- a load that ends reads what the order says
 load_follows : (part : FreePart) (past : List Event) → IsSetUp part → (task : TaskId) (object : ObjectId) (page : PageNo) (value : ℕ)
     → Goes part (event.Loaded task object page value ∷ past) → Goes part past → Follows part past → Follows part (event.Loaded task object page value ∷ past)
@@ -109,7 +126,7 @@ load_follows part past set_up task object page value goes before follows =
     let ended = load_is part past task.0 value address bytes ends in
     let read = subst (λ z. LoadsRead part.header part.outside (z ++ done part past)) ended goes.reads in
     let right : value ≡ value_in part address bytes row behind =
-    read.0 (set_up.flat task.0 address row found) ∙ ap (value_in part address bytes row) follows.0 in
+    read.0 (is_read_now part set_up row.region.0 (done part past) (set_up.flat task.0 address row found)) ∙ ap (value_in part address bytes row) follows.0 in
     let now = due part past set_up before task.0 (Loading address bytes) ends.waits in
     let does_load = load_does part task.0 behind (next_of part task.0 order) address bytes row now found in
     let memory =

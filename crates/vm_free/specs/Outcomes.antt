@@ -45,7 +45,7 @@ AllShown header outside free start outcomes = (order : List ℕ) → IsOrder fre
 -- whatever is mapped, loads of it answer the flat map
 abbrev pub AllFlat : Header → Outside → List Event → Type 0
 AllFlat header outside start =
-    (t address : ℕ) (entry : Entry) → entry_at address (entries_of header.size t start) ≡ Some entry → is_flat header outside entry.region.0 ≡ true
+    (t address : ℕ) (entry : Entry) → entry_at address (entries_of header.size t start) ≡ Some entry → is_flat header outside entry.region.0 start ≡ true
 
 -- no answer of a pager says what a file has: files are told, or there are none
 abbrev pub NothingIsSaid : Header → Outside → Type 0

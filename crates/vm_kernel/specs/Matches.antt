@@ -1,5 +1,5 @@
 -- A kernel stands for what a history says of its host: its parts are the facts of that history.
-use Rattle.std.specs.Prelude.{ℕ, All, ◌≡◌, ◌≢◌, ◌<◌, ◌≤◌, ◌^◌, true, List, [], length, None, Some, slice_get, reverse, Bool, Option}
+use Rattle.std.specs.Prelude.{ℕ, All, ◌≡◌, ◌≢◌, ◌<◌, ◌≤◌, ◌^◌, true, false, List, [], length, None, Some, slice_get, reverse, Bool, Option}
 use Rattle.vm_abroad.specs.Home.{AreHomes, HaveHomes}
 use Rattle.vm_abroad.specs.Sound.{holds}
 use Rattle.vm_abroad.specs.Whose.{IsShut}
@@ -26,13 +26,14 @@ use Rattle.vm_model.specs.Homes.{home_in, home_of, region_for}
 use Rattle.vm_model.specs.Local.{Local, local}
 use Rattle.vm_model.specs.Named.{named}
 use Rattle.vm_model.specs.Ranges.{IsBetween}
-use Rattle.vm_model.specs.Regions.{Backing, Region, backing_of, next_object, next_region, object_pages, region_of}
+use Rattle.vm_model.specs.Regions.{Backing, Region, backing_of, is_copy, newest_copy, next_object, next_region, object_pages, region_of}
 use Rattle.vm_model.specs.Tasks.{entries_of, host_of}
 use Rattle.vm_model.specs.Waiting.{Access, Target, copy_target, next_page, waiting}
 use Rattle.vm_model.specs.declared.event.Event.{Event}
 use Rattle.vm_model.specs.declared.script.Declared.{Declared}
 use Rattle.vm_model.specs.declared.script.Header.{Header}
-use Rattle.vm_objects.specs.Objects.{ObjectTable}
+use Rattle.vm_objects.specs.Objects.{ObjectTable, object_at}
+use Rattle.vm_objects.specs.declared.row.ObjectRow.{ObjectRow}
 use Rattle.vm_pageout.specs.Laundry.{LaundryList}
 use Rattle.vm_resident.specs.Resident.{ResidentTable}
 use Rattle.vm_shadow.specs.Chains.{ChainTable}
@@ -99,6 +100,8 @@ pub record ObjectFacts : Type 0 where
   pub home : ℕ → Option ℕ
   pub made_for : ℕ → Option ℕ
   pub made_with : ℕ → ℕ
+  pub copy : ℕ → Bool
+  pub newest : ℕ → Option ℕ
 
 abbrev pub object_facts : Header → List Event → ObjectFacts
 object_facts header past =
@@ -110,6 +113,8 @@ object_facts header past =
       home = λ r. home_of r past;
       made_for = λ o. region_for o past;
       made_with = λ o. object_pages header o past;
+      copy = λ o. is_copy o past;
+      newest = λ file. newest_copy file past;
     }
 
 -- with the tasks, and the regions that these hold
@@ -194,13 +199,16 @@ pub record Spaces (header : Header) (h : ℕ) (maps : Mapped) (chains : ChainTab
   pub uses : HasUse header maps rows (s.used_at h) s.made s.holds_at s.objects.regions_made
   pub homes : HasHomes header h chains s.objects.home
       × AreHomes header s.objects.regions_made s.objects.objects_made s.objects.home s.objects.made_for s.used_at s.objects.region s.objects.backing s.target
+      s.objects.newest
 
--- objects, and what stands on what
+-- objects, and what stands on what; none of them is a copy of a file, and no declared one is
 pub record Objects (header : Header) (h : ℕ) (chains : ChainTable) (objects : ObjectTable) (ids : Ids) (s : ObjectFacts) : Type 0 where
   pub regions : HasRegions chains objects ids s.region s.backing s.regions_made s.objects_made (marked_in s.regions_made s.region)
   pub kinds : HasKinds header objects chains
   pub files : KnowsFiles header h objects s.home
   pub sizes : KnowsPages (named header) objects s.made_with
+  pub plain : (o : ℕ) (row : ObjectRow) → object_at objects o ≡ Some row → s.copy o ≡ false
+  pub undelayed : (o : ℕ) → o < named header → s.copy o ≡ false
 
 -- pages and frames
 pub record Pages (header : Header) (h : ℕ) (frames : FrameTable) (resident : ResidentTable) (objects : ObjectTable) (laundry : LaundryList) (m : MemoryFacts) :

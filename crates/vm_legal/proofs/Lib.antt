@@ -1,6 +1,7 @@
 pub mod Answering
 pub mod Below
 pub mod Completing
+pub mod Copies
 pub mod Exhausted
 pub mod Files
 pub mod Groups

@@ -12,6 +12,7 @@ use Rattle.vm_model.specs.Named.{named}
 use Rattle.vm_model.specs.Regions.{region_of, backing_of}
 use Rattle.vm_model.specs.Tasks.{host_of, entries_of}
 use Rattle.vm_model.specs.Waiting.{Access, Loading, Storing, Copying, waiting, next_page, address_of, is_store}
+use Rattle.vm_legal.specs.Pushes.{OwesPush}
 use Rattle.vm_legal.specs.Walks.{Leads, Sinks, IsTop, Walks, page_on, sight}
 
 -- where an address of a living task leads
@@ -108,6 +109,10 @@ pub data WantsFrame (header : Header) (host task : ℕ) (access : Access) (regio
   Raises : (top top_page steps object object_page : ℕ) → IsTop (region_of header region past) page top top_page
       → Walks (λ k q. sight header host k q past) (λ k. backing_of header k past) (suc steps) top top_page object object_page
       → (page_on header host object object_page past).here ≡ true → is_store access ≡ true → WantsFrame header host task access region page past
+  -- it is a store on a file's page that is here, and that it owes to a copy for which it isn't asked
+  Pushes : (object object_page copy : ℕ) → IsTop (region_of header region past) page object object_page
+      → (page_on header host object object_page past).here ≡ true → is_store access ≡ true → OwesPush header host object object_page copy past
+      → (page_on header host copy object_page past).asked ≡ false → WantsFrame header host task access region page past
 
 -- a task of the host waits, and wants a frame
 pub record Wants (header : Header) (host : ℕ) (past : List Event) : Type 0 where
@@ -118,7 +123,7 @@ pub record Wants (header : Header) (host : ℕ) (past : List Event) : Type 0 whe
   pub frame : WantsFrame header host task access waits.at.entry.region.0 (page_of header task access past waits.at.entry) past
 
 -- an access that waits finds its page: a load's walk ends at a page that the host can read; a store's top place is one that it can write, and
--- its region has no copy mark
+-- that it owes to no copy, and its region has no copy mark
 pub data FindsPage (header : Header) (task : ℕ) (past : List Event) : Type 0 where
   ToRead : (address bytes object page : ℕ) → (waits : Waits header task (Loading address bytes) past)
       → Comes header waits.at.host waits.at.entry.region.0 (page_at header.size address waits.at.entry) object page past
@@ -128,4 +133,5 @@ pub data FindsPage (header : Header) (task : ℕ) (past : List Event) : Type 0 w
       → IsTop (region_of header waits.at.entry.region.0 past) (page_at header.size address waits.at.entry) object page
       → (region_of header waits.at.entry.region.0 past).mark ≡ false
       → (page_on header waits.at.host object page past).here ≡ true → names (page_on header waits.at.host object page past).lock true ≡ false
+      → ((copy : ℕ) → OwesPush header waits.at.host object page copy past → ⊥)
       → FindsPage header task past

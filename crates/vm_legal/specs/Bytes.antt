@@ -38,12 +38,12 @@ OwnBytes header (event.CopiedPage task page object object_page target) past =
 OwnBytes header other past = Unit {0}
 
 -- a load of a region of temporary, file or shared memory answers the number in the flat map's page, at its address; of temporary memory where
--- the paging area tells
+-- the outside tells
 pub record AnswersFlat (header : Header) (outside : Outside) (task value : ℕ) (past : List Event) : Type 0 where
   pub address : ℕ
   pub bytes : ℕ
   pub waits : Waits header task (Loading address bytes) past
-  pub number : is_flat header outside waits.at.entry.region.0 ≡ true
+  pub number : is_flat header outside waits.at.entry.region.0 past ≡ true
       → value ≡ number_at (flat_page header outside waits.at.entry.region.0 (page_at header.size address waits.at.entry) past) header.size address bytes
 
 abbrev pub FlatBytes : Header → Outside → Event → List Event → Type 0
@@ -53,7 +53,7 @@ FlatBytes header outside other past = Unit {0}
 -- a slow copy of another object's page takes the flat map's bytes: this is for the laws of those objects to say
 abbrev pub CopiesCurrent : Header → Outside → Event → List Event → Type 0
 CopiesCurrent header outside (event.CopiedPage task page object object_page target) past =
-    is_private header outside object.0 ≡ false → (host : ℕ) → lives_on host task.0 past ≡ true
+    is_private header outside object.0 past ≡ false → (host : ℕ) → lives_on host task.0 past ≡ true
     → (page_on header host object.0 object_page.0 past).bytes ≡ flat_page header outside object.0 object_page.0 past
 CopiesCurrent header outside other past = Unit {0}
 

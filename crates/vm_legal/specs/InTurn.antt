@@ -26,6 +26,7 @@ use Rattle.vm_legal.specs.Licences.{ByError, Caused, DeviceFails, DropCause, Dro
 use Rattle.vm_legal.specs.Licences.{ReturnCause, TakesReturn, Unreached, Unserved}
 use Rattle.vm_legal.specs.Outside.{Outside, is_shared, is_wild}
 use Rattle.vm_legal.specs.Prompt.{Awaits}
+use Rattle.vm_legal.specs.Pushes.{OwesPush}
 use Rattle.vm_legal.specs.Serving.{HostsServed}
 use Rattle.vm_legal.specs.Steps.{before_step, error_taken, fails_of, fails_task, since}
 use Rattle.vm_legal.specs.Walks.{page_on}
@@ -113,7 +114,7 @@ EndsAll header past =
     (host object page : ℕ) → error_taken header past ≡ Some (record { host = host; object = object; page = page })
     → EndsWaiters header host object page past
 
--- a task of the host waits whose walk comes to a page that is here, and whose lock lets it in
+-- a task of the host waits whose walk comes to a page that is here, and whose lock lets it in; where it owes that page to a copy, it isn't asked for that
 pub record ComesToPage (header : Header) (host task : ℕ) (past : List Event) : Type 0 where
   pub access : Access
   pub waits : Waits header task access past
@@ -123,6 +124,7 @@ pub record ComesToPage (header : Header) (host task : ℕ) (past : List Event) :
   pub comes : Comes header host waits.at.entry.region.0 (page_of header task access past waits.at.entry) object page past
   pub here : (page_on header host object page past).here ≡ true
   pub let_in : names (page_on header host object page past).lock (is_store access) ≡ false
+  pub free : is_store access ≡ true → (copy : ℕ) → OwesPush header host object page copy past → (page_on header host copy page past).asked ≡ false
 
 -- whoever waits beside its page wants a frame for it, and none is free
 abbrev pub NoneSleepsOn : Header → ℕ → List Event → Type 0

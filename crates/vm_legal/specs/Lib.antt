@@ -15,6 +15,7 @@ pub mod Merges
 pub mod Outside
 pub mod Pagers
 pub mod Prompt
+pub mod Pushes
 pub mod Reclaims
 pub mod Refusal
 pub mod Returned

@@ -37,13 +37,14 @@ use Rattle.vm_legal.specs.Living.{tasks}
 use Rattle.vm_legal.specs.Merges.{Merges}
 use Rattle.vm_legal.specs.Outside.{Outside, is_file, is_said, is_wild, kind_of, start_page, zeros}
 use Rattle.vm_legal.specs.Pagers.{LacksSlot, is_lost, known_control, last_return, newer, slot_at}
+use Rattle.vm_legal.specs.Pushes.{OwesPush}
 use Rattle.vm_legal.specs.Reclaims.{Reclaims}
 use Rattle.vm_legal.specs.Steps.{Letter, absence_taken, answers, completes, error_taken, fails_reading, gives_page, just_begun, readies, since, taken_letter}
 use Rattle.vm_legal.specs.Steps.{takings}
 use Rattle.vm_legal.specs.Swept.{IsUnheld}
 use Rattle.vm_legal.specs.Undelivered.{oldest_channel}
 use Rattle.vm_legal.specs.Used.{in_use, is_filled}
-use Rattle.vm_legal.specs.Walks.{IsTop, Reach, Sinks, Walks, page_on, sight}
+use Rattle.vm_legal.specs.Walks.{Below, IsTop, Reach, Sinks, Walks, page_on, sight}
 
 abbrev pub up : ℕ → ℕ → Channel
 up host object = Up (record { 0 = host }) (record { 0 = object })
@@ -56,7 +57,7 @@ pub record Loads (header : Header) (task object page : ℕ) (past : List Event) 
   pub comes : Comes header waits.at.host waits.at.entry.region.0 (page_at header.size address waits.at.entry) object page past
   pub here : (page_on header waits.at.host object page past).here ≡ true
 
--- a store ends in the top place of its page, which is here, and its region has no copy mark
+-- a store ends in the top place of its page, which is here, and its region has no copy mark; it owes that page to no copy
 pub record Stores (header : Header) (task object page at bytes value : ℕ) (past : List Event) : Type 0 where
   pub address : ℕ
   pub waits : Waits header task (Storing address bytes value) past
@@ -64,9 +65,10 @@ pub record Stores (header : Header) (task object page at bytes value : ℕ) (pas
   pub unmarked : (region_of header waits.at.entry.region.0 past).mark ≡ false
   pub here : (page_on header waits.at.host object page past).here ≡ true
   pub place : at ≡ address % header.size
+  pub paid : (copy : ℕ) → OwesPush header waits.at.host object page copy past → ⊥
 
 -- a page is copied up to the top place of a waiting store that found it below
-pub record Raises (header : Header) (host lower lower_page upper upper_page : ℕ) (past : List Event) : Type 0 where
+pub record RaisesUp (header : Header) (host lower lower_page upper upper_page : ℕ) (past : List Event) : Type 0 where
   pub task : ℕ
   pub address : ℕ
   pub bytes : ℕ
@@ -79,6 +81,29 @@ pub record Raises (header : Header) (host lower lower_page upper upper_page : �
   pub walks : Walks (λ k q. sight header host k q past) (λ k. backing_of header k past) (suc steps) upper upper_page lower lower_page
   pub here : (page_on header host lower lower_page past).here ≡ true
 
+-- a file's page, which is the top place of a waiting store and is here, is copied up into the copy of the file to which the store owes it
+pub record PushesUp (header : Header) (host lower lower_page upper upper_page : ℕ) (past : List Event) : Type 0 where
+  pub task : ℕ
+  pub address : ℕ
+  pub bytes : ℕ
+  pub value : ℕ
+  pub waits : Waits header task (Storing address bytes value) past
+  pub on_host : waits.at.host ≡ host
+  pub unmarked : (region_of header waits.at.entry.region.0 past).mark ≡ false
+  pub is_top : IsTop (region_of header waits.at.entry.region.0 past) (page_at header.size address waits.at.entry) lower lower_page
+  pub here : (page_on header host lower lower_page past).here ≡ true
+  pub owes : OwesPush header host lower lower_page upper past
+  pub same_page : upper_page ≡ lower_page
+  pub away : (page_on header host upper upper_page past).here ≡ false
+  pub unasked : (page_on header host upper upper_page past).asked ≡ false
+
+-- why a page is copied up
+pub data Raises (header : Header) (host lower lower_page upper upper_page : ℕ) (past : List Event) : Type 0 where
+  -- a store wants to change what it found below
+  Finding : RaisesUp header host lower lower_page upper upper_page past → Raises header host lower lower_page upper upper_page past
+  -- a store is about to change what a copy still shares
+  Pushing : PushesUp header host lower lower_page upper upper_page past → Raises header host lower lower_page upper upper_page past
+
 -- zeros come to the top place of a waiting access that finds its page nowhere
 pub record Bottoms (header : Header) (host object page : ℕ) (past : List Event) : Type 0 where
   pub task : ℕ
@@ -90,6 +115,8 @@ pub record Bottoms (header : Header) (host object page : ℕ) (past : List Event
   pub is_top : IsTop (region_of header waits.at.entry.region.0 past) (page_of header task access past waits.at.entry) object page
   pub steps : ℕ
   pub sinks : Sinks (λ k q. sight header host k q past) (λ k. backing_of header k past) steps object page
+  -- no file is below
+  pub plain : (depth below : ℕ) → Below (λ k. backing_of header k past) depth object below → named header ≤ below
 
 -- the event puts zeros into the page of the object
 abbrev pub zeroes : ℕ → ℕ → Event → Bool
@@ -439,6 +466,17 @@ pub record CopiesRegion (header : Header) (region source offset pages : ℕ) (pa
   pub source_is : source ≡ at.entry.region.0
   pub inside : offset + pages ≤ at.entry.offset + at.entry.bytes / header.size
 
+-- a copy of a file's pages stands over a new copy object, and is of pages of an entry on the file
+pub record CopiesFile (header : Header) (region source offset pages copy : ℕ) (past : List Event) : Type 0 where
+  pub next : region ≡ next_region header past
+  pub new : copy ≡ next_object header past
+  pub file : is_file header source ≡ true
+  pub task : ℕ
+  pub address : ℕ
+  pub at : At header task address past
+  pub source_is : source ≡ at.entry.region.0
+  pub inside : offset + pages ≤ at.entry.offset + at.entry.bytes / header.size
+
 -- an entry is of whole pages that its region has, on the host where the region is in use; its task doesn't wait
 pub record Enters (header : Header) (task bytes region offset : ℕ) (past : List Event) : Type 0 where
   pub idle : waiting task past ≡ None
@@ -599,8 +637,7 @@ IsOwed e past = MatchOption (owed past) ⊥ (λ due. Pays due e)
 abbrev pub Caused : Header → Outside → Command → Event → List Event → Type 0
 Caused header outside why (event.RegionMade region object pages) past = (region.0 ≡ next_region header past) × (object.0 ≡ next_object header past)
 Caused header outside why (event.RegionCopied region source offset pages) past = CopiesRegion header region.0 source.0 offset pages past
--- nothing makes a delayed copy yet
-Caused header outside why (event.Delayed region source offset pages copy) past = ⊥
+Caused header outside why (event.Delayed region source offset pages copy) past = CopiesFile header region.0 source.0 offset pages copy.0 past
 Caused header outside why (event.Entered task address bytes region offset prot inherit) past = Enters header task.0 bytes region.0 offset past
 Caused header outside why (event.Shadowed region new old) past = Shadows header region.0 new.0 old.0 past
 Caused header outside why (event.Unmarked region) past = Unmarks header region.0 past

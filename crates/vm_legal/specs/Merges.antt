@@ -1,19 +1,20 @@
 -- Which objects are merged, and when.
-use Rattle.std.specs.Prelude.{ℕ, ◌≤◌, ◌≡◌, ◌≢◌, List, true, Some}
+use Rattle.std.specs.Prelude.{ℕ, ◌≤◌, ◌≡◌, ◌≢◌, List, true, false, Some}
 use Rattle.vm_model.specs.declared.event.Event.{Event}
 use Rattle.vm_model.specs.declared.script.Header.{Header}
 use Rattle.vm_model.specs.Controls.{last_control}
 use Rattle.vm_model.specs.Homes.{object_home}
 use Rattle.vm_model.specs.Named.{named}
-use Rattle.vm_model.specs.Regions.{region_of, backing_of}
+use Rattle.vm_model.specs.Regions.{region_of, backing_of, is_copy}
 use Rattle.vm_legal.specs.Swept.{IsSwept}
 use Rattle.vm_legal.specs.Used.{in_use}
 use Rattle.vm_legal.specs.Walks.{Reach}
 
 -- A temporary object whose one reference is an object that stands on it, where neither ever had a control: no region in use has it as its top,
--- and no other object that is reached stands on it.
+-- and no other object that is reached stands on it. It is no copy of a file.
 pub record IsPair (header : Header) (host upper lower : ℕ) (past : List Event) : Type 0 where
   pub temporary : named header ≤ lower
+  pub plain : is_copy lower past ≡ false
   pub reached : Reach header host upper past
   pub backed : (backing_of header upper past).backed ≡ true
   pub under : (backing_of header upper past).under ≡ lower

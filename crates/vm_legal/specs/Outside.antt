@@ -4,7 +4,9 @@ use Rattle.vm_base.specs.declared.ids.ObjectKind.{ObjectKind}
 use Rattle.vm_base.specs.declared.ids.ObjectKind.TheVariants.{Temp, File, Shared, Wild}
 use Rattle.vm_model.specs.declared.script.Header.{Header}
 use Rattle.vm_model.specs.declared.script.Declared.{Declared}
+use Rattle.vm_model.specs.declared.event.Event.{Event}
 use Rattle.vm_model.specs.Named.{declared, named}
+use Rattle.vm_model.specs.Regions.{comes_from}
 
 abbrev pub kind_in : Option Declared → ObjectKind
 kind_in None = Temp
@@ -82,11 +84,22 @@ start_in header Untold object page = zeros header
 abbrev pub start_page : Header → Outside → ℕ → ℕ → List ℕ
 start_page header outside object page = start_in header outside.files object page
 
--- A file's object or region; or a temporary one, where the paging area tells. For shared objects their server answers, for wild ones the script.
-abbrev pub is_private : Header → Outside → ℕ → Bool
-is_private header outside object =
-    (not (nat_lt object (named header)) && outside.paging) || (nat_lt object (named header) && is_file_kept (declared header object))
+-- what that file holds at the start is told, if there is one
+abbrev pub is_from_told : Header → Outside → Option ℕ → Bool
+is_from_told header outside None = true
+is_from_told header outside (Some file) = not (is_said header outside file)
 
--- of these regions a load answers the flat map: of all but wild ones, and temporary ones only where the paging area tells
-abbrev pub is_flat : Header → Outside → ℕ → Bool
-is_flat header outside object = is_private header outside object || is_shared header object
+-- The number is a file's; or a temporary object's, or region's, where the paging area tells, and so does the file from which it comes, if it
+-- comes from one.
+abbrev pub is_private_from : Header → Outside → ℕ → Option ℕ → Bool
+is_private_from header outside number from =
+    (not (nat_lt number (named header)) && (outside.paging && is_from_told header outside from))
+    || (nat_lt number (named header) && is_file_kept (declared header number))
+
+-- For regions of files and of temporary memory their pages answer, for shared ones their server, for wild ones the script.
+abbrev pub is_private : Header → Outside → ℕ → List Event → Bool
+is_private header outside region past = is_private_from header outside region (comes_from region past)
+
+-- of these regions a load answers the flat map: of all but wild ones, and of temporary ones only where the outside tells
+abbrev pub is_flat : Header → Outside → ℕ → List Event → Bool
+is_flat header outside region past = is_private header outside region past || is_shared header region

@@ -6,14 +6,16 @@ use Rattle.vm_model.specs.Coherence.{SomebodyIsAwaited}
 use Rattle.vm_model.specs.Controls.{live_control}
 use Rattle.vm_model.specs.Local.{Place}
 use Rattle.vm_model.specs.PagePart.{page_part}
+use Rattle.vm_model.specs.Regions.{region_of}
 use Rattle.vm_model.specs.Waiting.{Access, is_store, waiting}
 use Rattle.vm_legal.specs.Accesses.{Comes, HasPlace, Waits, WaitsUnlocked, WantsFrame, is_ready, names, page_of}
 use Rattle.vm_legal.specs.Frames.{frames_free, returns_out}
 use Rattle.vm_legal.specs.Living.{lives_on}
 use Rattle.vm_legal.specs.Merges.{IsThin}
 use Rattle.vm_legal.specs.Outside.{is_shared}
+use Rattle.vm_legal.specs.Pushes.{OwesPush}
 use Rattle.vm_legal.specs.Swept.{IsSwept}
-use Rattle.vm_legal.specs.Walks.{page_on}
+use Rattle.vm_legal.specs.Walks.{IsTop, page_on}
 
 -- what an access waits for at a place of its page
 pub data Awaits (header : Header) (host : ℕ) (store : Bool) (object page : ℕ) (past : List Event) : Type 0 where
@@ -25,14 +27,21 @@ pub data Awaits (header : Header) (host : ℕ) (store : Bool) (object page : ℕ
   AnUnlock : (page_on header host object page past).here ≡ true → names (page_on header host object page past).lock store ≡ true
       → (page_on header host object page past).unlocking ≡ true → Awaits header host store object page past
 
--- an access waits for something at one of its places
+-- what an access waits for
+pub data AwaitsPage (header : Header) (host : ℕ) (access : Access) (region page : ℕ) (past : List Event) : Type 0 where
+  -- something at one of its places
+  AtPlace : (object object_page : ℕ) → HasPlace header region page object object_page past → Awaits header host (is_store access) object object_page past
+      → AwaitsPage header host access region page past
+  -- it is a store, and the place of the copy to which it owes its page is asked
+  ForPush : (object object_page copy : ℕ) → is_store access ≡ true → IsTop (region_of header region past) page object object_page
+      → OwesPush header host object object_page copy past → (page_on header host copy object_page past).asked ≡ true
+      → AwaitsPage header host access region page past
+
+-- an access waits for something
 pub record WaitsForPager (header : Header) (host task : ℕ) (access : Access) (past : List Event) : Type 0 where
   pub waits : Waits header task access past
   pub on_host : waits.at.host ≡ host
-  pub object : ℕ
-  pub page : ℕ
-  pub place : HasPlace header waits.at.entry.region.0 (page_of header task access past waits.at.entry) object page past
-  pub what : Awaits header host (is_store access) object page past
+  pub what : AwaitsPage header host access waits.at.entry.region.0 (page_of header task access past waits.at.entry) past
 
 -- a place is where the walk of a task of the host ends that wants a frame
 pub record IsSource (header : Header) (host object page : ℕ) (past : List Event) : Type 0 where

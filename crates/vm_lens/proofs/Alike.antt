@@ -1,6 +1,6 @@
 -- Memory depends on nothing of a header but its page size and its objects, and on nothing of the outside but what it tells.
 use Rattle.std.proofs.Common.{Bool, List, [], ap, false, length, refl, reverse, subst, sym, ℕ, ◌*◌, ◌%◌, ◌++◌, ◌+◌, ◌==◌, ◌∙◌, ◌∷◌, ◌≡◌}
-use Rattle.std.specs.Prelude.{if◌then◌else◌, None, replicate, ◌&&◌, Some, nat_lt, slice_get, not, ◌||◌}
+use Rattle.std.specs.Prelude.{if◌then◌else◌, None, Option, true, replicate, ◌&&◌, Some, nat_lt, slice_get, not, ◌||◌}
 use Rattle.vm_base.specs.Entries.{entry_at}
 use Rattle.vm_base.specs.Pages.{little_endian_bytes, with_bytes}
 use Rattle.vm_model.specs.Bytes.{number_at}
@@ -13,19 +13,24 @@ use Rattle.vm_model.specs.declared.message.Channel.TheVariants.{Down}
 use Rattle.vm_model.specs.declared.script.Declared.{Declared}
 use Rattle.vm_model.specs.declared.script.Header.{Header}
 use Rattle.vm_legal.specs.Flat.{made_over}
-use Rattle.vm_legal.specs.Outside.{FilesAtStart, Outside, Told, are_untold, is_file, is_file_kept, is_flat, is_said, is_shared_kind, kind_in, start_in}
+use Rattle.vm_legal.specs.Outside.{FilesAtStart, Outside, Told, are_untold, is_file, is_file_kept, is_from_told, is_private_from, is_said, is_shared}
+use Rattle.vm_legal.specs.Outside.{is_shared_kind, kind_in, start_in}
 use Rattle.vm_legal.specs.Outside.{start_page, zeros}
-use Rattle.vm_order.specs.OneMemory.{EndsAccess, IsOneAtATime, IsOneMemory, LoadsRead}
-use Rattle.vm_order.specs.Operations.{Copy, CopyPage, Load, Make, Operation, Say, Store, load_ends, memory, operations, page_copied, store_ends}
+use Rattle.vm_order.specs.OneMemory.{EndsAccess, IsOneAtATime, IsOneMemory, LoadsRead, is_read}
+use Rattle.vm_order.specs.Operations.{Copy, CopyPage, Load, Make, Operation, Say, Store, copied_from, load_ends, memory, operations, page_copied, store_ends}
 use Rattle.vm_outside.specs.Areas.{read_at}
 use Rattle.vm_free.proofs.Follows.{unsaid}
 use Rattle.vm_lens.specs.Exploring.{IsFresh, fresh}
+
+-- whether loads of a region read what was done, by the file from which it comes
+abbrev reads_from : Header → Outside → ℕ → Option ℕ → Bool
+reads_from header outside region from = is_private_from header outside region from || is_shared header region
 
 -- all that memory depends on is the same
 record AreAlike (a b : Header) (there here : Outside) : Type 0 where
   pub size : a.size ≡ b.size
   pub file : (region : ℕ) → is_file a region ≡ is_file b region
-  pub flat : (region : ℕ) → is_flat a there region ≡ is_flat b here region
+  pub flat : (region : ℕ) (from : Option ℕ) → reads_from a there region from ≡ reads_from b here region from
   pub start : (region page : ℕ) → start_page a there region page ≡ start_page b here region page
   pub unsaid : (object : ℕ) → is_said a there object ≡ false
   pub unsaid_too : (object : ℕ) → is_said b here object ≡ false
@@ -80,10 +85,24 @@ memory_alike a b there here same (CopyPage r p source source_page ∷ past) regi
 memory_alike a b there here same (Say r p bytes ∷ past) region page =
     ap (λ z. if region == r && page == p then bytes else z) (memory_alike a b there here same past region page)
 
+from_alike : (a b : Header) → ((region : ℕ) → is_file a region ≡ is_file b region) → (region : ℕ) (done : List Operation)
+    → copied_from a region done ≡ copied_from b region done
+from_alike a b file region [] = refl
+from_alike a b file region (Copy new source offset ∷ past) =
+    ap (λ z. if region == new then (if z then Some source else copied_from a source past) else copied_from a region past) (file source)
+    ∙ (ap (λ z. if region == new then (if is_file b source then Some source else z) else copied_from a region past) (from_alike a b file source past)
+    ∙ ap (λ z. if region == new then (if is_file b source then Some source else copied_from b source past) else z) (from_alike a b file region past))
+from_alike a b file region (other ∷ past) = from_alike a b file region past
+
+read_alike : (a b : Header) (there here : Outside) → AreAlike a b there here → (region : ℕ) (done : List Operation)
+    → is_read a there region done ≡ is_read b here region done
+read_alike a b there here same region done =
+    ap (λ z. reads_from a there region z) (from_alike a b same.file region done) ∙ same.flat region (copied_from b region done)
+
 reads_alike : (a b : Header) (there here : Outside) → AreAlike a b there here → (done : List Operation) → LoadsRead a there done → LoadsRead b here done
 reads_alike a b there here same [] reads = tt
 reads_alike a b there here same (Load task region page address bytes value ∷ past) reads = (
-  λ flat. reads.0 (same.flat region ∙ flat)
+  λ flat. reads.0 (read_alike a b there here same region past ∙ flat)
       ∙ (ap (λ z. number_at z a.size address bytes) (memory_alike a b there here same past region page)
       ∙ ap (λ z. number_at (memory b here past region page) z address bytes) same.size),
   reads_alike a b there here same past reads.1,
@@ -128,6 +147,11 @@ flat_among objects paging region =
     ((not (nat_lt region (length objects)) && paging) || (nat_lt region (length objects) && is_file_kept (slice_get (reverse objects) region)))
     || is_shared_kind (if nat_lt region (length objects) then kind_in (slice_get (reverse objects) region) else kind_in None)
 
+told_from : (header : Header) (outside : Outside) → ((object : ℕ) → is_said header outside object ≡ false) → (from : Option ℕ)
+    → is_from_told header outside from ≡ true
+told_from header outside unsaid None = refl
+told_from header outside unsaid (Some file) = ap not (unsaid file)
+
 told_says_nothing : (header : Header) (files : FilesAtStart) (pages : ℕ → ℕ → List ℕ) (object : ℕ) → files ≡ Told pages
     → (are_untold files && is_file header object) ≡ false
 told_says_nothing header files pages object told = ap (λ z. are_untold z && is_file header object) told
@@ -137,7 +161,13 @@ are_alike : (a b : Header) (there here : Outside) → a.size ≡ b.size → a.ob
 are_alike a b there here size objects told told_too = record {
   size = size;
   file = λ region. ap (λ z. file_among z region) objects;
-  flat = λ region. ap (λ z. flat_among z there.paging region) objects ∙ ap (λ z. flat_among b.objects.items z region) (told.paging ∙ sym told_too.paging);
+  flat = λ region from.
+      ap (λ z. flat_among a.objects.items (there.paging && z) region)
+      (told_from a there (λ object. told_says_nothing a there.files told.pages object told.files) from)
+      ∙ (ap (λ z. flat_among z (there.paging && true) region) objects
+      ∙ (ap (λ z. flat_among b.objects.items (z && true) region) (told.paging ∙ sym told_too.paging)
+      ∙ ap (λ z. flat_among b.objects.items (here.paging && z) region)
+      (sym (told_from b here (λ object. told_says_nothing b here.files told_too.pages object told_too.files) from))));
   start = λ region page.
       ap (λ z. start_in a z region page) told.files
       ∙ (told.empty region page

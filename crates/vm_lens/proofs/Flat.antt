@@ -8,10 +8,11 @@ use Rattle.vm_base.proofs.Lists.{all_reversed}
 use Rattle.vm_base.specs.declared.ids.ObjectKind.{ObjectKind}
 use Rattle.vm_base.specs.declared.ids.ObjectKind.TheVariants.{Temp, File, Shared, Wild}
 use Rattle.vm_model.specs.Named.{declared, named}
+use Rattle.vm_model.specs.Regions.{comes_from}
 use Rattle.vm_model.specs.declared.event.Event.{Event}
 use Rattle.vm_model.specs.declared.script.Declared.{Declared}
 use Rattle.vm_model.specs.declared.script.Header.{Header}
-use Rattle.vm_legal.specs.Outside.{is_file_kept, is_file_kind, is_shared_kind, is_wild, is_wild_kind, kind_in}
+use Rattle.vm_legal.specs.Outside.{is_file_kept, is_file_kind, is_from_told, is_shared_kind, is_wild, is_wild_kind, kind_in}
 use Rattle.vm_free.specs.Outcomes.{AllFlat, NothingIsSaid}
 use Rattle.vm_text.specs.Script.{DeclaresNoTemporary}
 use Rattle.vm_lens.specs.Exploring.{fresh}
@@ -29,10 +30,15 @@ kept (Some found) object is made tame =
     let same : found ≡ object = cc in
     kept_kind found.kind (subst (λ (z : Declared). z.kind ≢ Temp) (sym same) made) tame
 
-flat_at : (below : Bool) (row : Option Declared) → (below ≡ true → (is_file_kept row || is_shared_kind (kind_in row)) ≡ true)
-    → (((not below && true) || (below && is_file_kept row)) || is_shared_kind (if below then kind_in row else Temp)) ≡ true
-flat_at true row is = is refl
-flat_at false row is = refl
+flat_at : (below told : Bool) (row : Option Declared) → told ≡ true → (below ≡ true → (is_file_kept row || is_shared_kind (kind_in row)) ≡ true)
+    → (((not below && (true && told)) || (below && is_file_kept row)) || is_shared_kind (if below then kind_in row else Temp)) ≡ true
+flat_at true told row tells is = is refl
+flat_at false true row tells is = refl
+flat_at false false row tells is = absurd (let bad : false ≡ true = tells in cc)
+
+from_told : (header : Header) (from : Option ℕ) → is_from_told header (fresh header) from ≡ true
+from_told header None = refl
+from_told header (Some file) = refl
 
 below_is : (a b : ℕ) → nat_lt a b ≡ true → a < b
 below_is a b is = grind (arith, nat_tests)
@@ -53,7 +59,8 @@ declared_is_flat header region made tame below = elim ((slice_get_cases (reverse
 pub all_flat : (header : Header) (start : List Event) → DeclaresNoTemporary header → ((object : ℕ) → is_wild header object ≡ false)
     → AllFlat header (fresh header) start
 all_flat header start made tame t address entry found =
-    flat_at (nat_lt entry.region.0 (named header)) (declared header entry.region.0) (declared_is_flat header entry.region.0 made (tame entry.region.0))
+    flat_at (nat_lt entry.region.0 (named header)) (is_from_told header (fresh header) (comes_from entry.region.0 start)) (declared header entry.region.0)
+    (from_told header (comes_from entry.region.0 start)) (declared_is_flat header entry.region.0 made (tame entry.region.0))
 
 pub nothing_said : (header : Header) → NothingIsSaid header (fresh header)
 nothing_said header object = refl

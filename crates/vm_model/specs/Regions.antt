@@ -1,5 +1,5 @@
 -- Regions and objects: their numbers, and what stands on what.
-use Rattle.std.specs.Prelude.{ℕ, zero, suc, ◌+◌, List, [], ◌∷◌, if◌then◌else◌, ◌==◌, Bool, true, false, Option, Some, None}
+use Rattle.std.specs.Prelude.{ℕ, zero, suc, ◌+◌, List, [], ◌∷◌, if◌then◌else◌, ◌==◌, ◌||◌, Bool, true, false, Option, Some, None}
 use Rattle.vm_model.specs.declared.event.Event.{Event}
 use Rattle.vm_model.specs.declared.event.Event.TheVariants as event
 use Rattle.vm_model.specs.declared.script.Header.{Header}
@@ -123,6 +123,19 @@ abbrev pub newest_copy : ℕ → List Event → Option ℕ
 newest_copy file [] = None
 newest_copy file (event.Delayed region source offset pages copy ∷ past) = if file == source.0 then Some copy.0 else newest_copy file past
 newest_copy file (e ∷ past) = newest_copy file past
+
+-- the object was made as a delayed copy of a file
+abbrev pub is_copy : ℕ → List Event → Bool
+is_copy object [] = false
+is_copy object (event.Delayed region source offset pages copy ∷ past) = object == copy.0 || is_copy object past
+is_copy object (e ∷ past) = is_copy object past
+
+-- the file of which a region was copied, at once or by way of other copies
+abbrev pub comes_from : ℕ → List Event → Option ℕ
+comes_from region [] = None
+comes_from region (event.RegionCopied new source offset pages ∷ past) = if region == new.0 then comes_from source.0 past else comes_from region past
+comes_from region (event.Delayed new source offset pages copy ∷ past) = if region == new.0 then Some source.0 else comes_from region past
+comes_from region (e ∷ past) = comes_from region past
 
 abbrev pub is_newest : ℕ → Option ℕ → Bool
 is_newest object None = false

@@ -1,5 +1,5 @@
 -- Each load reads what was stored there last.
-use Rattle.std.proofs.Common.{Bool, List, None, Option, Some, false, [], ap, subst, sym, true, ℕ, ◌++◌, ◌∙◌, ◌∷◌, ◌≡◌}
+use Rattle.std.proofs.Common.{Bool, List, None, Option, Some, false, [], ap, subst, sym, true, ℕ, ◌||◌, ◌++◌, ◌∙◌, ◌∷◌, ◌≡◌}
 use Rattle.vm_base.specs.Entries.{entry_at, page_at}
 use Rattle.vm_base.specs.declared.entry.Entry.{Entry}
 use Rattle.vm_model.specs.Bytes.{number_at}
@@ -15,10 +15,11 @@ use Rattle.vm_model.specs.declared.script.Header.{Header}
 use Rattle.vm_legal.specs.Bytes.{AnswersFlat, FlatBytes, OwnBytes}
 use Rattle.vm_legal.specs.Flat.{made_over}
 use Rattle.vm_legal.specs.Licences.{HasCause}
-use Rattle.vm_legal.specs.Outside.{Outside, is_said}
+use Rattle.vm_legal.specs.Outside.{Outside, is_private_from, is_said, is_shared}
 use Rattle.vm_order.specs.OneMemory.{IsOneAtATime, IsOneMemory, LoadsRead}
 use Rattle.vm_order.specs.Operations.{Operation, load_ends, loaded_at, operations, page_copied, said, store_ends, stored_at}
 use Rattle.vm_order.proofs.Flat.{memory_is_flat}
+use Rattle.vm_order.proofs.From.{from_is}
 
 -- what isn't a load reads nothing
 
@@ -48,10 +49,11 @@ says_read header outside true file other ops reads = reads
 says_read header outside false file other ops reads = reads
 
 -- a load reads what stands in the flat map's page
-load_reads : (header : Header) (outside : Outside) (task value : ℕ) (past : List Event) → AnswersFlat header outside task value past
+load_reads : (header : Header) (outside : Outside) (task value : ℕ) (past : List Event) → EachEvent (HasCause header outside) past
+    → AnswersFlat header outside task value past
     → LoadsRead header outside (operations header outside past)
     → LoadsRead header outside (load_ends header.size task value (entries_of header.size task past) (waiting task past) ++ operations header outside past)
-load_reads header outside task value past answers reads =
+load_reads header outside task value past causes answers reads =
     let ops = operations header outside past in
     let entries = entries_of header.size task past in
     let address = answers.address in
@@ -60,28 +62,32 @@ load_reads header outside task value past answers reads =
     let found : entry_at address entries ≡ Some row = answers.waits.at.found in
     subst (λ (z : Option Access). LoadsRead header outside (load_ends header.size task value entries z ++ ops)) (sym answers.waits.waits)
     (subst (λ (z : Option Entry). LoadsRead header outside (loaded_at header.size task address bytes value z ++ ops)) (sym found) (
-      (λ flat. answers.number flat ∙ ap (λ z. number_at z header.size address bytes)
+      (λ flat. answers.number (ap (λ z. is_private_from header outside row.region.0 z || is_shared header row.region.0)
+          (sym (from_is header outside past causes row.region.0)) ∙ flat)
+          ∙ ap (λ z. number_at z header.size address bytes)
           (sym (memory_is_flat header outside past row.region.0 (page_at header.size address row)))),
       reads,
     ))
 
-all_read : (header : Header) (outside : Outside) (history : List Event) → EachEvent (FlatBytes header outside) history
+all_read : (header : Header) (outside : Outside) (history : List Event) → EachEvent (HasCause header outside) history
+    → EachEvent (FlatBytes header outside) history
     → LoadsRead header outside (operations header outside history)
-all_read header outside [] flat = tt
-all_read header outside (event.Loaded task object page value ∷ past) flat =
-    load_reads header outside task.0 value past flat.0 (all_read header outside past flat.1)
-all_read header outside (event.Stored task object page at size value ∷ past) flat =
+all_read header outside [] causes flat = tt
+all_read header outside (event.Loaded task object page value ∷ past) causes flat =
+    load_reads header outside task.0 value past causes.1 flat.0 (all_read header outside past causes.1 flat.1)
+all_read header outside (event.Stored task object page at size value ∷ past) causes flat =
     stores_read header outside task.0 (entries_of header.size task.0 past) (waiting task.0 past) (operations header outside past)
-    (all_read header outside past flat.1)
-all_read header outside (event.RegionMade region object pages ∷ past) flat = all_read header outside past flat.1
-all_read header outside (event.RegionCopied region source offset pages ∷ past) flat = all_read header outside past flat.1
-all_read header outside (event.Delayed region source offset pages copy ∷ past) flat = all_read header outside past flat.1
-all_read header outside (event.CopiedPage task index object object_page target ∷ past) flat =
-    copies_read header outside (made_over target.0 past) index.0 object.0 object_page.0 (operations header outside past) (all_read header outside past flat.1)
-all_read header outside (event.Sent (Down host object control) m ∷ past) flat =
-    says_read header outside (is_said header outside object.0) object.0 m (operations header outside past) (all_read header outside past flat.1)
-all_read header outside (event.Sent (Up host object) m ∷ past) flat = all_read header outside past flat.1
-all_read header outside (e ∷ past) flat = all_read header outside past flat.1
+    (all_read header outside past causes.1 flat.1)
+all_read header outside (event.RegionMade region object pages ∷ past) causes flat = all_read header outside past causes.1 flat.1
+all_read header outside (event.RegionCopied region source offset pages ∷ past) causes flat = all_read header outside past causes.1 flat.1
+all_read header outside (event.Delayed region source offset pages copy ∷ past) causes flat = all_read header outside past causes.1 flat.1
+all_read header outside (event.CopiedPage task index object object_page target ∷ past) causes flat =
+    copies_read header outside (made_over target.0 past) index.0 object.0 object_page.0 (operations header outside past)
+    (all_read header outside past causes.1 flat.1)
+all_read header outside (event.Sent (Down host object control) m ∷ past) causes flat =
+    says_read header outside (is_said header outside object.0) object.0 m (operations header outside past) (all_read header outside past causes.1 flat.1)
+all_read header outside (event.Sent (Up host object) m ∷ past) causes flat = all_read header outside past causes.1 flat.1
+all_read header outside (e ∷ past) causes flat = all_read header outside past causes.1 flat.1
 
 -- a task has one access at a time
 
@@ -104,4 +110,4 @@ each_at_a_time header outside (e ∷ past) causes own = (one_at_a_time header ou
 pub memory_is_one : (header : Header) (outside : Outside) (history : List Event) → EachEvent (HasCause header outside) history
     → EachEvent (OwnBytes header) history → EachEvent (FlatBytes header outside) history → IsOneMemory header outside history
 memory_is_one header outside history causes own flat =
-    record { reads = all_read header outside history flat; tasks = each_at_a_time header outside history causes own }
+    record { reads = all_read header outside history causes flat; tasks = each_at_a_time header outside history causes own }

@@ -1,5 +1,5 @@
 -- Memory is one: every host and task sees what was done to it in one order.
-use Rattle.std.specs.Prelude.{ℕ, ◌≡◌, List, [], ◌∷◌, true, Some, None}
+use Rattle.std.specs.Prelude.{ℕ, ◌≡◌, ◌||◌, Bool, List, [], ◌∷◌, true, Some, None}
 use Rattle.vm_base.specs.Entries.{entry_at}
 use Rattle.vm_base.specs.declared.entry.Entry.{Entry}
 use Rattle.vm_model.specs.Bytes.{number_at}
@@ -9,14 +9,18 @@ use Rattle.vm_model.specs.Waiting.{Access, Loading, Storing, waiting}
 use Rattle.vm_model.specs.declared.event.Event.{Event}
 use Rattle.vm_model.specs.declared.event.Event.TheVariants as event
 use Rattle.vm_model.specs.declared.script.Header.{Header}
-use Rattle.vm_legal.specs.Outside.{Outside, is_flat}
-use Rattle.vm_order.specs.Operations.{Load, Operation, memory, operations}
+use Rattle.vm_legal.specs.Outside.{Outside, is_private_from, is_shared}
+use Rattle.vm_order.specs.Operations.{Load, Operation, copied_from, memory, operations}
+
+-- of these regions loads read what was done: of all but wild ones, and of temporary ones only where the outside tells
+abbrev pub is_read : Header → Outside → ℕ → List Operation → Bool
+is_read header outside region past = is_private_from header outside region (copied_from header region past) || is_shared header region
 
 -- each load answers what the operations before it left where it reads
 abbrev pub LoadsRead : Header → Outside → List Operation → Type 0
 LoadsRead header outside [] = Unit {0}
 LoadsRead header outside (Load task region page address bytes value ∷ past) =
-    (is_flat header outside region ≡ true → value ≡ number_at (memory header outside past region page) header.size address bytes)
+    (is_read header outside region past ≡ true → value ≡ number_at (memory header outside past region page) header.size address bytes)
     × LoadsRead header outside past
 LoadsRead header outside (other ∷ past) = LoadsRead header outside past
 

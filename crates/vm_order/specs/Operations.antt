@@ -89,3 +89,10 @@ memory header outside (Copy r source offset ∷ past) region page =
 memory header outside (CopyPage r p source source_page ∷ past) region page =
     if region == r && page == p then memory header outside past source source_page else memory header outside past region page
 memory header outside (Say r p bytes ∷ past) region page = if region == r && page == p then bytes else memory header outside past region page
+
+-- the file of which a region was copied, at once or by way of other copies
+abbrev pub copied_from : Header → ℕ → List Operation → Option ℕ
+copied_from header region [] = None
+copied_from header region (Copy new source offset ∷ past) =
+    if region == new then (if is_file header source then Some source else copied_from header source past) else copied_from header region past
+copied_from header region (other ∷ past) = copied_from header region past

@@ -19,8 +19,8 @@ ghost use Rattle.vm_order.specs.Operations.{memory, operations};
 /// shared, file or temporary memory reads what was stored there last, in one order of all hosts' and all
 /// tasks' accesses, in which each stands between its beginning and its end.
 ///
-/// Nothing is said of a load of wild memory, nor of temporary memory where the paging area doesn't tell. What a
-/// file is that isn't told, its pager's answers say.
+/// Nothing is said of a load of wild memory, nor of temporary memory where the paging area doesn't tell, nor of
+/// a copy of a file that isn't told. What such a file is itself, its pager's answers say.
 #[tactic(auto, using(crate::proofs::Flat::memory_is_flat, crate::proofs::Ordered::memory_is_one))]
 pub fn memory_is_one()
     ensures flat { (header : Header) (outside : Outside) (history : List Event) (region page : ℕ)

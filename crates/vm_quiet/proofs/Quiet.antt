@@ -16,15 +16,16 @@ use Rattle.vm_model.specs.Named.{declared, named}
 use Rattle.vm_model.specs.Controls.{live_control}
 use Rattle.vm_model.specs.Local.{Place, is_on}
 use Rattle.vm_model.specs.Waiting.{Access, is_store}
-use Rattle.vm_legal.specs.Accesses.{Waits, WaitsUnlocked, is_ready, names}
+use Rattle.vm_legal.specs.Accesses.{Waits, WaitsUnlocked, is_ready, names, page_of}
 use Rattle.vm_model.specs.Moments.{BeforeSteps, EachEvent}
 use Rattle.vm_legal.specs.Debts.{IsPaid}
 use Rattle.vm_legal.specs.Licences.{HasCause, is_paged}
 use Rattle.vm_legal.specs.Living.{lives_on}
 use Rattle.vm_legal.specs.Undelivered.{undelivered}
 use Rattle.vm_legal.specs.Frames.{frames_free, frames_held, frames_of, frames_wired, returns_out}
-use Rattle.vm_legal.specs.Outside.{NoneIsTemporary, Outside, is_file_kept, is_file_kind, is_shared, is_shared_kind, is_wild, is_wild_kind, kind_in}
-use Rattle.vm_legal.specs.Prompt.{AnAnswer, AReady, AnUnlock, Awaits, IsExhausted, HostIsFull, Prompt, WaitsForPager}
+use Rattle.vm_legal.specs.Outside.{NoneIsTemporary, Outside, is_file, is_file_kept, is_file_kind, is_shared, is_shared_kind, is_wild, is_wild_kind, kind_in}
+use Rattle.vm_legal.proofs.Copies.{copy_temporary}
+use Rattle.vm_legal.specs.Prompt.{AnAnswer, AReady, AnUnlock, AtPlace, Awaits, AwaitsPage, ForPush, IsExhausted, HostIsFull, Prompt, WaitsForPager}
 use Rattle.vm_legal.specs.Steps.{answers, is_answer, is_ready_message as says_ready, readies}
 use Rattle.vm_legal.specs.Walks.{page_on}
 use Rattle.vm_quiet.specs.Carried.{is_request, opens}
@@ -50,6 +51,13 @@ ready_now header outside history host o control causes steps paid delivered ours
     by false is =
         absurd (way_none (opens control) says_ready (readies o) host o control history delivered (done_opening header history paid host o control ours)
         (opens_of header outside host history causes steps o control ours live is))
+
+-- a temporary object has a pager
+temporary_paged : (header : Header) (o : ℕ) → named header ≤ o → is_paged header o ≡ true
+temporary_paged header o above = ap (λ b. not b || is_file header o) (not_below o (named header) above)
+  where
+    not_below : (a b : ℕ) → b ≤ a → nat_lt a b ≡ false
+    not_below a b high = grind (arith, nat_tests)
 
 -- an object is temporary or a file's, or a shared one, or a wild one
 kinds_of : (header : Header) (o : ℕ) → NoneIsTemporary header → (is_paged header o ≡ true) ⊎ ((is_shared header o ≡ true) ⊎ (is_wild header o ≡ true))
@@ -258,8 +266,18 @@ full_short header outside history host quiet base count full = by full.why
 one_short : (header : Header) (outside : Outside) (history : List Event) (host task : ℕ) (access : Access) → IsQuiet header outside history
     → WaitsForPager header host task access history ⊎ HostIsFull header host history
     → WaitsForWild header host task access history ⊎ IsShortOfFrames header host history
-one_short header outside history host task access q (inl w) =
-    inl (record { what = w; wild = awaits_wild header outside history host (is_store access) w.object w.page q w.what })
+one_short header outside history host task access q (inl w) = by w.what
+  where
+    by : AwaitsPage header host access w.waits.at.entry.region.0 (page_of header task access history w.waits.at.entry) history
+        → WaitsForWild header host task access history ⊎ IsShortOfFrames header host history
+    by (AtPlace object page place what) =
+        inl (record {
+          what = record { waits = w.waits; on_host = w.on_host; object = object; page = page; place = place; what = what };
+          wild = awaits_wild header outside history host (is_store access) object page q what;
+        })
+    by (ForPush object page copy store top owes asked) =
+        let temporary = copy_temporary header outside object copy history q.causes owes.newest in
+        never (sym (paged_tame header copy (temporary_paged header copy temporary)) ∙ asked_wild header outside history host copy page q asked)
 one_short header outside history host task access q (inr full) =
     inr (full_short header outside history host q (base_of header outside host history q.causes) (count_of header outside host history q.causes) full)
 

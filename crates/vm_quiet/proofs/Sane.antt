@@ -20,11 +20,11 @@ use Rattle.vm_model.specs.Local.{LocalEffect, Local, Place, Zeroes, Raises, Stor
 use Rattle.vm_model.specs.Local.{TakesLock, Begins, Ends, Elsewhere, effect, is_on, local, local_after, merge_effect}
 use Rattle.vm_model.specs.Moments.{EachEvent}
 use Rattle.vm_model.specs.Named.{named}
-use Rattle.vm_model.specs.Regions.{Region, backing_of, copied, made, next_region, object_pages, region_of, shadowed, unmarked}
+use Rattle.vm_model.specs.Regions.{Region, backing_of, copied, delayed, made, next_region, object_pages, region_of, shadowed, unmarked}
 use Rattle.vm_model.specs.Tasks.{host_of}
 use Rattle.vm_model.specs.Words.{in_range}
 use Rattle.vm_legal.specs.Frames.{returns_out}
-use Rattle.vm_legal.specs.Licences.{Bottoms, CopiesPage, Fills, HasCause, MaySendUp, Raises as RaisesPage, is_paged}
+use Rattle.vm_legal.specs.Licences.{Bottoms, CopiesPage, Fills, Finding, HasCause, MaySendUp, Pushing, Raises as RaisesPage, is_paged}
 use Rattle.vm_legal.specs.Merges.{IsPair, Merges}
 use Rattle.vm_legal.specs.Outside.{Outside, is_file}
 use Rattle.vm_legal.specs.Undelivered.{undelivered}
@@ -81,7 +81,8 @@ vacant_zeroed header host o p past (inr c) = by c.steps c.sinks
 
 pub vacant_raised : (header : Header) (host lower lower_page o p : ℕ) (past : List Event) → RaisesPage header host lower lower_page o p past
     → IsVacant (page_on header host o p past)
-vacant_raised header host lower lower_page o p past c = record { away = c.walks.0.away; unasked = c.walks.0.unasked }
+vacant_raised header host lower lower_page o p past (Finding c) = record { away = c.walks.0.away; unasked = c.walks.0.unasked }
+vacant_raised header host lower lower_page o p past (Pushing c) = record { away = c.away; unasked = c.unasked }
 
 pub vacant_copied : (header : Header) (host task index object page target : ℕ) (past : List Event) → CopiesPage header task index object page target past
     → is_on host (host_of task past) ≡ true → IsVacant (page_on header host target index past)
@@ -412,7 +413,12 @@ declared_next header outside (event.RegionCopied region source offset pages) pas
     by true s is not = never (sym is)
     by false true is not = never (sym not)
     by false false is not = record { top = was.top; unmarked = was.unmarked }
-declared_next header outside (event.Delayed region source offset pages copy) past c r below was = absurd c.1
+declared_next header outside (event.Delayed region source offset pages copy) past c r below was =
+    by (r == region.0) (behind_declared header past r region.0 below c.1.next)
+  where
+    by : (b : Bool) → b ≡ false → IsDeclaredRegion r (delayed b copy.0 offset pages (region_of header r past))
+    by true is = never (sym is)
+    by false is = record { top = was.top; unmarked = was.unmarked }
 declared_next header outside (event.Shadowed region new old) past c r below was = by (r == region.0) refl
   where
     by : (b : Bool) → (r == region.0) ≡ b → IsDeclaredRegion r (shadowed b new.0 (region_of header r past))

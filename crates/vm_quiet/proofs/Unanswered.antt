@@ -19,7 +19,7 @@ use Rattle.vm_legal.specs.Cached.{attributes_taken}
 use Rattle.vm_legal.specs.Debts.{IsPaid}
 use Rattle.vm_legal.specs.Licences.{HasCause, is_paged, lock_taken, owed}
 use Rattle.vm_legal.specs.Outside.{NoneIsTemporary, is_shared, is_wild, kind_of}
-use Rattle.vm_legal.specs.Prompt.{AnAnswer, AReady, EachLeads, NoneInVain, Prompt, WaitsForPager}
+use Rattle.vm_legal.specs.Prompt.{AnAnswer, AtPlace, AReady, EachLeads, NoneInVain, Prompt, WaitsForPager}
 use Rattle.vm_legal.specs.Swept.{IsSwept, IsUnheld}
 use Rattle.vm_legal.specs.Steps.{Letter, absence_taken, error_taken, taken_letter}
 use Rattle.vm_legal.specs.Undelivered.{undelivered}
@@ -259,10 +259,7 @@ for_answer = record {
       record {
         waits = wild_waits;
         on_host = refl;
-        object = 0;
-        page = 0;
-        place = record { top = 0; top_page = 0; steps = 0; is_top = record { object = refl; page = refl }; leads = (refl, refl) };
-        what = AnAnswer refl;
+        what = AtPlace 0 0 (record { top = 0; top_page = 0; steps = 0; is_top = record { object = refl; page = refl }; leads = (refl, refl) }) (AnAnswer refl);
       };
 }
 
@@ -274,10 +271,9 @@ for_ready = record {
       record {
         waits = wild_unready;
         on_host = refl;
-        object = 0;
-        page = 0;
-        place = record { top = 0; top_page = 0; steps = 0; is_top = record { object = refl; page = refl }; leads = (refl, refl) };
-        what = AReady 1 refl refl;
+        what =
+            AtPlace 0 0 (record { top = 0; top_page = 0; steps = 0; is_top = record { object = refl; page = refl }; leads = (refl, refl) })
+            (AReady 1 refl refl);
       };
 }
 

@@ -3,12 +3,12 @@ use Rattle.std.specs.Prelude.{ℕ, ◌-◌, ◌<◌, ◌≤◌, ◌≡◌, ◌�
 use Rattle.vm_model.specs.declared.event.Event.{Event}
 use Rattle.vm_model.specs.declared.script.Header.{Header}
 use Rattle.vm_model.specs.Local.{Place}
-use Rattle.vm_model.specs.Waiting.{Access, waiting}
-use Rattle.vm_legal.specs.Accesses.{Waits, WaitsUnlocked}
+use Rattle.vm_model.specs.Waiting.{Access, is_store, waiting}
+use Rattle.vm_legal.specs.Accesses.{HasPlace, Waits, WaitsUnlocked, page_of}
 use Rattle.vm_legal.specs.Frames.{frames_free, frames_of, frames_wired}
 use Rattle.vm_legal.specs.Living.{lives_on}
 use Rattle.vm_legal.specs.Outside.{is_shared, is_wild}
-use Rattle.vm_legal.specs.Prompt.{WaitsForPager}
+use Rattle.vm_legal.specs.Prompt.{Awaits}
 use Rattle.vm_legal.specs.Walks.{page_on}
 use Rattle.vm_quiet.specs.Places.{times}
 
@@ -52,9 +52,18 @@ pub record WaitsOnWild (header : Header) (host task : ℕ) (access : Access) (pa
 pub record NobodyWaitsInVain (header : Header) (history : List Event) : Type 0 where
   pub short : EachWaiting header history (λ host task access. WaitsOnWild header host task access history ⊎ IsShortOfFrames header host history)
 
--- an access waits for something at one of its places, which is a wild object's
+-- an access waits for something at one of its places
+pub record WaitsAtPlace (header : Header) (host task : ℕ) (access : Access) (past : List Event) : Type 0 where
+  pub waits : Waits header task access past
+  pub on_host : waits.at.host ≡ host
+  pub object : ℕ
+  pub page : ℕ
+  pub place : HasPlace header waits.at.entry.region.0 (page_of header task access past waits.at.entry) object page past
+  pub what : Awaits header host (is_store access) object page past
+
+-- at one that is a wild object's
 pub record WaitsForWild (header : Header) (host task : ℕ) (access : Access) (past : List Event) : Type 0 where
-  pub what : WaitsForPager header host task access past
+  pub what : WaitsAtPlace header host task access past
   pub wild : is_wild header what.object ≡ true
 
 -- whoever waits on one of the hosts waits for a wild object's pager, or since the host is short of frames

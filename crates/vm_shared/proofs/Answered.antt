@@ -14,12 +14,15 @@ use Rattle.vm_model.specs.PageLicences.{ActsLicensed}
 use Rattle.vm_model.specs.PagePart.{page_part}
 use Rattle.vm_model.specs.Waiting.{Access, address_of, next_page}
 use Rattle.vm_model.specs.Side.{Side, right_of, side}
-use Rattle.vm_legal.proofs.Unshared.{shared_tame, wild_named}
+use Rattle.vm_legal.proofs.Unshared.{paged_tame, shared_tame, wild_named}
 use Rattle.vm_legal.specs.Accesses.{Waits, page_of}
 use Rattle.vm_legal.specs.Bytes.{OwnBytes}
 use Rattle.vm_legal.specs.Debts.{IsPaid}
 use Rattle.vm_legal.specs.Licences.{HasCause}
-use Rattle.vm_legal.specs.Outside.{NoneIsTemporary, Outside, is_shared, is_wild}
+use Rattle.vm_legal.specs.Outside.{NoneIsTemporary, Outside, is_file, is_shared, is_wild}
+use Rattle.vm_legal.specs.Licences.{is_paged}
+use Rattle.vm_model.specs.Named.{named}
+use Rattle.std.specs.Prelude.{nat_lt, not, ◌||◌}
 use Rattle.vm_legal.specs.Prompt.{AllServed, Prompt}
 use Rattle.vm_legal.specs.Undelivered.{undelivered}
 use Rattle.vm_legal.specs.Walks.{page_on}
@@ -124,14 +127,27 @@ shared_are_answered header outside history causes own steps paid served delivere
 
 -- whoever waits for a wild object's place waits on its region
 
+wild_no_file : (header : Header) (o : ℕ) → is_wild header o ≡ true → is_file header o ≡ false
+wild_no_file header o wild = by (is_file header o) refl
+  where
+    either : (b : Bool) → (not b || true) ≡ true
+    either true = refl
+    either false = refl
+
+    by : (b : Bool) → is_file header o ≡ b → b ≡ false
+    by false is = refl
+    by true is =
+        let paged : is_paged header o ≡ true = ap (λ x. not (nat_lt o (named header)) || x) is ∙ either (nat_lt o (named header)) in
+        let bad : true ≡ false = sym wild ∙ paged_tame header o paged in absurd (cc)
+
 on_wild : (header : Header) (outside : Outside) (history : List Event) (host task : ℕ) (access : Access) → EachEvent (HasCause header outside) history
     → WaitsForWild header host task access history → WaitsOnWild header host task access history
 on_wild header outside history host task access causes is =
     let waits : Waits header task access history = is.what.waits in
     let n : Numbering header history = numbering header outside history causes in
     let made = at_made header task (address_of header.size (next_page task history) access) history n.made waits.at in
-    let own = place_own header history waits.at.entry.region.0 (page_of header task access history waits.at.entry) is.what.object is.what.page n.numbered
-    (wild_named header is.what.object is.wild) made is.what.place in
+    let own = place_own header history waits.at.entry.region.0 (page_of header task access history waits.at.entry) is.what.object is.what.page n
+    (wild_named header is.what.object is.wild) (wild_no_file header is.what.object is.wild) made is.what.place in
     record { waits = waits; on_host = is.what.on_host; wild = ap (is_wild header) own.own.region ∙ is.wild }
 
 pub nobody_waits : (header : Header) (outside : Outside) (history : List Event) → NoneIsTemporary header → EachEvent (HasCause header outside) history

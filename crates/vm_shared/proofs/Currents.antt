@@ -21,8 +21,9 @@ use Rattle.vm_legal.specs.Flat.{flat_page}
 use Rattle.vm_legal.specs.Licences as L
 use Rattle.vm_legal.specs.Licences.{HasCause}
 use Rattle.vm_legal.specs.Living.{lives_on}
-use Rattle.vm_legal.specs.Outside.{NoneIsTemporary, Outside, is_file, is_file_kind, is_private, is_shared, is_shared_kind, is_wild, is_wild_kind}
+use Rattle.vm_legal.specs.Outside.{NoneIsTemporary, Outside, is_file, is_file_kind, is_from_told, is_private, is_shared, is_shared_kind, is_wild, is_wild_kind}
 use Rattle.vm_legal.specs.Outside.{kind_of}
+use Rattle.vm_model.specs.Regions.{comes_from}
 use Rattle.vm_legal.specs.Walks.{page_on}
 use Rattle.vm_legal.proofs.Files.{file_kind}
 use Rattle.vm_flat.proofs.Loads.{answers}
@@ -44,11 +45,11 @@ neither true b is = absurd (let bad : true ≡ false = is in cc)
 neither false b is = is
 
 -- a declared object that is neither a file nor wild is shared
-is_shared_one : (header : Header) (outside : Outside) (o : ℕ) → NoneIsTemporary header → o < named header → is_wild header o ≡ false
-    → is_private header outside o ≡ false → is_shared header o ≡ true
-is_shared_one header outside o kinds small tame others =
+is_shared_one : (header : Header) (outside : Outside) (o : ℕ) (past : List Event) → NoneIsTemporary header → o < named header → is_wild header o ≡ false
+    → is_private header outside o past ≡ false → is_shared header o ≡ true
+is_shared_one header outside o past kinds small tame others =
     shared_kind (kind_of header o) (kinds o small) tame (file_kind header o
-    ∙ neither (not (nat_lt o (named header)) && outside.paging) (is_file header o) others)
+    ∙ neither (not (nat_lt o (named header)) && (outside.paging && is_from_told header outside (comes_from o past))) (is_file header o) others)
 
 -- hosts
 
@@ -69,7 +70,7 @@ flat_here header outside past h o p caused own shared here =
 
 copied_current : (header : Header) (outside : Outside) (past : List Event) (task index object page target host : ℕ) → NoneIsTemporary header
     → EachEvent (HasCause header outside) past → EachEvent (OwnBytes header) past → L.CopiesPage header task index object page target past
-    → is_private header outside object ≡ false → lives_on host task past ≡ true
+    → is_private header outside object past ≡ false → lives_on host task past ≡ true
     → (page_on header host object page past).bytes ≡ flat_page header outside object page past
 copied_current header outside past task index object page target host kinds caused own c others lives =
     let k = numbering header outside past caused in
@@ -79,7 +80,7 @@ copied_current header outside past task index object page target host kinds caus
     let tame : is_wild header object ≡ false = subst (λ (o : ℕ). is_wild header o ≡ false) place c.supplied in
     let on : c.waits.at.host ≡ host = host_is host c.waits.at.host task past c.waits.at.lives lives in
     let here : (page_on header host object page past).here ≡ true = subst (λ (h : ℕ). (page_on header h object page past).here ≡ true) on c.here in
-    flat_here header outside past host object page caused own (is_shared_one header outside object kinds small tame others) here
+    flat_here header outside past host object page caused own (is_shared_one header outside object past kinds small tame others) here
 
 copy_current : (header : Header) (outside : Outside) (e : Event) (past : List Event) → NoneIsTemporary header → EachEvent (HasCause header outside) past
     → EachEvent (OwnBytes header) past → HasCause header outside e past → CopiesCurrent header outside e past

@@ -12,11 +12,11 @@ use Rattle.vm_model.specs.Regions.{backing_of, next_region, region_of}
 use Rattle.vm_legal.specs.Accesses.{Comes, HasPlace}
 use Rattle.vm_legal.specs.Flat.{made_over}
 use Rattle.vm_legal.specs.Licences.{HasCause}
-use Rattle.vm_legal.specs.Outside.{Outside, is_shared}
+use Rattle.vm_legal.specs.Outside.{Outside, is_file, is_shared}
 use Rattle.vm_legal.specs.Walks.{IsTop, Leads, Walks, sight}
 use Rattle.vm_legal.proofs.Unshared.{temporary_unshared}
 use Rattle.vm_flat.proofs.Numbers.{NumberedAt}
-use Rattle.vm_shared.proofs.Numbering.{ComesOwn, IsOwn, leads_later, numbering, top_own}
+use Rattle.vm_shared.proofs.Numbering.{ComesOwn, IsOwn, Numbering, leads_later, not_lower, numbering, top_own}
 
 -- a shared object is a declared one
 pub shared_declared : (header : Header) (o : ℕ) → is_shared header o ≡ true → o < named header
@@ -49,20 +49,20 @@ declared_top_own header past r q o p numbered small top =
     record { region = sym (numbered.declared_top r small) ∙ top.object; page = omega (arith, shift, sum) }
 
 -- a chain that has a place of a declared object begins there
-leads_own : (header : Header) (past : List Event) (n a b o p : ℕ) → NumberedAt header past → o < named header → Leads (λ k. backing_of header k past) n a b o p
-    → ComesOwn a b n o p
-leads_own header past zero a b o p numbered small is = record { own = record { region = is.0; page = is.1 }; steps = refl }
-leads_own header past (suc n) a b o p numbered small is =
-    let above = leads_later header past numbered n (backing_of header a past).under ((backing_of header a past).shift + b) o p (numbered.lower a is.0) is.1 in
-    absurd (omega (arith, above, small))
+leads_own : (header : Header) (past : List Event) (n a b o p : ℕ) → Numbering header past → o < named header → is_file header o ≡ false
+    → Leads (λ k. backing_of header k past) n a b o p → ComesOwn a b n o p
+leads_own header past zero a b o p num small plain is = record { own = record { region = is.0; page = is.1 }; steps = refl }
+leads_own header past (suc n) a b o p num small plain is =
+    absurd (not_lower header o small plain (leads_later header past num n (backing_of header a past).under ((backing_of header a past).shift + b) o p
+    (num.lower a is.0) is.1))
 
 -- the page of a region that has a place of a declared object in its chain is that place
-pub place_own : (header : Header) (past : List Event) (r q o p : ℕ) → NumberedAt header past → o < named header → r < next_region header past
-    → (has : HasPlace header r q o p past) → ComesOwn r q has.steps o p
-place_own header past r q o p numbered small made has =
-    let below = leads_own header past has.steps has.top has.top_page o p numbered small has.leads in
+pub place_own : (header : Header) (past : List Event) (r q o p : ℕ) → Numbering header past → o < named header → is_file header o ≡ false
+    → r < next_region header past → (has : HasPlace header r q o p past) → ComesOwn r q has.steps o p
+place_own header past r q o p num small plain made has =
+    let below = leads_own header past has.steps has.top has.top_page o p num small plain has.leads in
     let top_small : has.top < named header = subst (λ (k : ℕ). k < named header) (sym below.own.region) small in
-    let own = top_own header past r q has.top has.top_page numbered top_small made has.is_top in
+    let own = top_own header past r q has.top has.top_page num.numbered top_small made has.is_top in
     record { own = record { region = own.region ∙ below.own.region; page = own.page ∙ below.own.page }; steps = below.steps }
 
 -- the walk of a page of a declared region ends where it begins

@@ -187,7 +187,13 @@ flat_next header outside o p (event.RegionCopied made source offset pages) past 
     let number = cause.1.next in
     cond-false (o == made.0) (flat_page header outside source.0 (offset + p) past) (flat_page header outside o p past)
     (unlike o made.0 (λ is. omega (arith, is, number, first, small))) ∙ same
-flat_next header outside o p (event.Delayed made source offset pages copy) past caused cause shared same = absurd cause.1
+flat_next header outside o p (event.Delayed made source offset pages copy) past caused cause shared same =
+    let k = numbering header outside past caused in
+    let first = k.numbered.later_regions in
+    let small = shared_declared header o shared in
+    let number = cause.1.next in
+    cond-false (o == made.0) (flat_page header outside source.0 (offset + p) past) (flat_page header outside o p past)
+    (unlike o made.0 (λ is. omega (arith, is, number, first, small))) ∙ same
 flat_next header outside o p (event.Stored task object page at size value) past caused cause shared same =
     stored header o p task.0 object.0 page.0 at size value (flat_page header outside o p past) (current header.size (page_part header.size o p past)) past
     (numbering header outside past caused) (shared_declared header o shared) cause.1 same

@@ -21,7 +21,7 @@ use Rattle.vm_model.specs.Regions.{backing_of, object_pages}
 use Rattle.vm_model.specs.Tasks.{host_of}
 use Rattle.vm_model.specs.Words.{in_range}
 use Rattle.vm_legal.proofs.Unshared.{temporary_unshared}
-use Rattle.vm_legal.specs.Licences.{Bottoms, CopiesPage, Fills, HasCause, LockRequest, Raises as RaisesPage, lock_taken}
+use Rattle.vm_legal.specs.Licences.{Bottoms, CopiesPage, Fills, Finding, HasCause, LockRequest, Pushing, Raises as RaisesPage, lock_taken}
 use Rattle.vm_legal.specs.Outside.{Outside, is_shared}
 use Rattle.vm_legal.specs.Walks.{page_on}
 use Rattle.vm_coherence.proofs.Locals.{LeavesApart, unmerged_of}
@@ -147,8 +147,10 @@ unzeroed header outside host o p past caused shared (inr c) = apart header o sha
 
 pub unraised : (header : Header) (outside : Outside) (host lower lower_page o p : ℕ) (past : List Event) → EachEvent (HasCause header outside) past
     → is_shared header o ≡ true → RaisesPage header host lower lower_page o p past → ⊥
-unraised header outside host lower lower_page o p past caused shared c =
+unraised header outside host lower lower_page o p past caused shared (Finding c) =
     apart header o shared ((numbering header outside past caused).numbered.upper o c.walks.1)
+unraised header outside host lower lower_page o p past caused shared (Pushing c) =
+    apart header o shared ((numbering header outside past caused).numbered.newest lower o c.owes.newest)
 
 pub uncopied : (header : Header) (outside : Outside) (task index object page target : ℕ) (past : List Event) → EachEvent (HasCause header outside) past
     → is_shared header target ≡ true → CopiesPage header task index object page target past → ⊥

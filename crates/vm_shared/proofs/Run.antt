@@ -18,6 +18,7 @@ use Rattle.vm_model.specs.Waiting.{Loading, Storing}
 use Rattle.vm_legal.specs.Bytes.{OwnBytes}
 use Rattle.vm_legal.specs.Licences.{Ended, HasCause, IsDoneAt, Unheld, Wanted}
 use Rattle.vm_legal.specs.Swept.{IsUnheld}
+use Rattle.vm_shared.proofs.Numbering.{unused}
 use Rattle.vm_legal.specs.Living.{lives_on}
 use Rattle.vm_legal.specs.Walks.{page_on}
 use Rattle.vm_coherence.specs.Crossing.{host, object, page, task, zeros}
@@ -490,12 +491,14 @@ unheld : IsUnheld header 1 0 past_39
 unheld = record {
   unmapped = λ t lives. subst (λ u. has_entry 0 (entries_of 16 u past_39) ≡ false) (lives_one t (1 == t) (0 == t) refl lives) refl;
   uncached = refl;
+  unreached = λ r depth later used below. unused header 1 r past_39 refl later used;
 }
 
 unheld_then : IsUnheld header 1 0 past_40
 unheld_then = record {
   unmapped = λ t lives. subst (λ u. has_entry 0 (entries_of 16 u past_40) ≡ false) (lives_one t (1 == t) (0 == t) refl lives) refl;
   uncached = refl;
+  unreached = λ r depth later used below. unused header 1 r past_40 refl later used;
 }
 
 other_page : (p : ℕ) → (0 == suc p) ≡ false
@@ -871,6 +874,9 @@ caused_52 = ((settling, (16, refl, refl, refl, refl)), caused_51)
 caused_53 : EachEvent (HasCause header outside) past_53
 caused_53 = ((settling, (refl, (refl, omega arith))), caused_52)
 
+none_newest : (copy : ℕ) → None ≡ Some copy → ⊥
+none_newest copy is = cc
+
 caused_54 : EachEvent (HasCause header outside) past_54
 caused_54 = (
   (
@@ -882,6 +888,7 @@ caused_54 = (
       unmarked = refl;
       here = refl;
       place = refl;
+      paid = λ copy owes. none_newest copy owes.newest;
     },
   ),
   caused_53,

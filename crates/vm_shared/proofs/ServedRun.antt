@@ -1,5 +1,5 @@
 -- The worked history meets all premises of the laws of who waits for the server of shared memory.
-use Rattle.std.proofs.Common.{inr, ℕ, ◌≡◌, ◌<◌, ◌≤◌, List, [], ◌∷◌, true, false, refl, subst, arith}
+use Rattle.std.proofs.Common.{inr, ℕ, ◌≡◌, ◌<◌, ◌≤◌, List, [], ◌∷◌, true, false, refl, subst, arith, None, Some}
 use Rattle.std.proofs.lemmas.Bool.Decides.{nat_tests}
 use Rattle.vm_base.specs.declared.entry.Entry.{Entry}
 use Rattle.std.specs.Prelude.{◌≢◌}
@@ -401,6 +401,9 @@ caused_33 = ((settling, (refl, refl, free_33, refl, (refl, refl, refl, low_33)))
 caused_34 : EachEvent (HasCause header outside) past_34
 caused_34 = ((settling, (refl, (refl, omega arith))), caused_33)
 
+none_newest : (copy : ℕ) → None ≡ Some copy → ⊥
+none_newest copy is = cc
+
 caused_35 : EachEvent (HasCause header outside) past_35
 caused_35 = (
   (
@@ -412,6 +415,7 @@ caused_35 = (
       unmarked = refl;
       here = refl;
       place = refl;
+      paid = λ copy owes. none_newest copy owes.newest;
     },
   ),
   caused_34,

@@ -33,6 +33,7 @@ use Rattle.vm_legal.specs.Licences.{HasCause}
 use Rattle.vm_legal.specs.Outside.{Outside, is_shared}
 use Rattle.vm_coherence.proofs.Locals.{host_lives}
 use Rattle.vm_shared.proofs.Declared.{declared_top_own, shared_declared}
+use Rattle.vm_shared.proofs.Flat.{shared_no_file}
 use Rattle.vm_shared.proofs.Numbering.{Numbering, at_made, comes_own, numbering, top_own}
 
 -- a load or a store
@@ -635,8 +636,8 @@ pub loads_waiter : (header : Header) (outside : Outside) (task o p : ℕ) (past 
     → waiter_of task (waiters c.waits.at.host (page_part header.size o p past)) ≡ Some (waiter_for header.size task (Loading c.address c.bytes))
 loads_waiter header outside task o p past caused shared c =
     let k = numbering header outside past caused in
-    let own = (comes_own header past c.waits.at.host c.waits.at.entry.region.0 (page_at header.size c.address c.waits.at.entry) o p k.numbered
-    (shared_declared header o shared) (at_made header task c.address past k.made c.waits.at) c.comes).own in
+    let own = (comes_own header past c.waits.at.host c.waits.at.entry.region.0 (page_at header.size c.address c.waits.at.entry) o p k
+    (shared_declared header o shared) (shared_no_file header o shared) (at_made header task c.address past k.made c.waits.at) c.comes).own in
     (waiters_agree header outside o p past caused shared).there task (Loading c.address c.bytes) tt c.waits own.region own.page
 
 -- so is a store
@@ -657,8 +658,9 @@ pub asks_reason : (header : Header) (outside : Outside) (host control o p wanted
 asks_reason header outside host control o p wanted past caused shared c left =
     let k = numbering header outside past caused in
     let agree = waiters_agree header outside o p past caused shared in
-    let own = comes_own header past host c.waits.at.entry.region.0 (page_of header c.task c.access past c.waits.at.entry) o p k.numbered
-    (shared_declared header o shared) (at_made header c.task (address_of header.size (next_page c.task past) c.access) past k.made c.waits.at) c.comes in
+    let own = comes_own header past host c.waits.at.entry.region.0 (page_of header c.task c.access past c.waits.at.entry) o p k
+    (shared_declared header o shared) (shared_no_file header o shared)
+    (at_made header c.task (address_of header.size (next_page c.task past) c.access) past k.made c.waits.at) c.comes in
     let number : wanted ≡ (if is_store c.access then 3 else 1) = c.number ∙ ap (λ n. L.desired_access c.access n) own.steps in
     subst (λ (h : ℕ). has_reason wanted (waiters h (page_part header.size o p past)) (readers h (page_part header.size o p past)) ≡ true) c.on_host
     (subst (λ (n : ℕ). has_reason n (waiters c.waits.at.host (page_part header.size o p past))
@@ -690,8 +692,9 @@ pub unlocks_store : (header : Header) (outside : Outside) (host control o p want
 unlocks_store header outside host control o p wanted past caused shared c store =
     let k = numbering header outside past caused in
     let agree = waiters_agree header outside o p past caused shared in
-    let own = comes_own header past host c.waits.at.entry.region.0 (page_of header c.task c.access past c.waits.at.entry) o p k.numbered
-    (shared_declared header o shared) (at_made header c.task (address_of header.size (next_page c.task past) c.access) past k.made c.waits.at) c.comes in (
+    let own = comes_own header past host c.waits.at.entry.region.0 (page_of header c.task c.access past c.waits.at.entry) o p k
+    (shared_declared header o shared) (shared_no_file header o shared)
+    (at_made header c.task (address_of header.size (next_page c.task past) c.access) past k.made c.waits.at) c.comes in (
       c.number ∙ (ap (λ n. L.desired_access c.access n) own.steps ∙ ap (λ b. if b then 3 else 1) store),
       subst (λ (h : ℕ). any_store (waiters h (page_part header.size o p past)) ≡ true) c.on_host
           (by c.task c.access store c.waits agree own.own.region own.own.page),

@@ -164,9 +164,10 @@ pub record IsWhole (header : Header) (r : ℕ) (row : RegionRow) : Type 0 where
 
 pub whole_row : {header : Header} {chains : ChainTable} {objects : ObjectTable} {ids : Ids} {region_from : ℕ → Region}
     {backing_from : ℕ → Backing} {n m : ℕ} {home_from made_for : ℕ → Option ℕ} {used_at : ℕ → ℕ → Bool} {target_from : ℕ → Option Target}
+    {newest_from : ℕ → Option ℕ}
     {regions_made objects_made marked : ℕ}
     → HasRegions chains objects ids region_from backing_from regions_made objects_made marked
-    → AreHomes header n m home_from made_for used_at region_from backing_from target_from
+    → AreHomes header n m home_from made_for used_at region_from backing_from target_from newest_from
     → (r : ℕ) (row : RegionRow) → r < named header → region_at chains r ≡ Some row → IsWhole header r row
 whole_row {header = header} has homes r row declared found =
     let is : record { mark = row.marked; top = row.top.0; shift = row.shift; pages = row.pages } ≡ record {
@@ -185,9 +186,10 @@ whole_row {header = header} has homes r row declared found =
 -- a marked region is a temporary one
 pub marked_temporary : {header : Header} {chains : ChainTable} {objects : ObjectTable} {ids : Ids} {region_from : ℕ → Region}
     {backing_from : ℕ → Backing} {n m : ℕ} {home_from made_for : ℕ → Option ℕ} {used_at : ℕ → ℕ → Bool} {target_from : ℕ → Option Target}
+    {newest_from : ℕ → Option ℕ}
     {regions_made objects_made marked : ℕ}
     → HasRegions chains objects ids region_from backing_from regions_made objects_made marked
-    → AreHomes header n m home_from made_for used_at region_from backing_from target_from
+    → AreHomes header n m home_from made_for used_at region_from backing_from target_from newest_from
     → (r : ℕ) (row : RegionRow) → region_at chains r ≡ Some row → row.marked ≡ true → named header ≤ r
 marked_temporary {header = header} has homes r row found mark = elim (kind_cases header r) [
   | inl declared ↦ absurd (let whole = whole_row has homes r row declared found in let bad : false ≡ true = sym whole.marked ∙ mark in cc)
@@ -211,19 +213,21 @@ shadow_undeclared header has bare o row found = elim (kind_cases header o) [
 
 pub shadow_temporary : {header : Header} {chains : ChainTable} {objects : ObjectTable} {ids : Ids} {region_from : ℕ → Region}
     {backing_from : ℕ → Backing} {n m : ℕ} {home_from made_for : ℕ → Option ℕ} {used_at : ℕ → ℕ → Bool} {target_from : ℕ → Option Target}
+    {newest_from : ℕ → Option ℕ}
     {regions_made objects_made marked : ℕ}
     → HasRegions chains objects ids region_from backing_from regions_made objects_made marked
-    → AreHomes header n m home_from made_for used_at region_from backing_from target_from
+    → AreHomes header n m home_from made_for used_at region_from backing_from target_from newest_from
     → (o : ℕ) (row : ShadowRow) → shadow_at chains o ≡ Some row → named header ≤ o
 shadow_temporary {header = header} has homes o row found = shadow_undeclared header has homes.bare o row found
 
 -- a region over a declared object is that object's own
 pub over_declared : {header : Header} {chains : ChainTable} {objects : ObjectTable} {ids : Ids} {region_from : ℕ → Region}
     {backing_from : ℕ → Backing} {n m : ℕ} {home_from made_for : ℕ → Option ℕ} {used_at : ℕ → ℕ → Bool} {target_from : ℕ → Option Target}
+    {newest_from : ℕ → Option ℕ}
     {regions_made objects_made marked : ℕ}
     → HasRegions chains objects ids region_from backing_from regions_made objects_made marked → HasKinds header objects chains
-    → AreHomes header n m home_from made_for used_at region_from backing_from target_from → (r : ℕ) (row : RegionRow) → region_at chains r ≡ Some row
-    → row.top.0 < named header
+    → AreHomes header n m home_from made_for used_at region_from backing_from target_from newest_from → (r : ℕ) (row : RegionRow)
+    → region_at chains r ≡ Some row → row.top.0 < named header
     → r ≡ row.top.0
 over_declared {header = header} has kinds homes r row found declared = elim (kind_cases header r) [
   | inl less ↦ sym (whole_row has homes r row less found).top

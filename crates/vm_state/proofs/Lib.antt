@@ -25,6 +25,7 @@ pub mod PagesMerged
 pub mod Pairs
 pub mod Passing
 pub mod Places
+pub mod PlainObjects
 pub mod Reaching
 pub mod Referred
 pub mod Referring

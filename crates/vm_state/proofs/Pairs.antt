@@ -11,7 +11,7 @@ use Rattle.vm_model.specs.declared.script.Header.{Header}
 use Rattle.vm_model.specs.Controls.{last_control}
 use Rattle.vm_model.specs.Homes.{object_home}
 use Rattle.vm_model.specs.Named.{named}
-use Rattle.vm_model.specs.Regions.{Backing, Region, backing_of, region_of}
+use Rattle.vm_model.specs.Regions.{Backing, Region, backing_of, is_copy, region_of}
 use Rattle.vm_objects.specs.Objects.{ObjectTable, object_at}
 use Rattle.vm_objects.specs.declared.row.ObjectRow.{ObjectRow}
 use Rattle.vm_parts.specs.Changes.{one}
@@ -45,6 +45,7 @@ pub record KnowsPairs (header : Header) (h : ℕ) (chains : ChainTable) (objects
   pub shadows : AreShadowsReferred chains objects
   pub all : (r : ℕ) (row : RegionRow) → named header ≤ r → region_at chains r ≡ Some row → in_use header h r past ≡ true
   pub there : (r : ℕ) → named header ≤ r → in_use header h r past ≡ true → (row : RegionRow) × (region_at chains r ≡ Some row)
+  pub plain : (o : ℕ) (row : ObjectRow) → object_at objects o ≡ Some row → is_copy o past ≡ false
 
 -- at most one number passes a test that no two pass
 tally_one : (test : ℕ → Bool) (n : ℕ) → ((a b : ℕ) → test a ≡ true → test b ≡ true → a ≡ b) → tally test n ≤ 1
@@ -95,6 +96,7 @@ module _ {header : Header} {h : ℕ} {chains : ChainTable} {objects : ObjectTabl
       let link = knows.regions.shadows upper can.link can.over in
       record {
         temporary = subst (λ (z : ℕ). named header ≤ z) can.under (knows.kinds.unders upper can.link can.over);
+        plain = knows.plain lower can.lower_row can.lower_known;
         reached =
             temporary_up knows.regions knows.kinds knows.homes knows.shadows (λ r. in_use header h r past) knows.all upper
             (shadow_temporary knows.regions knows.homes upper can.link can.over)

@@ -97,6 +97,33 @@ chain_known {objects = objects} {region_from = region_from} has r row found n u 
     chain_referred has n (region_from r).top u (subst (λ (k : ℕ). IsReferred objects k) (sym (ap (λ (z : Region). z.top) (has.rows r row found)))
     (refers_region has r row found)) below
 
+-- below an object that isn't declared there are only such objects
+pub chain_temporary : {header : Header} {chains : ChainTable} {objects : ObjectTable} {ids : Ids} {region_from : ℕ → Region} {backing_from : ℕ → Backing}
+    {regions_made objects_made marked : ℕ} → HasRegions chains objects ids region_from backing_from regions_made objects_made marked
+    → HasKinds header objects chains → (n o u : ℕ) → named header ≤ o → IsReferred objects o → Below backing_from n o u → named header ≤ u
+chain_temporary {header = header} has kinds zero o u least referred below = subst (λ (k : ℕ). named header ≤ k) below least
+chain_temporary {header = header} {chains = chains} {objects = objects} {backing_from = backing_from} has kinds (suc n) o u least referred below =
+    let it = next (shadow_at chains o) refl in
+    chain_temporary has kinds n (backing_from o).under u it.0 it.1 below.1
+  where
+    next : (x : Option ShadowRow) → shadow_at chains o ≡ x → (named header ≤ (backing_from o).under) × IsReferred objects (backing_from o).under
+    next None none = absurd (let bad : true ≡ false = sym below.0 ∙ has.bottoms o referred none in cc)
+    next (Some row) found =
+        let under : row.under.0 ≡ (backing_from o).under = sym (ap (λ (z : Backing). z.under) (has.shadows o row found)) in (
+          subst (λ (k : ℕ). named header ≤ k) under (kinds.unders o row found),
+          subst (λ (k : ℕ). IsReferred objects k) under (refers_shadow has o row found),
+        )
+
+-- so are all in the chain of a region that isn't declared
+pub region_temporary : {header : Header} {chains : ChainTable} {objects : ObjectTable} {ids : Ids} {region_from : ℕ → Region} {backing_from : ℕ → Backing}
+    {regions_made objects_made marked : ℕ} → HasRegions chains objects ids region_from backing_from regions_made objects_made marked
+    → HasKinds header objects chains → (r : ℕ) (row : RegionRow) → named header ≤ r → region_at chains r ≡ Some row → (n u : ℕ)
+    → Below backing_from n (region_from r).top u → named header ≤ u
+region_temporary {header = header} {objects = objects} {region_from = region_from} has kinds r row least found n u below =
+    let top : row.top.0 ≡ (region_from r).top = sym (ap (λ (z : Region). z.top) (has.rows r row found)) in
+    chain_temporary has kinds n (region_from r).top u (subst (λ (k : ℕ). named header ≤ k) top (kinds.tops r row least found))
+    (subst (λ (k : ℕ). IsReferred objects k) top (refers_region has r row found)) below
+
 -- what is in the chain of a region in use is referred to
 pub reach_down : {chains : ChainTable} {objects : ObjectTable} {ids : Ids} {region_from : ℕ → Region} {backing_from : ℕ → Backing}
     {regions_made objects_made marked : ℕ} → HasRegions chains objects ids region_from backing_from regions_made objects_made marked → (used : ℕ → Bool)
@@ -107,7 +134,8 @@ reach_down has used known o reach =
 
 -- the chain of a declared region is of its own object alone
 pub chain_declared : {header : Header} {n m : ℕ} {home_from made_for : ℕ → Option ℕ} {used_at : ℕ → ℕ → Bool} {region_from : ℕ → Region}
-    {backing_from : ℕ → Backing} {target_from : ℕ → Option Target} → AreHomes header n m home_from made_for used_at region_from backing_from target_from
+    {backing_from : ℕ → Backing} {target_from : ℕ → Option Target}
+    {newest_from : ℕ → Option ℕ} → AreHomes header n m home_from made_for used_at region_from backing_from target_from newest_from
     → (r steps u : ℕ) → r < named header → Below backing_from steps (region_from r).top u → r ≡ u
 chain_declared {backing_from = backing_from} homes r steps u declared below =
     by_steps steps (subst (λ (z : ℕ). Below backing_from steps z u) (ap (λ (z : Region). z.top) (homes.whole r declared)) below)
@@ -118,9 +146,10 @@ chain_declared {backing_from = backing_from} homes r steps u declared below =
 
 -- a temporary object that is referred to is in the chain of a temporary region
 pub temporary_up : {header : Header} {chains : ChainTable} {objects : ObjectTable} {ids : Ids} {region_from : ℕ → Region} {backing_from : ℕ → Backing}
-    {n m : ℕ} {home_from made_for : ℕ → Option ℕ} {used_at : ℕ → ℕ → Bool} {target_from : ℕ → Option Target} {regions_made objects_made marked : ℕ}
+    {n m : ℕ} {home_from made_for : ℕ → Option ℕ} {used_at : ℕ → ℕ → Bool} {target_from : ℕ → Option Target}
+    {newest_from : ℕ → Option ℕ} {regions_made objects_made marked : ℕ}
     → HasRegions chains objects ids region_from backing_from regions_made objects_made marked → HasKinds header objects chains
-    → AreHomes header n m home_from made_for used_at region_from backing_from target_from
+    → AreHomes header n m home_from made_for used_at region_from backing_from target_from newest_from
     → ((s : ℕ) (row : ShadowRow) → shadow_at chains s ≡ Some row → IsReferred objects s) → (used : ℕ → Bool)
     → ((r : ℕ) (row : RegionRow) → named header ≤ r → region_at chains r ≡ Some row → used r ≡ true) → (o : ℕ) → named header ≤ o → IsReferred objects o
     → Reaches used region_from backing_from o
@@ -154,9 +183,10 @@ temporary_up {header = header} {chains = chains} {region_from = region_from} {ba
 
 -- and what is temporary and in the chain of a region in use is referred to
 pub temporary_down : {header : Header} {chains : ChainTable} {objects : ObjectTable} {ids : Ids} {region_from : ℕ → Region} {backing_from : ℕ → Backing}
-    {n m : ℕ} {home_from made_for : ℕ → Option ℕ} {used_at : ℕ → ℕ → Bool} {target_from : ℕ → Option Target} {regions_made objects_made marked : ℕ}
+    {n m : ℕ} {home_from made_for : ℕ → Option ℕ} {used_at : ℕ → ℕ → Bool} {target_from : ℕ → Option Target}
+    {newest_from : ℕ → Option ℕ} {regions_made objects_made marked : ℕ}
     → HasRegions chains objects ids region_from backing_from regions_made objects_made marked
-    → AreHomes header n m home_from made_for used_at region_from backing_from target_from → (used : ℕ → Bool)
+    → AreHomes header n m home_from made_for used_at region_from backing_from target_from newest_from → (used : ℕ → Bool)
     → ((r : ℕ) → named header ≤ r → used r ≡ true → (row : RegionRow) × (region_at chains r ≡ Some row)) → (o : ℕ) → named header ≤ o
     → Reaches used region_from backing_from o → IsReferred objects o
 temporary_down {header = header} has homes used known o least reach = elim (kind_cases header reach.0) [

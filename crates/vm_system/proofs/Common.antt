@@ -61,7 +61,7 @@ pub use Rattle.vm_legal.proofs.Locks.{no_request}
 pub use Rattle.vm_legal.proofs.Paying.{lock_more, paid_more}
 pub use Rattle.vm_legal.proofs.Stretched.{each_both, each_whole, inner_both, licensed_both, licensed_front, moment_last, moments_both, moments_whole, of_both}
 pub use Rattle.vm_legal.proofs.Stretched.{steps_whole}
-pub use Rattle.vm_legal.specs.Accesses.{Comes, Copies, Elsewhere, HasPlace, Nowhere, Raises, Waits, WaitsUnlocked, WantsFrame, page_of}
+pub use Rattle.vm_legal.specs.Accesses.{Comes, Copies, Elsewhere, HasPlace, Nowhere, Pushes, Raises, Waits, WaitsUnlocked, WantsFrame, page_of}
 pub use Rattle.vm_legal.specs.Bytes.{CopiesCurrent, FlatBytes, LoadsCurrent, OwnBytes}
 pub use Rattle.vm_legal.specs.Debts.{IsPaid}
 pub use Rattle.vm_legal.specs.Follows.{IsConsequence, IsDoneSoFar, clean_head, head, take_head}
@@ -72,7 +72,9 @@ pub use Rattle.vm_legal.specs.Legal.{HasOneWriter, Holds, IsAtRest, CanonicalFor
 pub use Rattle.vm_legal.specs.Licences.{HasCause, MaySendUp, MayTake, ReturnsOn, is_paged, lock_taken, owed, tells, up}
 pub use Rattle.vm_legal.specs.Outside.{NoneIsTemporary, Outside, is_file, is_shared, is_wild, kind_of}
 pub use Rattle.vm_legal.specs.Pagers.{Known, known_after, known_below, known_control, last_return, or_known}
-pub use Rattle.vm_legal.specs.Prompt.{AReady, AnAnswer, AnUnlock, Awaits, HostIsFull, IsExhausted, IsSource, NoneInVain, Prompt, AllServed, WaitsForPager}
+pub use Rattle.vm_legal.specs.Prompt.{AReady, AllServed, AnAnswer, AnUnlock, AtPlace, Awaits, AwaitsPage, ForPush, HostIsFull, IsExhausted, IsSource}
+pub use Rattle.vm_legal.specs.Prompt.{NoneInVain, Prompt, WaitsForPager}
+pub use Rattle.vm_legal.specs.Pushes.{OwesPush}
 pub use Rattle.vm_legal.specs.Refusal.{acting, code_where, copy_refusal, has_copy_mark, is_copy_full, is_elsewhere, is_empty, is_fork_full, is_full, refusal}
 pub use Rattle.vm_legal.specs.Steps.{Letter, before_step, taken_letter, takings}
 pub use Rattle.vm_legal.specs.Stretches.{AllInner, EachIn, EachOf, IsInner, MomentsIn}

@@ -1,7 +1,10 @@
 -- What holds at the end of a step doesn't change with a line, or with the code of a refusal.
-use Rattle.vm_system.proofs.Common.{AReady, Access, AllInner, AllRest, AnAnswer, AnUnlock, Awaits, Bool, Code, Comes, Copies, Elsewhere, Event, HasPlace}
-use Rattle.vm_system.proofs.Common.{Header, HostIsFull, HostTable, IsExhausted, IsPaid, IsSource, List, None, NoneInVain, Nowhere, Prompt, Raises, Some, Waits}
-use Rattle.vm_system.proofs.Common.{WaitsForPager, WaitsUnlocked, WantsFrame, [], ap, common_all, false, inl, inr, is_some, is_store, owed, page_of, paid_of}
+use Rattle.vm_system.proofs.Common.{AReady, Access, AllInner, AllRest, AnAnswer, AnUnlock, AtPlace, Awaits, AwaitsPage, Bool, Code, Comes, Copies, Elsewhere}
+use Rattle.vm_system.proofs.Common.{Event, HasPlace}
+use Rattle.vm_system.proofs.Common.{ForPush, Header, HostIsFull, HostTable, IsExhausted, IsPaid, IsSource, List, None, NoneInVain, Nowhere, Prompt, Raises}
+use Rattle.vm_system.proofs.Common.{Some, Waits}
+use Rattle.vm_system.proofs.Common.{OwesPush, Pushes, WaitsForPager, WaitsUnlocked, WantsFrame, [], ap, common_all, false, inl, inr, is_some, is_store, owed}
+use Rattle.vm_system.proofs.Common.{page_of, paid_of}
 use Rattle.vm_system.proofs.Common.{refl, true, ℕ, ◌++◌, ◌∷◌, ◌≡◌}
 use Rattle.vm_legal.proofs.Exhausted.{exhausted_still}
 use Rattle.vm_model.specs.declared.event.Event.TheVariants as event
@@ -36,6 +39,11 @@ comes_line : (header : Header) (host region page object object_page : ℕ) (line
 comes_line header host region page object object_page line h is =
     record { top = is.top; top_page = is.top_page; steps = is.steps; is_top = is.is_top; walks = is.walks }
 
+owes_line : (header : Header) (host object page copy : ℕ) (line : ℕ) (h : List Event) → OwesPush header host object page copy h
+    → OwesPush header host object page copy (event.Line line ∷ h)
+owes_line header host object page copy line h owes =
+    record { file = owes.file; newest = owes.newest; lives = owes.lives; unpushed = owes.unpushed }
+
 wants_line : (header : Header) (host task : ℕ) (access : Access) (region page : ℕ) (line : ℕ) (h : List Event)
     → WantsFrame header host task access region page h → WantsFrame header host task access region page (event.Line line ∷ h)
 wants_line header host task access region page line h (Nowhere served top top_page steps is sinks) =
@@ -46,6 +54,8 @@ wants_line header host task access region page line h (Copies object object_page
     Copies object object_page (comes_line header host region page object object_page line h comes) here address bytes to is
 wants_line header host task access region page line h (Raises top top_page steps object object_page is walks here store) =
     Raises top top_page steps object object_page is walks here store
+wants_line header host task access region page line h (Pushes object object_page copy is here store owes unasked) =
+    Pushes object object_page copy is here store (owes_line header host object object_page copy line h owes) unasked
 
 awaits_line : (header : Header) (host : ℕ) (store : Bool) (object page : ℕ) (line : ℕ) (h : List Event) → Awaits header host store object page h
     → Awaits header host store object page (event.Line line ∷ h)
@@ -53,15 +63,20 @@ awaits_line header host store object page line h (AnAnswer asked) = AnAnswer ask
 awaits_line header host store object page line h (AReady control live unready) = AReady control live unready
 awaits_line header host store object page line h (AnUnlock here named unlocking) = AnUnlock here named unlocking
 
+awaits_page_line : (header : Header) (host : ℕ) (access : Access) (region page : ℕ) (line : ℕ) (h : List Event)
+    → AwaitsPage header host access region page h → AwaitsPage header host access region page (event.Line line ∷ h)
+awaits_page_line header host access region page line h (AtPlace object object_page place what) =
+    AtPlace object object_page (place_line header region page object object_page line h place)
+    (awaits_line header host (is_store access) object object_page line h what)
+awaits_page_line header host access region page line h (ForPush object object_page copy store is owes asked) =
+    ForPush object object_page copy store is (owes_line header host object object_page copy line h owes) asked
+
 for_pager_line : (header : Header) (host task : ℕ) (access : Access) (line : ℕ) (h : List Event) → WaitsForPager header host task access h
     → WaitsForPager header host task access (event.Line line ∷ h)
 for_pager_line header host task access line h is = record {
   waits = waits_line header task access line h is.waits;
   on_host = is.on_host;
-  object = is.object;
-  page = is.page;
-  place = place_line header is.waits.at.entry.region.0 (page_of header task access h is.waits.at.entry) is.object is.page line h is.place;
-  what = awaits_line header host (is_store access) is.object is.page line h is.what;
+  what = awaits_page_line header host access is.waits.at.entry.region.0 (page_of header task access h is.waits.at.entry) line h is.what;
 }
 
 unlocked_line : (header : Header) (host object page : ℕ) (line : ℕ) (h : List Event) → WaitsUnlocked header host object page h
@@ -113,12 +128,16 @@ prompt_line header line h prompt host below = record {
         pages = swept.pages;
         controls = swept.controls;
         declared_pages =
-            λ object page low held. swept.declared_pages object page low (record { unmapped = held.unmapped; uncached = held.uncached });
-        declared_controls = λ object low held. swept.declared_controls object low (record { unmapped = held.unmapped; uncached = held.uncached });
+            λ object page low held.
+            swept.declared_pages object page low (record { unmapped = held.unmapped; uncached = held.uncached; unreached = held.unreached });
+        declared_controls =
+            λ object low held.
+            swept.declared_controls object low (record { unmapped = held.unmapped; uncached = held.uncached; unreached = held.unreached });
       };
   thin = λ upper lower pair.
       (prompt host below).thin upper lower (record {
         temporary = pair.temporary;
+        plain = pair.plain;
         reached = pair.reached;
         backed = pair.backed;
         under = pair.under;
@@ -148,6 +167,7 @@ awake_line header line h awake host known task sleeper =
           };
       here = sleeper.here;
       let_in = sleeper.let_in;
+      free = λ store copy owes. sleeper.free store copy (owes_line header host sleeper.object sleeper.page copy line h owes);
     })
 
 -- a code
@@ -172,6 +192,11 @@ comes_code : (header : Header) (host region page object object_page : ℕ) (why 
 comes_code header host region page object object_page why h is =
     record { top = is.top; top_page = is.top_page; steps = is.steps; is_top = is.is_top; walks = is.walks }
 
+owes_code : (header : Header) (host object page copy : ℕ) (why : Code) (h : List Event) → OwesPush header host object page copy h
+    → OwesPush header host object page copy (event.Refused why ∷ h)
+owes_code header host object page copy why h owes =
+    record { file = owes.file; newest = owes.newest; lives = owes.lives; unpushed = owes.unpushed }
+
 wants_code : (header : Header) (host task : ℕ) (access : Access) (region page : ℕ) (why : Code) (h : List Event)
     → WantsFrame header host task access region page h → WantsFrame header host task access region page (event.Refused why ∷ h)
 wants_code header host task access region page why h (Nowhere served top top_page steps is sinks) =
@@ -182,6 +207,8 @@ wants_code header host task access region page why h (Copies object object_page 
     Copies object object_page (comes_code header host region page object object_page why h comes) here address bytes to is
 wants_code header host task access region page why h (Raises top top_page steps object object_page is walks here store) =
     Raises top top_page steps object object_page is walks here store
+wants_code header host task access region page why h (Pushes object object_page copy is here store owes unasked) =
+    Pushes object object_page copy is here store (owes_code header host object object_page copy why h owes) unasked
 
 awaits_code : (header : Header) (host : ℕ) (store : Bool) (object page : ℕ) (why : Code) (h : List Event) → Awaits header host store object page h
     → Awaits header host store object page (event.Refused why ∷ h)
@@ -189,15 +216,20 @@ awaits_code header host store object page why h (AnAnswer asked) = AnAnswer aske
 awaits_code header host store object page why h (AReady control live unready) = AReady control live unready
 awaits_code header host store object page why h (AnUnlock here named unlocking) = AnUnlock here named unlocking
 
+awaits_page_code : (header : Header) (host : ℕ) (access : Access) (region page : ℕ) (why : Code) (h : List Event)
+    → AwaitsPage header host access region page h → AwaitsPage header host access region page (event.Refused why ∷ h)
+awaits_page_code header host access region page why h (AtPlace object object_page place what) =
+    AtPlace object object_page (place_code header region page object object_page why h place)
+    (awaits_code header host (is_store access) object object_page why h what)
+awaits_page_code header host access region page why h (ForPush object object_page copy store is owes asked) =
+    ForPush object object_page copy store is (owes_code header host object object_page copy why h owes) asked
+
 for_pager_code : (header : Header) (host task : ℕ) (access : Access) (why : Code) (h : List Event) → WaitsForPager header host task access h
     → WaitsForPager header host task access (event.Refused why ∷ h)
 for_pager_code header host task access why h is = record {
   waits = waits_code header task access why h is.waits;
   on_host = is.on_host;
-  object = is.object;
-  page = is.page;
-  place = place_code header is.waits.at.entry.region.0 (page_of header task access h is.waits.at.entry) is.object is.page why h is.place;
-  what = awaits_code header host (is_store access) is.object is.page why h is.what;
+  what = awaits_page_code header host access is.waits.at.entry.region.0 (page_of header task access h is.waits.at.entry) why h is.what;
 }
 
 unlocked_code : (header : Header) (host object page : ℕ) (why : Code) (h : List Event) → WaitsUnlocked header host object page h
@@ -259,6 +291,7 @@ awake_code header why h awake host known task sleeper =
           };
       here = sleeper.here;
       let_in = sleeper.let_in;
+      free = λ store copy owes. sleeper.free store copy (owes_code header host sleeper.object sleeper.page copy why h owes);
     })
 
 pub prompt_code : (header : Header) (why : Code) (h : List Event) → Prompt header h → Prompt header (event.Refused why ∷ h)
@@ -270,12 +303,16 @@ prompt_code header why h prompt host below = record {
         pages = swept.pages;
         controls = swept.controls;
         declared_pages =
-            λ object page low held. swept.declared_pages object page low (record { unmapped = held.unmapped; uncached = held.uncached });
-        declared_controls = λ object low held. swept.declared_controls object low (record { unmapped = held.unmapped; uncached = held.uncached });
+            λ object page low held.
+            swept.declared_pages object page low (record { unmapped = held.unmapped; uncached = held.uncached; unreached = held.unreached });
+        declared_controls =
+            λ object low held.
+            swept.declared_controls object low (record { unmapped = held.unmapped; uncached = held.uncached; unreached = held.unreached });
       };
   thin = λ upper lower pair.
       (prompt host below).thin upper lower (record {
         temporary = pair.temporary;
+        plain = pair.plain;
         reached = pair.reached;
         backed = pair.backed;
         under = pair.under;

@@ -1,4 +1,5 @@
 mod Beside
+mod Pushed
 pub mod Sleeping
 mod SlowCopy
 pub mod Steps

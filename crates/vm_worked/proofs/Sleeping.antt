@@ -1,5 +1,5 @@
 -- An access sleeps beside its page, on a host with six free frames.
-use Rattle.std.proofs.Common.{List, ◌≡◌, arith, refl}
+use Rattle.std.proofs.Common.{List, false, true, ◌≡◌, arith, refl}
 use Rattle.vm_base.specs.declared.entry.Entry.{Entry}
 use Rattle.vm_base.specs.declared.ids.Inherit.TheVariants.{Copy}
 use Rattle.vm_model.specs.declared.command.Numbered.{Numbered}
@@ -9,7 +9,7 @@ use Rattle.vm_legal.specs.Frames.{frames_free}
 use Rattle.vm_legal.specs.InTurn.{ComesToPage}
 use Rattle.vm_legal.specs.Legal.{CanonicalFor}
 use Rattle.vm_legal.specs.Outside.{Outside}
-use Rattle.vm_legal.specs.Prompt.{AnAnswer, WaitsForPager}
+use Rattle.vm_legal.specs.Prompt.{AnAnswer, AtPlace, WaitsForPager}
 use Rattle.vm_worked.specs.Sleeping.{both, header, history, region}
 
 abbrev entry : Entry
@@ -23,10 +23,9 @@ awaits =
     record {
       waits = waits;
       on_host = refl;
-      object = 0;
-      page = 0;
-      place = record { top = 1; top_page = 0; steps = 1; is_top = record { object = refl; page = refl }; leads = (refl, (refl, refl)) };
-      what = AnAnswer refl;
+      what =
+          AtPlace 0 0 (record { top = 1; top_page = 0; steps = 1; is_top = record { object = refl; page = refl }; leads = (refl, (refl, refl)) })
+          (AnAnswer refl);
     }
 
 pub comes : ComesToPage header 0 1 history
@@ -40,6 +39,7 @@ comes =
       comes = record { top = 1; top_page = 0; steps = 0; is_top = record { object = refl; page = refl }; walks = (refl, refl) };
       here = refl;
       let_in = refl;
+      free = λ store. absurd (let bad : false ≡ true = store in cc);
     }
 
 pub free : frames_free header 0 history ≡ 6

@@ -25,7 +25,7 @@ use Rattle.vm_legal.specs.Serving.{HostsServed}
 use Rattle.vm_legal.proofs.Serving.{one_served}
 use Rattle.vm_legal.specs.Legal.{CanonicalFor}
 use Rattle.vm_legal.specs.Outside.{is_shared}
-use Rattle.vm_legal.specs.Prompt.{AllServed, AnAnswer, Prompt, PromptAt, WaitsForPager}
+use Rattle.vm_legal.specs.Prompt.{AllServed, AnAnswer, AtPlace, Prompt, PromptAt, WaitsForPager}
 use Rattle.vm_legal.specs.Swept.{IsSwept, IsUnheld}
 use Rattle.vm_legal.specs.Steps.{Letter, answers, error_taken, readies, since}
 use Rattle.vm_legal.specs.Walks.{Reach, page_on}
@@ -206,10 +206,7 @@ prompt_asked =
     (copying asked only waits_asked (record {
       waits = waits_asked;
       on_host = refl;
-      object = 0;
-      page = 0;
-      place = record { top = 0; top_page = 0; steps = 0; is_top = record { object = refl; page = refl }; leads = (refl, refl) };
-      what = AnAnswer refl;
+      what = AtPlace 0 0 (record { top = 0; top_page = 0; steps = 0; is_top = record { object = refl; page = refl }; leads = (refl, refl) }) (AnAnswer refl);
     })
     nothing_asked (λ o. refl))
 
@@ -220,10 +217,7 @@ prompt_settles_again =
     (record {
       waits = waits_settles_again;
       on_host = refl;
-      object = 0;
-      page = 0;
-      place = record { top = 0; top_page = 0; steps = 0; is_top = record { object = refl; page = refl }; leads = (refl, refl) };
-      what = AnAnswer refl;
+      what = AtPlace 0 0 (record { top = 0; top_page = 0; steps = 0; is_top = record { object = refl; page = refl }; leads = (refl, refl) }) (AnAnswer refl);
     })
     nothing_settles_again (λ o. refl))
 
@@ -234,10 +228,7 @@ prompt_supplied =
     (record {
       waits = waits_supplied;
       on_host = refl;
-      object = 0;
-      page = 0;
-      place = record { top = 0; top_page = 0; steps = 0; is_top = record { object = refl; page = refl }; leads = (refl, refl) };
-      what = AnAnswer refl;
+      what = AtPlace 0 0 (record { top = 0; top_page = 0; steps = 0; is_top = record { object = refl; page = refl }; leads = (refl, refl) }) (AnAnswer refl);
     })
     nothing_supplied (λ o. refl))
 

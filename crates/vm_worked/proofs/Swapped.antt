@@ -259,6 +259,7 @@ first_licensed = (
         is_top = record { object = refl; page = refl };
         steps = 0;
         sinks = (record { away = refl; unasked = refl; without = refl }, refl);
+        plain = λ depth below is. omega arith;
       }),
       tt,
     ),
@@ -293,6 +294,7 @@ second_licensed = (
         is_top = record { object = refl; page = refl };
         steps = 0;
         sinks = (record { away = refl; unasked = refl; without = refl }, refl);
+        plain = λ depth below is. omega arith;
       }),
       tt,
     ),

@@ -1,4 +1,5 @@
 pub mod Beside
+pub mod Pushed
 pub mod Sleeping
 pub mod Swapped
 pub mod Worked

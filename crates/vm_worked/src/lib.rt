@@ -4,7 +4,7 @@
 //! to hold of something, and to refuse something.
 #![tactic(auto)]
 
-ghost use Rattle.std.specs.Prelude.{◌≡◌, List};
+ghost use Rattle.std.specs.Prelude.{◌≡◌, ◌∷◌, List};
 ghost use Rattle.vm_model.specs.declared.command.Command.{Command};
 ghost use Rattle.vm_model.specs.declared.command.Numbered.{Numbered};
 ghost use Rattle.vm_model.specs.declared.event.Event.TheVariants as event;
@@ -17,6 +17,7 @@ ghost use Rattle.vm_legal.specs.Prompt.{WaitsForPager};
 ghost use Rattle.vm_model.specs.Waiting.{Loading};
 ghost use Rattle.vm_quiet.specs.Unended as unended;
 ghost use Rattle.vm_worked.specs.Beside as beside;
+ghost use Rattle.vm_worked.specs.Pushed as pushed;
 ghost use Rattle.vm_worked.specs.Sleeping as sleeping;
 ghost use Rattle.vm_worked.specs.Swapped as swapped;
 ghost use Rattle.vm_worked.specs.Worked as worked;
@@ -57,4 +58,12 @@ pub fn an_access_beside_its_page_may_not_sleep()
 pub fn zeros_for_nobody_have_no_cause()
     ensures { (outside : Outside) (doing : Command) → Caused beside.header outside doing (event.Zeroed beside.host (beside.object 1) beside.page) beside.history
         → ⊥ }
+{}
+
+/// A task has copied a page of a file that is here, and begins a store on the file. What the copy still shares comes to its own place
+/// first: that has its cause, and the store has one behind it, and none without it.
+pub fn a_store_on_a_copied_file_pushes_first()
+    ensures pushed { (outside : Outside) (doing : Command) → Caused beside.header outside doing pushed.push pushed.history }
+    ensures paid { (outside : Outside) (doing : Command) → Caused beside.header outside doing pushed.store (pushed.push ∷ pushed.history) }
+    ensures unpaid { (outside : Outside) (doing : Command) → Caused beside.header outside doing pushed.store pushed.history → ⊥ }
 {}

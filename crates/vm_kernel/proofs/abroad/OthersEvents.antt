@@ -396,6 +396,10 @@ module _ (header : Header) (h : ℕ) (k : Parts) (ids next : Ids) (past new : Li
                     ∙ sym (same.sizes o (small_object rests.matches.core.objects.regions o row found));
                 few = rests.matches.core.objects.sizes.few;
               };
+              plain = λ o row found. same.copies o (small_object rests.matches.core.objects.regions o row found)
+                  ∙ rests.matches.core.objects.plain o row found;
+              undelayed = λ o less. same.copies o (let more = named_objects header past in omega (arith, less, more))
+                  ∙ rests.matches.core.objects.undelayed o less;
             };
             controls = controls_same objects;
             flags = λ o less. same.pages.cached o ∙ rests.matches.core.flags o less;

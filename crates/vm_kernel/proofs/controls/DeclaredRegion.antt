@@ -54,7 +54,8 @@ use Rattle.vm_kernel.proofs.space.RegionHomes.{homes_caused, homes_put}
 use Rattle.vm_state.specs.Stands.{HasFlags}
 use Rattle.vm_kernel.specs.Matches.{ControlFacts, Core, HasOrder, HasWaits, IsCalm, UsesAll, memory_facts, space_facts}
 use Rattle.vm_model.specs.Local.{Local}
-use Rattle.vm_model.specs.Regions.{object_pages as pages_told}
+use Rattle.vm_model.specs.Regions.{is_copy, object_pages as pages_told}
+use Rattle.vm_state.proofs.PlainObjects.{plain_new}
 use Rattle.vm_objects.specs.declared.row.PagerState.TheVariants as state
 use Rattle.vm_base.specs.declared.ids.Inherit.TheVariants as inherit
 use Rattle.vm_supply.specs.declared.woken.Woken.TheVariants as woken
@@ -531,6 +532,9 @@ core_declared header h outside doing task address bytes object offset pages new 
         sizes = sizes_new (named header) object.0 new k.memory.objects objects (λ x. pages_told header x past) (λ x. pages_told header x past) o.put
             (let pages = o.known.pages in let most = declared_few header object.0 m.core.setting.ranged may.declared in omega (arith, pages, most))
             (λ least. let declared = may.declared in absurd (omega (arith, least, declared))) (λ x apart. refl) m.core.objects.sizes;
+        plain = plain_new object.0 new k.memory.objects objects (λ x. is_copy x past) o.put (m.core.objects.undelayed object.0 may.declared)
+            m.core.objects.plain;
+        undelayed = m.core.objects.undelayed;
       };
       controls = controls_stay (λ x at_home. object_stays x h enters past at_home) controls;
       flags = flags;

@@ -15,6 +15,7 @@ use Rattle.vm_parts.specs.Changes.{one}
 use Rattle.vm_state.proofs.Files.{files_put}
 use Rattle.vm_state.proofs.Flagging.{but_flagged, kinds_flagged, referred_flagged, regions_flagged}
 use Rattle.vm_state.proofs.KnownPages.{sizes_put}
+use Rattle.vm_state.proofs.PlainObjects.{plain_put}
 use Rattle.vm_state.proofs.Told.{told_all, waits_told}
 use Rattle.vm_state.specs.Pagers.{cached_in}
 use Rattle.vm_state.specs.Stands.{HasFlags}
@@ -127,6 +128,8 @@ module _ {header : Header} {h : ℕ} {k : Parts} {ids : Ids} {who : Woken} {obje
                 (λ tame some. to.live) core.objects.kinds;
             files = files_put header h object.0 to.known now k.memory.objects objects _ to.found is.put core.objects.files;
             sizes = sizes_put (named header) object.0 to.known now k.memory.objects objects _ to.found refl is.put core.objects.sizes;
+            plain = plain_put object.0 to.known now k.memory.objects objects _ to.found is.put core.objects.plain;
+            undelayed = core.objects.undelayed;
           };
           controls = controls_put object.0 to.known now k.memory.objects objects _ _ _ to.found is.put refl refl refl core.controls;
           flags = flags;

@@ -32,6 +32,7 @@ use Rattle.vm_state.proofs.Changing.{regions_known}
 use Rattle.vm_state.proofs.Files.{files_put}
 use Rattle.vm_state.proofs.Knowing.{known_put}
 use Rattle.vm_state.proofs.KnownPages.{sizes_put}
+use Rattle.vm_state.proofs.PlainObjects.{plain_put}
 use Rattle.vm_state.proofs.Referred.{all_but, all_ended, but_known}
 use Rattle.vm_state.specs.Places.{known_local}
 use Rattle.vm_state.specs.References.{references_to}
@@ -202,6 +203,8 @@ module _ {header : Header} {h : ℕ} {object : ObjectId} {k : Parts} {ids : Ids}
           }) core.objects.kinds;
           files = files_put header h object.0 known (gone_row known left) k.memory.objects os2 _ is.found gone.put core.objects.files;
           sizes = sizes_put (named header) object.0 known (gone_row known left) k.memory.objects os2 _ is.found refl gone.put core.objects.sizes;
+          plain = plain_put object.0 known (gone_row known left) k.memory.objects os2 _ is.found gone.put core.objects.plain;
+          undelayed = core.objects.undelayed;
         };
         controls = controls;
         flags = rw (own_host h) (flags_set object.0 (gone_row known left) false gone.put refl core.flags);

@@ -1,6 +1,7 @@
 -- A page that is asked is answered: its bytes come, or it is asked no more, or zeros come where the pager of a declared object has none.
 use Rattle.vm_state.proofs.KnownPages.{sizes_same}
-use Rattle.vm_model.specs.Regions.{object_pages as pages_made}
+use Rattle.vm_model.specs.Regions.{is_copy, object_pages as pages_made}
+use Rattle.vm_state.proofs.PlainObjects.{plain_same}
 use Rattle.vm_kernel.proofs.Common.{Access, Bool, Cancels, ChainTable, Changes, Command, Elsewhere, EndsNobody, Event, FailsNow, FailsPage, FillsPage}
 use Rattle.vm_kernel.proofs.Common.{FrameTable, HasAsker, HasFrames, HasKinds, HasPages, HasWaiters, Header, HostId, HostParts, Ids, IsAnswered, IsPagerTold}
 use Rattle.vm_kernel.proofs.Common.{Lacks, List, Local, LocalEffect, Mapped, Message, None, ObjectId, ObjectTable, On, Option, Outside, PageNo, PageRow, Parts}
@@ -163,6 +164,7 @@ changed_supplied header h k ids events after past object control page lock preci
       kinds = kinds_same header k.memory.objects new.objects k.chains same (same_marks k.memory.objects new.objects supplies.objects) was.core.objects.kinds;
       files = files_same header h k.memory.objects new.objects (λ o. home_of o past) same was.core.objects.files;
       sizes = sizes_same (named header) k.memory.objects new.objects (λ o. pages_made header o past) same was.core.objects.sizes;
+      plain_known = plain_same k.memory.objects new.objects (λ o. is_copy o past) same was.core.objects.plain;
       pages =
           pages_eq new.frames new.resident new.objects (λ o p. known_local header o p (effect_on header.size key (TakesPage lock precious bytes) local_at o p))
           (λ o p. known_local header o p (local header h (place_of o p) (hears h object control (message.Supply page lock precious bytes) ∷ past)))
@@ -236,6 +238,7 @@ changed_ended header h k ids past object control page m effect who row new rests
       kinds = kinds;
       files = files_same header h k.memory.objects new.objects (λ o. home_of o past) same was.core.objects.files;
       sizes = sizes_same (named header) k.memory.objects new.objects (λ o. pages_made header o past) same was.core.objects.sizes;
+      plain_known = plain_same k.memory.objects new.objects (λ o. is_copy o past) same was.core.objects.plain;
       pages = pages_eq new.frames new.resident new.objects (λ o p. known_local header o p (effect_on header.size key effect local_at o p))
           (λ o p. known_local header o p (local header h (place_of o p) (hears h object control m ∷ past))) pages
           (λ o p. ap (known_local header o p)
@@ -402,6 +405,7 @@ changed_zeroed header h k ids host after past object control page who new rests 
       kinds = kinds_same header k.memory.objects new.objects k.chains same (same_marks k.memory.objects new.objects zeroes.objects) was.core.objects.kinds;
       files = files_same header h k.memory.objects new.objects (λ o. home_of o past) same was.core.objects.files;
       sizes = sizes_same (named header) k.memory.objects new.objects (λ o. pages_made header o past) same was.core.objects.sizes;
+      plain_known = plain_same k.memory.objects new.objects (λ o. is_copy o past) same was.core.objects.plain;
       pages = subst (λ (z : ObjectTable). HasPages new.frames new.resident z local_now) (sym zeroes.objects) pages;
       controls =
           controls_of k.memory.objects new.objects (λ o. last_control h o past) (λ o. live_control h o past) (λ o. is_ready h o past) (λ o. is_ready h o past)

@@ -1,6 +1,7 @@
 -- A message of a pager is taken: what the kernel stands for behind it, where it changes nothing, and where the pager is ready now.
 use Rattle.vm_state.proofs.KnownPages.{sizes_put}
-use Rattle.vm_model.specs.Regions.{object_pages as pages_made}
+use Rattle.vm_model.specs.Regions.{is_copy, object_pages as pages_made}
+use Rattle.vm_state.proofs.PlainObjects.{AreNoCopies, plain_put}
 use Rattle.vm_kernel.proofs.Common.{Access, AllReferred, ArePlain, Backing, Bool, ChainTable, EndsNobody, Event, FailsNow, Fit, FrameTable, HasAsker}
 use Rattle.vm_kernel.proofs.Common.{HasControls, HasFrames, HasKinds, HasLaundry, HasOrder, HasPages, HasRegions, HasTasks, HasUse, HasWaiters, Header}
 use Rattle.vm_kernel.proofs.Common.{HostParts, Ids, IsAnswered, IsOfKind, IsPagerTold, IsReferred, IsSettled, KnowsHomes, List, Local, Mapped, Message, None}
@@ -90,6 +91,7 @@ pub record Changed (header : Header) (h : ℕ) (k : Parts) (ids : Ids) (who : Wo
   pub kinds : HasKinds header new.objects k.chains
   pub files : KnowsFiles header h new.objects (λ o. home_of o past)
   pub sizes : KnowsPages (named header) new.objects (λ o. pages_made header o past)
+  pub plain_known : AreNoCopies new.objects (λ o. is_copy o past)
   pub pages : HasPages new.frames new.resident new.objects (λ o p. known_local header o p (local header h (place_of o p) now))
   pub controls : HasControls (named header) h new.objects (λ o. last_control h o past) (λ o. live_control h o past) (λ o. is_ready h o now)
       (λ o. object_home o past)
@@ -113,6 +115,7 @@ zeros h object page = event.Zeroed (host_id h) object page
 pub record Stays (header : Header) (h : ℕ) (k : Parts) (past now : List Event) : Type 0 where
   pub home : (r : ℕ) → home_of r now ≡ home_of r past
   pub sizes : (o : ℕ) → pages_made header o now ≡ pages_made header o past
+  pub copy : (o : ℕ) → is_copy o now ≡ is_copy o past
   pub target : (task : ℕ) → copy_target task now ≡ copy_target task past
   pub next : (task : ℕ) → next_page task now ≡ next_page task past
   pub tasks : HasTasks h header.size k.maps (λ task. host_of task now) (λ task. entries_of header.size task now)
@@ -149,6 +152,7 @@ stays_heard header h k ids past object control m rests none =
     record {
       home = λ r. refl;
       sizes = λ o. refl;
+      copy = λ o. refl;
       target = λ task. refl;
       next = λ task. refl;
       tasks = was.core.spaces.tasks;
@@ -172,6 +176,7 @@ stays_zeroed header h k past now object page stays =
     record {
       home = stays.home;
       sizes = stays.sizes;
+      copy = stays.copy;
       target = stays.target;
       next = stays.next;
       tasks = stays.tasks;
@@ -210,6 +215,8 @@ works_of header h k ids who new past now rests stays fit same c =
           kinds = c.kinds;
           files = λ o file. ap (is_on h) (stays.home o) ∙ c.files o file;
           sizes = record { at = λ o known least is. c.sizes.at o known least is ∙ sym (stays.sizes o); few = c.sizes.few };
+          plain = λ o known is. stays.copy o ∙ c.plain_known o known is;
+          undelayed = λ o less. stays.copy o ∙ was.core.objects.undelayed o less;
         };
         controls = stays.controls c.controls;
         flags = c.flags;
@@ -352,6 +359,7 @@ changed_none header h k ids past object control m rests nothing =
       kinds = was.core.objects.kinds;
       files = was.core.objects.files;
       sizes = was.core.objects.sizes;
+      plain_known = was.core.objects.plain;
       pages =
           pages_eq k.memory.frames k.memory.resident k.memory.objects (λ o p. known_local header o p (local header h (place_of o p) past))
           (λ o p. known_local header o p (local header h (place_of o p) (hears h object control m ∷ past)))
@@ -487,6 +495,9 @@ changed_ready header h k ids events after past object control cache strategy who
       sizes =
           sizes_put (named header) object.0 known (record known { state = state.Ready }) k.memory.objects new.objects (λ o. pages_made header o past)
           readies.found refl readies.ready was.core.objects.sizes;
+      plain_known =
+          plain_put object.0 known (record known { state = state.Ready }) k.memory.objects new.objects (λ o. is_copy o past) readies.found readies.ready
+          was.core.objects.plain;
       pages =
           pages_marked k.memory.frames k.memory.resident k.memory.objects new.objects
           (λ o p. known_local header o p (local header h (place_of o p) (hears h object control (message.Ready cache strategy) ∷ past)))

@@ -54,6 +54,8 @@ unmarked_with header h outside doing past k ids region row chains works there co
             kinds = kinds_unmarked header region.0 row k.memory.objects k.chains chains put there m.core.objects.kinds;
             files = m.core.objects.files;
             sizes = m.core.objects.sizes;
+            plain = m.core.objects.plain;
+            undelayed = m.core.objects.undelayed;
           };
           controls = m.core.controls;
           flags = m.core.flags;

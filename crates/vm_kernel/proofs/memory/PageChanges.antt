@@ -1,5 +1,6 @@
 -- What a kernel stands for once one of its pages has changed, whatever the reason: a page goes, goes back to its pager, or stays with another row.
 use Rattle.vm_state.proofs.KnownPages.{sizes_put, sizes_same}
+use Rattle.vm_state.proofs.PlainObjects.{plain_put, plain_same}
 use Rattle.vm_kernel.specs.Matches.{AccessFacts, Amidst, ControlFacts, Core, IsReplied, ObjectFacts, Objects, Pages, SpaceFacts, access_facts, control_facts}
 use Rattle.vm_kernel.specs.Matches.{memory_facts, space_facts}
 use Rattle.vm_kernel.proofs.memory.CoreChanges.{core_within, with_tables}
@@ -114,6 +115,8 @@ amidst_moved {header = header} {h = h} {k = k} {ids = ids} {gone = gone} {who = 
         kinds = moved.kinds;
         files = files_same header h k.memory.objects memory.objects _ moved.objects a.core.objects.files;
         sizes = sizes_same (named header) k.memory.objects memory.objects _ moved.objects a.core.objects.sizes;
+        plain = plain_same k.memory.objects memory.objects _ moved.objects a.core.objects.plain;
+        undelayed = a.core.objects.undelayed;
       };
       controls = controls_same k.memory.objects memory.objects _ _ _ a.core.controls moved.objects.at;
       flags = flags_same moved.objects a.core.flags;
@@ -244,6 +247,8 @@ objects_known {header = header} {h = h} {o = o} {row = row} {new = new} {chains 
       kinds = kinds_put header o new os os2 chains put marks is has.kinds;
       files = files_put header h o row new os os2 _ found put has.files;
       sizes = sizes_put (named header) o row new os os2 _ found pages put has.sizes;
+      plain = plain_put o row new os os2 _ found put has.plain;
+      undelayed = has.undelayed;
     }
 
 pub fits_known : {size o : ℕ} {row new : ObjectRow} {memory : HostParts} {os : ObjectTable} → object_at memory.objects o ≡ Some row

@@ -1,6 +1,8 @@
 -- What a shadow leaves of the kernel, which a store's region gets first where that is marked.
 use Rattle.vm_kernel.proofs.memory.CoreChanges.{pages_known_so}
 use Rattle.vm_state.proofs.KnownPages.{object_few, sizes_shadowed}
+use Rattle.vm_model.specs.Regions.{is_copy}
+use Rattle.vm_state.proofs.PlainObjects.{plain_new, unmade_plain}
 use Rattle.vm_kernel.proofs.Common.{ChainTable, Command, Event, HasEntries, Header, HostParts, Ids, Inside, IsInside, List, Matches, None, ObjectId}
 use Rattle.vm_kernel.proofs.Common.{ObjectTable, Outside, Parts, PutsObject, Region, RegionRow, SameMarks, Some, Works, [], ap, arith, false, has_region}
 use Rattle.vm_kernel.proofs.Common.{home_of, if◌then◌else◌, inl, inr, is_some, is_woken, marks_of, next_object, next_region, object_at, one_case, pages_in}
@@ -128,6 +130,9 @@ shadowed_with header h outside doing past k ids region object row chains objects
                 (let within = m.core.objects.regions.fits.tops region.0 row there in let most = object_few m.core.objects.sizes row.top.0 in omega
                 (arith, within, most))
                 (sym (ap (λ (z : Region). z.pages) (m.core.objects.regions.rows region.0 row there))) m.core.objects.sizes;
+            plain = plain_new object.0 (new_object row.pages) k.memory.objects objects (λ o. is_copy o past) put
+                (unmade_plain object.0 past (m.core.spaces.homes.1.objects object.0 at_least)) m.core.objects.plain;
+            undelayed = m.core.objects.undelayed;
           };
           controls = controls_made k.memory.objects objects _ _ _ object.0 row.pages m.core.controls unknown put (λ o home. object_stays o h e past home)
               (home_shadowed h region object row.top past (m.core.spaces.homes.1.objects object.0 at_least)

@@ -20,6 +20,8 @@ use Rattle.vm_waits.specs.declared.waiting.Want.TheVariants as want
 use Rattle.vm_kernel.specs.Plays.{IsToCopyPage, SparesSource}
 use Rattle.vm_kernel.specs.Serving.{IsTheSource}
 use Rattle.vm_kernel.proofs.memory.WalkLands.{EndsHere, Lands, found_there, never_asked, never_comes, never_sinks, not_passed, sinks_past, stop_same}
+use Rattle.vm_kernel.proofs.space.ObjectEnds.{owes_nothing}
+use Rattle.vm_state.proofs.PlainObjects.{OwesNothing}
 use Rattle.vm_kernel.proofs.steps.WhereAccessLeads.{Leads, it_waits, leads_of, top_at}
 use Rattle.vm_kernel.proofs.memory.WalksShown.{shown_at}
 use Rattle.vm_state.proofs.Shown.{IsShown}
@@ -60,16 +62,17 @@ same_end {header = header} {h = h} {past = past} {top = top} at m l lp walks sto
     (not_passed header h past at.object at.page at.here)
 
 -- whoever wants a frame, and whose walk ends at a page that is here, is to copy that
-wants_to_copy : {header : Header} {h : ℕ} {past : List Event} {top : PageKey} (size to task region page : ℕ) (what : Want) → (at : EndsHere header h past top)
-    → IsTop (region_of header region past) page top.object.0 top.page.0
+wants_to_copy : {header : Header} {h : ℕ} {past : List Event} {top : PageKey} (size to task region page : ℕ) (what : Want) → OwesNothing header h past
+    → (at : EndsHere header h past top) → IsTop (region_of header region past) page top.object.0 top.page.0
     → WantsFrame header h task (access_in size to what) region page past → copies_at what at.steps ≡ true
-wants_to_copy {header = header} {h = h} {past = past} {top = top} size to task region page what at is_top (legal.Nowhere served o p steps its_top sinks) =
+wants_to_copy {header = header} {h = h} {past = past} {top = top} size to task region page what unowed at is_top
+    (legal.Nowhere served o p steps its_top sinks) =
     absurd (let there = subst (λ (z : ℕ). Sinks (λ k q. sight header h k q past) (λ k. backing_of header k past) steps z top.page.0)
     (sym its_top.object ∙ is_top.object) (subst (λ (z : ℕ). Sinks (λ k q. sight header h k q past) (λ k. backing_of header k past) steps o z)
     (sym its_top.page ∙ is_top.page) sinks) in
     sinks_past (λ k q. sight header h k q past) (λ k. backing_of header k past) steps at.steps top.object.0 top.page.0 at.object at.page there at.walks
     (not_passed header h past at.object at.page at.here))
-wants_to_copy {header = header} {h = h} {past = past} {top = top} size to task region page what at is_top
+wants_to_copy {header = header} {h = h} {past = past} {top = top} size to task region page what unowed at is_top
     (legal.Elsewhere object object_page comes away unasked may ready) =
     let same = same_end at comes.steps object object_page (from_top comes.top comes.top_page comes.steps (sym comes.is_top.object ∙ is_top.object)
     (sym comes.is_top.page ∙ is_top.page) comes.walks)
@@ -85,9 +88,9 @@ wants_to_copy {header = header} {h = h} {past = past} {top = top} size to task r
     from_top o p steps objects pages walks =
         subst (λ (z : ℕ). Walks (λ k q. sight header h k q past) (λ k. backing_of header k past) steps z top.page.0 object object_page) objects
         (subst (λ (z : ℕ). Walks (λ k q. sight header h k q past) (λ k. backing_of header k past) steps o z object object_page) pages walks)
-wants_to_copy size to task region page what at is_top (legal.Copies object object_page comes here address bytes goes is) =
+wants_to_copy size to task region page what unowed at is_top (legal.Copies object object_page comes here address bytes goes is) =
     or_right (is_storing what && nat_lt 0 at.steps) (is_copying what) (is_slow size to address bytes goes what is)
-wants_to_copy {header = header} {h = h} {past = past} {top = top} size to task region page what at is_top
+wants_to_copy {header = header} {h = h} {past = past} {top = top} size to task region page what unowed at is_top
     (legal.Raises o p steps object object_page its_top walks here stores) =
     let walks2 = subst (λ (z : ℕ). Walks (λ k q. sight header h k q past) (λ k. backing_of header k past) (suc steps) z top.page.0 object object_page)
     (sym its_top.object ∙ is_top.object)
@@ -95,12 +98,14 @@ wants_to_copy {header = header} {h = h} {past = past} {top = top} size to task r
     (sym its_top.page ∙ is_top.page) walks) in
     let same = same_end at (suc steps) object object_page walks2 (not_passed header h past object object_page here) in
     subst (λ (z : ℕ). copies_at what z ≡ true) same.0 (below_top what steps (is_stored size to what stores))
+wants_to_copy size to task region page what unowed at is_top (legal.Pushes object object_page copy its_top here stores owes unasked) =
+    absurd (unowed object object_page copy owes)
 
 -- the page that a task is to copy is where its access leads
 ends_at_source : (header : Header) (h : ℕ) (past : List Event) (k : Parts) (task : TaskId) (what : Want) (top : PageKey)
-    (at : IsAt k.maps k.chains task.0 what top) → Leads header h past k task.0 what top at → (o p : ℕ) → IsToCopyPage header h task o p past
-    → EndsAtSource header h past what top o p
-ends_at_source header h past k task what top at to o p copies =
+    (at : IsAt k.maps k.chains task.0 what top) → Leads header h past k task.0 what top at → OwesNothing header h past → (o p : ℕ)
+    → IsToCopyPage header h task o p past → EndsAtSource header h past what top o p
+ends_at_source header h past k task what top at to unowed o p copies =
     go copies.source.task copies.source.access copies.of (some_is copies.source.access (access_in k.maps.size to.destination what)
     (sym copies.source.waits.waits ∙ (ap (λ z. waiting z past) copies.of ∙ to.waits))) copies.source.waits copies.source.on_host copies.source.comes
     copies.source.wants
@@ -134,7 +139,8 @@ ends_at_source header h past k task what top at to o p copies =
           at = ends;
           object = refl;
           page = refl;
-          copies = wants_to_copy k.maps.size to.destination task.0 at.entry.region.0 (page_of header task.0 mine past at.entry) what ends is_top wants2;
+          copies = wants_to_copy k.maps.size to.destination task.0 at.entry.region.0 (page_of header task.0 mine past at.entry) what unowed ends is_top
+              wants2;
         }
 
     go : (t : ℕ) (access : Access) → t ≡ task.0 → access ≡ mine → (waits : Waits header t access past) → waits.at.host ≡ h
@@ -159,13 +165,13 @@ key_is key o p object page = λ i. page_key (object i) (page i)
 -- what an access needs a frame for
 pub needs_it : (header : Header) (h : ℕ) (past : List Event) (k : Parts) (task : TaskId) (what : Want) (top : PageKey)
     (at : IsAt k.maps k.chains task.0 what top) (source : Option PageKey) → Leads header h past k task.0 what top at
-    → IsShown header h k.memory k.chains past → Needs what top k.memory k.chains source → (o p : ℕ) → IsToCopyPage header h task o p past
-    → source ≡ Some (page_key o p)
-needs_it header h past k task what top at source to shown needs o p copies =
+    → OwesNothing header h past → IsShown header h k.memory k.chains past → Needs what top k.memory k.chains source → (o p : ℕ)
+    → IsToCopyPage header h task o p past → source ≡ Some (page_key o p)
+needs_it header h past k task what top at source to unowed shown needs o p copies =
     by needs
   where
     ends : EndsAtSource header h past what top o p
-    ends = ends_at_source header h past k task what top at to o p copies
+    ends = ends_at_source header h past k task what top at to unowed o p copies
 
     lands : Lands header h past k.memory k.chains top
     lands = record { shown = shown; referred = to.referred; at = ends.at }
@@ -194,7 +200,7 @@ reads_it header h past k ids who w source m waits slow found reads o p copies =
     to = leads_of header h k ids past who w.task.0 w reads.top m waits slow found reads.at
 
     ends : EndsAtSource header h past w.want reads.top o p
-    ends = ends_at_source header h past k w.task w.want reads.top reads.at to o p copies
+    ends = ends_at_source header h past k w.task w.want reads.top reads.at to (owes_nothing header h k ids [] past m slow) o p copies
 
     lands : Lands header h past k.memory k.chains reads.top
     lands = record { shown = shown_at m; referred = to.referred; at = ends.at }

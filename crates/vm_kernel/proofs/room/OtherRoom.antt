@@ -249,6 +249,8 @@ matches_roomier header h rooms k ids gone past was = record {
       kinds = kinds_roomier k.memory.objects rooms.objects rooms.marks header k.chains rooms.shadows was.core.objects.kinds;
       files = was.core.objects.files;
       sizes = record { at = was.core.objects.sizes.at; few = was.core.objects.sizes.few };
+      plain = was.core.objects.plain;
+      undelayed = was.core.objects.undelayed;
     };
     controls = controls_roomier k.memory.objects rooms.objects rooms.marks _ h _ _ _ _ was.core.controls;
     flags = was.core.flags;

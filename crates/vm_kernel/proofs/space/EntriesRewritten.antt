@@ -32,6 +32,8 @@ objects_recounted {header = header} {cs = cs} {cs2 = cs2} {os = os} {ids = ids} 
       kinds = kinds_recounted header count os cs cs2 is objects.kinds;
       files = objects.files;
       sizes = objects.sizes;
+      plain = objects.plain;
+      undelayed = objects.undelayed;
     }
 
 pub recount_homes : (count : ℕ → ℕ) (header : Header) (h : ℕ) (cs cs2 : ChainTable) (past : List Event) → Recounts count cs cs2

@@ -231,6 +231,8 @@ rests_shared header h outside doing task row past k k2 ids before after rests ma
                     files_entered header h task row k.memory.objects past (λ file. m.core.spaces.homes.0 r there.0 (file_paged header r file) there.1)
                     m.core.objects.files;
                 sizes = m.core.objects.sizes;
+                plain = m.core.objects.plain;
+                undelayed = m.core.objects.undelayed;
               });
               controls = rw s.memory (controls_stay (λ o at_home. object_stays o h e past at_home) m.core.controls);
               flags = rw s.memory m.core.flags;

@@ -1,6 +1,7 @@
 -- An object to which nothing refers: its pages go, its control ends, where one lives, and what stood under it has one reference less.
 use Rattle.vm_kernel.proofs.memory.CoreChanges.{pages_known_so}
 use Rattle.vm_state.proofs.KnownPages.{sizes_put}
+use Rattle.vm_state.proofs.PlainObjects.{OwesNothing, owes_none, plain_put}
 use Rattle.vm_kernel.proofs.Common.{AllEntriesInside, Below, Bool, CausedInTurn, ChainTable, Changes, Command, Does, Elsewhere, EndsObject, Entry, Event}
 use Rattle.vm_kernel.proofs.Common.{FrameTable, HasControls, HasEntries, HasFrames, HasPages, HasSlow, HaveHomes, Header, HostParts, Ids, Inside, IsAmid}
 use Rattle.vm_kernel.proofs.Common.{IsInside, IsOfKind, IsSettled, IsWhole, LaundryList, LegalEvents, List, Local, Mapped, Matches, None, ObjectId, ObjectRow}
@@ -36,7 +37,7 @@ use Rattle.vm_state.proofs.Files.{files_put}
 use Rattle.vm_state.proofs.Going.{regions_dropped}
 use Rattle.vm_state.proofs.Knowing.{known_put}
 use Rattle.vm_state.proofs.Places.{told_apart, unsent_apart, waits_dropped}
-use Rattle.vm_state.proofs.Reaching.{chain_declared, temporary_down}
+use Rattle.vm_state.proofs.Reaching.{chain_declared, region_temporary, temporary_down}
 use Rattle.vm_state.proofs.Referred.{but_dropped, but_gone, but_known, referred_dropped, stays_served}
 use Rattle.vm_state.proofs.Referring.{unreferred_region, unreferred_shadow, uncached_unreferred}
 use Rattle.vm_state.proofs.Filling.{copies_kept, filled_there, rows_unmade}
@@ -78,6 +79,13 @@ used_there header h k ids rest past r m copies temporary used = elim ((m.core.sp
   | inr filled ↦ let there = filled_there copies filled.task r filled.fills in (filled_row there.object there.pages, there.region)
 ]
 
+-- no store owes its page to a copy
+pub owes_nothing : (header : Header) (h : ℕ) (k : Parts) (ids : Ids) (rest : List Entry) (past : List Event) → Matches header h k ids rest past
+    → HasSlow header k past → OwesNothing header h past
+owes_nothing header h k ids rest past m copies =
+    owes_none m.core.objects.regions m.core.spaces.homes.1 (λ r temporary used. used_there header h k ids rest past r m copies temporary used)
+    m.core.objects.plain
+
 -- the chain of a declared region is of its own object alone
 pub declared_chain : (header : Header) (past : List Event) (r n u : ℕ) → HaveHomes header past → r < named header
     → Below (λ o. backing_of header o past) n (region_of header r past).top u → r ≡ u
@@ -95,11 +103,16 @@ unreached header h k ids rest past o row m copies known none least reach =
 
 -- nothing holds a declared object to which nothing refers
 pub unheld : (header : Header) (h : ℕ) (k : Parts) (ids : Ids) (rest : List Entry) (past : List Event) (o : ℕ) (row : ObjectRow)
-    → Matches header h k ids rest past → object_at k.memory.objects o ≡ Some row → row.references ≡ 0 → o < named header → IsUnheld header h o past
-unheld header h k ids rest past o row m known none declared =
+    → Matches header h k ids rest past → HasSlow header k past → object_at k.memory.objects o ≡ Some row → row.references ≡ 0 → o < named header
+    → IsUnheld header h o past
+unheld header h k ids rest past o row m copies known none declared =
     record {
       unmapped = λ task lives. by_test task (sym (m.core.spaces.tasks.hosts task) ∙ lives) (has_entry o (entries_of header.size task past)) refl;
       uncached = m.core.flags o declared ∙ (ap cached_in known ∙ uncached_unreferred m.core.objects.regions o row known none);
+      unreached =
+          λ r depth temporary used below. let there = used_there header h k ids rest past r m copies temporary used in
+          let least = region_temporary m.core.objects.regions m.core.objects.kinds r there.0 temporary there.1 depth o below in
+          absurd (omega (arith, least, declared));
     }
   where
     by_test : (task : ℕ) → is_some (entries_in task k.maps) ≡ true → (b : Bool) → has_entry o (entries_of header.size task past) ≡ b → b ≡ false
@@ -178,7 +191,7 @@ ends_lost header h outside doing past who k ids rest key row memory events e fir
     why = elim (kind_cases header o) [
       | inl declared ↦ Ended (seen.dirty ∙ (or_parts row.dirty row.precious (clean declared)).0)
           (seen.precious ∙ (or_parts row.dirty row.precious (clean declared)).1) declared
-          (unheld header h k ids rest (events ++ past) o e.row m e.known e.none declared)
+          (unheld header h k ids rest (events ++ past) o e.row m e.used.copies e.known e.none declared)
       | inr temporary ↦ Unreached temporary (unreached header h k ids rest (events ++ past) o e.row m e.used.copies e.known e.none temporary)
     ]
 
@@ -208,7 +221,7 @@ pub departs_unheld : (header : Header) (h : ℕ) (past : List Event) (who : Woke
 departs_unheld header h past who k ids rest key row held bytes memory events e declared is_here c =
     record {
       declared = declared;
-      unheld = unheld header h k ids rest (events ++ past) key.object.0 e.row e.runs.matches e.known e.none declared;
+      unheld = unheld header h k ids rest (events ++ past) key.object.0 e.row e.runs.matches e.used.copies e.known e.none declared;
       departs = leaves_lists k key row held bytes memory is_here c;
     }
 
@@ -273,7 +286,7 @@ ends_returned header h outside doing past who k ids rest key known row memory la
   },
   goes_one header h outside doing past events (going_back h key known row (page_in k.memory.frames row.frame.0)) m.settled
       (return_follows key known.control (inside e) c.found goes.here goes.wanted (live_at k.memory.objects o goes.found goes.live) after
-      (Ended refl goes.declared (unheld header h k ids rest (events ++ past) o e.row m e.known e.none goes.declared))
+      (Ended refl goes.declared (unheld header h k ids rest (events ++ past) o e.row m e.used.copies e.known e.none goes.declared))
       (none_in_front m o key.page.0 goes.first)),
 )
   where
@@ -538,7 +551,7 @@ ends_told header h outside doing past who k ids rest object events row objects s
       live = alive;
       away = λ p. ap (λ z. z.here) (bare p);
       why = elim (kind_cases header object.0) [
-        | inl declared ↦ Unheld declared (unheld header h k ids rest (events ++ past) object.0 row m found unreferred declared)
+        | inl declared ↦ Unheld declared (unheld header h k ids rest (events ++ past) object.0 row m s.used.copies found unreferred declared)
             (λ p. ap (λ z. z.asked) (bare p))
         | inr temporary ↦ Unreachable temporary (unreached header h k ids rest (events ++ past) object.0 row m s.used.copies found unreferred temporary)
             (λ p. ap (λ z. z.asked) (bare p))
@@ -608,6 +621,8 @@ inside_dropped header h past who k ids rest o left row known chains objects e le
           files = files_put header h under known (record known { references = left }) k.memory.objects objects _ leaves.under leaves.put core.objects.files;
           sizes = sizes_put (named header) under known (record known { references = left }) k.memory.objects objects _ leaves.under refl leaves.put
               core.objects.sizes;
+          plain = plain_put under known (record known { references = left }) k.memory.objects objects _ leaves.under leaves.put core.objects.plain;
+          undelayed = core.objects.undelayed;
         };
         controls = controls_referred under left known k.memory.objects objects _ _ _ leaves.under leaves.put core.controls;
         flags = flags_put under (record known { references = left }) leaves.put (ap cached_in leaves.under) core.flags;

@@ -46,6 +46,7 @@ use Rattle.vm_shadow.specs.declared.ids.Ids.{Ids}
 use Rattle.vm_state.proofs.Declared.{shadow_temporary}
 use Rattle.vm_state.proofs.FramesMerged.{frames_merged, held_merged, laundry_merged}
 use Rattle.vm_state.proofs.KnownPages.{object_few}
+use Rattle.vm_state.proofs.PlainObjects.{plain_put}
 use Rattle.vm_state.proofs.MergedPages.{AreHere, all_here, here_untold, shown_merged}
 use Rattle.vm_state.proofs.MergedWaits.{waits_merged}
 use Rattle.vm_state.proofs.Merging.{controls_merged, files_merged, homes_merged, kinds_merged, merged_apart, never_told, pages_merged, regions_merged}
@@ -108,6 +109,7 @@ module _ {header : Header} {h : ℕ} {outside : Outside} {doing : Command} {past
     shadows = sweeps.referred.shadows;
     all = λ r row least found. regions_used header h (with_state k old) ids (old.events ++ past) whole r row least found;
     there = λ r least used. used_there header h (with_state k old) ids [] (old.events ++ past) r m sweeps.used.copies least used;
+    plain = m.core.objects.plain;
   }
 
   cause : ((u l : ℕ) → CanMerge old.chains old.parts.objects u l → lower.0 ≤ l) → Merges header upper.0 lower.0 (old.events ++ past)
@@ -155,6 +157,9 @@ module _ {header : Header} {h : ℕ} {outside : Outside} {doing : Command} {past
         sizes =
             pages_merged (named header) upper.0 lower.0 old.chains cs2 old.parts.objects os2 (λ o. object_pages header o (old.events ++ past)) merges
             m.core.objects.sizes;
+        plain = plain_put lower.0 merges.can.lower_row (record merges.can.lower_row { references = 0 }) old.parts.objects os2 _ merges.can.lower_known
+            merges.object m.core.objects.plain;
+        undelayed = m.core.objects.undelayed;
       };
       controls = controls_merged upper.0 lower.0 old.chains cs2 old.parts.objects os2 merges m.core.controls;
       flags = flags_put lower.0 (record merges.can.lower_row { references = 0 }) merges.object (ap cached_in merges.can.lower_known) m.core.flags;

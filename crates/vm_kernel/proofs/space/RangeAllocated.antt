@@ -1,6 +1,8 @@
 -- A range is allocated: a region over a new object, and an entry on the whole of it.
 use Rattle.vm_kernel.proofs.memory.CoreChanges.{pages_known_so}
 use Rattle.vm_state.proofs.KnownPages.{sizes_made}
+use Rattle.vm_model.specs.Regions.{is_copy}
+use Rattle.vm_state.proofs.PlainObjects.{plain_new, unmade_plain}
 use Rattle.vm_kernel.proofs.Common.{AllInTurn, AllReferred, Bool, ChainTable, ChangesOnly, EachIn, Enters, Entry, Event, Fit, HasCause, HasEntries, HasRegions}
 use Rattle.vm_kernel.proofs.Common.{HasSlow, HasUse, HasWaits, Header, HostParts, Ids, IfSome, IsFilledIn, IsInside, IsLined, IsMine, IsUsed, KnowsHomes, List}
 use Rattle.vm_kernel.proofs.Common.{MadeRange, MapChange, Mapped, None, ObjectId, ObjectRow, ObjectTable, Outside, Parts, PutsObject, PutsRegion, Ran, Region}
@@ -519,6 +521,10 @@ rests_range header h outside task address bytes past k k2 ids maps lined rests m
                 sizes =
                     sizes_made header past (named header) (record { 0 = n }) object pages (new_object pages) k.memory.objects k2.memory.objects made.object_row
                     may.few refl m.core.objects.sizes;
+                plain = plain_new ids.next_object (new_object pages) k.memory.objects k2.memory.objects (λ o. is_copy o past) made.object_row
+                    (unmade_plain ids.next_object past (m.core.spaces.homes.1.objects ids.next_object (omega (arith, m.core.objects.regions.object))))
+                    m.core.objects.plain;
+                undelayed = m.core.objects.undelayed;
               };
               controls = controls_made k.memory.objects k2.memory.objects (λ o. last_control h o past) (λ o. live_control h o past) (λ o. is_ready h o past)
                   ids.next_object pages m.core.controls unknown made.object_row

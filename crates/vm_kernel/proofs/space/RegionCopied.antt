@@ -1,6 +1,7 @@
 -- A task gets an entry on a symmetric copy of a region.
 use Rattle.vm_kernel.proofs.memory.CoreChanges.{pages_known_so}
 use Rattle.vm_state.proofs.KnownPages.{sizes_put}
+use Rattle.vm_state.proofs.PlainObjects.{plain_put}
 use Rattle.vm_kernel.specs.Changes.{CanEnter}
 use Rattle.vm_kernel.proofs.Common.{Access, AllReferred, AllRows, ArePlain, Backing, Bool, ChainTable, ChangesOnly, Command, Enters, Entry, Event, Fit}
 use Rattle.vm_kernel.proofs.Common.{HasEntries, HasKinds, HasRegions, HasSlow, HasWaiters, HasWaits, Header, HostParts, Ids, Inside, IsFilledIn, IsInside}
@@ -59,7 +60,7 @@ use Rattle.vm_kernel.proofs.space.EntriesRewritten.{lives_below}
 use Rattle.vm_kernel.proofs.space.RegionEnds.{controls_referred}
 use Rattle.vm_kernel.proofs.controls.LockReplied.{replied_behind}
 use Rattle.vm_state.specs.Passed.{IsUnmet, StaysAway}
-use Rattle.vm_model.specs.Regions.{object_pages}
+use Rattle.vm_model.specs.Regions.{is_copy, object_pages}
 use Rattle.vm_kernel.proofs.memory.PageReturned.{controls_stay}
 use Rattle.vm_kernel.proofs.space.RegionHomes.{homes_caused}
 use Rattle.vm_kernel.proofs.space.StillThin.{thin_chains, thin_grown}
@@ -578,6 +579,9 @@ rests_copied header h outside doing task source offset row past k k2 ids ids2 be
                     (λ o. home_of o past) s.object s.refers m.core.objects.files);
                 sizes = sizes_put (named header) top s.known (record s.known { references = s.known.references + 1 }) k.memory.objects k2.memory.objects
                     (λ o. object_pages header o past) s.object refl s.refers m.core.objects.sizes;
+                plain = plain_put top s.known (record s.known { references = s.known.references + 1 }) k.memory.objects k2.memory.objects
+                    (λ o. is_copy o past) s.object s.refers m.core.objects.plain;
+                undelayed = m.core.objects.undelayed;
               };
               controls = controls_stay (λ o home. object_stays o h e (now ∷ past) home)
                   (controls_referred top (s.known.references + 1) s.known k.memory.objects k2.memory.objects (λ o. last_control h o past)

@@ -2,8 +2,9 @@
 use Rattle.vm_kernel.proofs.memory.PageChanges.{fits_known}
 use Rattle.vm_kernel.proofs.memory.CoreChanges.{pages_known_so}
 use Rattle.vm_model.specs.Named.{named}
-use Rattle.vm_model.specs.Regions.{object_pages}
+use Rattle.vm_model.specs.Regions.{is_copy, object_pages}
 use Rattle.vm_state.proofs.KnownPages.{sizes_put}
+use Rattle.vm_state.proofs.PlainObjects.{plain_put}
 use Rattle.vm_kernel.proofs.Common.{AllEntriesInside, AllRows, Bool, ChainTable, EndsObject, EndsRegion, Entry, Event, HasControls, HasEntries, Header, Ids}
 use Rattle.vm_kernel.proofs.Common.{IfSome, Inside, IsAmid, IsReferred, IsWhole, List, Mapped, Matches, None, ObjectId, ObjectRow, ObjectTable, Option, Parts}
 use Rattle.vm_kernel.proofs.Common.{PutsObject, PutsRegion, RegionRow, SameMarks, Some, UsesAll, Woken, [], all_tasks, ap, arith, backing_of, count_by}
@@ -242,6 +243,9 @@ runs_gone header h past who k ids rest r left events object chains objects e los
                 sizes_put (named header) top was (record was { references = left }) k.memory.objects objects (λ o. object_pages header o moment) loses.known
                 refl
                 loses.put m.core.objects.sizes;
+            plain = plain_put top was (record was { references = left }) k.memory.objects objects (λ o. is_copy o moment) loses.known loses.put
+                m.core.objects.plain;
+            undelayed = m.core.objects.undelayed;
           };
           controls = controls_referred top left was k.memory.objects objects _ _ _ loses.known loses.put m.core.controls;
           flags = flags_put top (record was { references = left }) loses.put (ap cached_in loses.known) m.core.flags;

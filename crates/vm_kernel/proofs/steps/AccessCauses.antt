@@ -10,8 +10,9 @@ use Rattle.vm_fault.specs.Walks.{keeps_out}
 use Rattle.vm_state.proofs.Locks.{free_number, open_number, storing_is}
 use Rattle.vm_kernel.proofs.steps.WhereAccessLeads.{Leads, it_waits, top_at}
 use Rattle.vm_kernel.proofs.abroad.OwnEvents.{own_lives, own_named}
-use Rattle.vm_legal.specs.Walks.{IsTop}
-use Rattle.vm_model.specs.Regions.{Region}
+use Rattle.vm_legal.specs.Walks.{Below, IsTop}
+use Rattle.vm_state.proofs.PlainObjects.{OwesNothing}
+use Rattle.vm_model.specs.Regions.{Region, backing_of}
 use Rattle.vm_model.specs.Waiting.{Loading, Storing}
 use Rattle.vm_model.specs.declared.event.Event.TheVariants as event
 use Rattle.vm_model.specs.declared.message.Message.TheVariants as message
@@ -20,7 +21,7 @@ use Rattle.vm_legal.proofs.Served.{later_paged as paged_temporary}
 use Rattle.vm_state.proofs.Declared.{marked_temporary}
 use Rattle.vm_state.proofs.Referring.{top_counted}
 use Rattle.vm_fault.specs.Faults.{has_one}
-use Rattle.vm_legal.specs.Licences.{IsTopAlone, Unmarks}
+use Rattle.vm_legal.specs.Licences.{Finding, IsTopAlone, Unmarks}
 use Rattle.vm_kernel.proofs.memory.TopAlone.{alone_told, shared_told}
 use Rattle.vm_supply.specs.declared.woken.Woken.TheVariants as woken
 use Rattle.vm_state.proofs.Shown.{IsShown, may_ask, shows_row}
@@ -169,9 +170,10 @@ unmarked_follows header h outside doing past k ids region row m there marked cau
 pub zeroed_follows : (header : Header) (h : ℕ) (outside : Outside) (doing : Command) (past : List Event) (k : Parts) (task : ℕ) (what : Want) (top : PageKey)
     (at : IsAt k.maps k.chains task what top) → named header ≤ top.object.0 → Leads header h past k task what top at
     → IsShown header h k.memory k.chains past → (is_storing what ≡ true → at.row.marked ≡ false) → Sinks k.memory k.chains top
+    → ((depth below : ℕ) → Below (λ o. backing_of header o past) depth top.object.0 below → named header ≤ below)
     → Suffice header h (event.Zeroed (host_id h) top.object top.page ∷ past)
     → Follows header h outside doing (event.Zeroed (host_id h) top.object top.page) past
-zeroed_follows header h outside doing past k task what top at temporary to s clear sinks frames =
+zeroed_follows header h outside doing past k task what top at temporary to s clear sinks plain frames =
     record {
       consequence = tt;
       cause = inr (record {
@@ -184,6 +186,7 @@ zeroed_follows header h outside doing past k task what top at temporary to s cle
         is_top = top_at header h past k task what top at to;
         steps = sinks.steps;
         sinks = sinks_of s top to.referred sinks;
+        plain = plain;
       });
       own_bytes = tt;
       frames = frames;
@@ -208,7 +211,7 @@ raised_follows header h outside doing past k task what top at address size value
     let shows = shows_row s key.object.0 key.page.0 row finds.found finds.here in
     record {
       consequence = tt;
-      cause = record {
+      cause = Finding (record {
         task = task;
         address = address;
         bytes = size;
@@ -220,7 +223,7 @@ raised_follows header h outside doing past k task what top at address size value
         steps = steps;
         walks = walks_of s (suc steps) top key finds.walks;
         here = shows.here;
-      };
+      });
       own_bytes = record { here = shows.here; unlocked = read_at shows.lock (open_number row.lock open_it) };
       frames = frames;
       inner = tt;
@@ -274,10 +277,10 @@ loaded_follows header h outside doing past k task what top at address size value
 pub stored_follows : (header : Header) (h : ℕ) (outside : Outside) (doing : Command) (past : List Event) (k : Parts) (task : TaskId) (what : Want)
     (top : PageKey) (at : IsAt k.maps k.chains task.0 what top) (address size value : ℕ) (row : PageRow)
     → Leads header h past k task.0 what top at → IsShown header h k.memory k.chains past → what ≡ want.Store address size value → at.row.marked ≡ false
-    → Finds k.memory k.chains 0 top top row → keeps_out row.lock true ≡ false
+    → Finds k.memory k.chains 0 top top row → keeps_out row.lock true ≡ false → OwesNothing header h past
     → Suffice header h (event.Stored task top.object top.page (address % header.size) size value ∷ past)
     → Follows header h outside doing (event.Stored task top.object top.page (address % header.size) size value) past
-stored_follows header h outside doing past k task what top at address size value row to s is clear finds open_it frames =
+stored_follows header h outside doing past k task what top at address size value row to s is clear finds open_it unowed frames =
     let shows = shows_row s top.object.0 top.page.0 row finds.found finds.here in
     let waits = store_waits header h past k task.0 what top at address size value to is in
     record {
@@ -289,6 +292,7 @@ stored_follows header h outside doing past k task what top at address size value
         unmarked = to.marks ∙ clear;
         here = shows.here;
         place = refl;
+        paid = λ copy. unowed top.object.0 top.page.0 copy;
       };
       own_bytes = record {
         address = address;

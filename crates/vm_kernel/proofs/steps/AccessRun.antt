@@ -30,6 +30,8 @@ use Rattle.vm_legal.specs.Accesses as legal
 use Rattle.vm_model.specs.declared.event.Event.TheVariants as event
 use Rattle.vm_model.specs.declared.message.Message.TheVariants as message
 use Rattle.vm_shadow.specs.Chains.{ChainTable}
+use Rattle.vm_kernel.proofs.space.ObjectEnds.{owes_nothing}
+use Rattle.vm_state.proofs.Reaching.{chain_temporary}
 use Rattle.vm_state.proofs.Shown.{may_ask, shows_row}
 use Rattle.vm_state.proofs.Walks.{referred_down, sinks_of, walks_lead, walks_of}
 use Rattle.vm_kernel.proofs.memory.PlacesPassed.{over_walk, unmet_at}
@@ -122,7 +124,8 @@ hit_store header h outside doing past k ids w top events row address size number
     (record {
       works = works_touched header h (stored ∷ moment) (record k { memory = mid; waits = waits2 }) ids woken.Nobody row.frame m2 hits.1.2 works;
       goes = goes_one header h outside doing past events stored t.works.matches.settled
-          (stored_follows header h outside doing moment k w.task w.want top t.at address size number row to s is (t.clear (ap is_storing is)) finds out enough);
+          (stored_follows header h outside doing moment k w.task w.want top t.at address size number row to s is (t.clear (ap is_storing is)) finds out
+          (owes_nothing header h k ids [] moment t.works.matches t.works.used.copies) enough);
     })
 
 hit : (header : Header) (h : ℕ) (outside : Outside) (doing : Command) (past : List Event) (k : Parts) (ids : Ids) (w : Waiting) (top : PageKey)
@@ -244,6 +247,7 @@ ended header h outside doing past k ids w top events value m2 after waits2 numbe
     let t1 = tries_on header h moment (zeros ∷ moment) k ids w top brought t works1 in
     let one = goes_one header h outside doing past events zeros t.works.matches.settled
     (zeroed_follows header h outside doing moment k w.task.0 w.want top t.at temporary to s t.clear sinks
+    (λ depth below. chain_temporary t.works.matches.core.objects.regions t.works.matches.core.objects.kinds depth top.object.0 below temporary to.referred)
     (suffices header h brought.frames (zeros ∷ moment) works1.matches.core.pages.counted)) in
     let row2 : PageRow = clean_row frame unlocked false in
     let there : Finds brought k.chains 0 top top row2 = record {
@@ -690,7 +694,8 @@ wanting_of header h outside doing past k ids w may source events new waits2 work
     let told : IsTheSource header h (SparesSource (Some w.task)) source moment =
     record {
       is = only_copies header h moment mid w.task source found;
-      only = needs_it header h moment mid w.task w.want f.top t.at source to (shown_at t.works.matches) f.comes.0;
+      only = needs_it header h moment mid w.task w.want f.top t.at source to
+          (owes_nothing header h mid f.mid.ids [] moment t.works.matches t.works.used.copies) (shown_at t.works.matches) f.comes.0;
     } in
     let here = subst (λ (z : HostParts). IsToCopy header h (record mid { memory = z }) source moment) (sym same.parts) copies in
     record {

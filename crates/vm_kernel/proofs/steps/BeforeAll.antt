@@ -135,6 +135,8 @@ first_rests header h k count ranged known size host declared hosts start maps re
                   at = λ o row least is. none_of (object_at k.memory.objects o) row (objects o) is;
                   few = λ o row is. none_of (object_at k.memory.objects o) row (objects o) is;
                 };
+                plain = λ o row is. refl;
+                undelayed = λ o less. refl;
               };
               controls = record {
                 last = λ o. sym (ap last_in (objects o));

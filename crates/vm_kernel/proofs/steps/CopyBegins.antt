@@ -1,6 +1,8 @@
 -- A slow copy begins: its region is there at once, over an object of its own, and its task waits.
 use Rattle.vm_kernel.proofs.memory.CoreChanges.{pages_known_so}
 use Rattle.vm_state.proofs.KnownPages.{sizes_made}
+use Rattle.vm_model.specs.Regions.{is_copy}
+use Rattle.vm_state.proofs.PlainObjects.{plain_new, unmade_plain}
 use Rattle.vm_kernel.proofs.Common.{AllUsed, BeganInOrder, Bool, ChainTable, Command, EachOf, Entry, Event, Grows, HasEntries, HasRegions, HasUse, HasWaiters}
 use Rattle.vm_kernel.proofs.Common.{Header, Ids, InOrder, IsAllowed, IsDoneInTurn, IsFilledIn, IsInUse, IsInside, IsLined, KnowsHomes, LegalEvents, List}
 use Rattle.vm_kernel.proofs.Common.{MadeRange, Matches, None, ObjectId, ObjectRow, Option, Outside, PageRow, Parts, Place, PutsEntry, PutsRegion, QueueIsStill}
@@ -469,6 +471,10 @@ module _ (header : Header) (h : ℕ) (outside : Outside) (task : TaskId) (addres
                 made.object_row m.core.objects.files o file;
             sizes = sizes_made header front (named header) region target pages (new_object pages) k.memory.objects k2.memory.objects made.object_row may.short
                 refl m.core.objects.sizes;
+            plain = plain_new ids.next_object (new_object pages) k.memory.objects k2.memory.objects (λ o. is_copy o past) made.object_row
+                (unmade_plain ids.next_object past (m.core.spaces.homes.1.objects ids.next_object (let number = numbers.1 in omega (arith, number))))
+                m.core.objects.plain;
+            undelayed = m.core.objects.undelayed;
           };
           controls =
               controls_made k.memory.objects k2.memory.objects (λ o. last_control h o past) (λ o. live_control h o past) (λ o. is_ready h o past)

@@ -405,6 +405,8 @@ matches_ended header h outside doing k ids past w address pages target next c la
               (file_paged header r file)
               c.slow.region) m.core.objects.files;
           sizes = m.core.objects.sizes;
+          plain = m.core.objects.plain;
+          undelayed = m.core.objects.undelayed;
         };
         controls = controls_stay (λ o home. object_stays o h second (first ∷ past) home) m.core.controls;
         flags = m.core.flags;

@@ -170,7 +170,7 @@ finds_first header h past k task what top at to (ToRead address bytes object pag
     loads (want.Store a n v) is =
         absurd (let bad : Some (Storing a n v) ≡ Some (Loading address bytes) = sym (to.waits ∙ ap (λ z. Some (access_in k.maps.size to.destination z)) is)
         ∙ waits.waits in cc)
-finds_first header h past k task what top at to (ToWrite address bytes value object page waits is_top unmarked here open_it) =
+finds_first header h past k task what top at to (ToWrite address bytes value object page waits is_top unmarked here open_it paid) =
     let writes = write_at header h past k task address bytes value object page what top at to waits is_top unmarked here open_it in
     record { finds = writes.finds; bare = and_right (is_storing what) at.row.marked (sym to.marks ∙ writes.unmarked) }
 
@@ -319,7 +319,7 @@ number_found header past size to task (want.Load address n) is finds = tt
 number_found header past size to task (want.Store address n value) is finds = tt
 number_found header past size to task (want.CopyTo address pages target next) is (ToRead a n object page waits comes here open_it) =
     absurd (let bad : Some (Copying address (pages * size) to) ≡ Some (Loading a n) = sym is ∙ waits.waits in cc)
-number_found header past size to task (want.CopyTo address pages target next) is (ToWrite a n value object page waits is_top unmarked here open_it) =
+number_found header past size to task (want.CopyTo address pages target next) is (ToWrite a n value object page waits is_top unmarked here open_it paid) =
     absurd (let bad : Some (Copying address (pages * size) to) ≡ Some (Storing a n value) = sym is ∙ waits.waits in cc)
 
 pub number_of_found : (header : Header) (h : ℕ) (past : List Event) (k : Parts) (ids : Ids) (w : Waiting) → Works header h k ids woken.Nobody past

@@ -1,6 +1,7 @@
 -- At the end of a step nobody waits in vain, and nothing is left behind.
 use Rattle.vm_kernel.proofs.Common.{Access, Event, HasQueue, HasWaits, Header, HostIsFull, Ids, IsPagerTold, List}
 use Rattle.vm_kernel.proofs.Common.{Matches, None, NoneInVain, On, Option, Parts, PromptAt, QueueIsServed, Reason, Rests}
+use Rattle.vm_legal.specs.Prompt.{AtPlace}
 use Rattle.vm_kernel.proofs.Common.{Some, Waiting, Waits, WaitsForPager, Want, [], access_in, ap, copies_to}
 use Rattle.vm_kernel.proofs.Common.{entries_in, entry, false, inl, inr, is_again, is_frame, is_on, is_store}
 use Rattle.vm_kernel.proofs.Common.{none_again, none_queued}
@@ -65,19 +66,17 @@ waits_for header h k ids past task to what (on.Ready object) agrees m reason fre
     inl (record {
       waits = waits;
       on_host = home;
-      object = reason.0.object.0;
-      page = reason.0.page.0;
-      place = waiting_place m to agrees reason.1 (at_home header h k ids past task (access_in k.maps.size to what) m waits home) waits;
-      what = awaits_ready (shown_at m) reason.0.object.0 told.row told.found told.sent (is_store (access_in k.maps.size to what)) reason.0.page.0;
+      what = AtPlace reason.0.object.0 reason.0.page.0
+          (waiting_place m to agrees reason.1 (at_home header h k ids past task (access_in k.maps.size to what) m waits home) waits)
+          (awaits_ready (shown_at m) reason.0.object.0 told.row told.found told.sent (is_store (access_in k.maps.size to what)) reason.0.page.0);
     })
 waits_for header h k ids past task to what (on.Page key) agrees m reason fresh full waits home =
     inl (record {
       waits = waits;
       on_host = home;
-      object = key.object.0;
-      page = key.page.0;
-      place = waiting_place m to agrees reason.0 (at_home header h k ids past task (access_in k.maps.size to what) m waits home) waits;
-      what = awaits_word (shown_at m) k.maps.size to key.object.0 key.page.0 what reason.1;
+      what = AtPlace key.object.0 key.page.0
+          (waiting_place m to agrees reason.0 (at_home header h k ids past task (access_in k.maps.size to what) m waits home) waits)
+          (awaits_word (shown_at m) k.maps.size to key.object.0 key.page.0 what reason.1);
     })
 waits_for header h k ids past task to what on.Frame agrees m reason fresh full waits home = inr (full refl)
 
@@ -115,6 +114,7 @@ no_pair header h k ids past rests upper lower pair =
       shadows = rests.referred.shadows;
       all = λ r row least found. regions_used header h k ids past (whole_of rests) r row least found;
       there = λ r least used. used_there header h k ids [] past r m rests.used.copies least used;
+      plain = m.core.objects.plain;
     } in
     thin_told knows rests.thin upper lower pair
 
