@@ -20,11 +20,13 @@ pub mod FileStart
 pub mod Filling
 pub mod Forgets
 pub mod Good
+pub mod Heads
 pub mod Held
 pub mod Holds
 pub mod Housed
 pub mod Joined
 pub mod Law
+pub mod Leading
 pub mod Letters
 pub mod Lives
 pub mod Loads
@@ -40,6 +42,7 @@ pub mod Ports
 pub mod Precious
 pub mod Pushing
 pub mod Queues
+pub mod Reaching
 pub mod Regions
 pub mod Settled
 pub mod Slow
@@ -53,7 +56,6 @@ pub mod Ties
 pub mod Told
 pub mod Traffic
 pub mod Translation
-pub mod Undelayed
 pub mod Uses
 pub mod Using
 pub mod Voids

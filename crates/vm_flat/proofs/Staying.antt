@@ -113,17 +113,17 @@ sent_up header host o p at object m past c was = absurd c.1
 
 -- zeros come where the pager has no such page, and then the control lives
 zeroed : (header : Header) (outside : Outside) (host o p at object page : ℕ) (past : List Event) → EachEvent (HasCause header outside) past
-    → EachEvent TakingKeeps past → BeforeSteps (Prompt header) past → host < length header.frames.items → o < named header
-    → (at == host && (object == o && page == p)) ≡ true → Fills header at object page past ⊎ Bottoms header at object page past
+    → EachEvent (CopiesCurrent header outside) past → EachEvent TakingKeeps past → BeforeSteps (Prompt header) past → host < length header.frames.items
+    → o < named header → (at == host && (object == o && page == p)) ≡ true → Fills header at object page past ⊎ Bottoms header at object page past
     → is_some (live_control host o past) ≡ true
-zeroed header outside host o p at object page past caused keeps prompt inside below same (inl fills) =
+zeroed header outside host o p at object page past caused current keeps prompt inside below same (inl fills) =
     let at_is : at ≡ host = grind (arith, nat_tests) in
     let object_is : object ≡ o = grind (arith, nat_tests) in
     let page_is : page ≡ p = grind (arith, nat_tests) in
-    lives_on_then header outside host o p past caused keeps prompt inside below
+    lives_on_then header outside host o p past caused current keeps prompt inside below
     (fills.void ∙ ap (λ (h : ℕ). Some (absent h object page)) at_is ∙ ap (λ (k : ℕ). Some (absent host k page)) object_is
     ∙ ap (λ (q : ℕ). Some (absent host o q)) page_is)
-zeroed header outside host o p at object page past caused keeps prompt inside below same (inr bottoms) =
+zeroed header outside host o p at object page past caused current keeps prompt inside below same (inr bottoms) =
     let object_is : object ≡ o = grind (arith, nat_tests) in absurd (let above = bottoms.temporary in omega (arith, above, object_is, below))
 
 raised : {A : Type 0} (header : Header) (host lower lower_page upper upper_page o : ℕ) (past : List Event) → NumberedAt header past → o < named header
@@ -161,7 +161,7 @@ stays header outside (event.Taken (Down at object control) m ∷ past) caused cu
 stays header outside (event.Zeroed at object page ∷ past) caused current keeps prompt host o p inside file =
     stays_if header.size (at.0 == host && (object.0 == o && page.0 == p)) Zeroes (page_on header host o p past) (live_control host o past)
     (λ is here. by_cause header outside (event.Zeroed at object page) past caused.0
-    (λ doing c. zeroed header outside host o p at.0 object.0 page.0 past caused.1 keeps.1 prompt inside (file_named header o file) is c))
+    (λ doing c. zeroed header outside host o p at.0 object.0 page.0 past caused.1 current.1 keeps.1 prompt inside (file_named header o file) is c))
     (stays header outside past caused.1 current.1 keeps.1 prompt host o p inside file)
 stays header outside (event.Raised at lower lower_page upper upper_page ∷ past) caused current keeps prompt host o p inside file =
     stays_if header.size (at.0 == host && (upper.0 == o && upper_page.0 == p)) (Raises (page_on header host lower.0 lower_page.0 past).bytes)

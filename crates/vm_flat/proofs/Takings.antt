@@ -31,6 +31,7 @@ use Rattle.vm_model.specs.Regions.{next_object, next_region}
 use Rattle.vm_model.specs.Server.{first as oldest}
 use Rattle.vm_model.specs.Tasks.{entries_of, has_entry, host_of}
 use Rattle.vm_legal.proofs.Inside.{taken_more}
+use Rattle.vm_legal.specs.Bytes.{CopiesCurrent}
 use Rattle.vm_legal.specs.Cached.{is_cached}
 use Rattle.vm_legal.specs.Follows.{Follows, FollowsAnyCut, IsBegun, IsConsequence, IsGroup, IsRun, cache_head, clean_head, copy_head, fork_head, head, inherits}
 use Rattle.vm_legal.specs.Follows.{inherits_all, map_head, next_behind, opening, say_head, take_head}
@@ -42,112 +43,69 @@ use Rattle.vm_legal.specs.Pagers.{Known, known_below}
 use Rattle.vm_legal.specs.Prompt.{Prompt}
 use Rattle.vm_legal.specs.Refusal.{refusal}
 use Rattle.vm_legal.specs.Steps.{Asked, Letter, absence_taken, before_step, taken_letter}
-use Rattle.vm_legal.specs.Stretches.{AllInner, EachIn, IsInner}
+use Rattle.vm_legal.specs.Stretches.{AllInner, EachIn}
 use Rattle.vm_legal.specs.Walks.{page_on}
+use Rattle.vm_flat.proofs.Heads.{Orderly, orderly}
 use Rattle.vm_flat.proofs.Pagers.{not_taken}
-use Rattle.vm_flat.proofs.Undelayed.{Undelayed, early_then, early_unreached}
+use Rattle.vm_flat.proofs.Reaching.{FollowsTaken, unreached_then}
 use Rattle.vm_flat.proofs.Using.{by_cause}
 use Rattle.vm_flat.proofs.Voids.{Came, absent, came, not_absent}
 use Rattle.vm_legal.specs.Destroyed.{destroy_taken}
 use Rattle.std.proofs.lemmas.Option.{none-some}
 
--- the event takes no entry from a task, nor changes where a task lives
-abbrev pub KeepsEntries : Event → Type 0
-KeepsEntries (event.TaskMade task host) = ⊥
-KeepsEntries (event.TaskEnded task) = ⊥
-KeepsEntries (event.Removed task address bytes) = ⊥
-KeepsEntries (event.Protected task address bytes prot) = ⊥
-KeepsEntries (event.Inherited task address bytes inherit) = ⊥
-KeepsEntries other = Unit {0}
-
--- where the step took a message; and no command makes a delayed copy yet
+-- in a step that took a message the event follows from it; and it keeps to what groups keep to
 abbrev pub TakingKeeps : Event → List Event → Type 0
-TakingKeeps e past = ((letter : Letter) → taken_letter past ≡ Some letter → KeepsEntries e) × Undelayed e
+TakingKeeps e past = FollowsTaken e past × Orderly e past
 
-consequence : (e : Event) (past : List Event) → IsConsequence e past → KeepsEntries e
-consequence (event.TaskMade task host) past is = is
-consequence (event.TaskEnded task) past is = is
-consequence (event.Removed task address bytes) past is = is
-consequence (event.Protected task address bytes prot) past is = is
-consequence (event.Inherited task address bytes inherit) past is = is
-consequence other past is = tt
+consequence : (e : Event) (past : List Event) → IsConsequence e past → FollowsTaken e past
+consequence (event.Line line) past is = tt
+consequence other past is = λ letter taken. is
 
-undelayed : (e : Event) (past : List Event) → IsConsequence e past → Undelayed e
-undelayed (event.Delayed region source offset pages copy) past is = is
-undelayed other past is = tt
-
-consequences : (events past : List Event) → EachIn IsConsequence events past → EachEvent TakingKeeps past → EachEvent TakingKeeps (events ++ past)
+consequences : (events past : List Event) → EachIn IsConsequence events past → EachEvent FollowsTaken past → EachEvent FollowsTaken (events ++ past)
 consequences [] past each was = was
-consequences (e ∷ events) past each was = (
-  (
-    (λ letter is. consequence e (events ++ past) each.0),
-    undelayed e
-        (events ++ past) each.0,
-  ),
-  consequences events past each.1 was,
-)
+consequences (e ∷ events) past each was = (consequence e (events ++ past) each.0, consequences events past each.1 was)
 
 -- heads
 
--- the event is no line, no taking and no delayed copy
-abbrev IsPlain : Event → Type 0
-IsPlain (event.Line line) = ⊥
-IsPlain (event.Taken channel m) = ⊥
-IsPlain (event.Delayed region source offset pages copy) = ⊥
-IsPlain other = Unit {0}
+inner_both : (events more : List Event) → AllInner events → AllInner more → AllInner (events ++ more)
+inner_both [] more one two = two
+inner_both (e ∷ events) more one two = (one.0, inner_both events more one.1 two)
 
-abbrev AllPlain : List Event → Type 0
-AllPlain [] = Unit {0}
-AllPlain (e ∷ events) = IsPlain e × AllPlain events
-
-is_inner : (e : Event) → IsPlain e → IsInner e
-is_inner (event.Line line) is = is
-is_inner (event.Taken channel m) is = is
-is_inner other is = tt
-
-is_undelayed : (e : Event) → IsPlain e → Undelayed e
-is_undelayed (event.Delayed region source offset pages copy) is = is
-is_undelayed other is = tt
-
-are_inner : (events : List Event) → AllPlain events → AllInner events
-are_inner [] all = tt
-are_inner (e ∷ events) all = (is_inner e all.0, are_inner events all.1)
-
-plain_both : (events more : List Event) → AllPlain events → AllPlain more → AllPlain (events ++ more)
-plain_both [] more one two = two
-plain_both (e ∷ events) more one two = (one.0, plain_both events more one.1 two)
+-- nothing was taken
+untaken : (e : Event) (past : List Event) → taken_letter past ≡ None → FollowsTaken e past
+untaken (event.Line line) past none = tt
+untaken other past none = λ letter is. not_taken letter (sym none ∙ is)
 
 -- nothing was taken in front of them
-behind_nothing : (events past : List Event) → AllPlain events → taken_letter past ≡ None → EachEvent TakingKeeps past → EachEvent TakingKeeps (events ++ past)
+behind_nothing : (events past : List Event) → AllInner events → taken_letter past ≡ None → EachEvent FollowsTaken past
+    → EachEvent FollowsTaken (events ++ past)
 behind_nothing [] past inner none was = was
-behind_nothing (e ∷ events) past inner none was = (
-  ((λ letter is. not_taken letter (sym (taken_more events past (are_inner events inner.1) ∙ none) ∙ is)), is_undelayed e inner.0),
-  behind_nothing events past inner.1 none was,
-)
+behind_nothing (e ∷ events) past inner none was =
+    (untaken e (events ++ past) (taken_more events past inner.1 ∙ none), behind_nothing events past inner.1 none was)
 
-inner_onto : (events more : List Event) → AllPlain events → AllPlain more → AllPlain (reverse_aux events more)
+inner_onto : (events more : List Event) → AllInner events → AllInner more → AllInner (reverse_aux events more)
 inner_onto [] more one two = two
 inner_onto (e ∷ events) more one two = inner_onto events (e ∷ more) one.1 (one.0, two)
 
 -- a head takes nothing, or it is the taking of one message
 abbrev IsHead : List Event → Type 0
-IsHead first = AllPlain first ⊎ ((channel : Channel) × (m : Message) × (event.Taken channel m ∷ [] ≡ first))
+IsHead first = AllInner first ⊎ ((channel : Channel) × (m : Message) × (event.Taken channel m ∷ [] ≡ first))
 
-plain : (events first : List Event) → AllPlain events → Some events ≡ Some first → IsHead first
-plain events first inner is = let same : events ≡ first = cc in inl (subst AllPlain same inner)
+plain : (events first : List Event) → AllInner events → Some events ≡ Some first → IsHead first
+plain events first inner is = let same : events ≡ first = cc in inl (subst AllInner same inner)
 
 no_head : (first : List Event) → None ≡ Some first → IsHead first
 no_head first is = absurd (cc)
 
-inherits_inner : (kind : Inherit) (size : ℕ) (child : TaskId) (next : ℕ) (row : Entry) → AllPlain (inherits kind size child next row)
+inherits_inner : (kind : Inherit) (size : ℕ) (child : TaskId) (next : ℕ) (row : Entry) → AllInner (inherits kind size child next row)
 inherits_inner Share size child next row = (tt, tt)
 inherits_inner Copy size child next row = (tt, (tt, tt))
 inherits_inner Never size child next row = tt
 
-all_inner : (size : ℕ) (child : TaskId) (next : ℕ) (rows : List Entry) → AllPlain (inherits_all size child next rows)
+all_inner : (size : ℕ) (child : TaskId) (next : ℕ) (rows : List Entry) → AllInner (inherits_all size child next rows)
 all_inner size child next [] = tt
 all_inner size child next (row ∷ rows) =
-    plain_both (inherits row.inherit size child next row) (inherits_all size child (next_behind row.inherit next) rows)
+    inner_both (inherits row.inherit size child next row) (inherits_all size child (next_behind row.inherit next) rows)
     (inherits_inner row.inherit size child next row) (all_inner size child (next_behind row.inherit next) rows)
 
 forked : (size next : ℕ) (child : TaskId) (x : Option ℕ) (rows : List Entry) (first : List Event) → fork_head size next child x rows ≡ Some first
@@ -181,7 +139,7 @@ said : (host : HostId) (object : ObjectId) (m : Message) (x : Option ℕ) (first
 said host object m None first is = no_head first is
 said host object m (Some control) first is = plain (event.Sent (Down host object control) m ∷ []) first (tt, tt) is
 
-opened : (host : ℕ) (object : ObjectId) (next size : ℕ) (x : Option ℕ) → AllPlain (opening host object next size x)
+opened : (host : ℕ) (object : ObjectId) (next size : ℕ) (x : Option ℕ) → AllInner (opening host object next size x)
 opened host object next size None = (tt, tt)
 opened host object next size (Some control) = tt
 
@@ -237,47 +195,44 @@ is_head header before (command.Clean object page count flush) first is =
     cleaned object page count flush (known_below (length header.frames.items) object.0 before) first is
 is_head header before (command.Cache object cache) first is = cached object cache (known_below (length header.frames.items) object.0 before) first is
 
-behind_line : (first : List Event) (line : ℕ) (past : List Event) → IsHead first → EachEvent TakingKeeps past
-    → EachEvent TakingKeeps (reverse first ++ event.Line line ∷ past)
+behind_line : (first : List Event) (line : ℕ) (past : List Event) → IsHead first → EachEvent FollowsTaken past
+    → EachEvent FollowsTaken (reverse first ++ event.Line line ∷ past)
 behind_line first line past (inl inner) was =
-    behind_nothing (reverse first) (event.Line line ∷ past) (inner_onto first [] inner tt) refl (((λ letter is. tt), tt), was)
+    behind_nothing (reverse first) (event.Line line ∷ past) (inner_onto first [] inner tt) refl (tt, was)
 behind_line first line past (inr (channel, m, is)) was =
-    subst (λ (z : List Event). EachEvent TakingKeeps (reverse z ++ event.Line line ∷ past)) is (((λ letter taken. tt), tt), (((λ letter taken. tt), tt), was))
+    subst (λ (z : List Event). EachEvent FollowsTaken (reverse z ++ event.Line line ∷ past)) is ((λ letter taken. tt), (tt, was))
 
 -- groups
 
 group_keeps : (header : Header) (outside : Outside) (past : List Event) (numbered : Numbered) (group : List Event) (refused : Option Code)
     (x : Option (List Event)) → head header past numbered.command ≡ x
     → MatchOption refused (MatchOption x ⊥ (λ events. IsRun header outside past numbered events group)) (λ code. group ≡ event.Refused code ∷ [])
-    → EachEvent TakingKeeps past → EachEvent TakingKeeps (group ++ event.Line numbered.line ∷ past)
+    → EachEvent FollowsTaken past → EachEvent FollowsTaken (group ++ event.Line numbered.line ∷ past)
 group_keeps header outside past numbered group None None is made was = absurd made
 group_keeps header outside past numbered group None (Some events) is run was =
     let whole = consequences run.more (reverse events ++ event.Line numbered.line ∷ past) run.follows
     (behind_line events numbered.line past (is_head header past numbered.command events is) was) in
-    subst (EachEvent TakingKeeps) (sym (append_assoc run.more (reverse events) (event.Line numbered.line ∷ past))
+    subst (EachEvent FollowsTaken) (sym (append_assoc run.more (reverse events) (event.Line numbered.line ∷ past))
     ∙ ap (λ z. z ++ event.Line numbered.line ∷ past) (sym run.is)) whole
 group_keeps header outside past numbered group (Some code) x is made was =
-    subst (λ (g : List Event). EachEvent TakingKeeps (g ++ event.Line numbered.line ∷ past)) (sym made) (
-      ((λ letter taken. tt), tt),
-      (((λ letter taken. tt), tt), was),
-    )
+    subst (λ (g : List Event). EachEvent FollowsTaken (g ++ event.Line numbered.line ∷ past)) (sym made) ((λ letter is. not_taken letter is), (tt, was))
 
 with_group : (header : Header) (outside : Outside) (past : List Event) (numbered : Numbered) (group history : List Event)
     → history ≡ group ++ event.Line numbered.line ∷ past → IsGroup header outside past numbered group
-    → EachEvent TakingKeeps past → EachEvent TakingKeeps history
+    → EachEvent FollowsTaken past → EachEvent FollowsTaken history
 with_group header outside past numbered group history is made was =
-    subst (EachEvent TakingKeeps) (sym is) (group_keeps header outside past numbered group (refusal header past numbered.command)
+    subst (EachEvent FollowsTaken) (sym is) (group_keeps header outside past numbered group (refusal header past numbered.command)
     (head header past numbered.command) refl made was)
 
 whole_keeps : (header : Header) (outside : Outside) (commands : List Numbered) (history : List Event) → Follows header outside commands history
-    → EachEvent TakingKeeps history
-whole_keeps header outside [] history is = subst (EachEvent TakingKeeps) (sym is) tt
+    → EachEvent FollowsTaken history
+whole_keeps header outside [] history is = subst (EachEvent FollowsTaken) (sym is) tt
 whole_keeps header outside (numbered ∷ before) history (past, group, is, made, done, follows) =
     with_group header outside past numbered group history is made (whole_keeps header outside before past follows)
 
 -- wherever the history ends
 
-each_behind : (front past : List Event) → EachEvent TakingKeeps (front ++ past) → EachEvent TakingKeeps past
+each_behind : (front past : List Event) → EachEvent FollowsTaken (front ++ past) → EachEvent FollowsTaken past
 each_behind [] past each = each
 each_behind (e ∷ front) past each = each_behind front past each.1
 
@@ -287,25 +242,34 @@ begun_keeps : (header : Header) (outside : Outside) (past : List Event) (numbere
     (MatchOption x ⊥ (λ first. IsRun header outside past numbered first group
     ⊎ (IsBegun first group × AllLicensed header outside numbered.command group (event.Line numbered.line ∷ past))))
     (λ code. (group ≡ []) ⊎ (group ≡ event.Refused code ∷ []))
-    → EachEvent TakingKeeps past → EachEvent TakingKeeps (group ++ event.Line numbered.line ∷ past)
+    → EachEvent FollowsTaken past → EachEvent FollowsTaken (group ++ event.Line numbered.line ∷ past)
 begun_keeps header outside past numbered group None None is made was = absurd made
 begun_keeps header outside past numbered group None (Some first) is (inl run) was = group_keeps header outside past numbered group None
     (Some first) is run was
 begun_keeps header outside past numbered group None (Some first) is (inr begun) was =
     let behind = event.Line numbered.line ∷ past in
     let whole = behind_line first numbered.line past (is_head header past numbered.command first is) was in
-    each_behind begun.0.rest (group ++ behind) (subst (EachEvent TakingKeeps) (ap (λ z. z ++ behind) begun.0.is
+    each_behind begun.0.rest (group ++ behind) (subst (EachEvent FollowsTaken) (ap (λ z. z ++ behind) begun.0.is
     ∙ append_assoc begun.0.rest group behind) whole)
 begun_keeps header outside past numbered group (Some code) x is (inl none) was =
-    subst (λ (g : List Event). EachEvent TakingKeeps (g ++ event.Line numbered.line ∷ past)) (sym none) (((λ letter taken. tt), tt), was)
+    subst (λ (g : List Event). EachEvent FollowsTaken (g ++ event.Line numbered.line ∷ past)) (sym none) (tt, was)
 begun_keeps header outside past numbered group (Some code) x is (inr made) was = group_keeps header outside past numbered group (Some code) x is made was
+
+follow_taken : (header : Header) (outside : Outside) (commands : List Numbered) (history : List Event) → FollowsAnyCut header outside commands history
+    → EachEvent FollowsTaken history
+follow_taken header outside [] history is = subst (EachEvent FollowsTaken) (sym is) tt
+follow_taken header outside (numbered ∷ before) history (past, group, is, made, follows) =
+    subst (EachEvent FollowsTaken) (sym is) (begun_keeps header outside past numbered group (refusal header past numbered.command)
+    (head header past numbered.command) refl made (whole_keeps header outside before past follows))
+
+two_of : (past : List Event) → EachEvent FollowsTaken past → EachEvent Orderly past → EachEvent TakingKeeps past
+two_of [] one two = tt
+two_of (e ∷ past) one two = ((one.0, two.0), two_of past one.1 two.1)
 
 pub takings_keep : (header : Header) (outside : Outside) (commands : List Numbered) (history : List Event) → FollowsAnyCut header outside commands history
     → EachEvent TakingKeeps history
-takings_keep header outside [] history is = subst (EachEvent TakingKeeps) (sym is) tt
-takings_keep header outside (numbered ∷ before) history (past, group, is, made, follows) =
-    subst (EachEvent TakingKeeps) (sym is) (begun_keeps header outside past numbered group (refusal header past numbered.command)
-    (head header past numbered.command) refl made (whole_keeps header outside before past follows))
+takings_keep header outside commands history follows =
+    two_of history (follow_taken header outside commands history follows) (orderly header outside commands history follows)
 
 -- in such a step
 
@@ -395,23 +359,29 @@ taken_kept header host o p (Up at object) m past is = not_absent _ is
 taken_kept header host o p (Down at object control) (message.Unavailable page) past is = refl
 taken_kept header host o p (Down at object control) other past is = not_absent _ is
 
-each_undelayed : (past : List Event) → EachEvent TakingKeeps past → EachEvent (λ e before. Undelayed e) past
-each_undelayed [] keeps = tt
-each_undelayed (e ∷ past) keeps = (keeps.0.1, each_undelayed past keeps.1)
+each_follows : (past : List Event) → EachEvent TakingKeeps past → EachEvent FollowsTaken past
+each_follows [] keeps = tt
+each_follows (e ∷ past) keeps = (keeps.0.0, each_follows past keeps.1)
+
+each_orderly : (past : List Event) → EachEvent TakingKeeps past → EachEvent Orderly past
+each_orderly [] keeps = tt
+each_orderly (e ∷ past) keeps = (keeps.0.1, each_orderly past keeps.1)
 
 -- no declared object's control ends in such a step
 ends_never : {A : Type 0} (header : Header) (outside : Outside) (host o p : ℕ) (past : List Event) → EachEvent (HasCause header outside) past
-    → EachEvent TakingKeeps past → BeforeSteps (Prompt header) past
+    → EachEvent (CopiesCurrent header outside) past → EachEvent TakingKeeps past → BeforeSteps (Prompt header) past
     → host < length header.frames.items → o < named header → absence_taken header past ≡ Some (absent host o p)
     → Kept host o past → IsUnheld header host o past → A
-ends_never header outside host o p past caused keeps prompt inside below is kept unheld =
+ends_never header outside host o p past caused current keeps prompt inside below is kept unheld =
     let was : Absence host o past = absence header host o p past is in
     absurd
     (none_some (live_control host o (before_step past)) ((prompt_then header was.letter past prompt was.taken host inside).swept.declared_controls o below
     (record {
       unmapped = unmapped_then header host o was.letter past keeps was.taken unheld.unmapped;
       uncached = sym kept.cached ∙ unheld.uncached;
-      unreached = early_unreached header host o (before_step past) below (early_then header outside past caused (each_undelayed past keeps));
+      unreached =
+          unreached_then header outside host o was.letter past caused current (each_follows past keeps) (each_orderly past keeps) was.taken below
+          unheld.unreached;
     })) was.lived)
 
 -- the step took no end of an object
@@ -440,46 +410,46 @@ kept_apart : (b cached was : Bool) (live next : Option ℕ) → (b ≡ true → 
 kept_apart b cached was live next never some same = (ap is_some (elsewhere b next live never) ∙ some, elsewhere b false cached never ∙ same)
 
 kept_then : (header : Header) (outside : Outside) (host o p : ℕ) (past : List Event) → EachEvent (HasCause header outside) past
-    → EachEvent TakingKeeps past → BeforeSteps (Prompt header) past → host < length header.frames.items → o < named header
-    → absence_taken header past ≡ Some (absent host o p) → Kept host o past
-kept_then header outside host o p [] caused keeps prompt inside below is = not_absent _ is
-kept_then header outside host o p (event.Line line ∷ past) caused keeps prompt inside below is = not_absent _ is
-kept_then header outside host o p (event.Taken channel m ∷ past) caused keeps prompt inside below is =
+    → EachEvent (CopiesCurrent header outside) past → EachEvent TakingKeeps past → BeforeSteps (Prompt header) past → host < length header.frames.items
+    → o < named header → absence_taken header past ≡ Some (absent host o p) → Kept host o past
+kept_then header outside host o p [] caused current keeps prompt inside below is = not_absent _ is
+kept_then header outside host o p (event.Line line ∷ past) caused current keeps prompt inside below is = not_absent _ is
+kept_then header outside host o p (event.Taken channel m ∷ past) caused current keeps prompt inside below is =
     record { lives = (absence header host o p (event.Taken channel m ∷ past) is).lived; cached = taken_kept header host o p channel m past is }
-kept_then header outside host o p (event.Sent (Up at object) (message.Init control size) ∷ past) caused keeps prompt inside below is =
-    let was = kept_then header outside host o p past caused.1 keeps.1 prompt inside below is in
+kept_then header outside host o p (event.Sent (Up at object) (message.Init control size) ∷ past) caused current keeps prompt inside below is =
+    let was = kept_then header outside host o p past caused.1 current.1 keeps.1 prompt inside below is in
     let apart = kept_apart (at.0 == host && object.0 == o) (is_cached host o past) (is_cached host o (before_step past)) (live_control host o past)
     (Some control)
     (λ same. by_cause header outside (event.Sent (Up at object) (message.Init control size)) past caused.0 (λ doing c.
     none_some (live_control host o past) (at_place (λ h k. live_control h k past ≡ None) at.0 object.0 host o same c.none) was.lives))
     was.lives was.cached in
     record { lives = apart.0; cached = apart.1 }
-kept_then header outside host o p (event.Sent (Up at object) (message.Create control size) ∷ past) caused keeps prompt inside below is =
-    let was = kept_then header outside host o p past caused.1 keeps.1 prompt inside below is in
+kept_then header outside host o p (event.Sent (Up at object) (message.Create control size) ∷ past) caused current keeps prompt inside below is =
+    let was = kept_then header outside host o p past caused.1 current.1 keeps.1 prompt inside below is in
     let apart = kept_apart (at.0 == host && object.0 == o) (is_cached host o past) (is_cached host o (before_step past)) (live_control host o past)
     (Some control)
     (λ same. by_cause header outside (event.Sent (Up at object) (message.Create control size)) past caused.0 (λ doing c.
     let temporary : named header ≤ o = at_place (λ h k. named header ≤ k) at.0 object.0 host o same c.temporary in absurd (omega (arith, temporary, below))))
     was.lives was.cached in
     record { lives = apart.0; cached = apart.1 }
-kept_then header outside host o p (event.Sent (Up at object) (message.Terminate control) ∷ past) caused keeps prompt inside below is =
-    let was = kept_then header outside host o p past caused.1 keeps.1 prompt inside below is in
+kept_then header outside host o p (event.Sent (Up at object) (message.Terminate control) ∷ past) caused current keeps prompt inside below is =
+    let was = kept_then header outside host o p past caused.1 current.1 keeps.1 prompt inside below is in
     let apart = kept_apart (at.0 == host && object.0 == o) (is_cached host o past) (is_cached host o (before_step past)) (live_control host o past)
     (without_control control (live_control host o past))
     (λ same. by_cause header outside (event.Sent (Up at object) (message.Terminate control)) past caused.0 (λ doing c.
-    ends_never header outside host o p past caused.1 keeps.1 prompt inside below is was
+    ends_never header outside host o p past caused.1 current.1 keeps.1 prompt inside below is was
     (unheld_by header host o past below (absent_undestroyed header past is)
     (at_place (λ h k. EndCause header h k past) at.0 object.0 host o same c.why))))
     was.lives was.cached in
     record { lives = apart.0; cached = apart.1 }
-kept_then header outside host o p (event.Sent (Up at object) m ∷ past) caused keeps prompt inside below is =
-    let was = kept_then header outside host o p past caused.1 keeps.1 prompt inside below is in record { lives = was.lives; cached = was.cached }
-kept_then header outside host o p (e ∷ past) caused keeps prompt inside below is =
-    let was = kept_then header outside host o p past caused.1 keeps.1 prompt inside below is in record { lives = was.lives; cached = was.cached }
+kept_then header outside host o p (event.Sent (Up at object) m ∷ past) caused current keeps prompt inside below is =
+    let was = kept_then header outside host o p past caused.1 current.1 keeps.1 prompt inside below is in record { lives = was.lives; cached = was.cached }
+kept_then header outside host o p (e ∷ past) caused current keeps prompt inside below is =
+    let was = kept_then header outside host o p past caused.1 current.1 keeps.1 prompt inside below is in record { lives = was.lives; cached = was.cached }
 
 -- the control lives on, to the end of the step
 pub lives_on_then : (header : Header) (outside : Outside) (host o p : ℕ) (past : List Event) → EachEvent (HasCause header outside) past
-    → EachEvent TakingKeeps past → BeforeSteps (Prompt header) past → host < length header.frames.items → o < named header
-    → absence_taken header past ≡ Some (absent host o p) → is_some (live_control host o past) ≡ true
-lives_on_then header outside host o p past caused keeps prompt inside below is =
-    (kept_then header outside host o p past caused keeps prompt inside below is).lives
+    → EachEvent (CopiesCurrent header outside) past → EachEvent TakingKeeps past → BeforeSteps (Prompt header) past → host < length header.frames.items
+    → o < named header → absence_taken header past ≡ Some (absent host o p) → is_some (live_control host o past) ≡ true
+lives_on_then header outside host o p past caused current keeps prompt inside below is =
+    (kept_then header outside host o p past caused current keeps prompt inside below is).lives
