@@ -29,3 +29,9 @@ passes_top parts chains (suc n) top last walks passes = walks.0
 pub sunk : (parts : HostParts) (chains : ChainTable) (n : ℕ) (top last : PageKey) → WalksTo parts chains n top last → PassesOver parts last
     → row_at parts.resident top.object.0 top.page.0 ≡ None
 sunk parts chains n top last walks passes = (passes_top parts chains n top last walks passes).absent
+
+-- what is found without a step down is found at the top
+pub found_top : (parts : HostParts) (chains : ChainTable) (n : ℕ) (top key : PageKey) (row : PageRow) → n ≡ 0 → Finds parts chains n top key row
+    → Finds parts chains 0 top top row
+found_top parts chains zero top key row none finds = subst (λ (z : PageKey). Finds parts chains 0 top z row) (sym finds.walks) finds
+found_top parts chains (suc n) top key row none finds = absurd (omega (arith, none))

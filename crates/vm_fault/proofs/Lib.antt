@@ -1,9 +1,13 @@
+mod Coming
+mod Copied
 mod Copies
 mod Descents
 mod Ends
+mod Owed
 mod Pages
 mod Places
 mod Runs
 mod Shadows
 mod Standing
+mod States
 mod Taking

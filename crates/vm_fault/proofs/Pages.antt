@@ -11,7 +11,8 @@ use Rattle.vm_base.specs.declared.ids.HostId.{HostId}
 use Rattle.vm_base.specs.declared.ids.ObjectId.{ObjectId}
 use Rattle.vm_base.specs.declared.ids.PageKey.{PageKey}
 use Rattle.vm_base.specs.declared.ids.TaskId.{TaskId}
-use Rattle.vm_fault.specs.Faults.{AfterZeros, AtOnce, CanFault, Copied, CopiesPage, CopiesTo, Ended, FaultState, Faulted, GoesOn, Raised, Runs, goes_on}
+use Rattle.vm_copies.specs.Copies.{CopyTable, copy_at}
+use Rattle.vm_fault.specs.Faults.{AfterZeros, AtOnce, CanFault, Copied, CopiesPage, CopiesTo, Ended, FaultState, Faulted, GoesOn, Pushed, Raised, Runs, goes_on}
 use Rattle.vm_fault.specs.Faults.{has_one, want_after}
 use Rattle.vm_fault.specs.Rooms.{HasRoom, TakesRoom}
 use Rattle.vm_fault.specs.declared.step.FaultStep.{FaultStep}
@@ -66,27 +67,52 @@ next_in (want.Store address size value) = 0
 next_in (want.CopyTo address pages target next) = next
 
 ended_page : (host : HostId) (task : TaskId) (address pages next : ℕ) (target : ObjectId) (top : PageKey) (at value : ℕ) (old new : HostParts)
-    (chains : ChainTable) (before after : List Event)
-    → Ended host task (want.CopyTo address pages target next) top at value old new chains before after → MakesPage target next old new
-ended_page host task address pages next target top at value old new chains before after (AtOnce steps key row finds alone out e hits told) = absurd hits
-ended_page host task address pages next target top at value old new chains before after
-    (Raised steps key row finds stores out frame copied hit raises plan e hits source told) = absurd (false≢true stores)
-ended_page host task address pages next target top at value old new chains before after (AfterZeros sinks frame brought brings plan e hits told) = absurd hits
-ended_page host task address pages next target top at value old new chains before after (Copied a p n t is steps key row finds out zero made) =
+    (chains : ChainTable) (had have : CopyTable) (before after : List Event)
+    → Ended host task (want.CopyTo address pages target next) top at value old new chains had have before after → MakesPage target next old new
+ended_page host task address pages next target top at value old new chains had have before after
+    (AtOnce steps key row finds alone out owed e hits same told) = absurd hits
+ended_page host task address pages next target top at value old new chains had have before after
+    (Raised steps key row finds stores out frame copied hit raises plan e hits source notes told) = absurd (false≢true stores)
+ended_page host task address pages next target top at value old new chains had have before after
+    (Pushed row finds stores out place owed absent frame copied raises plan e hits notes told) = absurd (false≢true stores)
+ended_page host task address pages next target top at value old new chains had have before after
+    (AfterZeros sinks frame brought brings plan e hits notes told) = absurd hits
+ended_page host task address pages next target top at value old new chains had have before after
+    (Copied a p n t is steps key row finds out zero made same) =
     let page = made_page task key row t n old new before after made in
     subst (λ (z : ObjectId). MakesPage z next old new) (sym (ap (λ (z : Want). target_in z target) is))
     (subst (λ (z : ℕ). MakesPage t z old new) (sym (ap next_in is)) page)
 
 -- it has told one event
 ended_told : (host : HostId) (task : TaskId) (address pages next : ℕ) (target : ObjectId) (top : PageKey) (at value : ℕ) (old new : HostParts)
-    (chains : ChainTable) (before after : List Event)
-    → Ended host task (want.CopyTo address pages target next) top at value old new chains before after → length after ≡ length before + 1
-ended_told host task address pages next target top at value old new chains before after (AtOnce steps key row finds alone out e hits told) = absurd hits
-ended_told host task address pages next target top at value old new chains before after
-    (Raised steps key row finds stores out frame copied hit raises plan e hits source told) = absurd (false≢true stores)
-ended_told host task address pages next target top at value old new chains before after (AfterZeros sinks frame brought brings plan e hits told) = absurd hits
-ended_told host task address pages next target top at value old new chains before after (Copied a p n t is steps key row finds out zero made) =
+    (chains : ChainTable) (had have : CopyTable) (before after : List Event)
+    → Ended host task (want.CopyTo address pages target next) top at value old new chains had have before after → length after ≡ length before + 1
+ended_told host task address pages next target top at value old new chains had have before after
+    (AtOnce steps key row finds alone out owed e hits same told) = absurd hits
+ended_told host task address pages next target top at value old new chains had have before after
+    (Raised steps key row finds stores out frame copied hit raises plan e hits source notes told) = absurd (false≢true stores)
+ended_told host task address pages next target top at value old new chains had have before after
+    (Pushed row finds stores out place owed absent frame copied raises plan e hits notes told) = absurd (false≢true stores)
+ended_told host task address pages next target top at value old new chains had have before after
+    (AfterZeros sinks frame brought brings plan e hits notes told) = absurd hits
+ended_told host task address pages next target top at value old new chains had have before after
+    (Copied a p n t is steps key row finds out zero made same) =
     ap (λ (es : List Event). length es) made.told ∙ omega arith
+
+-- it has noted nothing
+ended_notes : (host : HostId) (task : TaskId) (address pages next : ℕ) (target : ObjectId) (top : PageKey) (at value : ℕ) (old new : HostParts)
+    (chains : ChainTable) (had have : CopyTable) (before after : List Event)
+    → Ended host task (want.CopyTo address pages target next) top at value old new chains had have before after → have ≡ had
+ended_notes host task address pages next target top at value old new chains had have before after
+    (AtOnce steps key row finds alone out owed e hits same told) = absurd hits
+ended_notes host task address pages next target top at value old new chains had have before after
+    (Raised steps key row finds stores out frame copied hit raises plan e hits source notes told) = absurd (false≢true stores)
+ended_notes host task address pages next target top at value old new chains had have before after
+    (Pushed row finds stores out place owed absent frame copied raises plan e hits notes told) = absurd (false≢true stores)
+ended_notes host task address pages next target top at value old new chains had have before after
+    (AfterZeros sinks frame brought brings plan e hits notes told) = absurd hits
+ended_notes host task address pages next target top at value old new chains had have before after
+    (Copied a p n t is steps key row finds out zero made same) = same
 
 -- and of the rest
 record MakesNext (target : ObjectId) (next : ℕ) (old new : FaultState) : Type 0 where
@@ -94,6 +120,7 @@ record MakesNext (target : ObjectId) (next : ℕ) (old new : FaultState) : Type 
   pub ids : new.ids ≡ old.ids
   pub page : MakesPage target next old.parts new.parts
   pub told : length new.events ≡ length old.events + 1
+  pub copies : new.copies ≡ old.copies
 
 made_next : (maps : Mapped) (host : HostId) (task : TaskId) (may_claim : Bool) (value address pages next : ℕ) (target : ObjectId) (old new : FaultState)
     → Faulted maps host task (want.CopyTo address pages target next) may_claim (step.Done value) old new → MakesNext target next old new
@@ -103,10 +130,16 @@ made_next maps host task may_claim value address pages next target old new f =
       ids = f.ids ∙ ap (λ (z : FaultState). z.ids) f.prepares;
       page =
           subst (λ (z : FaultState). MakesPage target next z.parts new.parts) f.prepares
-          (ended_page host task address pages next target f.top _ value f.mid.parts new.parts f.mid.chains f.mid.events new.events f.comes);
+          (ended_page host task address pages next target f.top _ value f.mid.parts new.parts f.mid.chains f.mid.copies new.copies f.mid.events new.events
+          f.comes);
       told =
-          ended_told host task address pages next target f.top _ value f.mid.parts new.parts f.mid.chains f.mid.events new.events f.comes
+          ended_told host task address pages next target f.top _ value f.mid.parts new.parts f.mid.chains f.mid.copies new.copies f.mid.events new.events
+          f.comes
           ∙ ap (λ (z : FaultState). length z.events + 1) f.prepares;
+      copies =
+          ended_notes host task address pages next target f.top _ value f.mid.parts new.parts f.mid.chains f.mid.copies new.copies f.mid.events new.events
+          f.comes
+          ∙ ap (λ (z : FaultState). z.copies) f.prepares;
     }
 
 else_where : {A : Type 0} (b c : Bool) (x y : A) → c ≡ false → (if b && c then x else y) ≡ y
@@ -158,6 +191,8 @@ next_can maps host task may_claim value address pages next target old new can f 
       row = can.row;
       region = ap (λ (z : ChainTable). region_at z can.entry.region.0) made.chains ∙ can.region;
       inside = can.inside;
+      copied = f.copied;
+      fresh = ap (λ (z : CopyTable). copy_at z target.0) made.copies ∙ can.fresh;
       copies = copies_then can.row.top target pages next old new made can.copies;
       counted = λ marked. subst (λ (z : Ids). 0 < z.marks) (sym ids) (can.counted marked);
       referred = λ marked one. subst (λ (z : ChainTable). IsOnlyTop can.entry.region.0 can.row.top.0 z) (sym made.chains)

@@ -1,11 +1,11 @@
 -- A region gets an object of its own, or loses its mark: what is known of objects then, and that all fits still.
-use Rattle.std.proofs.Common.{◌≡◌, ℕ, ◌+◌, ◌≤◌, Bool, Option, Some, None, false, refl, ap, sym, ◌∙◌, subst, arith, inl, inr, Result, Ok, Err}
+use Rattle.std.proofs.Common.{◌≡◌, ℕ, ◌+◌, ◌≤◌, ◌&&◌, Bool, Option, Some, None, true, false, refl, ap, sym, ◌∙◌, subst, arith, inl, inr, Result, Ok, Err}
 use Rattle.std.proofs.lemmas.Bool.Decides.{nat_tests}
-use Rattle.std.specs.Prelude.{OnOk}
+use Rattle.std.specs.Prelude.{◌⊎◌, IfSome, OnOk}
 use Rattle.vm_base.specs.declared.ids.ObjectId.{ObjectId}
 use Rattle.vm_base.specs.declared.ids.RegionId.{RegionId}
-use Rattle.vm_fault.specs.Faults.{FaultState, LosesMark, MakesShadow}
-use Rattle.vm_fault.specs.Walks.{ChainsFit}
+use Rattle.vm_fault.specs.Faults.{FaultState, LosesMark, MakesShadow, Prepares}
+use Rattle.vm_fault.specs.Walks.{ChainsFit, is_storing}
 use Rattle.vm_objects.specs.Objects.{ObjectTable, PutsObject, SameMarks, absent_among, object_among, object_at}
 use Rattle.vm_objects.specs.declared.row.ObjectRow.{ObjectRow}
 use Rattle.vm_parts.specs.Fits.{Fit, object_pages, pages_of_row}
@@ -15,6 +15,7 @@ use Rattle.vm_parts.proofs.Rows.{one_case}
 use Rattle.vm_shadow.specs.Chains.{ChainTable, ObjectsBelow, PutsRegion, ShadowsRegion, region_at, shadow_at}
 use Rattle.vm_shadow.specs.declared.region_row.RegionRow.{RegionRow}
 use Rattle.vm_shadow.specs.declared.shadow_row.ShadowRow.{ShadowRow}
+use Rattle.vm_waits.specs.declared.waiting.Want.{Want}
 
 some_same : {A : Type 0} (x y : A) → Some x ≡ Some y → x ≡ y
 some_same x y e = cc
@@ -30,6 +31,17 @@ pub told_loses : {E : Type 0} (result : Result (Unit {0}) E) (region : RegionId)
     → (told → LosesMark region row old new) → OnOk result told → OnOk result (LosesMark region row old new)
 told_loses (Ok x) region row old new told loses is = loses is
 told_loses (Err e) region row old new told loses is = tt
+
+-- a store in a region with a mark does one of these
+pub prepares_marked : {E : Type 0} (result : Result (Unit {0}) E) (what : Want) (region : RegionId) (row : RegionRow) (found : Option RegionRow)
+    (old new : FaultState) (told : Type 0) → (told → MakesShadow region row old new ⊎ LosesMark region row old new) → found ≡ Some row
+    → is_storing what ≡ true → row.marked ≡ true → OnOk result told
+    → OnOk result (IfSome found (λ r. Prepares (is_storing what && r.marked) region r old new))
+prepares_marked (Ok x) what region row found old new told does is stores marked holds =
+    let both : (is_storing what && row.marked) ≡ true = rw (stores, marked) refl in
+    subst (λ (z : Option RegionRow). IfSome z (λ r. Prepares (is_storing what && r.marked) region r old new)) (sym is)
+    (subst (λ (b : Bool). Prepares b region row old new) (sym both) (does holds))
+prepares_marked (Err e) what region row found old new told does is stores marked holds = tt
 
 -- the chains fit the objects still, where a region has another mark
 pub chains_unmarked : (chains new : ChainTable) (os : ObjectTable) (region : ℕ) (row : RegionRow) (mark : Bool) → ChainsFit chains os

@@ -11,6 +11,8 @@ use Rattle.vm_base.specs.declared.ids.RegionId.{RegionId}
 use Rattle.vm_base.specs.declared.ids.TaskId.{TaskId}
 use Rattle.vm_base.specs.Entries.{entry_at, page_at}
 use Rattle.vm_base.specs.Pages.{little_endian, little_endian_bytes, with_bytes}
+use Rattle.vm_copies.specs.Copies.{CopyTable}
+use Rattle.vm_fault.specs.Pushes.{CopiesFit, IsFresh, Notes, owed_at}
 use Rattle.vm_fault.specs.Walks.{ChainsFit, Finds, IsAt, MayCome, Sinks, StopsAsked, is_copying, is_storing, keeps_out, wanted_number, writes_at}
 use Rattle.vm_fault.specs.declared.step.FaultStep.{FaultStep}
 use Rattle.vm_fault.specs.declared.step.FaultStep.TheVariants as step
@@ -37,10 +39,11 @@ use Rattle.vm_waits.specs.Wants.{IsSizedWant, address_in, need_in, with_page_don
 use Rattle.vm_waits.specs.declared.waiting.Want.{Want}
 use Rattle.vm_waits.specs.declared.waiting.Want.TheVariants as want
 
--- what a fault may change: the parts of the host, its chains, the next numbers, and the events so far
+-- what a fault may change: the parts of the host, its chains, what its copy objects have had, the next numbers, and the events so far
 pub record FaultState : Type 0 where
   pub parts : HostParts
   pub chains : ChainTable
+  pub copies : CopyTable
   pub ids : Ids
   pub events : List Event
 
@@ -76,7 +79,7 @@ abbrev pub IsCounted : ℕ → RegionRow → ObjectTable → ChainTable → Type
 IsCounted region row objects chains = has_one (object_at objects row.top.0) ≡ true → IsOnlyTop region row.top.0 chains
 
 -- An access can be run: an entry of its task allows it, and it is about a page of the entry's region, which fits the objects below it. The next object
--- isn't there yet, and marks, and references of the top, are counted where the region has a mark.
+-- isn't there yet, copy objects fit, and marks, and references of the top, are counted where the region has a mark.
 pub record CanFault (maps : Mapped) (s : FaultState) (task : ℕ) (what : Want) : Type 0 where
   pub fit : Fit s.parts
   pub chains : ChainsFit s.chains s.parts.objects
@@ -89,6 +92,8 @@ pub record CanFault (maps : Mapped) (s : FaultState) (task : ℕ) (what : Want) 
   pub region : region_at s.chains entry.region.0 ≡ Some row
   pub inside : LiesWithin maps.size what (rows_in task maps) entry row
   pub copies : CanCopy what row s.parts s.chains
+  pub copied : CopiesFit s.copies s.parts s.chains
+  pub fresh : IsFresh what s.copies
   pub counted : row.marked ≡ true → 0 < s.ids.marks
   pub referred : row.marked ≡ true → IsCounted entry.region.0 row s.parts.objects s.chains
   pub named : ObjectsBelow s.ids.next_object s.chains
@@ -122,6 +127,7 @@ pub record MakesShadow (region : RegionId) (row : RegionRow) (old new : FaultSta
   pub parts : new.parts ≡ record old.parts { objects = new.parts.objects }
   pub fit : Fit new.parts
   pub fits : ChainsFit new.chains new.parts.objects
+  pub copies : new.copies ≡ old.copies
   pub ids : new.ids ≡ record old.ids { next_object = old.ids.next_object + 1; marks = old.ids.marks - 1 }
   pub told : new.events ≡ event.Shadowed region object row.top ∷ old.events
 
@@ -132,6 +138,7 @@ pub record LosesMark (region : RegionId) (row : RegionRow) (old new : FaultState
   pub fewer : new.chains.marked + 1 ≡ old.chains.marked
   pub parts : new.parts ≡ old.parts
   pub fits : ChainsFit new.chains new.parts.objects
+  pub copies : new.copies ≡ old.copies
   pub ids : new.ids ≡ record old.ids { marks = old.ids.marks - 1 }
   pub told : new.events ≡ event.Unmarked region ∷ old.events
 
@@ -182,36 +189,48 @@ pub record CopiesPage (task : TaskId) (key : PageKey) (row : PageRow) (target : 
 
 -- an access ends, or a slow copy has copied its next page
 pub data Ended (host : HostId) (task : TaskId) (what : Want) (top : PageKey) (at value : ℕ) (old new : HostParts) (chains : ChainTable)
-    (before after : List Event) : Type 0 where
-  -- where its walk found the page, and a store in the top place alone; no lock keeps it out
+    (had have : CopyTable) (before after : List Event) : Type 0 where
+  -- where its walk found the page, and a store in the top place alone, which it owes to no copy; no lock keeps it out
   AtOnce : (steps : ℕ) → (key : PageKey) → (row : PageRow) → Finds old chains steps top key row → (is_storing what ≡ true → steps ≡ 0)
-      → keeps_out row.lock (writes_at what steps) ≡ false
-      → (e : Event) → Hits task what key row.frame at value e old new → after ≡ e ∷ before → Ended host task what top at value old new chains before after
+      → keeps_out row.lock (writes_at what steps) ≡ false → (is_storing what ≡ true → owed_at had key ≡ None)
+      → (e : Event) → Hits task what key row.frame at value e old new → have ≡ had → after ≡ e ∷ before
+      → Ended host task what top at value old new chains had have before after
   -- a store whose walk found the page below: a copy of it comes to the top place, and both are referenced
   Raised : (steps : ℕ) → (key : PageKey) → (row : PageRow) → Finds old chains (suc steps) top key row → is_storing what ≡ true
       → keeps_out row.lock false ≡ false
       → (frame : FrameNo) → (copied hit : HostParts) → RaisesPage top frame (page_in old.frames row.frame.0) old copied → KeepsPlan old copied
-      → (e : Event) → Hits task what top frame at value e copied hit → References row.frame hit new
-      → after ≡ e ∷ event.Raised host key.object key.page top.object top.page ∷ before → Ended host task what top at value old new chains before after
+      → (e : Event) → Hits task what top frame at value e copied hit → References row.frame hit new → Notes top had have
+      → after ≡ e ∷ event.Raised host key.object key.page top.object top.page ∷ before
+      → Ended host task what top at value old new chains had have before after
+  -- a store whose walk found its page in the top place, and which owes it to a copy: a copy of it comes to the place of that
+  Pushed : (row : PageRow) → Finds old chains 0 top top row → is_storing what ≡ true → keeps_out row.lock (writes_at what 0) ≡ false
+      → (place : PageKey) → owed_at had top ≡ Some place → row_at old.resident place.object.0 place.page.0 ≡ None
+      → (frame : FrameNo) → (copied : HostParts) → RaisesPage place frame (page_in old.frames row.frame.0) old copied → KeepsPlan old copied
+      → (e : Event) → Hits task what top row.frame at value e copied new → Notes place had have
+      → after ≡ e ∷ event.Raised host top.object top.page place.object place.page ∷ before
+      → Ended host task what top at value old new chains had have before after
   -- its walk found the page nowhere: a page of zeros comes to the top place
   AfterZeros : Sinks old chains top → (frame : FrameNo) → (brought : HostParts) → Brings top frame old brought → KeepsPlan old brought
-      → (e : Event) → Hits task what top frame at value e brought new → after ≡ e ∷ event.Zeroed host top.object top.page ∷ before
-      → Ended host task what top at value old new chains before after
+      → (e : Event) → Hits task what top frame at value e brought new → Notes top had have → after ≡ e ∷ event.Zeroed host top.object top.page ∷ before
+      → Ended host task what top at value old new chains had have before after
   -- a slow copy whose walk found its page, which no lock keeps it from reading
   Copied : (address pages next : ℕ) → (target : ObjectId) → what ≡ want.CopyTo address pages target next → (steps : ℕ) → (key : PageKey) → (row : PageRow)
       → Finds old chains steps top key row
-      → keeps_out row.lock false ≡ false → value ≡ 0 → CopiesPage task key row target next old new before after
-      → Ended host task what top at value old new chains before after
+      → keeps_out row.lock false ≡ false → value ≡ 0 → CopiesPage task key row target next old new before after → have ≡ had
+      → Ended host task what top at value old new chains had have before after
 
 -- why an access needs a frame, and the page that it reads meanwhile, if that is here
-pub data Needs (what : Want) (top : PageKey) (parts : HostParts) (chains : ChainTable) : Option PageKey → Type 0 where
-  Nowhere : Sinks parts chains top → Needs what top parts chains None
+pub data Needs (what : Want) (top : PageKey) (parts : HostParts) (chains : ChainTable) (copies : CopyTable) : Option PageKey → Type 0 where
+  Nowhere : Sinks parts chains top → Needs what top parts chains copies None
   ToAsk : (steps : ℕ) → (key : PageKey) → (object : ObjectRow) → MayCome parts chains steps top key object → object.state ≡ state.Ready
-      → Needs what top parts chains None
+      → Needs what top parts chains copies None
   ToCopy : (steps : ℕ) → (key : PageKey) → (row : PageRow) → Finds parts chains steps top key row → is_copying what ≡ true → keeps_out row.lock false ≡ false
-      → Needs what top parts chains (Some key)
+      → Needs what top parts chains copies (Some key)
   ToRaise : (steps : ℕ) → (key : PageKey) → (row : PageRow) → Finds parts chains (suc steps) top key row → is_storing what ≡ true
-      → keeps_out row.lock false ≡ false → Needs what top parts chains (Some key)
+      → keeps_out row.lock false ≡ false → Needs what top parts chains copies (Some key)
+  ToPush : (row : PageRow) → Finds parts chains 0 top top row → is_storing what ≡ true → keeps_out row.lock (writes_at what 0) ≡ false
+      → (place : PageKey) → owed_at copies top ≡ Some place → row_at parts.resident place.object.0 place.page.0 ≡ None
+      → Needs what top parts chains copies (Some top)
 
 -- its pager is asked for a page, for which a frame is held
 pub record RequestsPage (host : HostId) (what : Want) (top key : PageKey) (old new : HostParts) (chains : ChainTable) (before after : List Event) : Type 0 where
@@ -244,22 +263,38 @@ pub record AwaitsPage (what : Want) (top key : PageKey) (parts : HostParts) (cha
   pub why : (Finds parts chains steps top key row × (keeps_out row.lock (writes_at what steps) ≡ true) × (row.unlock_sent ≡ true))
       ⊎ StopsAsked parts chains steps top key row
 
+-- a store's page is here, in the top place, and is owed to a place that is asked
+pub record AwaitsPush (what : Want) (top place : PageKey) (parts : HostParts) (chains : ChainTable) (copies : CopyTable) : Type 0 where
+  pub row : PageRow
+  pub finds : Finds parts chains 0 top top row
+  pub stores : is_storing what ≡ true
+  pub unlocked : keeps_out row.lock (writes_at what 0) ≡ false
+  pub owed : owed_at copies top ≡ Some place
+  pub asked : PageRow
+  pub found : row_at parts.resident place.object.0 place.page.0 ≡ Some asked
+  pub away : asked.here ≡ false
+
 -- nothing changes
 pub record NothingChanges (old new : FaultState) : Type 0 where
   pub parts : new.parts ≡ old.parts
+  pub copies : new.copies ≡ old.copies
   pub told : new.events ≡ old.events
 
 -- what running an access comes to, by its answer; a frame is claimed only where it may be
 abbrev pub Comes : HostId → TaskId → Want → Bool → PageKey → ℕ → FaultStep → FaultState → FaultState → Type 0
-Comes host task what may_claim top at (step.Done value) old new = Ended host task what top at value old.parts new.parts old.chains old.events new.events
-Comes host task what may_claim top at (step.Ask key) old new = RequestsPage host what top key old.parts new.parts old.chains old.events new.events
-Comes host task what may_claim top at (step.Unlock key) old new = AsksUnlock host what top key old.parts new.parts old.chains old.events new.events
+Comes host task what may_claim top at (step.Done value) old new =
+    Ended host task what top at value old.parts new.parts old.chains old.copies new.copies old.events new.events
+Comes host task what may_claim top at (step.Ask key) old new =
+    RequestsPage host what top key old.parts new.parts old.chains old.events new.events × (new.copies ≡ old.copies)
+Comes host task what may_claim top at (step.Unlock key) old new =
+    AsksUnlock host what top key old.parts new.parts old.chains old.events new.events × (new.copies ≡ old.copies)
 Comes host task what may_claim top at (step.WaitReady object) old new =
     ((steps : ℕ) × (key : PageKey) × (row : ObjectRow) × MayCome old.parts old.chains steps top key row × (row.state ≡ state.Sent) × (key.object ≡ object))
     × NothingChanges old new
-Comes host task what may_claim top at (step.WaitAnswer key) old new = AwaitsPage what top key old.parts old.chains × NothingChanges old new
+Comes host task what may_claim top at (step.WaitAnswer key) old new =
+    (AwaitsPage what top key old.parts old.chains ⊎ AwaitsPush what top key old.parts old.chains old.copies) × NothingChanges old new
 Comes host task what may_claim top at (step.NeedFrame source) old new =
-    Needs what top old.parts old.chains source × (may_claim ≡ true → free old.parts.frames ≡ 0) × NothingChanges old new
+    Needs what top old.parts old.chains old.copies source × (may_claim ≡ true → free old.parts.frames ≡ 0) × NothingChanges old new
 
 -- an access of a task was run once, a slow copy for its next page: a store took the mark of its region first, where that was marked
 pub record Faulted (maps : Mapped) (host : HostId) (task : TaskId) (what : Want) (may_claim : Bool) (answer : FaultStep) (old new : FaultState) : Type 0 where
@@ -276,6 +311,7 @@ pub record Faulted (maps : Mapped) (host : HostId) (task : TaskId) (what : Want)
   pub ids : new.ids ≡ mid.ids
   pub fit : Fit new.parts
   pub fits : ChainsFit new.chains new.parts.objects
+  pub copied : CopiesFit new.copies new.parts new.chains
 
 -- where an access is a slow copy, it has a page left
 abbrev pub HasNext : Want → Type 0

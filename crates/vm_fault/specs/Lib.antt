@@ -1,4 +1,5 @@
 pub mod Faults
+pub mod Pushes
 pub mod Rooms
 pub mod Sources
 pub mod Stops

@@ -1,8 +1,10 @@
--- The page that an access would copy: a store to the top of its chain, a slow copy to its object.
-use Rattle.std.specs.Prelude.{ℕ, ◌≡◌, ◌<◌, ◌&&◌, ◌||◌, nat_lt, Option, Some, None, if◌then◌else◌}
+-- The page that an access would copy: a store to the top of its chain, or to a copy to which it owes it, a slow copy to its object.
+use Rattle.std.specs.Prelude.{ℕ, ◌≡◌, ◌<◌, ◌&&◌, ◌||◌, nat_lt, Option, Some, None, if◌then◌else◌, is_some}
 use Rattle.vm_base.specs.declared.entry.Entry.{Entry}
 use Rattle.vm_base.specs.declared.ids.PageKey.{PageKey}
 use Rattle.vm_base.specs.Entries.{entry_at, page_at}
+use Rattle.vm_copies.specs.Copies.{CopyTable}
+use Rattle.vm_fault.specs.Pushes.{owed_at}
 use Rattle.vm_fault.specs.Stops.{Stops}
 use Rattle.vm_fault.specs.Walks.{ChainsFit, IsAt, is_copying, is_storing}
 use Rattle.vm_fault.specs.declared.walking.Stop.{Stop}
@@ -27,15 +29,17 @@ pub record CanWalk (maps : Mapped) (parts : HostParts) (chains : ChainTable) (ta
   pub inside : page_at maps.size (address_in maps.size what) entry < row.pages
   pub fits : ChainsFit chains parts.objects
 
--- the page of a store that is found below its top place, and that of a slow copy
-abbrev pub source_at : Want → Stop → Option PageKey
-source_at what (stop.Found key row steps) = if (is_storing what && nat_lt 0 steps) || is_copying what then Some key else None
-source_at what other = None
+-- the page of a store that is found below its top place, or that it owes to a copy, and that of a slow copy
+abbrev pub source_at : CopyTable → Want → Stop → Option PageKey
+source_at copies what (stop.Found key row steps) =
+    if (is_storing what && (nat_lt 0 steps || is_some (owed_at copies key))) || is_copying what then Some key else None
+source_at copies what other = None
 
 -- where the walk of an access stops says which page it would copy
-pub record Reads (maps : Mapped) (parts : HostParts) (chains : ChainTable) (task : ℕ) (what : Want) (source : Option PageKey) : Type 0 where
-  pub top : PageKey
-  pub at : IsAt maps chains task what top
-  pub stop : Stop
-  pub stops : Stops parts chains top stop
-  pub is : source ≡ source_at what stop
+pub record Reads (maps : Mapped) (parts : HostParts) (chains : ChainTable) (copies : CopyTable) (task : ℕ) (what : Want) (source : Option PageKey) : Type 0
+  where
+    pub top : PageKey
+    pub at : IsAt maps chains task what top
+    pub stop : Stop
+    pub stops : Stops parts chains top stop
+    pub is : source ≡ source_at copies what stop

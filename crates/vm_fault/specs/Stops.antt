@@ -3,6 +3,7 @@ use Rattle.std.specs.Prelude.{ℕ, ◌≡◌, ◌≢◌, ◌+◌, ◌<◌, ◌�
 use Rattle.vm_base.specs.declared.ids.FrameNo.{FrameNo}
 use Rattle.vm_base.specs.declared.ids.ObjectId.{ObjectId}
 use Rattle.vm_base.specs.declared.ids.PageKey.{PageKey}
+use Rattle.vm_copies.specs.Copies.{CopyTable}
 use Rattle.vm_fault.specs.Faults.{Comes}
 use Rattle.vm_fault.specs.Walks.{Finds, MayCome, Sinks, StopsAsked}
 use Rattle.vm_fault.specs.declared.running.Running.{Running}
@@ -66,6 +67,7 @@ pub record IsHere (key : PageKey) (frame : FrameNo) (parts : HostParts) : Type 0
   pub here : row.here ≡ true
 
 -- what running an access comes to, whose region has an object of its own where it needs one
-abbrev pub Goes : Running → FaultStep → ChainTable → HostParts → HostParts → List Event → List Event → Type 0
-Goes run answer chains old new before after = (ids : Ids) → Comes run.host run.task run.want run.may_claim run.top run.at answer
-    (record { parts = old; chains = chains; ids = ids; events = before }) (record { parts = new; chains = chains; ids = ids; events = after })
+abbrev pub Goes : Running → FaultStep → ChainTable → CopyTable → CopyTable → HostParts → HostParts → List Event → List Event → Type 0
+Goes run answer chains had have old new before after = (ids : Ids) → Comes run.host run.task run.want run.may_claim run.top run.at answer
+    (record { parts = old; chains = chains; copies = had; ids = ids; events = before })
+    (record { parts = new; chains = chains; copies = have; ids = ids; events = after })

@@ -14,6 +14,7 @@ use crate::shadowing::prepare;
 use crate::step::FaultStep;
 use crate::walking::top_of;
 use vm_base::{Access, HostId, NoMemory, TaskId};
+use vm_copies::Copies;
 use vm_maps::{Maps, Place};
 use vm_model::Events;
 use vm_parts::HostParts;
@@ -27,7 +28,8 @@ use vm_waits::Want;
 /// memory_object_data_request, and the unlock of a page whose lock keeps the access out by
 /// memory_object_data_unlock. Shadow chains follow Young's thesis (1989): a store in a region that has
 /// the copy mark gives it an object of its own, and a store whose page is further down the chain writes
-/// a copy of it. In this profile messages are about one page, and whoever asks for a page holds a
+/// a copy of it; a store on a file's page that the file's newest copy object hasn't had puts a copy of
+/// it there first. In this profile messages are about one page, and whoever asks for a page holds a
 /// frame for it from then on. The log gets at most three events, and one for each page that a slow copy
 /// copies. For each event it takes the room of one row of a page at most, and that of an object and a
 /// shadow for a mark that goes. It fails for want of memory alone.
@@ -38,22 +40,24 @@ pub fn fault(
     may_claim: bool,
     parts: &mut HostParts,
     chains: &mut Chains,
+    copies: &mut Copies,
     maps: &Maps,
     ids: &mut Ids,
     log: &mut Events,
 ) -> Result<FaultStep, NoMemory>
-    requires { CanFault maps.now (record { parts = parts.old; chains = chains.old; ids = ids.old; events = log.old.items }) task.0 want.old }
+    requires { CanFault maps.now
+        (record { parts = parts.old; chains = chains.old; copies = copies.old; ids = ids.old; events = log.old.items }) task.0 want.old }
     ensures runs { IfOk result (λ answer. Runs maps.now host task may_claim answer want.old want.new
-        (record { parts = parts.old; chains = chains.old; ids = ids.old; events = log.old.items })
-        (record { parts = parts.new; chains = chains.new; ids = ids.new; events = log.new.items })) }
+        (record { parts = parts.old; chains = chains.old; copies = copies.old; ids = ids.old; events = log.old.items })
+        (record { parts = parts.new; chains = chains.new; copies = copies.new; ids = ids.new; events = log.new.items })) }
     ensures still { OnOk result (may_claim ≡ false → free parts.new.frames ≡ free parts.old.frames) }
     ensures takes { OnOk result (TakesRoom
-        (record { parts = parts.old; chains = chains.old; ids = ids.old; events = log.old.items })
-        (record { parts = parts.new; chains = chains.new; ids = ids.new; events = log.new.items }) log.old.room log.new.room) }
+        (record { parts = parts.old; chains = chains.old; copies = copies.old; ids = ids.old; events = log.old.items })
+        (record { parts = parts.new; chains = chains.new; copies = copies.new; ids = ids.new; events = log.new.items }) log.old.room log.new.room) }
     ensures succeeds { HasRoom want.old parts.old chains.old log.old.room → IsOk result }
 {
     'pages: loop {
-        let step = once(host, task, *want, may_claim, parts, chains, maps, ids, log)?;
+        let step = once(host, task, *want, may_claim, parts, chains, copies, maps, ids, log)?;
         let goes_on = is_to_go_on(step, *want);
         *want = left_after(step, *want);
         if !goes_on {
@@ -70,18 +74,19 @@ fn once(
     may_claim: bool,
     parts: &mut HostParts,
     chains: &mut Chains,
+    copies: &mut Copies,
     maps: &Maps,
     ids: &mut Ids,
     log: &mut Events,
 ) -> Result<FaultStep, NoMemory>
-    requires { CanFault maps.now (record { parts = parts.old; chains = chains.old; ids = ids.old; events = log.old.items }) task.0 want }
+    requires { CanFault maps.now (record { parts = parts.old; chains = chains.old; copies = copies.old; ids = ids.old; events = log.old.items }) task.0 want }
     ensures faulted { IfOk result (λ answer. Faulted maps.now host task want may_claim answer
-        (record { parts = parts.old; chains = chains.old; ids = ids.old; events = log.old.items })
-        (record { parts = parts.new; chains = chains.new; ids = ids.new; events = log.new.items })) }
+        (record { parts = parts.old; chains = chains.old; copies = copies.old; ids = ids.old; events = log.old.items })
+        (record { parts = parts.new; chains = chains.new; copies = copies.new; ids = ids.new; events = log.new.items })) }
     ensures still { OnOk result (may_claim ≡ false → free parts.new.frames ≡ free parts.old.frames) }
     ensures takes { OnOk result (TakesRoom
-        (record { parts = parts.old; chains = chains.old; ids = ids.old; events = log.old.items })
-        (record { parts = parts.new; chains = chains.new; ids = ids.new; events = log.new.items }) log.old.room log.new.room) }
+        (record { parts = parts.old; chains = chains.old; copies = copies.old; ids = ids.old; events = log.old.items })
+        (record { parts = parts.new; chains = chains.new; copies = copies.new; ids = ids.new; events = log.new.items }) log.old.room log.new.room) }
     ensures succeeds { HasRoom want parts.old chains.old log.old.room → IsOk result }
 {
     log.reserve(3)?;
@@ -97,7 +102,7 @@ fn once(
         top: top.key,
         at: offset_of(address, parts.buffers.size()),
     };
-    go(run, top, parts, chains, log)
+    go(run, top, parts, chains, copies, log)
 }
 
 // Where an access leads that its entry allows.

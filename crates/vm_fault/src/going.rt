@@ -1,6 +1,8 @@
 // What an access comes to where its walk has stopped.
 ghost use Rattle.std.specs.Prelude.{ℕ, ◌≡◌, ◌≢◌, ◌<◌, ◌≤◌, true, false, IfOk, IsOk, OnOk};
+ghost use Rattle.vm_copies.specs.Copies.{CopyTable};
 ghost use Rattle.vm_fault.specs.Faults.{KeepsPlan};
+ghost use Rattle.vm_fault.specs.Pushes.{CopiesFit};
 ghost use Rattle.vm_fault.specs.Rooms.{TakesPlaces};
 ghost use Rattle.vm_fault.specs.Stops.{CanGo, Goes, Stands};
 ghost use Rattle.vm_fault.specs.Walks.{ChainsFit, Finds, MayCome, Sinks, is_copying, is_storing, keeps_out, wanted_number, writes_at};
@@ -10,10 +12,12 @@ ghost use Rattle.vm_shadow.specs.Chains.{ChainTable};
 ghost use Rattle.vm_waits.specs.Wants.{IsOfNumber};
 
 use crate::ending::hit;
+use crate::pushing::{note, store_top};
 use crate::running::{Running, has_frame, is_copy, is_store};
 use crate::step::FaultStep;
 use crate::walking::{Spot, Stop, walk};
 use vm_base::{Lock, NoMemory, PageKey, PageNo};
+use vm_copies::Copies;
 use vm_model::{Channel, Event, Events, Message};
 use vm_objects::{ObjectRow, PagerState};
 use vm_parts::HostParts;
@@ -45,23 +49,25 @@ pub fn go(
     top: Spot,
     parts: &mut HostParts,
     chains: &Chains,
+    copies: &mut Copies,
     log: &mut Events,
 ) -> Result<FaultStep, NoMemory>
     requires can { CanGo run parts.old log.old.room }
     requires top { top.key ≡ run.top }
     requires stands { Stands parts.old.objects top }
     requires fits { ChainsFit chains.now parts.old.objects }
-    ensures goes { IfOk result (λ step. Goes run step chains.now parts.old parts.new log.old.items log.new.items) }
+    requires copied { CopiesFit copies.old parts.old chains.now }
+    ensures goes { IfOk result (λ step. Goes run step chains.now copies.old copies.new parts.old parts.new log.old.items log.new.items) }
     ensures plan { OnOk result (KeepsPlan parts.old parts.new) }
     ensures still { OnOk result (run.may_claim ≡ false → free parts.new.frames ≡ free parts.old.frames) }
     ensures takes { OnOk result (TakesPlaces parts.old parts.new log.old.items log.new.items log.old.room log.new.room) }
     ensures succeeds { 1 ≤ parts.old.resident.spare → IsOk result }
 {
     match walk(top, parts, chains) {
-        Stop::Found { key, row, steps } => found(run, key, row, steps, parts, log),
+        Stop::Found { key, row, steps } => found(run, key, row, steps, parts, copies, log),
         Stop::Asked { key } => Ok(FaultStep::WaitAnswer { key }),
         Stop::MayCome { key, object, steps } => may_come(run, key, object, steps, parts, log),
-        Stop::Nowhere => nowhere(run, parts, log),
+        Stop::Nowhere => nowhere(run, parts, copies, log),
     }
 }
 
@@ -72,12 +78,13 @@ fn found(
     row: PageRow,
     steps: u32,
     parts: &mut HostParts,
+    copies: &mut Copies,
     log: &mut Events,
 ) -> Result<FaultStep, NoMemory>
     requires can { CanGo run parts.old log.old.room }
-    requires finds { (chains : ChainTable) × Finds parts.old chains steps run.top key row }
+    requires finds { (chains : ChainTable) × CopiesFit copies.old parts.old chains × Finds parts.old chains steps run.top key row }
     ensures goes { (chains : ChainTable) → Finds parts.old chains steps run.top key row
-        → IfOk result (λ step. Goes run step chains parts.old parts.new log.old.items log.new.items) }
+        → IfOk result (λ step. Goes run step chains copies.old copies.new parts.old parts.new log.old.items log.new.items) }
     ensures plan { OnOk result (KeepsPlan parts.old parts.new) }
     ensures still { OnOk result (run.may_claim ≡ false → free parts.new.frames ≡ free parts.old.frames) }
     ensures takes { OnOk result (TakesPlaces parts.old parts.new log.old.items log.new.items log.old.room log.new.room) }
@@ -87,10 +94,13 @@ fn found(
         return Ok(unlock(run, key, row, steps, parts, log));
     }
     if is_store(run.want) && steps > 0 {
-        return raise(run, key, row, steps, parts, log);
+        return raise(run, key, row, steps, parts, copies, log);
     }
     if is_copy(run.want) {
         return copy(run, key, row, parts, log);
+    }
+    if is_store(run.want) {
+        return store_top(run, row, parts, copies, log);
     }
     let value = hit(run, key, row.frame, parts, log);
     Ok(FaultStep::Done { value })
@@ -108,8 +118,8 @@ fn unlock(
     requires can { CanGo run parts.old log.old.room }
     requires finds { (chains : ChainTable) × Finds parts.old chains steps run.top key row }
     requires locked { keeps_out row.lock (writes_at run.want steps) ≡ true }
-    ensures goes { (chains : ChainTable) → Finds parts.old chains steps run.top key row
-        → Goes run result chains parts.old parts.new log.old.items log.new.items }
+    ensures goes { (chains : ChainTable) (copies : CopyTable) → Finds parts.old chains steps run.top key row
+        → Goes run result chains copies copies parts.old parts.new log.old.items log.new.items }
     ensures plan { KeepsPlan parts.old parts.new }
     ensures takes { TakesPlaces parts.old parts.new log.old.items log.new.items log.old.room log.new.room }
     ensures free { free parts.new.frames ≡ free parts.old.frames }
@@ -142,15 +152,16 @@ fn raise(
     row: PageRow,
     steps: u32,
     parts: &mut HostParts,
+    copies: &mut Copies,
     log: &mut Events,
 ) -> Result<FaultStep, NoMemory>
     requires can { CanGo run parts.old log.old.room }
-    requires finds { (chains : ChainTable) × Finds parts.old chains steps run.top key row }
+    requires finds { (chains : ChainTable) × CopiesFit copies.old parts.old chains × Finds parts.old chains steps run.top key row }
     requires stores { is_storing run.want ≡ true }
     requires below { 0 < steps }
     requires unlocked { keeps_out row.lock false ≡ false }
     ensures goes { (chains : ChainTable) → Finds parts.old chains steps run.top key row
-        → IfOk result (λ step. Goes run step chains parts.old parts.new log.old.items log.new.items) }
+        → IfOk result (λ step. Goes run step chains copies.old copies.new parts.old parts.new log.old.items log.new.items) }
     ensures plan { OnOk result (KeepsPlan parts.old parts.new) }
     ensures still { OnOk result (run.may_claim ≡ false → free parts.new.frames ≡ free parts.old.frames) }
     ensures takes { OnOk result (TakesPlaces parts.old parts.new log.old.items log.new.items log.old.room log.new.room) }
@@ -161,6 +172,7 @@ fn raise(
     }
     parts.reserve(1)?;
     let frame = parts.raise(key, run.top);
+    note(run.top, copies);
     let _ = log.push(Event::Raised {
         host: run.host,
         lower: key.object,
@@ -185,8 +197,8 @@ fn copy(
     requires copies { is_copying run.want ≡ true }
     requires finds { (chains : ChainTable) × (steps : ℕ) × Finds parts.old chains steps run.top key row }
     requires unlocked { keeps_out row.lock false ≡ false }
-    ensures goes { (chains : ChainTable) → (steps : ℕ) → Finds parts.old chains steps run.top key row
-        → IfOk result (λ step. Goes run step chains parts.old parts.new log.old.items log.new.items) }
+    ensures goes { (chains : ChainTable) (copies : CopyTable) → (steps : ℕ) → Finds parts.old chains steps run.top key row
+        → IfOk result (λ step. Goes run step chains copies copies parts.old parts.new log.old.items log.new.items) }
     ensures plan { OnOk result (KeepsPlan parts.old parts.new) }
     ensures still { OnOk result (run.may_claim ≡ false → free parts.new.frames ≡ free parts.old.frames) }
     ensures takes { OnOk result (TakesPlaces parts.old parts.new log.old.items log.new.items log.old.room log.new.room) }
@@ -229,8 +241,8 @@ fn may_come(
     requires comes { (chains : ChainTable) × MayCome parts.old chains steps run.top key object }
     requires inside { key.page.0 < object.pages }
     requires told { object.state ≢ state.Without }
-    ensures goes { (chains : ChainTable) → MayCome parts.old chains steps run.top key object
-        → IfOk result (λ step. Goes run step chains parts.old parts.new log.old.items log.new.items) }
+    ensures goes { (chains : ChainTable) (copies : CopyTable) → MayCome parts.old chains steps run.top key object
+        → IfOk result (λ step. Goes run step chains copies copies parts.old parts.new log.old.items log.new.items) }
     ensures plan { OnOk result (KeepsPlan parts.old parts.new) }
     ensures still { OnOk result (run.may_claim ≡ false → free parts.new.frames ≡ free parts.old.frames) }
     ensures takes { OnOk result (TakesPlaces parts.old parts.new log.old.items log.new.items log.old.room log.new.room) }
@@ -259,12 +271,17 @@ fn may_come(
 }
 
 // The page is nowhere: a page of zeros comes to the top place, with which the access ends.
-fn nowhere(run: Running, parts: &mut HostParts, log: &mut Events) -> Result<FaultStep, NoMemory>
+fn nowhere(
+    run: Running,
+    parts: &mut HostParts,
+    copies: &mut Copies,
+    log: &mut Events,
+) -> Result<FaultStep, NoMemory>
     requires can { CanGo run parts.old log.old.room }
     requires number { IsOfNumber run.want }
-    requires sinks { (chains : ChainTable) × Sinks parts.old chains run.top }
+    requires sinks { (chains : ChainTable) × CopiesFit copies.old parts.old chains × Sinks parts.old chains run.top }
     ensures goes { (chains : ChainTable) → Sinks parts.old chains run.top
-        → IfOk result (λ step. Goes run step chains parts.old parts.new log.old.items log.new.items) }
+        → IfOk result (λ step. Goes run step chains copies.old copies.new parts.old parts.new log.old.items log.new.items) }
     ensures plan { OnOk result (KeepsPlan parts.old parts.new) }
     ensures still { OnOk result (run.may_claim ≡ false → free parts.new.frames ≡ free parts.old.frames) }
     ensures takes { OnOk result (TakesPlaces parts.old parts.new log.old.items log.new.items log.old.room log.new.room) }
@@ -275,6 +292,7 @@ fn nowhere(run: Running, parts: &mut HostParts, log: &mut Events) -> Result<Faul
     }
     parts.reserve(1)?;
     let frame = parts.bring(run.top);
+    note(run.top, copies);
     let _ = log.push(Event::Zeroed {
         host: run.host,
         object: run.top.object,

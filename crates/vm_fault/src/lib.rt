@@ -5,6 +5,7 @@
 mod ending;
 mod faults;
 mod going;
+mod pushing;
 mod running;
 mod shadowing;
 mod sources;

@@ -1,5 +1,6 @@
 // A marked region gets an object of its own, or loses its mark.
 ghost use Rattle.std.specs.Prelude.{◌≡◌, ◌-◌, ◌<◌, ◌≤◌, ◌^◌, ◌&&◌, ℕ, Some, None, true, false, IfSome, IsOk, IsSome, OnOk};
+ghost use Rattle.vm_copies.specs.Copies.{CopyTable};
 ghost use Rattle.vm_fault.specs.Faults.{IsCounted, LosesMark, MakesShadow, Prepares, has_one};
 ghost use Rattle.vm_fault.specs.Rooms.{TakesRoom};
 ghost use Rattle.vm_fault.specs.Walks.{ChainsFit, is_storing};
@@ -35,13 +36,13 @@ pub fn prepare(
     requires unmade { (o : ℕ) → ids.old.next_object ≤ o → object_at parts.old.objects o ≡ None }
     requires few { ids.old.next_object < 2 ^ 32 - 1 }
     requires room { 3 ≤ log.old.room }
-    ensures ok { OnOk result (IfSome (region_at chains.old region.0) (λ row. Prepares (is_storing want && row.marked) region row
-        (record { parts = parts.old; chains = chains.old; ids = ids.old; events = log.old.items })
-        (record { parts = parts.new; chains = chains.new; ids = ids.new; events = log.new.items }))) }
+    ensures ok { (copies : CopyTable) → OnOk result (IfSome (region_at chains.old region.0) (λ row. Prepares (is_storing want && row.marked) region row
+        (record { parts = parts.old; chains = chains.old; copies = copies; ids = ids.old; events = log.old.items })
+        (record { parts = parts.new; chains = chains.new; copies = copies; ids = ids.new; events = log.new.items }))) }
     ensures room { 2 ≤ log.new.room }
-    ensures takes { OnOk result (TakesRoom
-        (record { parts = parts.old; chains = chains.old; ids = ids.old; events = log.old.items })
-        (record { parts = parts.new; chains = chains.new; ids = ids.new; events = log.new.items }) log.old.room log.new.room) }
+    ensures takes { (copies : CopyTable) → OnOk result (TakesRoom
+        (record { parts = parts.old; chains = chains.old; copies = copies; ids = ids.old; events = log.old.items })
+        (record { parts = parts.new; chains = chains.new; copies = copies; ids = ids.new; events = log.new.items }) log.old.room log.new.room) }
     ensures succeeds { chains.old.marked ≤ chains.old.spare → chains.old.marked ≤ parts.old.objects.rows → IsOk result }
 {
     let Some(row) = chains.region(region) else {
@@ -79,13 +80,13 @@ fn unmark(
     requires chains { ChainsFit chains.old parts.now.objects }
     requires counted { 0 < ids.old.marks }
     requires room { 3 ≤ log.old.room }
-    ensures ok { OnOk result (LosesMark region row
-        (record { parts = parts.now; chains = chains.old; ids = ids.old; events = log.old.items })
-        (record { parts = parts.now; chains = chains.new; ids = ids.new; events = log.new.items })) }
+    ensures ok { (copies : CopyTable) → OnOk result (LosesMark region row
+        (record { parts = parts.now; chains = chains.old; copies = copies; ids = ids.old; events = log.old.items })
+        (record { parts = parts.now; chains = chains.new; copies = copies; ids = ids.new; events = log.new.items })) }
     ensures room { 2 ≤ log.new.room }
-    ensures takes { OnOk result (TakesRoom
-        (record { parts = parts.now; chains = chains.old; ids = ids.old; events = log.old.items })
-        (record { parts = parts.now; chains = chains.new; ids = ids.new; events = log.new.items }) log.old.room log.new.room) }
+    ensures takes { (copies : CopyTable) → OnOk result (TakesRoom
+        (record { parts = parts.now; chains = chains.old; copies = copies; ids = ids.old; events = log.old.items })
+        (record { parts = parts.now; chains = chains.new; copies = copies; ids = ids.new; events = log.new.items }) log.old.room log.new.room) }
     ensures succeeds { IsOk result }
 {
     chains.unmark(region, ids);
@@ -112,13 +113,13 @@ fn shadow(
     requires unmade { (o : ℕ) → ids.old.next_object ≤ o → object_at parts.old.objects o ≡ None }
     requires few { ids.old.next_object < 2 ^ 32 - 1 }
     requires room { 3 ≤ log.old.room }
-    ensures ok { OnOk result (MakesShadow region row
-        (record { parts = parts.old; chains = chains.old; ids = ids.old; events = log.old.items })
-        (record { parts = parts.new; chains = chains.new; ids = ids.new; events = log.new.items })) }
+    ensures ok { (copies : CopyTable) → OnOk result (MakesShadow region row
+        (record { parts = parts.old; chains = chains.old; copies = copies; ids = ids.old; events = log.old.items })
+        (record { parts = parts.new; chains = chains.new; copies = copies; ids = ids.new; events = log.new.items })) }
     ensures room { 2 ≤ log.new.room }
-    ensures takes { OnOk result (TakesRoom
-        (record { parts = parts.old; chains = chains.old; ids = ids.old; events = log.old.items })
-        (record { parts = parts.new; chains = chains.new; ids = ids.new; events = log.new.items }) log.old.room log.new.room) }
+    ensures takes { (copies : CopyTable) → OnOk result (TakesRoom
+        (record { parts = parts.old; chains = chains.old; copies = copies; ids = ids.old; events = log.old.items })
+        (record { parts = parts.new; chains = chains.new; copies = copies; ids = ids.new; events = log.new.items }) log.old.room log.new.room) }
     ensures succeeds { chains.old.marked ≤ chains.old.spare → chains.old.marked ≤ parts.old.objects.rows → IsOk result }
 {
     parts.objects.reserve(1, 0)?;

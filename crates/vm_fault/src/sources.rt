@@ -3,27 +3,30 @@ ghost use Rattle.std.specs.Prelude.{◌≡◌, ◌<◌, ◌&&◌, ◌||◌, nat_
 ghost use Rattle.vm_fault.specs.Sources.{CanWalk, Reads, source_at};
 
 use crate::faults::find;
+use crate::pushing::owed;
 use crate::running::{address_of, is_copy, is_store, need_of};
 use crate::walking::{Stop, top_of, walk};
 use vm_base::{PageKey, TaskId};
+use vm_copies::Copies;
 use vm_maps::Maps;
 use vm_parts::HostParts;
 use vm_shadow::Chains;
 use vm_waits::Want;
 
 /// The page that an access would copy if it were run now: that of a store whose walk finds it below its
-/// top place, and that of a slow copy that finds its next page, whether a lock keeps it out or not. None
-/// for every other access. Whoever waits
-/// for a frame to copy it to needs it meanwhile (this profile).
+/// top place, or which owes it to a copy, and that of a slow copy that finds its next page, whether a
+/// lock keeps it out or not. None for every other access. Whoever waits for a frame to copy it to needs
+/// it meanwhile (this profile).
 pub fn source(
     task: TaskId,
     want: Want,
     parts: &HostParts,
     chains: &Chains,
+    copies: &Copies,
     maps: &Maps,
 ) -> Option<PageKey>
     requires { CanWalk maps.now parts.now chains.now task.0 want }
-    ensures { Reads maps.now parts.now chains.now task.0 want result }
+    ensures { Reads maps.now parts.now chains.now copies.now task.0 want result }
 {
     let place = find(
         maps,
@@ -32,16 +35,16 @@ pub fn source(
         need_of(want),
     );
     let top = top_of(place.region, place.page, parts, chains);
-    source_of(want, walk(top, parts, chains))
+    source_of(want, walk(top, parts, chains), copies)
 }
 
-// The page of a store that was found below its top place, and that of a slow copy.
-fn source_of(want: Want, stop: Stop) -> Option<PageKey>
-    ensures { result ≡ source_at want stop }
+// The page of a store that was found below its top place, or that it owes to a copy, and that of a slow copy.
+fn source_of(want: Want, stop: Stop, copies: &Copies) -> Option<PageKey>
+    ensures { result ≡ source_at copies.now want stop }
 {
     match stop {
         Stop::Found { key, steps, .. } => {
-            if (is_store(want) && steps > 0) || is_copy(want) {
+            if (is_store(want) && (steps > 0 || owed(key, copies).is_some())) || is_copy(want) {
                 Some(key)
             } else {
                 None

@@ -2,19 +2,20 @@ use Rattle.std.proofs.Common.{◌≡◌, ◌∙◌, true, false, sym, subst, rul
 use Rattle.vm_fault.specs.Faults.{CanFault, FaultState, Runs, Stops, goes_on, want_after}
 use Rattle.vm_fault.specs.Rooms.{HasRoom}
 use Rattle.vm_fault.proofs.Pages.{can_then, room_then, runs_then}
+use Rattle.vm_fault.proofs.States.{state_of}
 use Rattle.vm_fault.proofs.Taking.{takes_then}
 use Rattle.vm_waits.specs.declared.waiting.Want.{Want}
 use Rattle.vm_fault.proofs.faults.fault.Goals as goal
 
 pub returns-then-not-goes_on-clause-runs : goal.returns-then-not-goes_on-clause-runs
 returns-then-not-goes_on-clause-runs c =
-    let now : FaultState = record { parts = c.pages.parts; chains = c.pages.chains; ids = c.pages.ids; events = c.pages.log.items } in
-    let end : FaultState = record { parts = c.once.new.parts; chains = c.once.new.chains; ids = c.once.new.ids; events = c.once.new.log.items } in
+    let now : FaultState = state_of c.pages.parts c.pages.chains c.pages.copies c.pages.ids c.pages.log.items in
+    let end : FaultState = state_of c.once.new.parts c.once.new.chains c.once.new.copies c.once.new.ids c.once.new.log.items in
     let step = c.in_ok-step.step in
     let ends : goes_on step c.pages.want ≡ false = search rules in
     let left : c.left_after.result ≡ want_after step c.pages.want = c.left_after.ensures in
     subst (λ (z : Want). Runs c.args.maps.now c.args.host c.args.task c.args.may_claim step c.args.want.now z
-    (record { parts = c.args.parts.now; chains = c.args.chains.now; ids = c.args.ids.now; events = c.args.log.now.items }) end) (sym left)
+    (state_of c.args.parts.now c.args.chains.now c.args.copies.now c.args.ids.now c.args.log.now.items) end) (sym left)
     (c.pages.invariant.runs step _ end (Stops c.pages.want now end c.in_ok-step.ensures.faulted ends))
 
 pub pages-preserved : goal.pages-preserved
@@ -24,8 +25,8 @@ pages-preserved c =
     let task = c.args.task in
     let claim = c.args.may_claim in
     let want = c.pages.want in
-    let now : FaultState = record { parts = c.pages.parts; chains = c.pages.chains; ids = c.pages.ids; events = c.pages.log.items } in
-    let mid : FaultState = record { parts = c.once.new.parts; chains = c.once.new.chains; ids = c.once.new.ids; events = c.once.new.log.items } in
+    let now : FaultState = state_of c.pages.parts c.pages.chains c.pages.copies c.pages.ids c.pages.log.items in
+    let mid : FaultState = state_of c.once.new.parts c.once.new.chains c.once.new.copies c.once.new.ids c.once.new.log.items in
     let step = c.in_ok-step.step in
     let faulted = c.in_ok-step.ensures.faulted in
     let more : goes_on step want ≡ true = search rules in
@@ -45,5 +46,5 @@ pages-preserved c =
 
 pub returns-then-not-goes_on-clause-takes : goal.returns-then-not-goes_on-clause-takes
 returns-then-not-goes_on-clause-takes c =
-    takes_then _ (record { parts = c.pages.parts; chains = c.pages.chains; ids = c.pages.ids; events = c.pages.log.items }) _ _ c.pages.log.room
+    takes_then _ (state_of c.pages.parts c.pages.chains c.pages.copies c.pages.ids c.pages.log.items) _ _ c.pages.log.room
     c.once.new.log.room c.pages.invariant.takes c.in_ok-step.ensures.takes

@@ -12,10 +12,10 @@ use Rattle.vm_fault.proofs.going.copy.Goals as goal
 
 pub returns-then-not-has_frame-clause-goes : goal.returns-then-not-has_frame-clause-goes
 returns-then-not-has_frame-clause-goes c =
-    λ chains steps finds ids. (
+    λ chains copies steps finds ids. (
       ToCopy steps c.args.key c.args.row finds c.requires.copies c.requires.unlocked,
       c.if-not-has_frame.ensures.none refl,
-      record { parts = refl; told = refl },
+      record { parts = refl; copies = refl; told = refl },
     )
 
 pub returns-clause-goes : goal.returns-clause-goes
@@ -38,7 +38,7 @@ returns-clause-goes c =
     let marks = references frame copied c.touch.new.self raises.fit c.touch.ensures.queues c.touch.ensures.pages in
     let hit : HostParts = record copied { queues = c.touch.new.self } in
     let source = references row.frame hit c.touch-2.new.self marks.fit c.touch-2.ensures.queues c.touch-2.ensures.pages in
-    λ chains steps finds ids. Copied c.in-CopyTo.address c.in-CopyTo.pages next target c.in-CopyTo.is steps key row finds c.requires.unlocked refl
+    λ chains copies steps finds ids. Copied c.in-CopyTo.address c.in-CopyTo.pages next target c.in-CopyTo.is steps key row finds c.requires.unlocked refl
     (record {
       frame = frame;
       copied = copied;
@@ -49,6 +49,7 @@ returns-clause-goes c =
       source = source;
       told = told;
     })
+    refl
 
 pub returns-clause-plan : goal.returns-clause-plan
 returns-clause-plan c =

@@ -18,14 +18,14 @@ returns-then-not-has_frame-clause-goes c =
       ToRaise less.0 c.args.key c.args.row (subst (λ (n : ℕ). Finds k chains n c.args.run.top c.args.key c.args.row) less.1 finds) c.requires.stores
           c.requires.unlocked,
       c.if-not-has_frame.ensures.none refl,
-      record { parts = refl; told = refl },
+      record { parts = refl; copies = refl; told = refl },
     )
 
 pub raise-frame-requires-clause-absent : goal.raise-frame-requires-clause-absent
 raise-frame-requires-clause-absent c =
     let top = c.args.run.top in
     ap (row_among top.object.0 top.page.0) c.in_ok-reserve.ensures.rows
-    ∙ found_below c.args.parts.now c.requires.finds.0 c.args.steps top c.args.key c.args.row c.requires.finds.1 c.requires.below
+    ∙ found_below c.args.parts.now c.requires.finds.0 c.args.steps top c.args.key c.args.row c.requires.finds.2 c.requires.below
 
 pub returns-clause-goes : goal.returns-clause-goes
 returns-clause-goes c =
@@ -41,11 +41,11 @@ returns-clause-goes c =
     let less = positive c.args.steps c.requires.below in
     let hits = c.hit-value.ensures.hits in
     let hit = c.hit-value.new.parts in
-    let found = ap (row_among key.object.0 key.page.0) same.rows ∙ c.requires.finds.1.found in
+    let found = ap (row_among key.object.0 key.page.0) same.rows ∙ c.requires.finds.2.found in
     let raised = of_found _ row (λ r. RaisesPage top frame (page_in mid.frames r.frame.0) mid copied) found raises.raises in
     let told : c.push.new.self.items ≡ event.Raised c.args.run.host key.object key.page top.object top.page ∷ c.args.log.now.items = search rules in
     λ chains finds ids. Raised less.0 key row (subst (λ (n : ℕ). Finds k chains n top key row) less.1 finds) c.requires.stores c.requires.unlocked frame copied
     hit
     (raises_roomier top frame row k mid copied same.is same.rows raised) (plan_roomier k mid copied same.is raises.fit raises.objects raises.buffers)
-    hits.0 hits.1 (references row.frame hit c.touch.new.self c.hit-value.ensures.plan.fit c.touch.ensures.queues c.touch.ensures.pages)
+    hits.0 hits.1 (references row.frame hit c.touch.new.self c.hit-value.ensures.plan.fit c.touch.ensures.queues c.touch.ensures.pages) c.note.ensures
     (hits.2 ∙ ap (λ z. hits.0 ∷ z) told)

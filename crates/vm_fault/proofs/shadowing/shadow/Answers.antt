@@ -10,7 +10,7 @@ use Rattle.vm_shadow.specs.Chains.{ObjectsBelow, ShadowsRegion}
 use Rattle.vm_fault.proofs.shadowing.shadow.Goals as goal
 
 pub returns-clause-ok : goal.returns-clause-ok
-returns-clause-ok c =
+returns-clause-ok c copies =
     let k = c.args.parts.now in
     let chains = c.args.chains.now in
     let row = c.args.row in
@@ -41,6 +41,7 @@ returns-clause-ok c =
       fits =
           chains_shadowed chains c.shadow_over.new.self k.objects c.refer.new.self c.args.region.0 object row its c.requires.chains below none refl
           c.requires.row shadows put;
+      copies = refl;
       ids = over.ids;
       told = told;
     })
