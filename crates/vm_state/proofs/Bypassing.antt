@@ -6,6 +6,7 @@ use Rattle.vm_base.specs.declared.ids.HostId.{HostId}
 use Rattle.vm_base.specs.declared.ids.ObjectId.{ObjectId}
 use Rattle.vm_base.specs.declared.ids.PageKey.{PageKey}
 use Rattle.vm_base.specs.declared.ids.PageNo.{PageNo}
+use Rattle.vm_copies.specs.Copies.{CopyTable}
 use Rattle.vm_legal.specs.Returned.{was_returned}
 use Rattle.vm_legal.specs.Walks.{page_on}
 use Rattle.vm_maps.specs.Maps.{Mapped}
@@ -209,63 +210,63 @@ unmet_asked header h host object control page access past key apart unmet =
 -- so whoever waits has passed over what it had
 
 -- where both stay so at each place
-pub waits_beyond : {stays unmet stays2 unmet2 : PageKey → Type 0} {maps : Mapped} {chains : ChainTable} {rs : ResidentTable} {os : ObjectTable}
-    {rows : List Waiting} {who : On → Bool} {at : ℕ → Option Access}
+pub waits_beyond : {stays unmet stays2 unmet2 : PageKey → Type 0} {maps : Mapped} {chains : ChainTable} {copies : CopyTable} {rs : ResidentTable}
+    {os : ObjectTable} {rows : List Waiting} {who : On → Bool} {at : ℕ → Option Access}
     → ((key : PageKey) → stays key → stays2 key) → ((key : PageKey) → unmet key → unmet2 key)
-    → HasWaiters maps chains rs os rows who at stays unmet → HasWaiters maps chains rs os rows who at stays2 unmet2
+    → HasWaiters maps chains copies rs os rows who at stays unmet → HasWaiters maps chains copies rs os rows who at stays2 unmet2
 waits_beyond {maps = maps} {chains = chains} {rs = rs} {os = os} {rows = rows} {who = who} {at = at} same still has =
     waits_seen maps chains rs os rows who at has (λ t w found asleep reason to stop m from place leads. same from leads.0)
     (λ t w found asleep reason object why to its place unmet. still to unmet)
 
 -- behind an event by which no page comes, or is asked or returned
-pub waits_quiet : {maps : Mapped} {chains : ChainTable} {rs : ResidentTable} {os : ObjectTable} {rows : List Waiting} {who : On → Bool} {at : ℕ → Option Access}
-    (header : Header) (h : ℕ) (e : Event) (past : List Event)
+pub waits_quiet : {maps : Mapped} {chains : ChainTable} {copies : CopyTable} {rs : ResidentTable} {os : ObjectTable} {rows : List Waiting} {who : On → Bool}
+    {at : ℕ → Option Access} (header : Header) (h : ℕ) (e : Event) (past : List Event)
     → ((key : PageKey) → IsQuiet (effect_at header h key e past))
-    → HasWaiters maps chains rs os rows who at (StaysAway header h past) (IsUnmet header h past)
-    → HasWaiters maps chains rs os rows who at (StaysAway header h (e ∷ past)) (IsUnmet header h (e ∷ past))
+    → HasWaiters maps chains copies rs os rows who at (StaysAway header h past) (IsUnmet header h past)
+    → HasWaiters maps chains copies rs os rows who at (StaysAway header h (e ∷ past)) (IsUnmet header h (e ∷ past))
 waits_quiet header h e past quiet has =
     waits_beyond (λ key stays. stays_quiet header h e past key (quiet key) stays)
     (λ key unmet. unmet_calm header h e past key (calm_of (effect_at header h key e past) (quiet key)) unmet) has
 
 -- behind a message that was taken
-pub waits_taken : {maps : Mapped} {chains : ChainTable} {rs : ResidentTable} {os : ObjectTable} {rows : List Waiting} {who : On → Bool} {at : ℕ → Option Access}
-    (header : Header) (h : ℕ) (host : HostId) (object : ObjectId) (control : ℕ) (m : Message) (past : List Event)
-    → HasWaiters maps chains rs os rows who at (StaysAway header h past) (IsUnmet header h past)
-    → HasWaiters maps chains rs os rows who at (StaysAway header h (takes_down host object control m ∷ past))
+pub waits_taken : {maps : Mapped} {chains : ChainTable} {copies : CopyTable} {rs : ResidentTable} {os : ObjectTable} {rows : List Waiting} {who : On → Bool}
+    {at : ℕ → Option Access} (header : Header) (h : ℕ) (host : HostId) (object : ObjectId) (control : ℕ) (m : Message) (past : List Event)
+    → HasWaiters maps chains copies rs os rows who at (StaysAway header h past) (IsUnmet header h past)
+    → HasWaiters maps chains copies rs os rows who at (StaysAway header h (takes_down host object control m ∷ past))
     (IsUnmet header h (takes_down host object control m ∷ past))
 waits_taken header h host object control m past has =
     waits_beyond (λ key stays. stays_taken header h host object control m past key stays)
     (λ key unmet. unmet_taken header h host object control m past key unmet) has
 
 -- behind the return of a page that is here
-pub waits_returned : {maps : Mapped} {chains : ChainTable} {rs : ResidentTable} {os : ObjectTable} {rows : List Waiting} {who : On → Bool}
+pub waits_returned : {maps : Mapped} {chains : ChainTable} {copies : CopyTable} {rs : ResidentTable} {os : ObjectTable} {rows : List Waiting} {who : On → Bool}
     {at : ℕ → Option Access} (header : Header) (h : ℕ) (host : HostId) (object : ObjectId) (control : ℕ) (page : PageNo) (dirty keep : Bool) (bytes : List ℕ)
     (past : List Event)
-    → (page_on header h object.0 page.0 past).here ≡ true → HasWaiters maps chains rs os rows who at (StaysAway header h past) (IsUnmet header h past)
-    → HasWaiters maps chains rs os rows who at (StaysAway header h (returning host object control page dirty keep bytes ∷ past))
+    → (page_on header h object.0 page.0 past).here ≡ true → HasWaiters maps chains copies rs os rows who at (StaysAway header h past) (IsUnmet header h past)
+    → HasWaiters maps chains copies rs os rows who at (StaysAway header h (returning host object control page dirty keep bytes ∷ past))
     (IsUnmet header h (returning host object control page dirty keep bytes ∷ past))
 waits_returned header h host object control page dirty keep bytes past here has =
     waits_beyond (λ key stays. stays_returned header h host object control page dirty keep bytes past here key stays)
     (λ key unmet. unmet_returned header h host object control page dirty keep bytes past here key unmet) has
 
 -- who waits for its pager waits for one that was told
-pub told_pager : (maps : Mapped) (chains : ChainTable) (rs : ResidentTable) (os : ObjectTable) (t : ℕ) (what : Want) (why : On) (other : ObjectId)
-    → why ≡ on.Ready other → Reason maps chains rs os t what why → IsPagerTold os other.0
-told_pager maps chains rs os t what why other same reason =
-    let so : Reason maps chains rs os t what (on.Ready other) = subst (λ (z : On). Reason maps chains rs os t what z) same reason in so.3
+pub told_pager : (maps : Mapped) (chains : ChainTable) (copies : CopyTable) (rs : ResidentTable) (os : ObjectTable) (t : ℕ) (what : Want) (why : On)
+    (other : ObjectId) → why ≡ on.Ready other → Reason maps chains copies rs os t what why → IsPagerTold os other.0
+told_pager maps chains copies rs os t what why other same reason =
+    let so : Reason maps chains copies rs os t what (on.Ready other) = subst (λ (z : On). Reason maps chains copies rs os t what z) same reason in so.3
 
 -- behind a request for a page that its pager, which is ready, may have
-pub waits_requested : {maps : Mapped} {chains : ChainTable} {rs : ResidentTable} {os : ObjectTable} {rows : List Waiting} {who : On → Bool}
+pub waits_requested : {maps : Mapped} {chains : ChainTable} {copies : CopyTable} {rs : ResidentTable} {os : ObjectTable} {rows : List Waiting} {who : On → Bool}
     {at : ℕ → Option Access} (header : Header) (h : ℕ) (host : HostId) (object : ObjectId) (control : ℕ) (page : PageNo) (access : ℕ) (past : List Event)
     → is_known_absent header (record { object = object.0; page = page.0 }) (page_on header h object.0 page.0 past) ≡ false → (IsPagerTold os object.0 → ⊥)
-    → HasWaiters maps chains rs os rows who at (StaysAway header h past) (IsUnmet header h past)
-    → HasWaiters maps chains rs os rows who at (StaysAway header h (requests host object control page access ∷ past))
+    → HasWaiters maps chains copies rs os rows who at (StaysAway header h past) (IsUnmet header h past)
+    → HasWaiters maps chains copies rs os rows who at (StaysAway header h (requests host object control page access ∷ past))
     (IsUnmet header h (requests host object control page access ∷ past))
-waits_requested {maps = maps} {chains = chains} {rs = rs} {os = os} {rows = rows} {who = who} {at = at} header h host object control page access past known
-    ready has =
+waits_requested {maps = maps} {chains = chains} {copies = copies} {rs = rs} {os = os} {rows = rows} {who = who} {at = at} header h host object control page
+    access past known ready has =
     waits_seen maps chains rs os rows who at has (λ t w found asleep reason to stop m from place leads. stays_asked header h host object control page access
     past known from leads.0)
     (λ t w found asleep reason other why to its place unmet.
     unmet_asked header h host object control page access past to
     (λ same. ready (subst (λ (z : ℕ). IsPagerTold os z) (ap (λ (z : ObjectId). z.0) (sym its) ∙ sym same)
-    (told_pager maps chains rs os t w.want w.on other why reason))) unmet)
+    (told_pager maps chains copies rs os t w.want w.on other why reason))) unmet)

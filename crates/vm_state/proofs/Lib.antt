@@ -3,6 +3,7 @@ pub mod Bare
 pub mod Bypassing
 pub mod Chains
 pub mod Changing
+pub mod CopyObjects
 pub mod Copying
 pub mod Counting
 pub mod Declared
@@ -21,12 +22,15 @@ pub mod MergedPages
 pub mod MergedWaits
 pub mod Merging
 pub mod Moving
+pub mod Owing
 pub mod PagesMerged
 pub mod Pairs
 pub mod Passing
 pub mod Places
 pub mod PlainObjects
+pub mod Pushing
 pub mod Reaching
+pub mod Rebased
 pub mod Referred
 pub mod Referring
 pub mod Shadowing

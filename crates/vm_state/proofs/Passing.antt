@@ -270,6 +270,7 @@ pub passed_placed : (stays unmet : PageKey → Type 0) (maps maps2 : Mapped) (cs
 passed_placed stays unmet maps maps2 cs cs2 task what on.Again placed passed = tt
 passed_placed stays unmet maps maps2 cs cs2 task what (on.Ready object) placed passed = (passed.0, placed passed.0 passed.1, passed.2, passed.3)
 passed_placed stays unmet maps maps2 cs cs2 task what (on.Page key) placed passed = placed key passed
+passed_placed stays unmet maps maps2 cs cs2 task what (on.Push key) placed passed = tt
 passed_placed stays unmet maps maps2 cs cs2 task what on.Frame placed passed = tt
 
 -- the access stops at the place, as it waits for this
@@ -277,6 +278,7 @@ abbrev pub StopsAt : (PageKey → Type 0) → On → PageKey → Type 0
 StopsAt unmet on.Again key = ⊥
 StopsAt unmet (on.Ready object) key = (key.object ≡ object) × unmet key
 StopsAt unmet (on.Page at) key = at ≡ key
+StopsAt unmet (on.Push at) key = ⊥
 StopsAt unmet on.Frame key = ⊥
 
 -- and while what holds of those places still does
@@ -305,6 +307,7 @@ passed_now stays stays2 unmet unmet2 maps cs task what (on.Page key) now met pas
       steps = passed.steps;
       leads = over_mapped stays stays2 maps cs task what key (now key refl) passed.steps passed.top (top_place_of passed) passed.leads;
     }
+passed_now stays stays2 unmet unmet2 maps cs task what (on.Push key) now met passed = tt
 passed_now stays stays2 unmet unmet2 maps cs task what on.Frame now met passed = tt
 
 -- one place stands under another

@@ -8,6 +8,8 @@ use Rattle.vm_base.specs.Entries.{entry_at, page_at}
 use Rattle.vm_base.specs.declared.entry.Entry.{Entry}
 use Rattle.vm_base.specs.declared.ids.ObjectId.{ObjectId}
 use Rattle.vm_base.specs.declared.ids.PageKey.{PageKey}
+use Rattle.vm_copies.specs.Copies.{CopyTable, newest_at}
+use Rattle.vm_fault.specs.Pushes.{owed_at}
 use Rattle.vm_fault.specs.Walks.{IsAt, IsUnder, top_place}
 use Rattle.vm_maps.specs.Maps.{Mapped, rows_in}
 use Rattle.vm_model.specs.Tasks.{has_entry}
@@ -21,6 +23,7 @@ use Rattle.vm_shadow.specs.Chains.{ChainTable, CopiesRegion, DropsShadow, Object
 use Rattle.vm_shadow.specs.declared.region_row.RegionRow.{RegionRow}
 use Rattle.vm_shadow.specs.declared.shadow_row.ShadowRow.{ShadowRow}
 use Rattle.vm_state.proofs.Passing.{over_kept, passed_placed}
+use Rattle.vm_state.proofs.Pushing.{owes_nothing, push_same}
 use Rattle.vm_state.specs.Passed.{IsPlaceBehind, LeadsOver}
 use Rattle.vm_state.specs.Waiters.{Asker, HasWaiters, IsPlaceOf, LeadsTo, Reason, is_awaited}
 use Rattle.vm_waits.specs.Wants.{address_in}
@@ -32,28 +35,34 @@ use Rattle.vm_state.proofs.Told.{KnowsMore, StillTold, waits_known, waits_referr
 use Rattle.vm_state.proofs.Waited.{KeepsPlaces, SameTop, leads_kept}
 use Rattle.vm_state.proofs.Waiting.{unawaited_here}
 
--- where all places stay
+-- where all places stay, and each top place stays one that owes its page
 
-reason_placed : (maps : Mapped) (cs cs2 : ChainTable) (rs : ResidentTable) (os : ObjectTable) (task : ℕ) (what : Want) (why : On)
-    → ((key : PageKey) → IsPlaceOf maps cs task what key → IsPlaceOf maps cs2 task what key)
-    → Reason maps cs rs os task what why → Reason maps cs2 rs os task what why
-reason_placed maps cs cs2 rs os task what on.Again placed reason = reason
-reason_placed maps cs cs2 rs os task what (on.Ready object) placed reason = (reason.0, placed reason.0 reason.1, reason.2, reason.3)
-reason_placed maps cs cs2 rs os task what (on.Page key) placed reason = (placed key reason.0, reason.1)
-reason_placed maps cs cs2 rs os task what on.Frame placed reason = reason
+-- what owes its page is the top place of a page of an access still
+abbrev pub KeepsTops : CopyTable → Mapped → ChainTable → ChainTable → ℕ → Want → Type 0
+KeepsTops copies maps cs cs2 task what = (top key : PageKey) → owed_at copies top ≡ Some key → IsAt maps cs task what top → IsAt maps cs2 task what top
 
-pub waits_placed : {stays unmet : PageKey → Type 0} (maps : Mapped) (cs cs2 : ChainTable) (rs : ResidentTable) (os : ObjectTable) (rows : List Waiting)
-    (who : On → Bool) (waiting_at : ℕ → Option Access)
-    → HasWaiters maps cs rs os rows who waiting_at stays unmet
+reason_placed : (maps : Mapped) (cs cs2 : ChainTable) (copies : CopyTable) (rs : ResidentTable) (os : ObjectTable) (task : ℕ) (what : Want) (why : On)
+    → ((key : PageKey) → IsPlaceOf maps cs task what key → IsPlaceOf maps cs2 task what key) → KeepsTops copies maps cs cs2 task what
+    → Reason maps cs copies rs os task what why → Reason maps cs2 copies rs os task what why
+reason_placed maps cs cs2 copies rs os task what on.Again placed tops reason = reason
+reason_placed maps cs cs2 copies rs os task what (on.Ready object) placed tops reason = (reason.0, placed reason.0 reason.1, reason.2, reason.3)
+reason_placed maps cs cs2 copies rs os task what (on.Page key) placed tops reason = (placed key reason.0, reason.1)
+reason_placed maps cs cs2 copies rs os task what (on.Push key) placed tops reason = push_same reason (tops reason.top key reason.owed reason.at) reason.owed
+reason_placed maps cs cs2 copies rs os task what on.Frame placed tops reason = reason
+
+pub waits_placed : {copies : CopyTable} {stays unmet : PageKey → Type 0} (maps : Mapped) (cs cs2 : ChainTable) (rs : ResidentTable) (os : ObjectTable)
+    (rows : List Waiting) (who : On → Bool) (waiting_at : ℕ → Option Access)
+    → HasWaiters maps cs copies rs os rows who waiting_at stays unmet
     → ((task : ℕ) (what : Want) (key : PageKey) → IsPlaceOf maps cs task what key → IsPlaceOf maps cs2 task what key)
     → ((task : ℕ) (what : Want) (key : PageKey) → IsPlaceBehind stays maps cs task what key → IsPlaceBehind stays maps cs2 task what key)
-    → HasWaiters maps cs2 rs os rows who waiting_at stays unmet
-waits_placed {stays = stays} {unmet = unmet} maps cs cs2 rs os rows who waiting_at has placed behind =
+    → ((task : ℕ) (what : Want) → KeepsTops copies maps cs cs2 task what)
+    → HasWaiters maps cs2 copies rs os rows who waiting_at stays unmet
+waits_placed {copies = copies} {stays = stays} {unmet = unmet} maps cs cs2 rs os rows who waiting_at has placed behind tops =
     record {
       is = has.is;
       allowed = has.allowed;
       sized = has.sized;
-      reasons = λ t w found apart. reason_placed maps cs cs2 rs os t w.want w.on (placed t w.want) (has.reasons t w found apart);
+      reasons = λ t w found apart. reason_placed maps cs cs2 copies rs os t w.want w.on (placed t w.want) (tops t w.want) (has.reasons t w found apart);
       passed = λ t w found apart. passed_placed stays unmet maps maps cs cs2 t w.want w.on (behind t w.want) (has.passed t w found apart);
       aims = λ t w key found is. placed t w.want key (has.aims t w key found is);
       askers = has.askers;
@@ -163,15 +172,33 @@ behind_shadowed {stays = stays} maps old new region object row task what key the
     over : row ≡ at.row → IsUnder new (top_place now page) place.top
     over same = under_shadowed old new region object row page place.top made (at.is ∙ ap (λ (z : RegionRow). top_place z page) (sym same))
 
-pub waits_shadowed : {stays unmet : PageKey → Type 0} (maps : Mapped) (old new : ChainTable) (rs : ResidentTable) (os os2 : ObjectTable) (rows : List Waiting)
-    (who : On → Bool) (waiting_at : ℕ → Option Access) (region : ℕ) (object : ObjectId) (row : RegionRow)
-    → HasWaiters maps old rs os rows who waiting_at stays unmet → region_at old region ≡ Some row → ShadowsRegion region object row old new
-    → ObjectsBelow object.0 old → ((page : ℕ) → stays (spot object page)) → KnowsMore os os2 → HasWaiters maps new rs os2 rows who waiting_at stays unmet
-waits_shadowed maps old new rs os os2 rows who waiting_at region object row has there made below bare more =
+-- the top places that owe their pages are those of other regions
+tops_shadowed : (copies : CopyTable) (maps : Mapped) (old new : ChainTable) (region : ℕ) (object : ObjectId) (row : RegionRow) (task : ℕ) (what : Want)
+    → region_at old region ≡ Some row → ShadowsRegion region object row old new → newest_at copies row.top.0 ≡ None
+    → KeepsTops copies maps old new task what
+tops_shadowed copies maps old new region object row task what there made none top key owed at =
+    elim (one_case region at.entry.region.0 (Some (record row { top = object; shift = 0; marked = false })) (region_at old at.entry.region.0)
+        (region_at new at.entry.region.0) (made.at at.entry.region.0)) [
+      | inl this ↦ absurd (owes_nothing copies top key (ap (newest_at copies) (over this.0) ∙ none) owed)
+      | inr other ↦ record { entry = at.entry; found = at.found; row = at.row; region = other.1 ∙ at.region; is = at.is }
+    ]
+  where
+    over : region ≡ at.entry.region.0 → top.object.0 ≡ row.top.0
+    over same =
+        ap (λ (z : PageKey). z.object.0) at.is
+        ∙ ap (λ (z : RegionRow). z.top.0) (some_is at.row row (sym at.region ∙ (sym (ap (region_at old) same) ∙ there)))
+
+pub waits_shadowed : {copies : CopyTable} {stays unmet : PageKey → Type 0} (maps : Mapped) (old new : ChainTable) (rs : ResidentTable) (os os2 : ObjectTable)
+    (rows : List Waiting) (who : On → Bool) (waiting_at : ℕ → Option Access) (region : ℕ) (object : ObjectId) (row : RegionRow)
+    → HasWaiters maps old copies rs os rows who waiting_at stays unmet → region_at old region ≡ Some row → ShadowsRegion region object row old new
+    → ObjectsBelow object.0 old → ((page : ℕ) → stays (spot object page)) → KnowsMore os os2 → newest_at copies row.top.0 ≡ None
+    → HasWaiters maps new copies rs os2 rows who waiting_at stays unmet
+waits_shadowed {copies = copies} maps old new rs os os2 rows who waiting_at region object row has there made below bare more none =
     waits_known maps new rs os os2 rows who waiting_at
     (waits_placed maps old new rs os rows who waiting_at has (λ task what key place. place_shadowed maps old new region object row task what key there made
     below place)
-    (λ task what key place. behind_shadowed maps old new region object row task what key there made below bare place))
+    (λ task what key place. behind_shadowed maps old new region object row task what key there made below bare place)
+    (λ task what. tops_shadowed copies maps old new region object row task what there made none))
     more
 
 -- a region goes to which no entry leads
@@ -229,14 +256,23 @@ behind_without {stays = stays} maps cs cs2 task what key r put none place =
     at : IsAt maps cs task what place.top
     at = place.at
 
+at_without : (maps : Mapped) (cs cs2 : ChainTable) (task : ℕ) (what : Want) (key : PageKey) (r : ℕ) → PutsRegion r None cs cs2
+    → has_entry r (rows_in task maps) ≡ false → IsAt maps cs task what key → IsAt maps cs2 task what key
+at_without maps cs cs2 task what key r put none at =
+    elim (one_case r at.entry.region.0 None (region_at cs at.entry.region.0) (region_at cs2 at.entry.region.0) (put.at at.entry.region.0)) [
+      | inl this ↦ absurd (apart_at maps cs task what key r none at this.0)
+      | inr other ↦ record { entry = at.entry; found = at.found; row = at.row; region = other.1 ∙ at.region; is = at.is }
+    ]
+
 -- who waits has entries on other regions
-pub waits_without : {stays unmet : PageKey → Type 0} (maps : Mapped) (cs cs2 : ChainTable) (rs : ResidentTable) (os : ObjectTable) (rows : List Waiting)
-    (who : On → Bool) (waiting_at : ℕ → Option Access) (r : ℕ)
-    → HasWaiters maps cs rs os rows who waiting_at stays unmet → PutsRegion r None cs cs2 → ((task : ℕ) → has_entry r (rows_in task maps) ≡ false)
-    → HasWaiters maps cs2 rs os rows who waiting_at stays unmet
+pub waits_without : {copies : CopyTable} {stays unmet : PageKey → Type 0} (maps : Mapped) (cs cs2 : ChainTable) (rs : ResidentTable) (os : ObjectTable)
+    (rows : List Waiting) (who : On → Bool) (waiting_at : ℕ → Option Access) (r : ℕ)
+    → HasWaiters maps cs copies rs os rows who waiting_at stays unmet → PutsRegion r None cs cs2 → ((task : ℕ) → has_entry r (rows_in task maps) ≡ false)
+    → HasWaiters maps cs2 copies rs os rows who waiting_at stays unmet
 waits_without maps cs cs2 rs os rows who waiting_at r has put none =
     waits_placed maps cs cs2 rs os rows who waiting_at has (λ task what key place. place_without maps cs cs2 task what key r put (none task) place)
     (λ task what key place. behind_without maps cs cs2 task what key r put (none task) place)
+    (λ task what top key owed at. at_without maps cs cs2 task what top r put (none task) at)
 
 -- an object to which nothing leads: no region is over it, and no shadow
 
@@ -261,8 +297,9 @@ place_apart maps cs task what key o tops unders place =
     leads_apart cs o unders place.steps place.top key (top_apart maps cs task what place.top o tops place.at) place.leads
 
 -- its pages that have rows are here, and no unlock of them is outstanding
-pub unawaited_apart : {stays unmet : PageKey → Type 0} (maps : Mapped) (cs : ChainTable) (rs : ResidentTable) (os : ObjectTable) (rows : List Waiting)
-    (who : On → Bool) (waiting_at : ℕ → Option Access) (o p : ℕ) (row : PageRow) → HasWaiters maps cs rs os rows who waiting_at stays unmet
+pub unawaited_apart : {copies : CopyTable} {stays unmet : PageKey → Type 0} (maps : Mapped) (cs : ChainTable) (rs : ResidentTable) (os : ObjectTable)
+    (rows : List Waiting) (who : On → Bool) (waiting_at : ℕ → Option Access) (o p : ℕ) (row : PageRow)
+    → HasWaiters maps cs copies rs os rows who waiting_at stays unmet
     → ((r : ℕ) (row : RegionRow) → region_at cs r ≡ Some row → row.top.0 ≡ o → ⊥)
     → ((s : ℕ) (row : ShadowRow) → shadow_at cs s ≡ Some row → row.under.0 ≡ o → ⊥) → row_at rs o p ≡ Some row → is_awaited row ≡ false
 unawaited_apart maps cs rs os rows who waiting_at o p row has tops unders found = by_test (is_awaited row) refl
@@ -274,15 +311,17 @@ unawaited_apart maps cs rs os rows who waiting_at o p row has tops unders found 
         absurd (place_apart maps cs asker.task asker.row.want (page_key o p) o tops unders (has.aims asker.task asker.row (page_key o p) asker.is asker.waits)
         refl)
 
-pub here_apart : {stays unmet : PageKey → Type 0} (maps : Mapped) (cs : ChainTable) (rs : ResidentTable) (os : ObjectTable) (rows : List Waiting)
-    (who : On → Bool) (waiting_at : ℕ → Option Access) (o p : ℕ) (row : PageRow) → HasWaiters maps cs rs os rows who waiting_at stays unmet
+pub here_apart : {copies : CopyTable} {stays unmet : PageKey → Type 0} (maps : Mapped) (cs : ChainTable) (rs : ResidentTable) (os : ObjectTable)
+    (rows : List Waiting) (who : On → Bool) (waiting_at : ℕ → Option Access) (o p : ℕ) (row : PageRow)
+    → HasWaiters maps cs copies rs os rows who waiting_at stays unmet
     → ((r : ℕ) (row : RegionRow) → region_at cs r ≡ Some row → row.top.0 ≡ o → ⊥)
     → ((s : ℕ) (row : ShadowRow) → shadow_at cs s ≡ Some row → row.under.0 ≡ o → ⊥) → row_at rs o p ≡ Some row → row.here ≡ true
 here_apart maps cs rs os rows who waiting_at o p row has tops unders found =
     (unawaited_here row (unawaited_apart maps cs rs os rows who waiting_at o p row has tops unders found)).0
 
-pub unsent_apart : {stays unmet : PageKey → Type 0} (maps : Mapped) (cs : ChainTable) (rs : ResidentTable) (os : ObjectTable) (rows : List Waiting)
-    (who : On → Bool) (waiting_at : ℕ → Option Access) (o p : ℕ) (row : PageRow) → HasWaiters maps cs rs os rows who waiting_at stays unmet
+pub unsent_apart : {copies : CopyTable} {stays unmet : PageKey → Type 0} (maps : Mapped) (cs : ChainTable) (rs : ResidentTable) (os : ObjectTable)
+    (rows : List Waiting) (who : On → Bool) (waiting_at : ℕ → Option Access) (o p : ℕ) (row : PageRow)
+    → HasWaiters maps cs copies rs os rows who waiting_at stays unmet
     → ((r : ℕ) (row : RegionRow) → region_at cs r ≡ Some row → row.top.0 ≡ o → ⊥)
     → ((s : ℕ) (row : ShadowRow) → shadow_at cs s ≡ Some row → row.under.0 ≡ o → ⊥) → row_at rs o p ≡ Some row → row.unlock_sent ≡ false
 unsent_apart maps cs rs os rows who waiting_at o p row has tops unders found =
@@ -363,17 +402,24 @@ behind_dropped {stays = stays} maps cs cs2 task what key o drops tops unders pla
     }
 
 -- and has another number of references
-pub waits_dropped : {stays unmet : PageKey → Type 0} (maps : Mapped) (cs cs2 : ChainTable) (rs : ResidentTable) (os os2 : ObjectTable) (rows : List Waiting)
-    (who : On → Bool) (waiting_at : ℕ → Option Access) (o under left : ℕ) (was : ObjectRow)
-    → HasWaiters maps cs rs os rows who waiting_at stays unmet → DropsShadow o cs cs2
+pub waits_dropped : {copies : CopyTable} {stays unmet : PageKey → Type 0} (maps : Mapped) (cs cs2 : ChainTable) (rs : ResidentTable) (os os2 : ObjectTable)
+    (rows : List Waiting) (who : On → Bool) (waiting_at : ℕ → Option Access) (o under left : ℕ) (was : ObjectRow)
+    → HasWaiters maps cs copies rs os rows who waiting_at stays unmet → DropsShadow o cs cs2
     → ((r : ℕ) (row : RegionRow) → region_at cs r ≡ Some row → row.top.0 ≡ o → ⊥)
     → ((s : ℕ) (row : ShadowRow) → shadow_at cs s ≡ Some row → row.under.0 ≡ o → ⊥)
     → object_at os under ≡ Some was → PutsObject under (Some (record was { references = left })) os os2
-    → HasWaiters maps cs2 rs os2 rows who waiting_at stays unmet
+    → HasWaiters maps cs2 copies rs os2 rows who waiting_at stays unmet
 waits_dropped maps cs cs2 rs os os2 rows who waiting_at o under left was has drops tops unders found put =
     waits_referred maps cs2 rs os os2 rows who waiting_at under left was
     (waits_placed maps cs cs2 rs os rows who waiting_at has (λ task what key place. (place_dropped maps cs cs2 task what key o drops tops unders place).1)
-    (λ task what key place. behind_dropped maps cs cs2 task what key o drops tops unders place))
+    (λ task what key place. behind_dropped maps cs cs2 task what key o drops tops unders place)
+    (λ task what top key owed at. record {
+      entry = at.entry;
+      found = at.found;
+      row = at.row;
+      region = ap (λ f. f at.entry.region.0) drops.regions ∙ at.region;
+      is = at.is;
+    }))
     found put
 
 -- regions whose entries are counted anew, or that are made, or copied

@@ -2,6 +2,7 @@
 use Rattle.std.proofs.Common.{Bool, List, None, Option, Some, ap, false, inl, inr, refl, subst, sym, true, ℕ, ◌∙◌, ◌≡◌}
 use Rattle.vm_base.specs.declared.ids.ObjectId.{ObjectId}
 use Rattle.vm_base.specs.declared.ids.PageKey.{PageKey}
+use Rattle.vm_copies.specs.Copies.{CopyTable}
 use Rattle.vm_maps.specs.Maps.{Mapped}
 use Rattle.vm_model.specs.Waiting.{Access}
 use Rattle.vm_objects.specs.Objects.{ObjectTable, PutsObject, object_at}
@@ -10,6 +11,7 @@ use Rattle.vm_parts.proofs.Rows.{one_case, some_is}
 use Rattle.vm_resident.specs.Resident.{PutsRow, ResidentTable, row_at}
 use Rattle.vm_resident.specs.declared.page_row.PageRow.{PageRow}
 use Rattle.vm_shadow.specs.Chains.{ChainTable}
+use Rattle.vm_state.proofs.Pushing.{PushesNone}
 use Rattle.vm_state.specs.Pagers.{ready_in}
 use Rattle.vm_state.specs.Waiters.{HasWaiters, IsPagerTold, IsPlaceOf, Reason}
 use Rattle.vm_waits.specs.declared.waiting.On.{On}
@@ -26,46 +28,49 @@ pub record StillTold (maps : Mapped) (cs : ChainTable) (os os2 : ObjectTable) : 
 pub told_all : (maps : Mapped) (cs : ChainTable) (os os2 : ObjectTable) → ((o : ℕ) → IsPagerTold os o → IsPagerTold os2 o) → StillTold maps cs os os2
 told_all maps cs os os2 told = record { at = λ task what key place is. told key.object.0 is }
 
-reason_told : (maps : Mapped) (cs : ChainTable) (rs : ResidentTable) (os os2 : ObjectTable) (task : ℕ) (what : Want) (why : On) → StillTold maps cs os os2
-    → Reason maps cs rs os task what why → Reason maps cs rs os2 task what why
-reason_told maps cs rs os os2 task what on.Again told reason = reason
-reason_told maps cs rs os os2 task what (on.Ready object) told reason = (
+reason_told : (maps : Mapped) (cs : ChainTable) (copies : CopyTable) (rs : ResidentTable) (os os2 : ObjectTable) (task : ℕ) (what : Want) (why : On)
+    → StillTold maps cs os os2
+    → Reason maps cs copies rs os task what why → Reason maps cs copies rs os2 task what why
+reason_told maps cs copies rs os os2 task what on.Again told reason = reason
+reason_told maps cs copies rs os os2 task what (on.Ready object) told reason = (
   reason.0,
   reason.1,
   reason.2,
   subst (λ (z : ObjectId). IsPagerTold os2 z.0) reason.2 (told.at task what reason.0 reason.1
       (subst (λ (z : ObjectId). IsPagerTold os z.0) (sym reason.2) reason.3)),
 )
-reason_told maps cs rs os os2 task what (on.Page key) told reason = reason
-reason_told maps cs rs os os2 task what on.Frame told reason = reason
+reason_told maps cs copies rs os os2 task what (on.Page key) told reason = reason
+reason_told maps cs copies rs os os2 task what (on.Push key) told reason = reason
+reason_told maps cs copies rs os os2 task what on.Frame told reason = reason
 
-pub waits_told : {stays unmet : PageKey → Type 0} (maps : Mapped) (cs : ChainTable) (rs : ResidentTable) (os os2 : ObjectTable) (rows : List Waiting)
-    (who : On → Bool) (waiting_at : ℕ → Option Access)
-    → HasWaiters maps cs rs os rows who waiting_at stays unmet → StillTold maps cs os os2
+pub waits_told : {copies : CopyTable} {stays unmet : PageKey → Type 0} (maps : Mapped) (cs : ChainTable) (rs : ResidentTable) (os os2 : ObjectTable)
+    (rows : List Waiting) (who : On → Bool) (waiting_at : ℕ → Option Access)
+    → HasWaiters maps cs copies rs os rows who waiting_at stays unmet → StillTold maps cs os os2
     → ((o p : ℕ) (row : PageRow) → row_at rs o p ≡ Some row → ready_in (object_at os o) ≡ true → ready_in (object_at os2 o) ≡ true)
-    → HasWaiters maps cs rs os2 rows who waiting_at stays unmet
-waits_told maps cs rs os os2 rows who waiting_at has told ready =
+    → HasWaiters maps cs copies rs os2 rows who waiting_at stays unmet
+waits_told {copies = copies} maps cs rs os os2 rows who waiting_at has told ready =
     record {
       is = has.is;
       allowed = has.allowed;
       sized = has.sized;
-      reasons = λ t w found apart. reason_told maps cs rs os os2 t w.want w.on told (has.reasons t w found apart);
+      reasons = λ t w found apart. reason_told maps cs copies rs os os2 t w.want w.on told (has.reasons t w found apart);
       passed = has.passed;
       aims = has.aims;
       askers = has.askers;
       ready = λ o p row found away. ready o p row found (has.ready o p row found away);
     }
 
--- a page that is here has gone, of which no unlock was outstanding, and its pager may have been told
-pub waiters_lost : {stays unmet : PageKey → Type 0} (maps : Mapped) (cs : ChainTable) (rs rs2 : ResidentTable) (os os2 : ObjectTable) (rows : List Waiting)
-    (who : On → Bool) (waiting_at : ℕ → Option Access) (o p : ℕ) (row : PageRow)
-    → HasWaiters maps cs rs os rows who waiting_at stays unmet → row_at rs o p ≡ Some row → row.here ≡ true → row.unlock_sent ≡ false → PutsRow o p None rs rs2
+-- a page that is here has gone, of which no unlock was outstanding and that nobody pushes, and its pager may have been told
+pub waiters_lost : {copies : CopyTable} {stays unmet : PageKey → Type 0} (maps : Mapped) (cs : ChainTable) (rs rs2 : ResidentTable) (os os2 : ObjectTable)
+    (rows : List Waiting) (who : On → Bool) (waiting_at : ℕ → Option Access) (o p : ℕ) (row : PageRow)
+    → HasWaiters maps cs copies rs os rows who waiting_at stays unmet → row_at rs o p ≡ Some row → row.here ≡ true → row.unlock_sent ≡ false
+    → PushesNone copies rows who o p → PutsRow o p None rs rs2
     → ((object : ℕ) → IsPagerTold os object → IsPagerTold os2 object)
     → ((object : ℕ) → ready_in (object_at os object) ≡ true → ready_in (object_at os2 object) ≡ true)
-    → HasWaiters maps cs rs2 os2 rows who waiting_at stays unmet
-waiters_lost maps cs rs rs2 os os2 rows who waiting_at o p row has found here sent put told ready =
+    → HasWaiters maps cs copies rs2 os2 rows who waiting_at stays unmet
+waiters_lost maps cs rs rs2 os os2 rows who waiting_at o p row has found here sent spared put told ready =
     waits_told maps cs rs2 os os2 rows who waiting_at (waiters_page maps cs rs rs2 os rows who waiting_at o p None has put
-    (inl (here_unawaited (row_at rs o p) row found here sent)) (none_unawaited None refl))
+    (inl (here_unawaited (row_at rs o p) row found here sent)) (none_unawaited None refl) (inr spared))
     (told_all maps cs os os2 told) (λ o2 p2 r there is. ready o2 is)
 
 -- an object has another number of references
@@ -92,10 +97,11 @@ ready_referred r left was os os2 found put o = elim (one_case r o (Some (record 
   | inr other ↦ ap ready_in other.1
 ]
 
-pub waits_referred : {stays unmet : PageKey → Type 0} (maps : Mapped) (cs : ChainTable) (rs : ResidentTable) (os os2 : ObjectTable) (rows : List Waiting)
-    (who : On → Bool) (waiting_at : ℕ → Option Access) (r left : ℕ) (was : ObjectRow)
-    → HasWaiters maps cs rs os rows who waiting_at stays unmet → object_at os r ≡ Some was → PutsObject r (Some (record was { references = left })) os os2
-    → HasWaiters maps cs rs os2 rows who waiting_at stays unmet
+pub waits_referred : {copies : CopyTable} {stays unmet : PageKey → Type 0} (maps : Mapped) (cs : ChainTable) (rs : ResidentTable) (os os2 : ObjectTable)
+    (rows : List Waiting) (who : On → Bool) (waiting_at : ℕ → Option Access) (r left : ℕ) (was : ObjectRow)
+    → HasWaiters maps cs copies rs os rows who waiting_at stays unmet → object_at os r ≡ Some was
+    → PutsObject r (Some (record was { references = left })) os os2
+    → HasWaiters maps cs copies rs os2 rows who waiting_at stays unmet
 waits_referred maps cs rs os os2 rows who waiting_at r left was has found put =
     waits_told maps cs rs os os2 rows who waiting_at has (told_referred maps cs r left was os os2 found put)
     (λ o p row there is. ready_referred r left was os os2 found put o ∙ is)
@@ -113,9 +119,9 @@ knows_made os os2 n row none put =
       ];
     }
 
-pub waits_known : {stays unmet : PageKey → Type 0} (maps : Mapped) (cs : ChainTable) (rs : ResidentTable) (os os2 : ObjectTable) (rows : List Waiting)
-    (who : On → Bool) (waiting_at : ℕ → Option Access)
-    → HasWaiters maps cs rs os rows who waiting_at stays unmet → KnowsMore os os2 → HasWaiters maps cs rs os2 rows who waiting_at stays unmet
+pub waits_known : {copies : CopyTable} {stays unmet : PageKey → Type 0} (maps : Mapped) (cs : ChainTable) (rs : ResidentTable) (os os2 : ObjectTable)
+    (rows : List Waiting) (who : On → Bool) (waiting_at : ℕ → Option Access)
+    → HasWaiters maps cs copies rs os rows who waiting_at stays unmet → KnowsMore os os2 → HasWaiters maps cs copies rs os2 rows who waiting_at stays unmet
 waits_known maps cs rs os os2 rows who waiting_at has more =
     waits_told maps cs rs os os2 rows who waiting_at has
     (told_all maps cs os os2 (λ o told. record { row = told.row; found = more.at o told.row told.found; sent = told.sent }))

@@ -26,6 +26,7 @@ use Rattle.vm_state.proofs.Referred.{referred_chains}
 use Rattle.vm_state.proofs.Waited.{waits_kept}
 use Rattle.vm_state.specs.References.{AllReferred, is_backing, is_over}
 use Rattle.vm_state.specs.Stands.{HasKinds, HasRegions}
+use Rattle.vm_copies.specs.Copies.{CopyTable}
 use Rattle.vm_state.specs.Waiters.{HasWaiters}
 use Rattle.vm_waits.specs.declared.waiting.On.{On}
 use Rattle.vm_waits.specs.declared.waiting.Waiting.{Waiting}
@@ -99,10 +100,10 @@ kinds_unmarked header region row os cs cs2 put there has =
     kinds_region header region (record row { marked = false }) os cs cs2 put (λ least. has.tops region row least there) has
 
 -- who waits does so still
-pub waits_unmarked : {stays unmet : PageKey → Type 0} (maps : Mapped) (old new : ChainTable) (rs : ResidentTable) (os : ObjectTable) (rows : List Waiting)
-    (who : On → Bool) (waiting_at : ℕ → Option Access) (region : ℕ) (row : RegionRow)
-    → HasWaiters maps old rs os rows who waiting_at stays unmet → region_at old region ≡ Some row
-    → PutsRegion region (Some (record row { marked = false })) old new → HasWaiters maps new rs os rows who waiting_at stays unmet
+pub waits_unmarked : {copies : CopyTable} {stays unmet : PageKey → Type 0} (maps : Mapped) (old new : ChainTable) (rs : ResidentTable) (os : ObjectTable)
+    (rows : List Waiting) (who : On → Bool) (waiting_at : ℕ → Option Access) (region : ℕ) (row : RegionRow)
+    → HasWaiters maps old copies rs os rows who waiting_at stays unmet → region_at old region ≡ Some row
+    → PutsRegion region (Some (record row { marked = false })) old new → HasWaiters maps new copies rs os rows who waiting_at stays unmet
 waits_unmarked maps old new rs os rows who waiting_at region row has there put =
     waits_kept maps maps old new rs os rows who waiting_at has (λ t w found. record { size = refl; entries = refl })
     (keeps_put old new region row (record row { marked = false }) there refl refl put) has.is

@@ -5,6 +5,7 @@ use Rattle.std.specs.Prelude.{is_some, unwrap_or}
 use Rattle.vm_base.specs.declared.entry.Entry.{Entry}
 use Rattle.vm_base.specs.declared.ids.Access.{Access as Need}
 use Rattle.vm_base.specs.declared.ids.PageKey.{PageKey}
+use Rattle.vm_copies.specs.Copies.{CopyTable}
 use Rattle.vm_fault.specs.Walks.{IsAt}
 use Rattle.vm_maps.specs.Judge.{IsAllowed}
 use Rattle.vm_maps.specs.Maps.{ChangesOnly, Mapped, entries_in, rows_in}
@@ -15,6 +16,7 @@ use Rattle.vm_shadow.specs.Chains.{ChainTable, region_at, shadow_at}
 use Rattle.vm_shadow.specs.declared.region_row.RegionRow.{RegionRow}
 use Rattle.vm_shadow.specs.declared.shadow_row.ShadowRow.{ShadowRow}
 use Rattle.vm_state.proofs.Passing.{over_kept, passed_placed}
+use Rattle.vm_state.proofs.Pushing.{push_same}
 use Rattle.vm_state.specs.Passed.{IsPlaceBehind}
 use Rattle.vm_state.specs.Waiters.{HasWaiters, IsPlaceOf, LeadsTo, Reason, waiting_in}
 use Rattle.vm_waits.specs.Waits.{entry}
@@ -98,13 +100,16 @@ allowed_kept maps maps2 task address need same is =
       allowed = is.allowed;
     }
 
-reason_kept : (maps maps2 : Mapped) (cs cs2 : ChainTable) (rs : ResidentTable) (os : ObjectTable) (task : ℕ) (what : Want) (why : On) → SameOf task maps maps2
-    → KeepsPlaces cs cs2 → Reason maps cs rs os task what why → Reason maps2 cs2 rs os task what why
-reason_kept maps maps2 cs cs2 rs os task what on.Again same tops reason = reason
-reason_kept maps maps2 cs cs2 rs os task what (on.Ready object) same tops reason =
+reason_kept : (maps maps2 : Mapped) (cs cs2 : ChainTable) (copies : CopyTable) (rs : ResidentTable) (os : ObjectTable) (task : ℕ) (what : Want) (why : On)
+    → SameOf task maps maps2 → KeepsPlaces cs cs2 → Reason maps cs copies rs os task what why → Reason maps2 cs2 copies rs os task what why
+reason_kept maps maps2 cs cs2 copies rs os task what on.Again same tops reason = reason
+reason_kept maps maps2 cs cs2 copies rs os task what (on.Ready object) same tops reason =
     (reason.0, place_kept maps maps2 cs cs2 task what reason.0 same tops reason.1, reason.2, reason.3)
-reason_kept maps maps2 cs cs2 rs os task what (on.Page key) same tops reason = (place_kept maps maps2 cs cs2 task what key same tops reason.0, reason.1)
-reason_kept maps maps2 cs cs2 rs os task what on.Frame same tops reason = reason
+reason_kept maps maps2 cs cs2 copies rs os task what (on.Page key) same tops reason =
+    (place_kept maps maps2 cs cs2 task what key same tops reason.0, reason.1)
+reason_kept maps maps2 cs cs2 copies rs os task what (on.Push key) same tops reason =
+    push_same reason (at_kept maps maps2 cs cs2 task what reason.top same tops reason.at) reason.owed
+reason_kept maps maps2 cs cs2 copies rs os task what on.Frame same tops reason = reason
 
 -- the rows of tasks here say who waits
 abbrev pub AreTold : Mapped → List Waiting → (ℕ → Option Access) → Type 0
@@ -122,18 +127,18 @@ told_changed maps maps2 rows waiting_at task was made told changes lives t here 
     sized u = ap (λ n. waiting_in n (entry rows u)) (sym changes.size)
 
 -- who waits has the entries that it had
-pub waits_kept : {stays unmet : PageKey → Type 0} {waiting2 : ℕ → Option Access} (maps maps2 : Mapped) (cs cs2 : ChainTable) (rs : ResidentTable)
-    (os : ObjectTable) (rows : List Waiting) (who : On → Bool) (waiting_at : ℕ → Option Access)
-    → HasWaiters maps cs rs os rows who waiting_at stays unmet → ((t : ℕ) (w : Waiting) → entry rows t ≡ Some w → SameOf t maps maps2) → KeepsPlaces cs cs2
-    → AreTold maps2 rows waiting2
-    → HasWaiters maps2 cs2 rs os rows who waiting2 stays unmet
-waits_kept {stays = stays} {unmet = unmet} maps maps2 cs cs2 rs os rows who waiting_at has same tops told =
+pub waits_kept : {copies : CopyTable} {stays unmet : PageKey → Type 0} {waiting2 : ℕ → Option Access} (maps maps2 : Mapped) (cs cs2 : ChainTable)
+    (rs : ResidentTable) (os : ObjectTable) (rows : List Waiting) (who : On → Bool) (waiting_at : ℕ → Option Access)
+    → HasWaiters maps cs copies rs os rows who waiting_at stays unmet → ((t : ℕ) (w : Waiting) → entry rows t ≡ Some w → SameOf t maps maps2)
+    → KeepsPlaces cs cs2 → AreTold maps2 rows waiting2
+    → HasWaiters maps2 cs2 copies rs os rows who waiting2 stays unmet
+waits_kept {copies = copies} {stays = stays} {unmet = unmet} maps maps2 cs cs2 rs os rows who waiting_at has same tops told =
     record {
       is = told;
       allowed = λ t w found. subst (λ (n : ℕ). IsAllowed maps2 t (address_in n w.want) (need_in w.want)) (sym (same t w found).size)
           (allowed_kept maps maps2 t (address_in maps.size w.want) (need_in w.want) (same t w found) (has.allowed t w found));
       sized = λ t w found. subst (λ (n : ℕ). IsSizedWant n w.want) (sym (same t w found).size) (has.sized t w found);
-      reasons = λ t w found apart. reason_kept maps maps2 cs cs2 rs os t w.want w.on (same t w found) tops (has.reasons t w found apart);
+      reasons = λ t w found apart. reason_kept maps maps2 cs cs2 copies rs os t w.want w.on (same t w found) tops (has.reasons t w found apart);
       passed =
           λ t w found apart. passed_placed stays unmet maps maps2 cs cs2 t w.want w.on
           (λ key place. behind_kept maps maps2 cs cs2 t w.want key (same t w found) tops place) (has.passed t w found apart);
@@ -143,11 +148,11 @@ waits_kept {stays = stays} {unmet = unmet} maps maps2 cs cs2 rs os rows who wait
     }
 
 -- one task's entries change, which doesn't wait
-pub waits_changed : {stays unmet : PageKey → Type 0} {waiting2 : ℕ → Option Access} (maps maps2 : Mapped) (cs cs2 : ChainTable) (rs : ResidentTable)
-    (os : ObjectTable) (rows : List Waiting) (who : On → Bool) (waiting_at : ℕ → Option Access) (task : ℕ) (made : Option (List Entry))
-    → HasWaiters maps cs rs os rows who waiting_at stays unmet → ChangesOnly maps maps2 task made → entry rows task ≡ None → KeepsPlaces cs cs2
+pub waits_changed : {copies : CopyTable} {stays unmet : PageKey → Type 0} {waiting2 : ℕ → Option Access} (maps maps2 : Mapped) (cs cs2 : ChainTable)
+    (rs : ResidentTable) (os : ObjectTable) (rows : List Waiting) (who : On → Bool) (waiting_at : ℕ → Option Access) (task : ℕ) (made : Option (List Entry))
+    → HasWaiters maps cs copies rs os rows who waiting_at stays unmet → ChangesOnly maps maps2 task made → entry rows task ≡ None → KeepsPlaces cs cs2
     → AreTold maps2 rows waiting2
-    → HasWaiters maps2 cs2 rs os rows who waiting2 stays unmet
+    → HasWaiters maps2 cs2 copies rs os rows who waiting2 stays unmet
 waits_changed maps maps2 cs cs2 rs os rows who waiting_at task made has changes none tops told =
     waits_kept maps maps2 cs cs2 rs os rows who waiting_at has
     (λ t w found. record {

@@ -1,6 +1,7 @@
 -- Who waits, once those are to be run again that were to be woken.
 use Rattle.std.proofs.Common.{Bool, List, None, Option, Some, ap, false, refl, subst, sym, true, ℕ, ◌∙◌, ◌≡◌}
 use Rattle.std.specs.Prelude.{if◌then◌else◌}
+use Rattle.vm_copies.specs.Copies.{CopyTable}
 use Rattle.vm_maps.specs.Judge.{IsAllowed}
 use Rattle.vm_maps.specs.Maps.{Mapped}
 use Rattle.vm_model.specs.Waiting.{Access}
@@ -37,11 +38,12 @@ stays_waked test (Some was) new w wakes is asleep =
     wakes ∙ (ap (λ (z : Waiting). Some (waits.woken test z)) (some_is was w is) ∙ ap (λ (b : Bool). Some (if b then with_on w on.Again else w)) asleep)
 
 -- no page is awaited for which somebody is to be woken; so all the others have their reasons
-pub waits_woken : {stays unmet : PageKey → Type 0} (maps : Mapped) (chains : ChainTable) (rs : ResidentTable) (os : ObjectTable) (rows rows2 : List Waiting)
-    (who : On → Bool) (at : ℕ → Option Access) → HasWaiters maps chains rs os rows who at stays unmet → ((t : ℕ) → Waked who (entry rows t) (entry rows2 t))
+pub waits_woken : {copies : CopyTable} {stays unmet : PageKey → Type 0} (maps : Mapped) (chains : ChainTable) (rs : ResidentTable) (os : ObjectTable)
+    (rows rows2 : List Waiting) (who : On → Bool) (at : ℕ → Option Access) → HasWaiters maps chains copies rs os rows who at stays unmet
+    → ((t : ℕ) → Waked who (entry rows t) (entry rows2 t))
     → ((o p : ℕ) (row : PageRow) → row_at rs o p ≡ Some row → is_awaited row ≡ true → who (on.Page (page_key o p)) ≡ false)
-    → HasWaiters maps chains rs os rows2 (is_woken woken.Nobody) at stays unmet
-waits_woken {stays = stays} {unmet = unmet} maps chains rs os rows rows2 who at has wakes apart =
+    → HasWaiters maps chains copies rs os rows2 (is_woken woken.Nobody) at stays unmet
+waits_woken {copies = copies} {stays = stays} {unmet = unmet} maps chains rs os rows rows2 who at has wakes apart =
     record {
       is = λ t here. has.is t here ∙ told_same maps.size who (entry rows t) (entry rows2 t) (wakes t);
       allowed =
@@ -52,9 +54,9 @@ waits_woken {stays = stays} {unmet = unmet} maps chains rs os rows rows2 who at 
           λ t v is. waked_cases {P = IsSizedWant maps.size v.want} who (entry rows t) (entry rows2 t) v (wakes t) is (λ was asleep. has.sized t v was)
           (λ w was passes same. subst (λ (z : Waiting). IsSizedWant maps.size z.want) same (has.sized t w was));
       reasons =
-          λ t v is asleep. waked_cases {P = Reason maps chains rs os t v.want v.on} who (entry rows t) (entry rows2 t) v (wakes t) is
+          λ t v is asleep. waked_cases {P = Reason maps chains copies rs os t v.want v.on} who (entry rows t) (entry rows2 t) v (wakes t) is
           (λ was still. has.reasons t v was still)
-          (λ w was passes same. subst (λ (z : Waiting). Reason maps chains rs os t z.want z.on) same tt);
+          (λ w was passes same. subst (λ (z : Waiting). Reason maps chains copies rs os t z.want z.on) same tt);
       passed =
           λ t v is asleep. waked_cases {P = Passed stays unmet maps chains t v.want v.on} who (entry rows t) (entry rows2 t) v (wakes t) is
           (λ was still. has.passed t v was still)
@@ -75,3 +77,28 @@ waits_woken {stays = stays} {unmet = unmet} maps chains rs os rows rows2 who at 
           is = stays_waked who (entry rows asker.task) (entry rows2 asker.task) asker.row (wakes asker.task) asker.is (ap who asker.waits ∙ asleep);
           waits = asker.waits;
         }
+
+-- some more are to be woken
+pub waits_wider : {copies : CopyTable} {stays unmet : PageKey → Type 0} (maps : Mapped) (chains : ChainTable) (rs : ResidentTable) (os : ObjectTable)
+    (rows : List Waiting) (who wider : On → Bool) (at : ℕ → Option Access) → HasWaiters maps chains copies rs os rows who at stays unmet
+    → ((why : On) → wider why ≡ false → who why ≡ false) → HasWaiters maps chains copies rs os rows wider at stays unmet
+waits_wider maps chains rs os rows who wider at has fewer =
+    record {
+      is = has.is;
+      allowed = has.allowed;
+      sized = has.sized;
+      reasons = λ t w found asleep. has.reasons t w found (fewer w.on asleep);
+      passed = λ t w found asleep. has.passed t w found (fewer w.on asleep);
+      aims = has.aims;
+      askers = has.askers;
+      ready = has.ready;
+    }
+
+-- who waits for no page may be woken at any time
+pub waits_roused : {copies : CopyTable} {stays unmet : PageKey → Type 0} (maps : Mapped) (chains : ChainTable) (rs : ResidentTable) (os : ObjectTable)
+    (rows rows2 : List Waiting) (who : On → Bool) (at : ℕ → Option Access)
+    → HasWaiters maps chains copies rs os rows (is_woken woken.Nobody) at stays unmet → ((t : ℕ) → Waked who (entry rows t) (entry rows2 t))
+    → ((key : PageKey) → who (on.Page key) ≡ false) → HasWaiters maps chains copies rs os rows2 (is_woken woken.Nobody) at stays unmet
+waits_roused maps chains rs os rows rows2 who at has wakes apart =
+    waits_woken maps chains rs os rows rows2 who at (waits_wider maps chains rs os rows (is_woken woken.Nobody) who at has (λ why asleep. refl)) wakes
+    (λ o p row found awaits. apart (page_key o p))

@@ -1,3 +1,4 @@
+pub mod CopyObjects
 pub mod Counts
 pub mod Filling
 pub mod Merging

@@ -52,4 +52,5 @@ abbrev pub Passed : (stays unmet : PageKey → Type 0) → Mapped → ChainTable
 Passed stays unmet maps chains task what on.Again = Unit {0}
 Passed stays unmet maps chains task what (on.Ready object) = (key : PageKey) × IsPlaceBehind stays maps chains task what key × (key.object ≡ object) × unmet key
 Passed stays unmet maps chains task what (on.Page key) = IsPlaceBehind stays maps chains task what key
+Passed stays unmet maps chains task what (on.Push key) = Unit {0}
 Passed stays unmet maps chains task what on.Frame = Unit {0}

@@ -8,6 +8,8 @@ use Rattle.vm_objects.specs.declared.row.ObjectRow.{ObjectRow}
 use Rattle.vm_objects.specs.declared.row.PagerState.TheVariants as state
 use Rattle.vm_resident.specs.Resident.{ResidentTable, page_key, row_at}
 use Rattle.vm_resident.specs.declared.page_row.PageRow.{PageRow}
+use Rattle.vm_copies.specs.Copies.{CopyTable}
+use Rattle.vm_fault.specs.Pushes.{owed_at}
 use Rattle.vm_fault.specs.Walks.{IsAt, IsUnder, is_storing, keeps_out}
 use Rattle.vm_shadow.specs.Chains.{ChainTable}
 use Rattle.vm_supply.specs.declared.woken.Woken.{Woken}
@@ -71,14 +73,28 @@ pub record IsPagerTold (objects : ObjectTable) (o : ℕ) : Type 0 where
   pub found : object_at objects o ≡ Some row
   pub sent : row.state ≡ state.Sent
 
+-- a store's page is here, in its top place, and it owes that to a place that is asked
+pub record WaitsToPush (maps : Mapped) (chains : ChainTable) (copies : CopyTable) (resident : ResidentTable) (task : ℕ) (what : Want) (key : PageKey) : Type 0
+  where
+  pub stores : is_storing what ≡ true
+  pub top : PageKey
+  pub at : IsAt maps chains task what top
+  pub row : PageRow
+  pub found : row_at resident top.object.0 top.page.0 ≡ Some row
+  pub here : row.here ≡ true
+  pub unlocked : keeps_out row.lock true ≡ false
+  pub owed : owed_at copies top ≡ Some key
+  pub asked : IsAsked resident key.object.0 key.page.0
+
 -- what holds while an access waits for this
-abbrev pub Reason : Mapped → ChainTable → ResidentTable → ObjectTable → ℕ → Want → On → Type 0
-Reason maps chains resident objects task what on.Again = Unit {0}
-Reason maps chains resident objects task what (on.Ready object) =
+abbrev pub Reason : Mapped → ChainTable → CopyTable → ResidentTable → ObjectTable → ℕ → Want → On → Type 0
+Reason maps chains copies resident objects task what on.Again = Unit {0}
+Reason maps chains copies resident objects task what (on.Ready object) =
     (key : PageKey) × IsPlaceOf maps chains task what key × (key.object ≡ object) × IsPagerTold objects object.0
-Reason maps chains resident objects task what (on.Page key) =
+Reason maps chains copies resident objects task what (on.Page key) =
     IsPlaceOf maps chains task what key × (IsAsked resident key.object.0 key.page.0 ⊎ IsLockedFor resident what key.object.0 key.page.0)
-Reason maps chains resident objects task what on.Frame = Unit {0}
+Reason maps chains copies resident objects task what (on.Push key) = WaitsToPush maps chains copies resident task what key
+Reason maps chains copies resident objects task what on.Frame = Unit {0}
 
 -- the accesses of the rows began one behind the other, from an event on
 abbrev pub BeganInOrder : (ℕ → ℕ) → ℕ → List Waiting → Type 0
@@ -106,12 +122,12 @@ is_woken (woken.Fails key) reason = woken_page key reason
 -- The accesses of tasks here that wait in the history wait here, each with an entry that allows it, within a page; each has a reason, but those that are to be
 -- woken may have lost theirs, and the others have passed over places where nothing has come since; and somebody waits for each page that is asked, whose pager
 -- is ready, and for each unlock that is outstanding.
-pub record HasWaiters (maps : Mapped) (chains : ChainTable) (resident : ResidentTable) (objects : ObjectTable) (rows : List Waiting) (who : On → Bool)
+pub record HasWaiters (maps : Mapped) (chains : ChainTable) (copies : CopyTable) (resident : ResidentTable) (objects : ObjectTable) (rows : List Waiting) (who : On → Bool)
     (waiting_at : ℕ → Option Access) (stays unmet : PageKey → Type 0) : Type 0 where
   pub is : (t : ℕ) → is_some (entries_in t maps) ≡ true → waiting_at t ≡ waiting_in maps.size (entry rows t)
   pub allowed : (t : ℕ) (w : Waiting) → entry rows t ≡ Some w → IsAllowed maps t (address_in maps.size w.want) (need_in w.want)
   pub sized : (t : ℕ) (w : Waiting) → entry rows t ≡ Some w → IsSizedWant maps.size w.want
-  pub reasons : (t : ℕ) (w : Waiting) → entry rows t ≡ Some w → who w.on ≡ false → Reason maps chains resident objects t w.want w.on
+  pub reasons : (t : ℕ) (w : Waiting) → entry rows t ≡ Some w → who w.on ≡ false → Reason maps chains copies resident objects t w.want w.on
   pub passed : (t : ℕ) (w : Waiting) → entry rows t ≡ Some w → who w.on ≡ false → Passed stays unmet maps chains t w.want w.on
   pub aims : (t : ℕ) (w : Waiting) (key : PageKey) → entry rows t ≡ Some w → w.on ≡ on.Page key → IsPlaceOf maps chains t w.want key
   pub askers : (o p : ℕ) (row : PageRow) → row_at resident o p ≡ Some row → is_awaited row ≡ true → Asker rows o p

@@ -240,22 +240,26 @@ pub page_frame : (key : PageKey) (reason : On) → woken_page key reason ≡ tru
 page_frame key on.Again is = refl
 page_frame key (on.Ready object) is = refl
 page_frame key (on.Page other) is = refl
+page_frame key (on.Push other) is = refl
 page_frame key on.Frame is = absurd (false≢true is)
 
 pub page_again : (key : PageKey) (reason : On) → woken_page key reason ≡ true → is_again reason ≡ false
 page_again key on.Again is = absurd (false≢true is)
 page_again key (on.Ready object) is = refl
 page_again key (on.Page other) is = refl
+page_again key (on.Push other) is = refl
 page_again key on.Frame is = refl
 
 pub ready_frame : (object : ℕ) (reason : On) → woken_ready object reason ≡ true → is_frame reason ≡ false
 ready_frame object on.Again is = refl
 ready_frame object (on.Ready other) is = refl
 ready_frame object (on.Page key) is = refl
+ready_frame object (on.Push key) is = refl
 ready_frame object on.Frame is = absurd (false≢true is)
 
 pub ready_again : (object : ℕ) (reason : On) → woken_ready object reason ≡ true → is_again reason ≡ false
 ready_again object on.Again is = absurd (false≢true is)
 ready_again object (on.Ready other) is = refl
 ready_again object (on.Page key) is = refl
+ready_again object (on.Push key) is = refl
 ready_again object on.Frame is = refl

@@ -33,12 +33,14 @@ abbrev pub is_again : On → Bool
 is_again on.Again = true
 is_again (on.Ready object) = false
 is_again (on.Page key) = false
+is_again (on.Push key) = false
 is_again on.Frame = false
 
 abbrev pub is_frame : On → Bool
 is_frame on.Again = false
 is_frame (on.Ready object) = false
 is_frame (on.Page key) = false
+is_frame (on.Push key) = false
 is_frame on.Frame = true
 
 -- a row that waits for a frame
@@ -46,11 +48,20 @@ abbrev pub waits_for_frame : Option Waiting → Bool
 waits_for_frame None = false
 waits_for_frame (Some w) = is_frame w.on
 
--- it waits for this page
+-- it waits for this page to be its own
+abbrev pub waits_page : PageKey → On → Bool
+waits_page key on.Again = false
+waits_page key (on.Ready object) = false
+waits_page key (on.Page other) = other.object.0 == key.object.0 && other.page.0 == key.page.0
+waits_page key (on.Push other) = false
+waits_page key on.Frame = false
+
+-- it waits for an answer about this page
 abbrev pub woken_page : PageKey → On → Bool
 woken_page key on.Again = false
 woken_page key (on.Ready object) = false
 woken_page key (on.Page other) = other.object.0 == key.object.0 && other.page.0 == key.page.0
+woken_page key (on.Push other) = other.object.0 == key.object.0 && other.page.0 == key.page.0
 woken_page key on.Frame = false
 
 -- it waits for the pager of this object
@@ -58,6 +69,7 @@ abbrev pub woken_ready : ℕ → On → Bool
 woken_ready object on.Again = false
 woken_ready object (on.Ready other) = other.0 == object
 woken_ready object (on.Page key) = false
+woken_ready object (on.Push key) = false
 woken_ready object on.Frame = false
 
 abbrev pub one : Bool → ℕ

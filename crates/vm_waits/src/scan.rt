@@ -1,9 +1,9 @@
 // Walks along the rows, and along the queue.
-ghost use Rattle.std.specs.Prelude.{◌≡◌, map};
+ghost use Rattle.std.specs.Prelude.{◌≡◌, ◌==◌, ◌&&◌, map};
 ghost use Rattle.std.specs.Vec.{vec_capacity};
 ghost use Rattle.indexmap.specs.IndexMap.{spare};
 ghost use Rattle.vm_waits.specs.Kept.{on_value};
-ghost use Rattle.vm_waits.specs.Waits.{is_again, oldest_row, queue_without, woken, woken_page, woken_ready};
+ghost use Rattle.vm_waits.specs.Waits.{is_again, oldest_row, queue_without, waits_page, woken, woken_page, woken_ready};
 
 use crate::{On, Waiting};
 use indexmap::IndexMap;
@@ -15,18 +15,34 @@ pub fn is_on_again(on: On) -> bool
 {
     match on {
         On::Again => true,
-        On::Ready { object: _ } | On::Page { key: _ } | On::Frame => false,
+        On::Ready { object: _ } | On::Page { key: _ } | On::Push { key: _ } | On::Frame => false,
     }
 }
 
-/// Whether an access waits for the page.
+/// Whether an access waits for the page to be its own.
 pub fn is_on_page(on: On, key: PageKey) -> bool
+    ensures { result ≡ waits_page key on }
+{
+    match on {
+        On::Page { key: other } => is_same(other, key),
+        On::Again | On::Ready { object: _ } | On::Push { key: _ } | On::Frame => false,
+    }
+}
+
+// Whether an access waits for an answer about the page.
+fn is_woken_by(on: On, key: PageKey) -> bool
     ensures { result ≡ woken_page key on }
 {
     match on {
-        On::Page { key: other } => { other.object.0 == key.object.0 && other.page.0 == key.page.0 }
+        On::Page { key: other } | On::Push { key: other } => is_same(other, key),
         On::Again | On::Ready { object: _ } | On::Frame => false,
     }
+}
+
+fn is_same(one: PageKey, other: PageKey) -> bool
+    ensures { result ≡ (one.object.0 == other.object.0 && one.page.0 == other.page.0) }
+{
+    one.object.0 == other.object.0 && one.page.0 == other.page.0
 }
 
 /// Whether an access waits for the pager of the object.
@@ -35,7 +51,7 @@ pub fn is_on_ready(on: On, object: ObjectId) -> bool
 {
     match on {
         On::Ready { object: other } => other.0 == object.0,
-        On::Again | On::Page { key: _ } | On::Frame => false,
+        On::Again | On::Page { key: _ } | On::Push { key: _ } | On::Frame => false,
     }
 }
 
@@ -53,7 +69,7 @@ pub fn oldest_again(rows: &[Waiting]) -> Option<Waiting>
 
 /// The oldest row that waits for a page.
 pub fn oldest_on(rows: &[Waiting], key: PageKey) -> Option<Waiting>
-    ensures { result ≡ oldest_row (woken_page key) rows.now }
+    ensures { result ≡ oldest_row (waits_page key) rows.now }
 {
     'all: for row in rows {
         if is_on_page(row.on, key) {
@@ -67,7 +83,7 @@ pub fn oldest_on(rows: &[Waiting], key: PageKey) -> Option<Waiting>
 fn after_page(row: Waiting, key: PageKey) -> Waiting
     ensures { result ≡ woken (woken_page key) row }
 {
-    if is_on_page(row.on, key) {
+    if is_woken_by(row.on, key) {
         Waiting {
             on: On::Again,
             ..row

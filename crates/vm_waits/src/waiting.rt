@@ -42,6 +42,8 @@ pub enum On {
     Ready { object: ObjectId },
     /// For a page that was asked for, or for its unlock.
     Page { key: PageKey },
+    /// For the page of a copy object that was asked for: a store, which owes its own page to that copy.
+    Push { key: PageKey },
     /// For a frame, in the queue.
     Frame,
 }

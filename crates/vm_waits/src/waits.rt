@@ -3,7 +3,7 @@ ghost use Rattle.std.specs.Prelude.{ℕ, ◌≡◌, ◌+◌, ◌<◌, ◌≤◌,
 ghost use Rattle.std.specs.Prelude.{OnErr, OnOk, Some};
 ghost use Rattle.vm_waits.specs.Waits.{EachOnce, PutsEntry, Waked, count_again, count_copies, count_rows, entry, first_in_queue, is_again, is_frame, is_listed};
 ghost use Rattle.vm_waits.specs.Waits.{oldest_row, one, one_again, one_frame, queue_without, queued, rewanted, rows_without, turned, waits_for_frame, with_on};
-ghost use Rattle.vm_waits.specs.Waits.{with_want, woken, woken_page, woken_ready};
+ghost use Rattle.vm_waits.specs.Waits.{with_want, woken, waits_page, woken_page, woken_ready};
 ghost use Rattle.vm_waits.specs.Kept.{AreQueued};
 ghost use Rattle.vm_waits.specs.Wants.{is_copying};
 ghost use Rattle.vm_waits.specs.declared.waiting.On.TheVariants.{Again, Frame};
@@ -164,12 +164,12 @@ impl Waits {
         !self.queue.is_empty()
     }
 
-    /// The oldest access that waits for a page; None exactly where none does.
+    /// The oldest access that waits for a page to be its own; None exactly where none does.
     pub fn next_on(&self, key: PageKey) -> Option<Waiting>
-        ensures oldest { result ≡ oldest_row (woken_page key) self.now.rows }
+        ensures oldest { result ≡ oldest_row (waits_page key) self.now.rows }
         ensures row { MatchOption result
-            ((t : ℕ) → IfSome (entry self.now.rows t) (λ w. woken_page key w.on ≡ false))
-            (λ w. (entry self.now.rows w.task.0 ≡ Some w) × (woken_page key w.on ≡ true)) }
+            ((t : ℕ) → IfSome (entry self.now.rows t) (λ w. waits_page key w.on ≡ false))
+            (λ w. (entry self.now.rows w.task.0 ≡ Some w) × (waits_page key w.on ≡ true)) }
         ensures line { AreQueued self.now.rows self.now.queue }
     {
         oldest_on(self.rows.values().as_slice(), key)
@@ -256,7 +256,7 @@ impl Waits {
         copy_count(self.get(task).unwrap().want)
     }
 
-    /// The accesses that wait for a page are to be run again.
+    /// The accesses that wait for a page are to be run again, and the stores that wait to push theirs there.
     pub fn wake_page(&mut self, key: PageKey)
         ensures rows { self.new.rows ≡ map (woken (woken_page key)) self.old.rows }
         ensures entry { (t : ℕ) → Waked (woken_page key) (entry self.old.rows t) (entry self.new.rows t) }
