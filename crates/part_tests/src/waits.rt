@@ -75,7 +75,9 @@ fn join(waits: &mut Waits, task: TaskId) {
     if let Some(row) = waits.get(task) {
         match row.on {
             On::Frame => {}
-            On::Again | On::Ready { object: _ } | On::Page { key: _ } => waits.join_queue(task),
+            On::Again | On::Ready { object: _ } | On::Page { key: _ } | On::Push { key: _ } => {
+                waits.join_queue(task);
+            }
         }
     }
 }

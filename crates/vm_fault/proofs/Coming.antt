@@ -136,8 +136,10 @@ noted_rows : (key : PageKey) (row : CopyRow) (had have : CopyTable) → AreNewes
     → PutsCopy key.object.0 (Some (record row { had = slice_set row.had key.page.0 true })) had have → have.newest ≡ had.newest → SameRows had have
 noted_rows key row had have living found puts newest =
     record {
-      living = record { at = λ s. subst (λ z. IfSome z (λ c. IsCopyOf s (copy_at have c.0))) (sym (ap (λ z. among s z) newest))
-          (newest_of s (newest_at had s) (living.at s)) };
+      living = record {
+        at = λ s. subst (λ z. IfSome z (λ c. IsCopyOf s (copy_at have c.0))) (sym (ap (λ z. among s z) newest))
+            (newest_of s (newest_at had s) (living.at s));
+      };
       newest = newest;
       rows = λ c now is. elim (one_case key.object.0 c (Some noted) (copy_at had c) (copy_at have c) (puts.at c)) [
         | inl this ↦ (row, sym (ap (copy_at had) this.0) ∙ found, ap (λ (z : CopyRow). z.pages) (some_is noted now (sym this.1 ∙ is)))

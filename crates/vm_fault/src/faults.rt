@@ -57,7 +57,9 @@ pub fn fault(
     ensures succeeds { HasRoom want.old parts.old chains.old log.old.room → IsOk result }
 {
     'pages: loop {
-        let step = once(host, task, *want, may_claim, parts, chains, copies, maps, ids, log)?;
+        let step = once(
+            host, task, *want, may_claim, parts, chains, copies, maps, ids, log,
+        )?;
         let goes_on = is_to_go_on(step, *want);
         *want = left_after(step, *want);
         if !goes_on {

@@ -123,10 +123,9 @@ pub use Rattle.vm_supply.specs.declared.woken.Woken.{Woken}
 pub use Rattle.vm_terminate.specs.Finishes.{IsReferred}
 pub use Rattle.vm_waits.proofs.Entries.{none_again, none_queued, puts_cases, puts_elsewhere, puts_here}
 pub use Rattle.vm_waits.proofs.Lines.{same_others}
-pub use Rattle.vm_waits.proofs.Tables.{page_frame}
 pub use Rattle.vm_waits.specs.Kept.{AreQueued, EachListedOnce}
 pub use Rattle.vm_waits.specs.Waits.{PutsEntry, WaitTable, count_again, entry, first_in_queue, is_again, is_frame, is_listed, oldest_row, one_again, one_frame}
-pub use Rattle.vm_waits.specs.Waits.{queue_without, queued, rows_without, turned, waits_for_frame, with_on, woken_page, woken_ready}
+pub use Rattle.vm_waits.specs.Waits.{queue_without, queued, rows_without, turned, waits_for_frame, waits_page, with_on, woken_page, woken_ready}
 pub use Rattle.vm_waits.specs.Wants.{IsOfNumber, IsSizedWant, address_in, need_in, want_size}
 pub use Rattle.vm_waits.specs.declared.waiting.On.{On}
 pub use Rattle.vm_waits.specs.declared.waiting.Waiting.{Waiting}

@@ -18,6 +18,7 @@ pub mod LockRequested
 pub mod NextControl
 pub mod ObjectDestroyed
 pub mod ObjectEmptied
+pub mod NothingCopied
 pub mod PageAnswered
 pub mod PageAsked
 pub mod PageLocked

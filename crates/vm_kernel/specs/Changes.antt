@@ -21,6 +21,7 @@ pub record MadeRange (region : RegionId) (object : ObjectId) (pages entries : �
   pub host : new.host ≡ old.host
   pub size : new.size ≡ old.size
   pub declared : new.declared ≡ old.declared
+  pub copied : new.copies ≡ old.copies
   pub memory : new.memory ≡ record old.memory { objects = new.memory.objects }
   pub maps : new.maps ≡ old.maps
   pub laundry : new.laundry ≡ old.laundry

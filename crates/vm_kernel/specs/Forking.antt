@@ -34,6 +34,7 @@ pub record Shares (task : TaskId) (row : Entry) (old new : Parts) (before after 
   pub host : new.host ≡ old.host
   pub size : new.size ≡ old.size
   pub declared : new.declared ≡ old.declared
+  pub copied : new.copies ≡ old.copies
   pub memory : new.memory ≡ old.memory
   pub laundry : new.laundry ≡ old.laundry
   pub waits : new.waits ≡ old.waits
@@ -68,6 +69,7 @@ pub record EntersCopy (task : TaskId) (source : RegionId) (offset : ℕ) (row : 
   pub host : new.host ≡ old.host
   pub size : new.size ≡ old.size
   pub declared : new.declared ≡ old.declared
+  pub copied : new.copies ≡ old.copies
   pub laundry : new.laundry ≡ old.laundry
   pub waits : new.waits ≡ old.waits
   pub copy : RegionId

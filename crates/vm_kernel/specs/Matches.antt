@@ -8,6 +8,7 @@ use Rattle.vm_base.specs.Pages.{IsPageSize}
 use Rattle.vm_base.specs.declared.entry.Entry.{Entry}
 use Rattle.vm_base.specs.declared.ids.HostId.{HostId}
 use Rattle.vm_base.specs.declared.ids.ObjectKind.TheVariants.{Temp}
+use Rattle.vm_copies.specs.Copies.{CopyTable}
 use Rattle.vm_frames.specs.Frames.{FrameTable}
 use Rattle.vm_kernel.specs.Fits.{PartsFit}
 use Rattle.vm_kernel.specs.declared.parts.Parts.{Parts}
@@ -183,13 +184,18 @@ memory_facts header h past =
 
 -- What a kernel stands for, in groups: each is of some of its tables, and of the facts that these keep.
 
--- what never changes
-pub record Setting (header : Header) (h size : ℕ) (host : HostId) (declared : List Declared) : Type 0 where
+-- no copy objects
+abbrev pub no_copies : CopyTable
+no_copies = record { newest = []; copies = [] }
+
+-- what never changes; there are no copy objects yet
+pub record Setting (header : Header) (h size : ℕ) (host : HostId) (declared : List Declared) (copies : CopyTable) : Type 0 where
   pub ranged : IsRanged header
   pub known : h < length header.frames.items
   pub sized : size ≡ header.size
   pub numbered : host.0 ≡ h
   pub objects : declared ≡ header.objects.items
+  pub uncopied : copies ≡ no_copies
 
 -- address spaces, and the regions on the host
 pub record Spaces (header : Header) (h : ℕ) (maps : Mapped) (chains : ChainTable) (rows : List Waiting) (gone : List Entry) (s : SpaceFacts) : Type 0 where
@@ -219,7 +225,7 @@ pub record Pages (header : Header) (h : ℕ) (frames : FrameTable) (resident : R
 
 -- all but what goes across
 pub record Core (header : Header) (h : ℕ) (k : Parts) (ids : Ids) (gone : List Entry) (s : SpaceFacts) (c : ControlFacts) (m : MemoryFacts) : Type 0 where
-  pub setting : Setting header h k.size k.host k.declared.items
+  pub setting : Setting header h k.size k.host k.declared.items k.copies
   pub fits : PartsFit k.memory k.size
   pub spaces : Spaces header h k.maps k.chains k.waits.rows gone s
   pub objects : Objects header h k.chains k.memory.objects ids s.objects
@@ -237,7 +243,7 @@ pub record Matches (header : Header) (h : ℕ) (k : Parts) (ids : Ids) (gone : L
 -- the accesses that wait, of a kernel with these maps, regions, pages and objects; some may have been woken
 abbrev pub HasWaits : Header → ℕ → Parts → Woken → List Event → Type 0
 HasWaits header h k who past =
-    HasWaiters k.maps k.chains k.memory.resident k.memory.objects k.waits.rows (is_woken who) (λ task. waiting task past) (StaysAway header h past)
+    HasWaiters k.maps k.chains k.copies k.memory.resident k.memory.objects k.waits.rows (is_woken who) (λ task. waiting task past) (StaysAway header h past)
     (IsUnmet header h past)
 
 -- each region has an entry or is filled by an access that waits

@@ -42,6 +42,7 @@ pub record MapsFilled (task : TaskId) (row : Entry) (old new : Parts) (before af
   pub host : new.host ≡ old.host
   pub size : new.size ≡ old.size
   pub declared : new.declared ≡ old.declared
+  pub copied : new.copies ≡ old.copies
   pub memory : new.memory ≡ old.memory
   pub laundry : new.laundry ≡ old.laundry
   pub waits : new.waits ≡ old.waits

@@ -135,12 +135,14 @@ abbrev pub IsChangePaid : List Event → Type 0
 IsChangePaid past =
     (request : Attributes) → attributes_taken past ≡ Some request → request.reply ≡ true → since (changes request.host request.object) past ≡ true
 
--- the access waits for a page of the range that isn't asked, so for its unlock
+-- the access waits for the word of a page of the range that isn't asked, so for its unlock
 abbrev pub is_unlocked : ResidentTable → ℕ → ℕ → ℕ → On → Bool
 is_unlocked resident object page count (on.Page key) =
     key.object.0 == object && (in_range key.page.0 page count && not (is_away (row_at resident key.object.0 key.page.0)))
 is_unlocked resident object page count on.Again = false
 is_unlocked resident object page count (on.Ready other) = false
+is_unlocked resident object page count (on.Push key) =
+    key.object.0 == object && (in_range key.page.0 page count && not (is_away (row_at resident key.object.0 key.page.0)))
 is_unlocked resident object page count on.Frame = false
 
 -- the page for which an access waits
@@ -148,12 +150,21 @@ abbrev pub page_waited : On → Option PageKey
 page_waited (on.Page key) = Some key
 page_waited on.Again = None
 page_waited (on.Ready object) = None
+page_waited (on.Push key) = None
 page_waited on.Frame = None
 
--- the page for which the access of a row waits, if there is a row
+-- the page for whose word an access waits: that page, or one into whose place it is to push another
+abbrev pub page_awaited : On → Option PageKey
+page_awaited (on.Page key) = Some key
+page_awaited (on.Push key) = Some key
+page_awaited on.Again = None
+page_awaited (on.Ready object) = None
+page_awaited on.Frame = None
+
+-- the page for whose word the access of a row waits, if there is a row
 abbrev pub PageWaitedFor : Option PageKey → Option Waiting → Type 0
 PageWaitedFor key None = key ≡ None
-PageWaitedFor key (Some w) = key ≡ page_waited w.on
+PageWaitedFor key (Some w) = key ≡ page_awaited w.on
 
 -- all events that were added take pages from the host
 pub record EachGone (h : ℕ) (old new : List Event) : Type 0 where

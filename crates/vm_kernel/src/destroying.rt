@@ -141,7 +141,9 @@ impl Parts {
     {
         match waiting.on {
             On::Again => false,
-            On::Ready { .. } | On::Page { .. } | On::Frame => self.is_on(waiting, object),
+            On::Ready { .. } | On::Page { .. } | On::Push { .. } | On::Frame => {
+                self.is_on(waiting, object)
+            }
         }
     }
 

@@ -116,6 +116,7 @@ impl Parts {
             waiting.want,
             &self.memory,
             &self.chains,
+            &self.copies,
             &self.maps,
         )
     }

@@ -31,6 +31,7 @@ use crate::parts::Parts;
 use std::alloc::Global;
 use std::marker::Model;
 use vm_base::{Code, HostId, NoMemory, ObjectId, TaskId};
+use vm_copies::Copies;
 use vm_maps::Maps;
 use vm_model::{Command, Declarations, Events, Header, Message};
 use vm_objects::ObjectRow;
@@ -79,6 +80,7 @@ impl Kernel {
             memory,
             maps: Maps::new(alloc, header.size),
             chains: Chains::new(alloc),
+            copies: Copies::new(alloc),
             laundry,
             waits: Waits::new(alloc),
             skip: Vec::new(alloc),

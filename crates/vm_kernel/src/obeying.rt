@@ -11,7 +11,7 @@ ghost use Rattle.vm_kernel.specs.Rooms.{Dies, HasBuffers, IsRoomy, KeepsSkip, Sp
 ghost use Rattle.vm_parts.specs.Listed.{listed_pages};
 ghost use Rattle.vm_kernel.specs.Taking.{EndsNobody, FailsNow, HasAsker, IsAbsencePaid, IsAnswered, IsChangePaid, IsLockPaid, IsWord, KeepsAskers};
 ghost use Rattle.vm_kernel.specs.Taking.{PageWaitedFor};
-ghost use Rattle.vm_kernel.specs.Taking.{is_away, is_lock_request, is_unlocked, page_waited};
+ghost use Rattle.vm_kernel.specs.Taking.{is_away, is_lock_request, is_unlocked, page_awaited, page_waited};
 ghost use Rattle.vm_waits.specs.Waits.{oldest_row, woken};
 ghost use Rattle.vm_kernel.specs.Turns.{RunsNoneYet};
 ghost use Rattle.vm_objects.specs.Objects.{object_at};
@@ -180,10 +180,20 @@ fn next_unlocked(
     let rows = waits.rows();
     'all: for waiting in rows {
         if is_unlocked(resident, waiting.on, object, page, count) {
-            return page_of(waiting.on);
+            return awaited(waiting.on);
         }
     }
     None
+}
+
+// The page for whose word an access waits, if it waits for one.
+fn awaited(on: On) -> Option<PageKey>
+    ensures { result ≡ page_awaited on }
+{
+    match on {
+        On::Page { key } | On::Push { key } => Some(key),
+        On::Again | On::Ready { .. } | On::Frame => None,
+    }
 }
 
 // Whether an access waits for a page of the range which isn't asked.
@@ -191,13 +201,13 @@ fn is_unlocked(resident: &Resident, on: On, object: ObjectId, page: PageNo, coun
     ensures { result ≡ is_unlocked resident.now object.0 page.0 count on }
 {
     match on {
-        On::Page { key } => {
+        On::Page { key } | On::Push { key } => {
             key.object.0 == object.0
                 && key.page.0 >= page.0
                 && key.page.0 - page.0 < count
                 && !is_away(resident, key)
         }
-        On::Again | On::Ready { object: _ } | On::Frame => false,
+        On::Again | On::Ready { .. } | On::Frame => false,
     }
 }
 
@@ -217,6 +227,6 @@ pub fn page_of(on: On) -> Option<PageKey>
 {
     match on {
         On::Page { key } => Some(key),
-        On::Again | On::Ready { object: _ } | On::Frame => None,
+        On::Again | On::Ready { .. } | On::Push { .. } | On::Frame => None,
     }
 }

@@ -2,6 +2,7 @@
 
 use std::alloc::Global;
 use vm_base::{FrameNo, HostId, PageSize};
+use vm_copies::Copies;
 use vm_maps::Maps;
 use vm_model::Declarations;
 use vm_pageout::Laundry;
@@ -19,6 +20,7 @@ pub struct Parts {
     pub memory: HostParts,
     pub maps: Maps,
     pub chains: Chains,
+    pub copies: Copies,
     pub laundry: Laundry,
     pub waits: Waits,
     // The frames that a reclaim passes over, while it looks for a victim: kept between steps for its

@@ -93,6 +93,7 @@ impl Parts {
             may_claim,
             &mut self.memory,
             &mut self.chains,
+            &mut self.copies,
             &self.maps,
             ids,
             log,

@@ -99,11 +99,16 @@ impl Parts {
                 self.waits.wake_page(key);
                 Ok(())
             }
-            Woken::Fails { key } => self.fail(ids, key, log),
+            Woken::Fails { key } => {
+                self.fail(ids, key, log)?;
+                self.waits.wake_page(key);
+                Ok(())
+            }
         }
     }
 
     // Ends each access that waits for a page that its pager can't give, and the region that it fills.
+    // Whoever was to push another page into its place is to be woken.
     #[tactic(auto, using(crate::proofs::lists::ListsAsTold::plays_still))]
     fn fail(&mut self, ids: &Ids, key: PageKey, log: &mut Events) -> Result<(), NoMemory>
         ghost given: { Erring }
@@ -113,11 +118,12 @@ impl Parts {
         requires fresh { EndsNobody (who.Fails key) (log.old.items ++ given.past) }
         requires asker { HasAsker (who.Fails key) self.old.waits.rows }
         requires answered { IsAnswered (who.Fails key) self.old.memory.resident }
-        ensures works { OnOk result (Works given.header given.host self.new ids.now who.Nobody (log.new.items ++ given.past)) }
+        ensures works { OnOk result (Works given.header given.host self.new ids.now (who.Page key) (log.new.items ++ given.past)) }
         ensures goes { OnOk result (LegalEvents given.header given.host given.outside given.command given.past log.old.items log.new.items) }
         ensures failed { OnOk result (HasFailed (who.Fails key) (log.new.items ++ given.past)) }
         ensures plays { OnOk result (Plays given.header given.past log.old.items (paging self.old) log.new.items (paging self.new)) }
         ensures ended { OnOk result (HasEnded (who.Fails key) self.old.waits.rows (log.new.items ++ given.past)) }
+        ensures answered { OnOk result (IsAnswered (who.Page key) self.new.memory.resident) }
         ensures quiet { OnOk result (RunsNobody self.old.waits.queue self.new.waits.queue log.old.items log.new.items) }
         ensures spends { OnOk result (Spends (leaving self.old ids.now) 0 (leaving self.new ids.now) self.old log.old self.new log.new) }
         ensures succeeds { IsRoomy (leaving self.old ids.now) 0 self.old log.old.room → HasBuffers self.old → IsOk result }

@@ -6,8 +6,7 @@ use Rattle.vm_abroad.specs.Home.{HaveHomes}
 use Rattle.vm_base.specs.declared.ids.Lock.{Lock}
 use Rattle.vm_base.specs.declared.ids.ObjectId.{ObjectId}
 use Rattle.vm_base.specs.declared.ids.PageKey.{PageKey}
-use Rattle.vm_copies.specs.Copies.{CopyTable, newest_at}
-use Rattle.vm_fault.specs.Pushes.{owed_at}
+use Rattle.vm_copies.specs.Copies.{CopyTable}
 use Rattle.vm_fault.specs.Walks.{IsAt, IsUnder, is_storing, keeps_out}
 use Rattle.vm_legal.specs.Walks.{page_on}
 use Rattle.vm_maps.specs.Maps.{Mapped}
@@ -35,7 +34,7 @@ use Rattle.vm_state.proofs.MergedPages.{AreHere, IsMerge, all_here, effect_else,
 use Rattle.vm_state.proofs.Merging.{StandsNow, lower_quiet, merged_apart, others_stand, stands_now, upper_joined, upper_quiet}
 use Rattle.vm_state.proofs.Moving.{IsBeyond, IsGone, IsMoved, IsOwn, IsSame, Rose, RowNow, RowWas, Stayed, row_now, row_was}
 use Rattle.vm_state.proofs.Passing.{IsQuiet, calm_of, effect_at, only_before, over_leads, stays_quiet, unmet_calm}
-use Rattle.vm_state.proofs.Pushing.{asked_same, open_same, owes_nothing, push_stays}
+use Rattle.vm_state.proofs.Pushing.{asked_same, push_stays}
 use Rattle.vm_state.proofs.Referring.{sole_region, sole_shadow}
 use Rattle.vm_state.proofs.Told.{ready_referred, told_referred}
 use Rattle.vm_state.proofs.Waiting.{IsAwaitedBy, awaited_elsewhere}
@@ -235,8 +234,8 @@ unwaited header cs rs os o known kinds all is untold here =
           (ap is_live_in is ∙ ((kinds.kinds o known is).lives ∙ untold)) awaits;
     }
 
--- a merge by the tables, of two objects for which nobody waits, and of which there are no copies
-record IsUnseen (copies : CopyTable) (upper lower : ℕ) (cs cs2 : ChainTable) (os os2 : ObjectTable) (rs rs2 : ResidentTable) : Type 0 where
+-- a merge by the tables, of two objects for which nobody waits
+record IsUnseen (upper lower : ℕ) (cs cs2 : ChainTable) (os os2 : ObjectTable) (rs rs2 : ResidentTable) : Type 0 where
   pub merges : MergesObjects upper lower cs cs2 os os2
   pub rows : MergesRows upper lower merges.can.link.shift merges.can.upper_row.pages rs rs2
   pub still : LeadsStill upper lower merges.can.link cs cs2
@@ -245,12 +244,10 @@ record IsUnseen (copies : CopyTable) (upper lower : ℕ) (cs cs2 : ChainTable) (
   pub here : AreHere rs upper lower
   pub above : IsUnwaited rs os upper
   pub below : IsUnwaited rs os lower
-  pub uncopied : newest_at copies upper ≡ None
-  pub unshared : newest_at copies lower ≡ None
 
-module _ {copies : CopyTable} {upper lower : ℕ} {cs cs2 : ChainTable} {os os2 : ObjectTable} {rs rs2 : ResidentTable}
+module _ {upper lower : ℕ} {cs cs2 : ChainTable} {os os2 : ObjectTable} {rs rs2 : ResidentTable}
     {stays stays2 unmet unmet2 : PageKey → Type 0}
-    (unseen : IsUnseen copies upper lower cs cs2 os os2 rs rs2) (keeps : StaysStill upper lower unseen.merges.can.link stays stays2)
+    (unseen : IsUnseen upper lower cs cs2 os os2 rs rs2) (keeps : StaysStill upper lower unseen.merges.can.link stays stays2)
     (meets : (key : PageKey) → (upper ≡ key.object.0 → ⊥) → (lower ≡ key.object.0 → ⊥) → unmet key → unmet2 key) where
   told_above : (o : ℕ) → IsPagerTold os o → upper ≡ o → ⊥
   told_above o told same = unseen.above.pager (subst (λ (z : ℕ). IsPagerTold os z) (sym same) told)
@@ -284,20 +281,10 @@ module _ {copies : CopyTable} {upper lower : ℕ} {cs cs2 : ChainTable} {os os2 
       asked_same rs rs2 o p
       (row_same o p (awaited_above (want.Load 0 0) o p (inl asked)) (awaited_below (want.Load 0 0) o p (inl asked))) asked
 
-  -- a page that is owed somewhere is another object's
-  owed_above : (top key : PageKey) → owed_at copies top ≡ Some key → upper ≡ top.object.0 → ⊥
-  owed_above top key owed same = owes_nothing copies top key (ap (newest_at copies) (sym same) ∙ unseen.uncopied) owed
-
-  owed_below : (top key : PageKey) → owed_at copies top ≡ Some key → lower ≡ top.object.0 → ⊥
-  owed_below top key owed same = owes_nothing copies top key (ap (newest_at copies) (sym same) ∙ unseen.unshared) owed
-
-  push_now : (maps : Mapped) (task : ℕ) (what : Want) (key : PageKey) → WaitsToPush maps cs copies rs task what key
+  push_now : {copies : CopyTable} (maps : Mapped) (task : ℕ) (what : Want) (key : PageKey) → WaitsToPush maps cs copies rs task what key
       → WaitsToPush maps cs2 copies rs2 task what key
   push_now maps task what key push =
-      let o = push.top.object.0 in
-      let p = push.top.page.0 in
-      push_stays push (at_merged maps cs cs2 task what push.top unseen.merges.chain.regions push.at)
-      (open_same (row_at rs o p) (row_at rs2 o p) (row_same o p (owed_above push.top key push.owed) (owed_below push.top key push.owed))) push.owed
+      push_stays push (at_merged maps cs cs2 task what push.top unseen.merges.chain.regions push.at) push.owed
       (asked_now key.object.0 key.page.0 push.asked)
 
   place_now : (maps : Mapped) (task : ℕ) (what : Want) (key : PageKey) → (lower ≡ key.object.0 → ⊥) → IsPlaceOf maps cs task what key
@@ -315,52 +302,55 @@ module _ {copies : CopyTable} {upper lower : ℕ} {cs cs2 : ChainTable} {os os2 
   told_now maps task what key place told =
       (told_referred maps cs lower 0 unseen.merges.can.lower_row os os2 unseen.merges.can.lower_known unseen.merges.object).at task what key place told
 
-  reason_now : (maps : Mapped) (task : ℕ) (what : Want) (why : On) → Reason maps cs copies rs os task what why → Reason maps cs2 copies rs2 os2 task what why
-  reason_now maps task what on.Again reason = tt
-  reason_now maps task what (on.Ready object) reason =
+  reason_now : (copies : CopyTable) (maps : Mapped) (task : ℕ) (what : Want) (why : On) → Reason maps cs copies rs os task what why
+      → Reason maps cs2 copies rs2 os2 task what why
+  reason_now copies maps task what on.Again reason = tt
+  reason_now copies maps task what (on.Ready object) reason =
       let told : IsPagerTold os reason.0.object.0 = subst (λ (z : ObjectId). IsPagerTold os z.0) (sym reason.2) reason.3 in (
         reason.0,
         place_now maps task what reason.0 (told_below reason.0.object.0 told) reason.1,
         reason.2,
         subst (λ (z : ObjectId). IsPagerTold os2 z.0) reason.2 (told_now maps task what reason.0 reason.1 told),
       )
-  reason_now maps task what (on.Page key) reason =
+  reason_now copies maps task what (on.Page key) reason =
       (place_now maps task what key (awaited_below what key.object.0 key.page.0 reason.1) reason.0, awaited_now what key.object.0 key.page.0 reason.1)
-  reason_now maps task what (on.Push key) reason = push_now maps task what key reason
-  reason_now maps task what on.Frame reason = tt
+  reason_now copies maps task what (on.Push key) reason = push_now maps task what key reason
+  reason_now copies maps task what on.Frame reason = tt
 
-  passed_now : (maps : Mapped) (task : ℕ) (what : Want) (why : On) → Reason maps cs copies rs os task what why → Passed stays unmet maps cs task what why
+  passed_now : (copies : CopyTable) (maps : Mapped) (task : ℕ) (what : Want) (why : On) → Reason maps cs copies rs os task what why
+      → Passed stays unmet maps cs task what why
       → Passed stays2 unmet2 maps cs2 task what why
-  passed_now maps task what on.Again reason passed = tt
-  passed_now maps task what (on.Ready object) reason passed =
+  passed_now copies maps task what on.Again reason passed = tt
+  passed_now copies maps task what (on.Ready object) reason passed =
       let told : IsPagerTold os passed.0.object.0 = subst (λ (z : ObjectId). IsPagerTold os z.0) (sym passed.2) reason.3 in (
         passed.0,
         behind_now maps task what passed.0 (told_below passed.0.object.0 told) passed.1,
         passed.2,
         meets passed.0 (told_above passed.0.object.0 told) (told_below passed.0.object.0 told) passed.3,
       )
-  passed_now maps task what (on.Page key) reason passed =
+  passed_now copies maps task what (on.Page key) reason passed =
       behind_now maps task what key (awaited_below what key.object.0 key.page.0 reason.1) passed
-  passed_now maps task what (on.Push key) reason passed = tt
-  passed_now maps task what on.Frame reason passed = tt
+  passed_now copies maps task what (on.Push key) reason passed = tt
+  passed_now copies maps task what on.Frame reason passed = tt
 
   -- an access that waits for a page of another object waits for no page of the lower
-  aims_now : (maps : Mapped) (task : ℕ) (what : Want) (why : On) (key : PageKey) → why ≡ on.Page key → Reason maps cs copies rs os task what why
+  aims_now : (copies : CopyTable) (maps : Mapped) (task : ℕ) (what : Want) (why : On) (key : PageKey) → why ≡ on.Page key
+      → Reason maps cs copies rs os task what why
       → IsPlaceOf maps cs task what key → IsPlaceOf maps cs2 task what key
-  aims_now maps task what why key same reason place =
+  aims_now copies maps task what why key same reason place =
       let so : Reason maps cs copies rs os task what (on.Page key) = subst (λ (z : On). Reason maps cs copies rs os task what z) same reason in
       place_now maps task what key (awaited_below what key.object.0 key.page.0 so.1) place
 
-  waits_unseen : (maps : Mapped) (rows : List Waiting) (who : On → Bool) (waiting_at : ℕ → Option Access) → ((why : On) → who why ≡ false)
+  waits_unseen : {copies : CopyTable} (maps : Mapped) (rows : List Waiting) (who : On → Bool) (waiting_at : ℕ → Option Access) → ((why : On) → who why ≡ false)
       → HasWaiters maps cs copies rs os rows who waiting_at stays unmet → HasWaiters maps cs2 copies rs2 os2 rows who waiting_at stays2 unmet2
-  waits_unseen maps rows who waiting_at nobody has =
+  waits_unseen {copies = copies} maps rows who waiting_at nobody has =
       record {
         is = has.is;
         allowed = has.allowed;
         sized = has.sized;
-        reasons = λ t w found asleep. reason_now maps t w.want w.on (has.reasons t w found asleep);
-        passed = λ t w found asleep. passed_now maps t w.want w.on (has.reasons t w found asleep) (has.passed t w found asleep);
-        aims = λ t w key found waits. aims_now maps t w.want w.on key waits (has.reasons t w found (nobody w.on)) (has.aims t w key found waits);
+        reasons = λ t w found asleep. reason_now copies maps t w.want w.on (has.reasons t w found asleep);
+        passed = λ t w found asleep. passed_now copies maps t w.want w.on (has.reasons t w found asleep) (has.passed t w found asleep);
+        aims = λ t w key found waits. aims_now copies maps t w.want w.on key waits (has.reasons t w found (nobody w.on)) (has.aims t w key found waits);
         askers = λ o p row found awaits. asker o p row awaits (row_was unseen.apart unseen.rows o p row found);
         ready = λ o p row found gone. ready_still o p row gone (row_was unseen.apart unseen.rows o p row found);
       }
@@ -423,19 +413,18 @@ stays_merged header h e past upper lower pages low up under is =
         ∙ (ap (λ n. (page_on header h n (key.page.0 + up.shift) past).here) (sym under)
         ∙ (ap (λ (z : PageKey). (page_on header h z.object.0 z.page.0 past).here) (sym next_is) ∙ away))
 
--- the accesses that wait behind a merge, while nobody is to be woken, of two objects of which there are no copies
+-- the accesses that wait behind a merge, while nobody is to be woken, of two objects
 pub waits_merged : {copies : CopyTable} (header : Header) (h : ℕ) (past : List Event) (upper lower : ObjectId) (maps : Mapped)
     (cs cs2 : ChainTable) (os os2 : ObjectTable) (rs rs2 : ResidentTable) {ids : Ids} {rm om marked : ℕ}
     (rows : List Waiting) (who : On → Bool) (waiting_at : ℕ → Option Access) (merges : MergesObjects upper.0 lower.0 cs cs2 os os2)
     → MergesRows upper.0 lower.0 merges.can.link.shift merges.can.upper_row.pages rs rs2
     → HasRegions cs os ids (λ q. region_of header q past) (λ q. backing_of header q past) rm om marked → HasKinds header os cs → HaveHomes header past
     → AllReferred cs os rs → KnowsPages (named header) os (λ o. pages_made header o past) → object_home upper.0 past ≡ Some h → ((why : On) → who why ≡ false)
-    → newest_at copies upper.0 ≡ None → newest_at copies lower.0 ≡ None
     → HasWaiters maps cs copies rs os rows who waiting_at (StaysAway header h past) (IsUnmet header h past)
     → HasWaiters maps cs2 copies rs2 os2 rows who waiting_at (StaysAway header h (event.Merged upper lower ∷ past))
     (IsUnmet header h (event.Merged upper lower ∷ past))
 waits_merged {copies = copies} header h past upper lower maps cs cs2 os os2 rs rs2 rows who waiting_at merges moves regions kinds homes all knows home nobody
-    uncopied unshared has =
+    has =
     waits_unseen unseen (stays_merged header h (event.Merged upper lower) past upper.0 lower.0 merges.can.upper_row.pages merges.can.lower_row.pages
     merges.can.link merges.can.under effects)
     (λ key above below unmet. unmet_calm header h (event.Merged upper lower) past key
@@ -454,7 +443,7 @@ waits_merged {copies = copies} header h past upper lower maps cs cs2 os os2 rs r
     effects =
         table_effect header h past upper lower cs os merges.can regions kinds homes knows home
 
-    unseen : IsUnseen copies upper.0 lower.0 cs cs2 os os2 rs rs2
+    unseen : IsUnseen upper.0 lower.0 cs cs2 os os2 rs rs2
     unseen = record {
       merges = merges;
       rows = moves;
@@ -473,6 +462,4 @@ waits_merged {copies = copies} header h past upper lower maps cs cs2 os os2 rs r
       above = unwaited header cs rs os upper.0 merges.can.upper_row kinds all merges.can.upper_known
           (upper_quiet kinds least (all.shadows upper.0 merges.can.link merges.can.over) merges.can) here.above;
       below = unwaited header cs rs os lower.0 merges.can.lower_row kinds all merges.can.lower_known (lower_quiet kinds merges.can) here.below;
-      uncopied = uncopied;
-      unshared = unshared;
     }

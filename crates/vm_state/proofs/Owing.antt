@@ -126,9 +126,9 @@ waits_copied {copies = copies} {copies2 = copies2} maps chains rs os rows who at
         beside : (source ≡ top.object.0 → ⊥) → newest_at copies2 top.object.0 ≡ newest_at copies top.object.0
         beside apart = elim (one_case source top.object.0 (Some copy) (newest_at copies top.object.0) (newest_at copies2 top.object.0)
             (newest.at top.object.0)) [
-          | inl this ↦ absurd (apart this.0)
-          | inr off ↦ off.1
-        ]
+              | inl this ↦ absurd (apart this.0)
+              | inr off ↦ off.1
+            ]
 
         bare : (c p : ℕ) → had_at copies c p ≡ false → had_at copies2 c p ≡ false
         bare c p was = elim (one_case copy.0 c false (had_at copies c p) (had_at copies2 c p) (clears.at c p)) [

@@ -178,7 +178,7 @@ tops_shadowed : (copies : CopyTable) (maps : Mapped) (old new : ChainTable) (reg
     → KeepsTops copies maps old new task what
 tops_shadowed copies maps old new region object row task what there made none top key owed at =
     elim (one_case region at.entry.region.0 (Some (record row { top = object; shift = 0; marked = false })) (region_at old at.entry.region.0)
-        (region_at new at.entry.region.0) (made.at at.entry.region.0)) [
+    (region_at new at.entry.region.0) (made.at at.entry.region.0)) [
       | inl this ↦ absurd (owes_nothing copies top key (ap (newest_at copies) (over this.0) ∙ none) owed)
       | inr other ↦ record { entry = at.entry; found = at.found; row = at.row; region = other.1 ∙ at.region; is = at.is }
     ]

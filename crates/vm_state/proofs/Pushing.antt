@@ -1,17 +1,14 @@
 -- Stores that wait to push their pages: what they wait for is so still while other pages come and go.
-use Rattle.std.proofs.Common.{Bool, List, None, Option, Some, ap, false, subst, sym, true, ℕ, ◌&&◌, ◌==◌, ◌∙◌, ◌≡◌}
-use Rattle.std.specs.Prelude.{◌⊎◌}
+use Rattle.std.proofs.Common.{Bool, List, None, Option, Some, ap, false, sym, true, ℕ, ◌∙◌, ◌≡◌}
 use Rattle.vm_base.specs.declared.ids.ObjectId.{ObjectId}
 use Rattle.vm_base.specs.declared.ids.PageKey.{PageKey}
 use Rattle.vm_copies.specs.Copies.{CopyTable, newest_at}
 use Rattle.vm_fault.specs.Faults.{AwaitsPush}
 use Rattle.vm_fault.specs.Pushes.{owed_at, owed_of}
-use Rattle.vm_fault.specs.Walks.{IsAt, keeps_out}
+use Rattle.vm_fault.specs.Walks.{IsAt}
 use Rattle.vm_maps.specs.Maps.{Mapped}
-use Rattle.vm_parts.proofs.Rows.{some_is}
 use Rattle.vm_parts.specs.declared.parts.HostParts.{HostParts}
 use Rattle.vm_resident.specs.Resident.{ResidentTable, page_key, row_at}
-use Rattle.vm_resident.specs.declared.page_row.PageRow.{PageRow}
 use Rattle.vm_shadow.specs.Chains.{ChainTable}
 use Rattle.vm_state.specs.Waiters.{IsAsked, WaitsToPush}
 use Rattle.vm_waits.specs.Waits.{entry}
@@ -19,47 +16,6 @@ use Rattle.vm_waits.specs.declared.waiting.On.{On}
 use Rattle.vm_waits.specs.declared.waiting.On.TheVariants as on
 use Rattle.vm_waits.specs.declared.waiting.Waiting.{Waiting}
 use Rattle.vm_waits.specs.declared.waiting.Want.{Want}
-
--- a page is here, and its lock keeps no store out
-pub record IsOpen (found : Option PageRow) : Type 0 where
-  pub row : PageRow
-  pub is : found ≡ Some row
-  pub here : row.here ≡ true
-  pub unlocked : keeps_out row.lock true ≡ false
-
--- the page was no such page, or is one still
-pub record StaysOpen (old new : Option PageRow) : Type 0 where
-  pub now : IsOpen old → IsOpen new
-
--- what is the same is open too
-pub moved_open : {old new : Option PageRow} → new ≡ old → IsOpen old → IsOpen new
-moved_open same was = record { row = was.row; is = same ∙ was.is; here = was.here; unlocked = was.unlocked }
-
-pub open_same : (old new : Option PageRow) → new ≡ old → StaysOpen old new
-open_same old new same = record { now = λ was. moved_open same was }
-
--- where the page had no row
-pub open_none : (old new : Option PageRow) → old ≡ None → StaysOpen old new
-open_none old new none = record { now = λ was. absurd (let bad : None ≡ Some was.row = sym none ∙ was.is in cc) }
-
--- where it wasn't here
-pub open_away : (old new : Option PageRow) (row : PageRow) → old ≡ Some row → row.here ≡ false → StaysOpen old new
-open_away old new row found away =
-    record {
-      now = λ was. absurd (let bad : false ≡ true = sym away ∙ (ap (λ (z : PageRow). z.here) (some_is row was.row (sym found ∙ was.is)) ∙ was.here) in cc);
-    }
-
--- where its lock kept stores out
-pub open_shut : (old new : Option PageRow) (row : PageRow) → old ≡ Some row → keeps_out row.lock true ≡ true → StaysOpen old new
-open_shut old new row found shut =
-    record {
-      now = λ was. absurd (let bad : true ≡ false = sym shut
-          ∙ (ap (λ (z : PageRow). keeps_out z.lock true) (some_is row was.row (sym found ∙ was.is)) ∙ was.unlocked) in cc);
-    }
-
--- where it has a row in which it is so still
-pub open_row : (old new : Option PageRow) (row : PageRow) → new ≡ Some row → row.here ≡ true → keeps_out row.lock true ≡ false → StaysOpen old new
-open_row old new row found here unlocked = record { now = λ was. record { row = row; is = found; here = here; unlocked = unlocked } }
 
 -- of those that aren't to be woken nobody waits to push this page
 pub record PushesNone (copies : CopyTable) (rows : List Waiting) (who : On → Bool) (o p : ℕ) : Type 0 where
@@ -79,48 +35,20 @@ pub pushes_awake : (copies : CopyTable) (rows : List Waiting) (who : On → Bool
 pushes_awake copies rows who o p woken =
     record { at = λ t w key is asleep waits owed. let bad : true ≡ false = sym (woken key owed) ∙ (ap who (sym waits) ∙ asleep) in cc }
 
--- a page that stays open, or that nobody pushes
-abbrev pub KeepsPushers : CopyTable → List Waiting → (On → Bool) → ℕ → ℕ → Option PageRow → Option PageRow → Type 0
-KeepsPushers copies rows who o p old new = StaysOpen old new ⊎ PushesNone copies rows who o p
-
 pub asked_same : (rs rs2 : ResidentTable) (o p : ℕ) → row_at rs2 o p ≡ row_at rs o p → IsAsked rs o p → IsAsked rs2 o p
 asked_same rs rs2 o p same asked = record { row = asked.row; found = same ∙ asked.found; away = asked.away }
 
--- a store waits to push its page still, where that is its top place still, open, and owed to the same place, and that is asked
+-- a store waits to push its page still, where that has its top place still, and is owed to the same place, and that is asked
 pub push_stays : {maps maps2 : Mapped} {cs cs2 : ChainTable} {copies copies2 : CopyTable} {rs rs2 : ResidentTable} {task : ℕ} {what : Want} {key : PageKey}
-    → (push : WaitsToPush maps cs copies rs task what key) → IsAt maps2 cs2 task what push.top
-    → StaysOpen (row_at rs push.top.object.0 push.top.page.0) (row_at rs2 push.top.object.0 push.top.page.0) → owed_at copies2 push.top ≡ Some key
+    → (push : WaitsToPush maps cs copies rs task what key) → IsAt maps2 cs2 task what push.top → owed_at copies2 push.top ≡ Some key
     → IsAsked rs2 key.object.0 key.page.0 → WaitsToPush maps2 cs2 copies2 rs2 task what key
-push_stays push at stays owed asked =
-    let was = stays.now (record { row = push.row; is = push.found; here = push.here; unlocked = push.unlocked }) in
-    record {
-      stores = push.stores;
-      top = push.top;
-      at = at;
-      row = was.row;
-      found = was.is;
-      here = was.here;
-      unlocked = was.unlocked;
-      owed = owed;
-      asked = asked;
-    }
+push_stays push at owed asked = record { stores = push.stores; top = push.top; at = at; owed = owed; asked = asked }
 
 -- so it is where all pages are those that they were
 pub push_same : {maps maps2 : Mapped} {cs cs2 : ChainTable} {copies copies2 : CopyTable} {rs : ResidentTable} {task : ℕ} {what : Want} {key : PageKey}
     → (push : WaitsToPush maps cs copies rs task what key) → IsAt maps2 cs2 task what push.top → owed_at copies2 push.top ≡ Some key
     → WaitsToPush maps2 cs2 copies2 rs task what key
-push_same push at owed =
-    record {
-      stores = push.stores;
-      top = push.top;
-      at = at;
-      row = push.row;
-      found = push.found;
-      here = push.here;
-      unlocked = push.unlocked;
-      owed = owed;
-      asked = push.asked;
-    }
+push_same push at owed = push_stays push at owed push.asked
 
 -- where a fault finds that a store is to wait so
 pub push_awaited : (maps : Mapped) (chains : ChainTable) (copies : CopyTable) (parts : HostParts) (task : ℕ) (what : Want) (top place : PageKey)
@@ -130,10 +58,6 @@ push_awaited maps chains copies parts task what top place at waits =
       stores = waits.stores;
       top = top;
       at = at;
-      row = waits.row;
-      found = waits.finds.found;
-      here = waits.finds.here;
-      unlocked = subst (λ (b : Bool). keeps_out waits.row.lock b ≡ false) (ap (λ (b : Bool). b && (0 == 0)) waits.stores) waits.unlocked;
       owed = waits.owed;
       asked = record { row = waits.asked; found = waits.found; away = waits.away };
     }

@@ -1,5 +1,5 @@
 -- Who waits, where a file's copy object stands on a newer one over the file: each place is one still, one step further down.
-use Rattle.std.proofs.Common.{Bool, List, Option, Some, ap, arith, inl, inr, refl, subst, suc, sym, zero, ℕ, ◌+◌, ◌∙◌, ◌≡◌}
+use Rattle.std.proofs.Common.{Bool, List, Option, Some, ap, arith, inl, inr, suc, sym, zero, ℕ, ◌+◌, ◌∙◌, ◌≡◌}
 use Rattle.std.proofs.lemmas.Bool.Decides.{eqb_tells}
 use Rattle.vm_base.specs.declared.ids.ObjectId.{ObjectId}
 use Rattle.vm_base.specs.declared.ids.PageKey.{PageKey}
@@ -34,7 +34,7 @@ module _ {object : ℕ} {newer file : ObjectId} {cs cs2 : ChainTable} (behind : 
   under_else : (from next : PageKey) → (object ≡ from.object.0 → ⊥) → IsUnder cs from next → IsUnder cs2 from next
   under_else from next apart under =
       elim (one_case object from.object.0 (Some (record { under = newer; shift = 0 })) (shadow_at cs from.object.0) (shadow_at cs2 from.object.0)
-          (behind.changes.at from.object.0)) [
+      (behind.changes.at from.object.0)) [
         | inl this ↦ absurd (apart this.0)
         | inr other ↦ record { row = under.row; found = other.1 ∙ under.found; is = under.is }
       ]
@@ -80,7 +80,7 @@ module _ {object : ℕ} {newer file : ObjectId} {cs cs2 : ChainTable} (behind : 
       elim (eqb_tells object from.object.0) [
         | inl same ↦
             let inner : LeadsOver stays cs2 (suc rest.0) (spot newer from.page.0) to =
-                (bare from.page.0, (leads.1.0, under_second from leads.1.0 same.1 leads.1.1, rest.1)) in
+            (bare from.page.0, (leads.1.0, under_second from leads.1.0 same.1 leads.1.1, rest.1)) in
             (suc (suc rest.0), (leads.0, (spot newer from.page.0, under_first from same.1, inner)))
         | inr other ↦ (suc rest.0, (leads.0, (leads.1.0, under_else from leads.1.0 other.1 leads.1.1, rest.1)))
       ]

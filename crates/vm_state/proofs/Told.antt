@@ -11,7 +11,6 @@ use Rattle.vm_parts.proofs.Rows.{one_case, some_is}
 use Rattle.vm_resident.specs.Resident.{PutsRow, ResidentTable, row_at}
 use Rattle.vm_resident.specs.declared.page_row.PageRow.{PageRow}
 use Rattle.vm_shadow.specs.Chains.{ChainTable}
-use Rattle.vm_state.proofs.Pushing.{PushesNone}
 use Rattle.vm_state.specs.Pagers.{ready_in}
 use Rattle.vm_state.specs.Waiters.{HasWaiters, IsPagerTold, IsPlaceOf, Reason}
 use Rattle.vm_waits.specs.declared.waiting.On.{On}
@@ -60,17 +59,17 @@ waits_told {copies = copies} maps cs rs os os2 rows who waiting_at has told read
       ready = λ o p row found away. ready o p row found (has.ready o p row found away);
     }
 
--- a page that is here has gone, of which no unlock was outstanding and that nobody pushes, and its pager may have been told
+-- a page that is here has gone, of which no unlock was outstanding, and its pager may have been told
 pub waiters_lost : {copies : CopyTable} {stays unmet : PageKey → Type 0} (maps : Mapped) (cs : ChainTable) (rs rs2 : ResidentTable) (os os2 : ObjectTable)
     (rows : List Waiting) (who : On → Bool) (waiting_at : ℕ → Option Access) (o p : ℕ) (row : PageRow)
     → HasWaiters maps cs copies rs os rows who waiting_at stays unmet → row_at rs o p ≡ Some row → row.here ≡ true → row.unlock_sent ≡ false
-    → PushesNone copies rows who o p → PutsRow o p None rs rs2
+    → PutsRow o p None rs rs2
     → ((object : ℕ) → IsPagerTold os object → IsPagerTold os2 object)
     → ((object : ℕ) → ready_in (object_at os object) ≡ true → ready_in (object_at os2 object) ≡ true)
     → HasWaiters maps cs copies rs2 os2 rows who waiting_at stays unmet
-waiters_lost maps cs rs rs2 os os2 rows who waiting_at o p row has found here sent spared put told ready =
+waiters_lost maps cs rs rs2 os os2 rows who waiting_at o p row has found here sent put told ready =
     waits_told maps cs rs2 os os2 rows who waiting_at (waiters_page maps cs rs rs2 os rows who waiting_at o p None has put
-    (inl (here_unawaited (row_at rs o p) row found here sent)) (none_unawaited None refl) (inr spared))
+    (inl (here_unawaited (row_at rs o p) row found here sent)) (none_unawaited None refl))
     (told_all maps cs os os2 told) (λ o2 p2 r there is. ready o2 is)
 
 -- an object has another number of references

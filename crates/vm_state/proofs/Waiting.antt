@@ -5,7 +5,6 @@ use Rattle.std.proofs.lemmas.Bool.{or_right}
 use Rattle.std.specs.Prelude.{if◌then◌else◌, not, ◌⊎◌}
 use Rattle.vm_base.specs.declared.ids.Lock.{Lock}
 use Rattle.vm_copies.specs.Copies.{CopyTable}
-use Rattle.vm_fault.specs.Pushes.{owed_at}
 use Rattle.vm_fault.specs.Walks.{is_storing, keeps_out}
 use Rattle.vm_base.specs.declared.ids.ObjectId.{ObjectId}
 use Rattle.vm_base.specs.declared.ids.PageKey.{PageKey}
@@ -19,7 +18,7 @@ use Rattle.vm_resident.specs.declared.page_row.PageRow.{PageRow}
 use Rattle.vm_shadow.specs.Chains.{ChainTable}
 use Rattle.vm_state.specs.Pagers.{ready_in}
 use Rattle.vm_state.proofs.Passing.{StopsAt, behind_place, passed_now}
-use Rattle.vm_state.proofs.Pushing.{KeepsPushers, StaysOpen, asked_same, moved_open, open_same, push_stays}
+use Rattle.vm_state.proofs.Pushing.{asked_same, push_stays}
 use Rattle.vm_state.specs.Passed.{IsPlaceBehind, LeadsOver, Passed}
 use Rattle.vm_state.specs.Waiters.{Asker, HasWaiters, IsAsked, IsLockedFor, IsPlaceOf, Reason, WaitsToPush, is_awaited, is_woken, waiting_in}
 use Rattle.vm_supply.specs.declared.woken.Woken.TheVariants as woken
@@ -155,13 +154,12 @@ pub record WakesAll (who : On → Bool) (o p : ℕ) : Type 0 where
 abbrev pub IsWokenFor : (On → Bool) → Option PageRow → ℕ → ℕ → Type 0
 IsWokenFor who found o p = IsUnawaited found ⊎ WakesAll who o p
 
--- a page has another row, or none; no word of it is outstanding now, nor was before but for those that are to be woken; and who pushes it may do so still
+-- a page has another row, or none; no word of it is outstanding now, nor was before but for those that are to be woken
 pub waiters_page : {copies : CopyTable} {stays unmet : PageKey → Type 0} (maps : Mapped) (chains : ChainTable) (rs rs2 : ResidentTable) (os : ObjectTable)
     (rows : List Waiting) (who : On → Bool) (at : ℕ → Option Access) (o p : ℕ) (x : Option PageRow)
     → HasWaiters maps chains copies rs os rows who at stays unmet → PutsRow o p x rs rs2 → IsWokenFor who (row_at rs o p) o p → IsUnawaited x
-    → KeepsPushers copies rows who o p (row_at rs o p) x
     → HasWaiters maps chains copies rs2 os rows who at stays unmet
-waiters_page {copies = copies} maps chains rs rs2 os rows who at o p x has put before now pushers =
+waiters_page {copies = copies} maps chains rs rs2 os rows who at o p x has put before now =
     record {
       is = has.is;
       allowed = has.allowed;
@@ -169,7 +167,7 @@ waiters_page {copies = copies} maps chains rs rs2 os rows who at o p x has put b
       reasons =
           λ t w is asleep. reason_kept maps chains copies rs rs2 os t w.want w.on
           (λ key same awaits. stays w.want key (ap who (sym same) ∙ asleep) awaits)
-          (λ key same push. pushes t w key is asleep same push) (has.reasons t w is asleep);
+          (λ key same push. push_stays push push.at push.owed (asked key (ap who (sym same) ∙ asleep) push.asked)) (has.reasons t w is asleep);
       passed = has.passed;
       aims = has.aims;
       askers = λ o2 p2 row found awaits. elim (row_cases o p x rs rs2 put o2 p2) [
@@ -208,28 +206,6 @@ waiters_page {copies = copies} maps chains rs rs2 os rows who at o p x has put b
       | inr other ↦ asked_same rs rs2 key.object.0 key.page.0 other.is is
     ]
 
-    -- the page that is to be pushed is here still
-    opened : (t : ℕ) (w : Waiting) (top key : PageKey) → entry rows t ≡ Some w → who w.on ≡ false → w.on ≡ on.Push key → owed_at copies top ≡ Some key
-        → StaysOpen (row_at rs top.object.0 top.page.0) (row_at rs2 top.object.0 top.page.0)
-    opened t w top key is asleep waits owed = elim (row_cases o p x rs rs2 put top.object.0 top.page.0) [
-      | inl here ↦ elim pushers [
-        | inl still ↦ record { now = λ was. moved_open here.is (still.now (record {
-          row = was.row;
-          is = row_moved rs o p top.object.0 top.page.0 here.object here.page ∙ was.is;
-          here = was.here;
-          unlocked = was.unlocked;
-        })) }
-        | inr none ↦ absurd (none.at t w key is asleep waits (ap (λ z. owed_at copies (page_key z p)) here.object
-            ∙ (ap (λ z. owed_at copies (page_key top.object.0 z)) here.page ∙ owed)))
-      ]
-      | inr other ↦ open_same (row_at rs top.object.0 top.page.0) (row_at rs2 top.object.0 top.page.0) other.is
-    ]
-
-    pushes : (t : ℕ) (w : Waiting) (key : PageKey) → entry rows t ≡ Some w → who w.on ≡ false → w.on ≡ on.Push key
-        → WaitsToPush maps chains copies rs t w.want key → WaitsToPush maps chains copies rs2 t w.want key
-    pushes t w key is asleep waits push =
-        push_stays push push.at (opened t w push.top key is asleep waits push.owed) push.owed (asked key (ap who (sym waits) ∙ asleep) push.asked)
-
 -- what the row of an access has to be, but for its reason
 pub record Suits (maps : Mapped) (task : ℕ) (w : Waiting) : Type 0 where
   pub allowed : IsAllowed maps task (address_in maps.size w.want) (need_in w.want)
@@ -245,33 +221,23 @@ asker_kept rows rows2 t was x o p put is not asker = elim (eqb_tells t asker.tas
   | inr apart ↦ record { task = asker.task; row = asker.row; is = puts_elsewhere t asker.task x rows rows2 put apart.1 ∙ asker.is; waits = asker.waits }
 ]
 
--- what accesses wait for is so still: words that are outstanding, places that are asked, and pages that are here for stores
+-- what accesses wait for is so still: words that are outstanding, and places that are asked
 pub record KeepsWords (rs rs2 : ResidentTable) : Type 0 where
   pub awaited : (what : Want) (o p : ℕ) → IsAwaitedBy rs what o p → IsAwaitedBy rs2 what o p
   pub asked : (o p : ℕ) → IsAsked rs o p → IsAsked rs2 o p
-  pub opens : (o p : ℕ) → StaysOpen (row_at rs o p) (row_at rs2 o p)
 
 pub words_same : (rs : ResidentTable) → KeepsWords rs rs
-words_same rs = record { awaited = λ what o p is. is; asked = λ o p is. is; opens = λ o p. open_same (row_at rs o p) (row_at rs o p) refl }
+words_same rs = record { awaited = λ what o p is. is; asked = λ o p is. is }
 
--- one page has another row, of which no word was outstanding, and that is open still if it was
+-- one page has another row, of which no word was outstanding
 pub words_put : (o p : ℕ) (x : Option PageRow) (rs rs2 : ResidentTable) → PutsRow o p x rs rs2 → IsUnawaited (row_at rs o p)
-    → StaysOpen (row_at rs o p) x → KeepsWords rs rs2
-words_put o p x rs rs2 put not still =
+    → KeepsWords rs rs2
+words_put o p x rs rs2 put not =
     record {
       awaited = λ what o2 p2 is. awaited_kept o p x rs rs2 what o2 p2 put not is;
       asked = λ o2 p2 is. elim (row_cases o p x rs rs2 put o2 p2) [
         | inl here ↦ awaited_apart (row_at rs o p) is.row not (row_moved rs o p o2 p2 here.object here.page ∙ is.found) (away_awaited is.row is.away)
         | inr other ↦ asked_same rs rs2 o2 p2 other.is is
-      ];
-      opens = λ o2 p2. elim (row_cases o p x rs rs2 put o2 p2) [
-        | inl here ↦ record { now = λ was. moved_open here.is (still.now (record {
-          row = was.row;
-          is = row_moved rs o p o2 p2 here.object here.page ∙ was.is;
-          here = was.here;
-          unlocked = was.unlocked;
-        })) }
-        | inr other ↦ open_same (row_at rs o2 p2) (row_at rs2 o2 p2) other.is
       ];
     }
 
@@ -296,7 +262,7 @@ waiters_put {copies = copies} {stays = stays} {unmet = unmet} maps chains rs rs2
       reasons = λ u w is asleep. puts_cases {P = Reason maps chains copies rs2 os u w.want w.on} t u x rows rows2 w put is
           (λ same it. subst (λ (z : ℕ). Reason maps chains copies rs2 os z w.want w.on) same (reason w it))
           (λ apart was. reason_kept maps chains copies rs rs2 os u w.want w.on (λ key why. kept.awaited w.want key.object.0 key.page.0)
-          (λ key why push. push_stays push push.at (kept.opens push.top.object.0 push.top.page.0) push.owed (kept.asked key.object.0 key.page.0 push.asked))
+          (λ key why push. push_stays push push.at push.owed (kept.asked key.object.0 key.page.0 push.asked))
           (has.reasons u w was refl));
       passed = λ u w is asleep. puts_cases {P = Passed stays unmet maps chains u w.want w.on} t u x rows rows2 w put is
           (λ same it. subst (λ (z : ℕ). Passed stays unmet maps chains z w.want w.on) same (passed w it))
@@ -417,18 +383,18 @@ pub waiters_asked : {copies : CopyTable} {stays unmet : PageKey → Type 0} (map
     (rows rows2 : List Waiting) (at : ℕ → Option Access) (t : ℕ) (was : Waiting) (key : PageKey) (row : PageRow)
     → HasWaiters maps chains copies rs os rows (is_woken woken.Nobody) at stays unmet → entry rows t ≡ Some was → AsksNone rs was.on
     → IsPlaceBehind stays maps chains t was.want key → IsUnawaited (row_at rs key.object.0 key.page.0)
-    → StaysOpen (row_at rs key.object.0 key.page.0) (Some row) → PutsRow key.object.0 key.page.0 (Some row) rs rs2
+    → PutsRow key.object.0 key.page.0 (Some row) rs rs2
     → IsAwaitedBy rs2 was.want key.object.0 key.page.0 → PutsEntry t (Some (with_on was (on.Page key))) rows rows2
     → (row.here ≡ false → ready_in (object_at os key.object.0) ≡ true)
     → HasWaiters maps chains copies rs2 os rows2 (is_woken woken.Nobody) at stays unmet
-waiters_asked {copies = copies} {stays = stays} {unmet = unmet} maps chains rs rs2 os rows rows2 at t was key row has is none behind fresh opens put awaits
-    turns ready =
+waiters_asked {copies = copies} {stays = stays} {unmet = unmet} maps chains rs rs2 os rows rows2 at t was key row has is none behind fresh put awaits turns
+    ready =
     waiters_put maps chains rs rs2 os rows rows2 at at t (Some (with_on was (on.Page key))) has turns
     (turned_is maps rows rows2 t was (on.Page key) at has.is is turns)
     (λ w it. turned_suits maps chains rs os rows (is_woken woken.Nobody) at t was w (on.Page key) has is it)
     (λ w it. turned_reason maps chains copies rs2 os t was w (on.Page key) (behind_place behind, awaits) it)
     (λ w it. turned_passed stays unmet maps chains t was w (on.Page key) behind it)
-    (words_put key.object.0 key.page.0 (Some row) rs rs2 put fresh opens)
+    (words_put key.object.0 key.page.0 (Some row) rs rs2 put fresh)
     (λ o p r found waits. elim (row_cases key.object.0 key.page.0 (Some row) rs rs2 put o p) [
       | inl now ↦ its_asker rows rows2 t was key o p turns now.object now.page
       | inr other ↦

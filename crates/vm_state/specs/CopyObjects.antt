@@ -9,8 +9,8 @@ use Rattle.vm_objects.specs.declared.row.ObjectRow.{ObjectRow}
 -- and each has had the pages that were copied up into it.
 pub record HasCopyObjects (copies : CopyTable) (objects : ObjectTable) (is_copy_of : ℕ → Bool) (newest_of : ℕ → Option ℕ) (pushed_at : ℕ → ℕ → Bool) : Type 0
   where
-  pub are : (o : ℕ) (row : ObjectRow) → object_at objects o ≡ Some row → is_copy_of o ≡ is_some (copy_at copies o)
-  pub known : (c : ℕ) (row : CopyRow) → copy_at copies c ≡ Some row → IsSome (object_at objects c)
-  pub newest : (f c : ℕ) → newest_of f ≡ Some c → IsSome (object_at objects c) → newest_at copies f ≡ Some (record { 0 = c })
-  pub last : (f : ℕ) (c : ObjectId) → newest_at copies f ≡ Some c → newest_of f ≡ Some c.0
-  pub had : (c : ℕ) (row : CopyRow) → copy_at copies c ≡ Some row → (p : ℕ) → had_at copies c p ≡ pushed_at c p
+    pub are : (o : ℕ) (row : ObjectRow) → object_at objects o ≡ Some row → is_copy_of o ≡ is_some (copy_at copies o)
+    pub known : (c : ℕ) (row : CopyRow) → copy_at copies c ≡ Some row → IsSome (object_at objects c)
+    pub newest : (f c : ℕ) → newest_of f ≡ Some c → IsSome (object_at objects c) → newest_at copies f ≡ Some (record { 0 = c })
+    pub last : (f : ℕ) (c : ObjectId) → newest_at copies f ≡ Some c → newest_of f ≡ Some c.0
+    pub had : (c : ℕ) (row : CopyRow) → copy_at copies c ≡ Some row → (p : ℕ) → had_at copies c p ≡ pushed_at c p

@@ -73,18 +73,14 @@ pub record IsPagerTold (objects : ObjectTable) (o : ℕ) : Type 0 where
   pub found : object_at objects o ≡ Some row
   pub sent : row.state ≡ state.Sent
 
--- a store's page is here, in its top place, and it owes that to a place that is asked
+-- a store owes the page of its top place to a place that is asked
 pub record WaitsToPush (maps : Mapped) (chains : ChainTable) (copies : CopyTable) (resident : ResidentTable) (task : ℕ) (what : Want) (key : PageKey) : Type 0
   where
-  pub stores : is_storing what ≡ true
-  pub top : PageKey
-  pub at : IsAt maps chains task what top
-  pub row : PageRow
-  pub found : row_at resident top.object.0 top.page.0 ≡ Some row
-  pub here : row.here ≡ true
-  pub unlocked : keeps_out row.lock true ≡ false
-  pub owed : owed_at copies top ≡ Some key
-  pub asked : IsAsked resident key.object.0 key.page.0
+    pub stores : is_storing what ≡ true
+    pub top : PageKey
+    pub at : IsAt maps chains task what top
+    pub owed : owed_at copies top ≡ Some key
+    pub asked : IsAsked resident key.object.0 key.page.0
 
 -- what holds while an access waits for this
 abbrev pub Reason : Mapped → ChainTable → CopyTable → ResidentTable → ObjectTable → ℕ → Want → On → Type 0
@@ -122,7 +118,8 @@ is_woken (woken.Fails key) reason = woken_page key reason
 -- The accesses of tasks here that wait in the history wait here, each with an entry that allows it, within a page; each has a reason, but those that are to be
 -- woken may have lost theirs, and the others have passed over places where nothing has come since; and somebody waits for each page that is asked, whose pager
 -- is ready, and for each unlock that is outstanding.
-pub record HasWaiters (maps : Mapped) (chains : ChainTable) (copies : CopyTable) (resident : ResidentTable) (objects : ObjectTable) (rows : List Waiting) (who : On → Bool)
+pub record HasWaiters (maps : Mapped) (chains : ChainTable) (copies : CopyTable) (resident : ResidentTable) (objects : ObjectTable) (rows : List Waiting)
+    (who : On → Bool)
     (waiting_at : ℕ → Option Access) (stays unmet : PageKey → Type 0) : Type 0 where
   pub is : (t : ℕ) → is_some (entries_in t maps) ≡ true → waiting_at t ≡ waiting_in maps.size (entry rows t)
   pub allowed : (t : ℕ) (w : Waiting) → entry rows t ≡ Some w → IsAllowed maps t (address_in maps.size w.want) (need_in w.want)

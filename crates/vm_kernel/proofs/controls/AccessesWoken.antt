@@ -64,6 +64,7 @@ again_is : (reason : On) → is_again reason ≡ true → reason ≡ on.Again
 again_is on.Again is = refl
 again_is (on.Ready object) is = absurd (let bad : false ≡ true = is in cc)
 again_is (on.Page key) is = absurd (let bad : false ≡ true = is in cc)
+again_is (on.Push key) is = absurd (let bad : false ≡ true = is in cc)
 again_is on.Frame is = absurd (let bad : false ≡ true = is in cc)
 
 -- who doesn't stand on it is as if woken
@@ -96,6 +97,7 @@ frame_waits : (reason : On) → is_frame reason ≡ true → is_again reason ≡
 frame_waits on.Again is = absurd (let bad : false ≡ true = is in cc)
 frame_waits (on.Ready object) is = refl
 frame_waits (on.Page key) is = refl
+frame_waits (on.Push key) is = refl
 frame_waits on.Frame is = refl
 
 queues_off : (maps : Mapped) (object : ℕ) (rows : List Waiting) (t : ℕ) → oldest_on maps object rows ≡ None → waits_for_frame (entry rows t) ≡ true

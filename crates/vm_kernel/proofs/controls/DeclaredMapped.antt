@@ -438,6 +438,7 @@ map_again header h task address bytes object offset past k k2 k3 ids before mid 
       host = ap (λ (z : Parts). z.host) same;
       size = ap (λ (z : Parts). z.size) same;
       declared = ap (λ (z : Parts). z.declared) same;
+      copied = ap (λ (z : Parts). z.copies) same;
       memory = ap (λ (z : Parts). z.memory) same;
       laundry = ap (λ (z : Parts). z.laundry) same;
       waits = ap (λ (z : Parts). z.waits) same;

@@ -59,6 +59,7 @@ use Rattle.vm_state.proofs.PlainObjects.{plain_new}
 use Rattle.vm_objects.specs.declared.row.PagerState.TheVariants as state
 use Rattle.vm_base.specs.declared.ids.Inherit.TheVariants as inherit
 use Rattle.vm_supply.specs.declared.woken.Woken.TheVariants as woken
+use Rattle.vm_copies.specs.Copies.{CopyTable}
 
 -- the region of a declared object, with its first entry
 abbrev pub own_region : ObjectId → ℕ → RegionRow
@@ -361,10 +362,11 @@ ready_paged state.Sent is = refl
 ready_paged state.Ready is = refl
 
 -- whoever waits for its pager does so still
-pub waits_declared : {stays unmet : PageKey → Type 0} (header : Header) (maps : Mapped) (cs : ChainTable) (rs : ResidentTable) (os os2 : ObjectTable)
+pub waits_declared : {copies : CopyTable} {stays unmet : PageKey → Type 0} (header : Header) (maps : Mapped) (cs : ChainTable) (rs : ResidentTable)
+    (os os2 : ObjectTable)
     (rows : List Waiting) (who : On → Bool) (waiting_at : ℕ → Option Access) (o : ℕ) (new : ObjectRow)
-    → HasWaiters maps cs rs os rows who waiting_at stays unmet → BecomesKnown header o (object_at os o) new → PutsObject o (Some new) os os2
-    → HasWaiters maps cs rs os2 rows who waiting_at stays unmet
+    → HasWaiters maps cs copies rs os rows who waiting_at stays unmet → BecomesKnown header o (object_at os o) new → PutsObject o (Some new) os os2
+    → HasWaiters maps cs copies rs os2 rows who waiting_at stays unmet
 waits_declared header maps cs rs os os2 rows who waiting_at o new has known put =
     waits_told maps cs rs os os2 rows who waiting_at has
     (told_all maps cs os os2 (λ x told. elim (known_cases o new os os2 put x) [
@@ -445,6 +447,7 @@ with_declared k objects chains maps =
       memory = record k.memory { objects = objects };
       maps = maps;
       chains = chains;
+      copies = k.copies;
       laundry = k.laundry;
       waits = k.waits;
       skip = k.skip;

@@ -31,6 +31,8 @@ use Rattle.vm_supply.specs.declared.woken.Woken.TheVariants as woken
 use Rattle.vm_waits.specs.Waits as waits
 use Rattle.vm_waits.specs.declared.waiting.On.TheVariants as on
 use Rattle.vm_model.specs.declared.message.Message.TheVariants as message
+use Rattle.vm_state.proofs.Pushing.{asked_same, push_stays}
+use Rattle.vm_state.specs.Waiters.{IsAsked}
 
 -- the rows of a kernel's pages stand in another table
 
@@ -115,11 +117,13 @@ mid_rows header h k ids rs2 past m same =
     awaited what o p (inr locked) =
         inr (record { row = locked.row; found = same.rows o p ∙ locked.found; here = locked.here; locked = locked.locked; sent = locked.sent })
 
-    reason : (t : ℕ) (what : Want) (why : On) → Reason k.maps k.chains k.memory.resident k.memory.objects t what why
-        → Reason k.maps k.chains rs2 k.memory.objects t what why
+    reason : (t : ℕ) (what : Want) (why : On) → Reason k.maps k.chains k.copies k.memory.resident k.memory.objects t what why
+        → Reason k.maps k.chains k.copies rs2 k.memory.objects t what why
     reason t what on.Again is = tt
     reason t what (on.Ready object) is = is
     reason t what (on.Page key) is = (is.0, awaited what key.object.0 key.page.0 is.1)
+    reason t what (on.Push key) is =
+        push_stays is is.at is.owed (asked_same k.memory.resident rs2 key.object.0 key.page.0 (same.rows key.object.0 key.page.0) is.asked)
     reason t what on.Frame is = tt
 
 -- the whole range of a request
@@ -163,13 +167,14 @@ here_away x row is here = ap is_away is ∙ ap not here
 
 -- the rows as they will be, and the accesses that wait
 waits_waked : {stays unmet : PageKey → Type 0} (maps : Mapped) (k : Parts) (object : ObjectId) (page : PageNo) (count lock : ℕ) (flush : Bool)
-    (rows2 : List Waiting) (past : List Event) → HasWaiters k.maps k.chains k.memory.resident k.memory.objects k.waits.rows (is_woken woken.Nobody)
+    (rows2 : List Waiting) (past : List Event) → HasWaiters k.maps k.chains k.copies k.memory.resident k.memory.objects k.waits.rows (is_woken woken.Nobody)
     (λ t. waiting t past) stays unmet
     → rows2 ≡ map (waits.woken (is_unlocked k.memory.resident object.0 page.0 count)) k.waits.rows
-    → HasWaiters k.maps k.chains (retabled (pended (ahead_of object page count flush lock page.0)) k.memory.resident) k.memory.objects rows2
+    → HasWaiters k.maps k.chains k.copies (retabled (pended (ahead_of object page count flush lock page.0)) k.memory.resident) k.memory.objects rows2
     (is_woken woken.Nobody) (λ t. waiting t past) stays unmet
 waits_waked {stays = stays} {unmet = unmet} maps k object page count lock flush rows2 past has woke =
-    subst (λ (z : List Waiting). HasWaiters k.maps k.chains rs2 k.memory.objects z (is_woken woken.Nobody) (λ t. waiting t past) stays unmet) (sym woke)
+    subst (λ (z : List Waiting). HasWaiters k.maps k.chains k.copies rs2 k.memory.objects z (is_woken woken.Nobody) (λ t. waiting t past) stays unmet)
+    (sym woke)
     (waits_woken k.maps k.chains rs2 k.memory.objects k.waits.rows (map (waits.woken who) k.waits.rows) who (λ t. waiting t past)
     (record {
       is = has.is;
@@ -216,16 +221,20 @@ waits_waked {stays = stays} {unmet = unmet} maps k object page count lock flush 
         by true is_now = less was.here was.unlock_sent is_now
         by false is_now = is_now
 
+    asked_now : (key : PageKey) → IsAsked rs key.object.0 key.page.0 → IsAsked rs2 key.object.0 key.page.0
+    asked_now key asked =
+        record {
+          row = asked.row;
+          found =
+              row_repaged (pended a) rs key.object.0 key.page.0
+              ∙ (ap (option_map (pended a key.object.0 key.page.0)) asked.found
+              ∙ ap (λ b. Some (if b && is_ahead a key.object.0 key.page.0 then aimed a asked.row else asked.row)) asked.away);
+          away = asked.away;
+        }
+
     awaited : (what : Want) (key : PageKey) → who (on.Page key) ≡ false → IsAwaitedBy rs what key.object.0 key.page.0
         → IsAwaitedBy rs2 what key.object.0 key.page.0
-    awaited what key asleep (inl asked) = inl (record {
-      row = asked.row;
-      found =
-          row_repaged (pended a) rs key.object.0 key.page.0
-          ∙ (ap (option_map (pended a key.object.0 key.page.0)) asked.found
-          ∙ ap (λ b. Some (if b && is_ahead a key.object.0 key.page.0 then aimed a asked.row else asked.row)) asked.away);
-      away = asked.away;
-    })
+    awaited what key asleep (inl asked) = inl (asked_now key asked)
     awaited what key asleep (inr locked) = inr (record {
       row = locked.row;
       found = row_repaged (pended a) rs key.object.0 key.page.0
@@ -237,11 +246,12 @@ waits_waked {stays = stays} {unmet = unmet} maps k object page count lock flush 
       sent = locked.sent;
     })
 
-    reason : (t : ℕ) (what : Want) (why : On) → who why ≡ false → Reason k.maps k.chains rs k.memory.objects t what why
-        → Reason k.maps k.chains rs2 k.memory.objects t what why
+    reason : (t : ℕ) (what : Want) (why : On) → who why ≡ false → Reason k.maps k.chains k.copies rs k.memory.objects t what why
+        → Reason k.maps k.chains k.copies rs2 k.memory.objects t what why
     reason t what on.Again asleep is = tt
     reason t what (on.Ready other) asleep is = is
     reason t what (on.Page key) asleep is = (is.0, awaited what key asleep is.1)
+    reason t what (on.Push key) asleep is = push_stays is is.at is.owed (asked_now key is.asked)
     reason t what on.Frame asleep is = tt
 
     -- a page that is awaited still isn't in the range, or is asked

@@ -41,12 +41,17 @@ use Rattle.vm_kernel.proofs.memory.PlacesPassed.{quiet_place, waits_come}
 use Rattle.vm_state.proofs.Bypassing.{waits_taken}
 use Rattle.vm_state.proofs.Passing.{same_of}
 use Rattle.vm_kernel.proofs.controls.WordTaken.{Changed, controls_of, live_is, pages_eq, referred_of, regions_of, told_of, told_unready, waits_heard, zeros}
+use Rattle.vm_copies.specs.Copies.{CopyTable}
+use Rattle.vm_base.specs.declared.ids.PageKey.{PageKey}
+use Rattle.vm_state.proofs.Pushing.{asked_same}
+use Rattle.vm_state.specs.Waiters.{IsAsked}
 
 -- zeros come to a page of a declared object, whose pager is ready
-waits_blank : {maps : Mapped} {rs : ResidentTable} {rows : List Waiting} {who : On → Bool} {at : ℕ → Option Access} (header : Header) (h : ℕ)
+waits_blank : {copies : CopyTable} {maps : Mapped} {rs : ResidentTable} {rows : List Waiting} {who : On → Bool} {at : ℕ → Option Access} (header : Header)
+    (h : ℕ)
     (chains : ChainTable) (os : ObjectTable) (past : List Event) (object : ObjectId) (page : PageNo) → object.0 < named header → (IsPagerTold os object.0 → ⊥)
-    → HasWaiters maps chains rs os rows who at (StaysAway header h past) (IsUnmet header h past)
-    → HasWaiters maps chains rs os rows who at (StaysAway header h (event.Zeroed (host_id h) object page ∷ past))
+    → HasWaiters maps chains copies rs os rows who at (StaysAway header h past) (IsUnmet header h past)
+    → HasWaiters maps chains copies rs os rows who at (StaysAway header h (event.Zeroed (host_id h) object page ∷ past))
     (IsUnmet header h (event.Zeroed (host_id h) object page ∷ past))
 waits_blank header h chains os past object page declared ready has =
     waits_come header h (event.Zeroed (host_id h) object page) past (key_of object page)
@@ -94,6 +99,20 @@ awaited_other rs rs2 what o p o2 p2 x put apart awaits = elim (row_cases o p x r
   | inr other ↦ awaited_elsewhere o p x rs rs2 what o2 p2 other.is awaits
 ]
 
+asked_other : (rs rs2 : ResidentTable) (o p o2 p2 : ℕ) (x : Option PageRow) → PutsRow o p x rs rs2 → (o2 == o && p2 == p) ≡ false → IsAsked rs o2 p2
+    → IsAsked rs2 o2 p2
+asked_other rs rs2 o p o2 p2 x put apart asked = elim (row_cases o p x rs rs2 put o2 p2) [
+  | inl now ↦ absurd (apart_of o2 p2 o p apart now.object now.page)
+  | inr other ↦ asked_same rs rs2 o2 p2 other.is asked
+]
+
+-- whoever is to push into the place of a page is woken with those who wait for it
+push_woken : (who : Woken) (key : PageKey) → is_woken who (on.Push key) ≡ is_woken who (on.Page key)
+push_woken woken.Nobody key = refl
+push_woken (woken.ReadyOf object) key = refl
+push_woken (woken.Page other) key = refl
+push_woken (woken.Fails other) key = refl
+
 here_elsewhere : (rs rs2 : ResidentTable) (o p o2 p2 : ℕ) (x : Option PageRow) (r : PageRow) → PutsRow o p x rs rs2 → IsUnawaited x → row_at rs2 o2 p2 ≡ Some r
     → is_awaited r ≡ true
     → (row_at rs o2 p2 ≡ Some r) × ((o2 == o && p2 == p) ≡ false)
@@ -104,7 +123,7 @@ here_elsewhere rs rs2 o p o2 p2 x r put none is awaits = elim (row_cases o p x r
 
 -- what holds of who waits, where the row of a page that is asked is another
 record Waits (header : Header) (h : ℕ) (k : Parts) (who : Woken) (new : HostParts) (past : List Event) : Type 0 where
-  waits : HasWaiters k.maps k.chains new.resident new.objects k.waits.rows (is_woken who) (λ t. waiting t past) (StaysAway header h past)
+  waits : HasWaiters k.maps k.chains k.copies new.resident new.objects k.waits.rows (is_woken who) (λ t. waiting t past) (StaysAway header h past)
       (IsUnmet header h past)
   answered : IsAnswered who new.resident
 
@@ -117,6 +136,8 @@ waits_page header h k ids past o p x who new rests test put here same =
     record {
       waits = waits_heard k.maps k.chains k.memory.resident new.resident k.memory.objects new.objects k.waits.rows who (λ t. waiting t past) rests.waits
           (λ what o2 p2 still awaits. awaited_other k.memory.resident new.resident what o p o2 p2 x put (sym (test o2 p2) ∙ still) awaits)
+          (λ o2 p2 still asked. asked_other k.memory.resident new.resident o p o2 p2 x put
+          (sym (test o2 p2) ∙ (sym (push_woken who (page_key o2 p2)) ∙ still)) asked)
           (λ other still told. told_of k.memory.objects new.objects other.0 same told)
           (λ o2 p2 row found awaits. (here_elsewhere k.memory.resident new.resident o p o2 p2 x row put here found awaits).0)
           (λ o2 is. ap ready_in (same.at o2) ∙ is);

@@ -97,7 +97,7 @@ works_asked header h past k ids w key object access frame memory waits2 works is
           works.referred;
       thin = rw plan.objects works.thin;
       waits =
-          subst (λ (z : ObjectTable). HasWaiters k.maps k.chains memory.resident z waits2.rows (is_woken woken.Nobody) (λ u. waiting u past)
+          subst (λ (z : ObjectTable). HasWaiters k.maps k.chains k.copies memory.resident z waits2.rows (is_woken woken.Nobody) (λ u. waiting u past)
           (StaysAway header h (requesting h key object.control access ∷ past)) (IsUnmet header h (requesting h key object.control access ∷ past)))
           (sym plan.objects)
           (waits_requested header h (host_id h) key.object object.control key.page access past unknown
@@ -112,7 +112,7 @@ works_asked header h past k ids w key object access frame memory waits2 works is
 -- nothing changes but what an access waits for
 pub works_turned : (header : Header) (h : ℕ) (past : List Event) (k : Parts) (ids : Ids) (w : Waiting) (reason : On) (waits2 : WaitTable)
     → Works header h k ids woken.Nobody past → entry k.waits.rows w.task.0 ≡ Some w → runs_now w.on ≡ true
-    → Reason k.maps k.chains k.memory.resident k.memory.objects w.task.0 w.want reason
+    → Reason k.maps k.chains k.copies k.memory.resident k.memory.objects w.task.0 w.want reason
     → Passed (StaysAway header h past) (IsUnmet header h past) k.maps k.chains w.task.0 w.want reason
     → PutsInOrder w.task.0 (Some (with_on w reason)) k.waits.rows waits2.rows → Works header h (record k { waits = waits2 }) ids woken.Nobody past
 works_turned header h past k ids w reason waits2 works is now holds passed put =

@@ -97,7 +97,7 @@ works_unlocked header h past k ids w key row object access memory waits2 works i
           (λ r same. same_lock k.memory.objects o row row2 r refl same (works.referred.locks o p row c.found)) works.referred;
       thin = rw plan.objects works.thin;
       waits =
-          subst (λ (z : ObjectTable). HasWaiters k.maps k.chains memory.resident z waits2.rows (is_woken woken.Nobody) (λ u. waiting u past)
+          subst (λ (z : ObjectTable). HasWaiters k.maps k.chains k.copies memory.resident z waits2.rows (is_woken woken.Nobody) (λ u. waiting u past)
           (StaysAway header h (unlocking h key object.control access ∷ past)) (IsUnmet header h (unlocking h key object.control access ∷ past)))
           (sym plan.objects)
           (waits_quiet header h (unlocking h key object.control access) past

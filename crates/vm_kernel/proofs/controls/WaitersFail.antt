@@ -6,7 +6,7 @@ use Rattle.vm_kernel.proofs.Common.{OnlyLoses, Option, Outside, PageKey, PageRow
 use Rattle.vm_kernel.proofs.Common.{Works, [], absence_more, absence_taken, access_in, address_in, ap, append_assoc, begun_at, copies_to, copy_target}
 use Rattle.vm_kernel.proofs.Common.{entries_in, entries_in_row, entries_of, entry, entry_at, eqb_tells, error_more, error_taken, fails_access, fails_task}
 use Rattle.vm_kernel.proofs.Common.{false, fills_in, holds, if◌then◌else◌, in_use, inl, inr, next_page, next_region, oldest_row, or_true, page_key, puts_cases}
-use Rattle.vm_kernel.proofs.Common.{refl, row_at, rows_in, since, since_more, some_is, subst, sym, true, waiting, waiting_in, woken_page, ℕ, ◌++◌, ◌<◌, ◌==◌}
+use Rattle.vm_kernel.proofs.Common.{refl, row_at, rows_in, since, since_more, some_is, subst, sym, true, waiting, waiting_in, waits_page, ℕ, ◌++◌, ◌<◌, ◌==◌}
 use Rattle.vm_kernel.proofs.Common.{◌||◌, ◌∙◌, ◌∷◌, ◌≡◌, ◌≢◌, ◌⊎◌}
 use Rattle.vm_kernel.proofs.space.RegionsInUse.{FillsHere, fills_here, holds_waits, uses_none}
 use Rattle.vm_state.proofs.Filling.{Filled, filled_there, used_over, copies_next}
@@ -44,9 +44,10 @@ use Rattle.vm_base.specs.declared.entry.Entry.{Entry}
 use Rattle.vm_kernel.specs.Matches.{Core, HasOrder, control_facts, memory_facts, space_facts}
 use Rattle.vm_legal.specs.Accesses.{Waits}
 use Rattle.vm_state.specs.Waiters.{is_awaited}
+use Rattle.vm_waits.specs.Waits.{is_frame}
 
 -- who waits for the page
-pub waits_for : (key : PageKey) (reason : On) → woken_page key reason ≡ true → reason ≡ on.Page key
+pub waits_for : (key : PageKey) (reason : On) → waits_page key reason ≡ true → reason ≡ on.Page key
 waits_for key on.Again is = absurd (let bad : false ≡ true = is in cc)
 waits_for key (on.Ready object) is = absurd (let bad : false ≡ true = is in cc)
 waits_for key (on.Page other) is = elim (eqb_tells other.object.0 key.object.0) [
@@ -56,9 +57,14 @@ waits_for key (on.Page other) is = elim (eqb_tells other.object.0 key.object.0) 
   ]
   | inr apart ↦ absurd (let bad : false ≡ true = rw apart.0 at is in cc)
 ]
+waits_for key (on.Push other) is = absurd (let bad : false ≡ true = is in cc)
 waits_for key on.Frame is = absurd (let bad : false ≡ true = is in cc)
 
-itself : (key : PageKey) → woken_page key (on.Page key) ≡ true
+-- and not for a frame
+pub page_unqueued : (key : PageKey) (reason : On) → waits_page key reason ≡ true → is_frame reason ≡ false
+page_unqueued key reason waits = ap is_frame (waits_for key reason waits)
+
+itself : (key : PageKey) → waits_page key (on.Page key) ≡ true
 itself key = elim (eqb_tells key.object.0 key.object.0) [
   | inl one ↦ elim (eqb_tells key.page.0 key.page.0) [
     | inl two ↦ rw (one.0, two.0) refl
@@ -74,7 +80,7 @@ Standing header h k ids past = Core header h k ids [] (space_facts header past) 
 -- those whom the error has ended began earlier than each who still waits for the page
 abbrev pub EndsBefore : PageKey → List Waiting → List Event → Type 0
 EndsBefore key rows past =
-    (u t : ℕ) (w : Waiting) → since (fails_task u key.object.0 key.page.0) past ≡ true → entry rows t ≡ Some w → woken_page key w.on ≡ true
+    (u t : ℕ) (w : Waiting) → since (fails_task u key.object.0 key.page.0) past ≡ true → entry rows t ≡ Some w → waits_page key w.on ≡ true
     → begun_at u past < begun_at t past
 
 -- an access that waits is one of the history
@@ -116,7 +122,7 @@ fails_cause header h k ids past key w works fails found waits before =
         error = fails;
         place = place_at was (copies_to w.destination) agrees place;
       }),
-      λ other ended. before other w.task.0 w ended found (ap (woken_page key) waits ∙ itself key),
+      λ other ended. before other w.task.0 w ended found (ap (waits_page key) waits ∙ itself key),
     )
 
 -- the table without its row
@@ -141,12 +147,12 @@ stays task t rows rows2 w puts apart found = elim (eqb_tells task t) [
 
 -- the oldest that waits is ended, so the others began later
 ends_before : (key : PageKey) (w : Waiting) (rows rows2 : List Waiting) (past : List Event) → EndsBefore key rows past
-    → BeganInOrder (λ t. begun_at t past) 0 rows → oldest_row (woken_page key) rows ≡ Some w → PutsEntry w.task.0 None rows rows2
+    → BeganInOrder (λ t. begun_at t past) 0 rows → oldest_row (waits_page key) rows ≡ Some w → PutsEntry w.task.0 None rows rows2
     → EndsBefore key rows2 (event.Failed w.task key.object key.page ∷ past)
 ends_before key w rows rows2 past before order first puts u t v ended found passes = elim (eqb_tells w.task.0 u) [
   | inl same ↦
       subst (λ (z : ℕ). begun_at z past < begun_at t past) same.1
-      (oldest_first (λ z. begun_at z past) (woken_page key) 0 t rows w v order first (stood w.task.0 t rows rows2 v puts found) passes (gone t found))
+      (oldest_first (λ z. begun_at z past) (waits_page key) 0 t rows w v order first (stood w.task.0 t rows rows2 v puts found) passes (gone t found))
   | inr apart ↦ before u t v (rw apart.0 at ended) (stood w.task.0 t rows rows2 v puts found) passes
 ]
   where
@@ -287,8 +293,8 @@ pub record FailedOne (header : Header) (h : ℕ) (outside : Outside) (doing : Co
 -- one is ended
 pub failed_one : (header : Header) (h : ℕ) (outside : Outside) (doing : Command) (past old events : List Event) (key : PageKey) (k : Parts) (ids : Ids)
     (w : Waiting) (waits : WaitTable)
-    → Failing header h outside doing past old events key k ids → entry k.waits.rows w.task.0 ≡ Some w → woken_page key w.on ≡ true
-    → oldest_row (woken_page key) k.waits.rows ≡ Some w → PutsInOrder w.task.0 None k.waits.rows waits.rows
+    → Failing header h outside doing past old events key k ids → entry k.waits.rows w.task.0 ≡ Some w → waits_page key w.on ≡ true
+    → oldest_row (waits_page key) k.waits.rows ≡ Some w → PutsInOrder w.task.0 None k.waits.rows waits.rows
     → FailedOne header h outside doing past old (event.Failed w.task key.object key.page ∷ events) key (record k { waits = waits }) ids
 failed_one header h outside doing past old events key k ids w waits f found passes first both =
     let was = f.works.matches in
@@ -317,14 +323,14 @@ failed_one header h outside doing past old events key k ids w waits f found pass
       goes = goes_more header h outside doing past old events e f.goes was.settled stands.follows;
     }
   where
-    asker_stays : (o p : ℕ) → Asker k.waits.rows o p → woken_page key (on.Page (page_key o p)) ≡ false → Asker waits.rows o p
+    asker_stays : (o p : ℕ) → Asker k.waits.rows o p → waits_page key (on.Page (page_key o p)) ≡ false → Asker waits.rows o p
     asker_stays o p asker still =
         record {
           task = asker.task;
           row = asker.row;
           is = stays w.task.0 asker.task k.waits.rows waits.rows asker.row both.entry (λ same.
               let row : w ≡ asker.row = some_is w asker.row (sym found ∙ (ap (entry k.waits.rows) same ∙ asker.is)) in
-              let bad : true ≡ false = sym passes ∙ (ap (λ z. woken_page key z.on) row ∙ (ap (woken_page key) asker.waits ∙ still)) in
+              let bad : true ≡ false = sym passes ∙ (ap (λ z. waits_page key z.on) row ∙ (ap (waits_page key) asker.waits ∙ still)) in
               cc) asker.is;
           waits = asker.waits;
         }
@@ -548,12 +554,12 @@ or_ended key first rows rows2 past old new only same was t v found waits = elim 
 ]
 
 pub ends_all : (key : PageKey) (first rows : List Waiting) (past : List Event) → EndsOr key first rows past
-    → ((t : ℕ) → IfSome (entry rows t) (λ w. woken_page key w.on ≡ false)) → HasEnded (who.Fails key) first past
+    → ((t : ℕ) → IfSome (entry rows t) (λ w. waits_page key w.on ≡ false)) → HasEnded (who.Fails key) first past
 ends_all key first rows past was none t w found waits = elim (was t w found waits) [
   | inl ended ↦ ended
   | inr there ↦
-      let off : woken_page key w.on ≡ false = rw there at (none t) in
-      absurd (let bad : true ≡ false = sym (itself key) ∙ (ap (woken_page key) (sym waits) ∙ off) in cc)
+      let off : waits_page key w.on ≡ false = rw there at (none t) in
+      absurd (let bad : true ≡ false = sym (itself key) ∙ (ap (waits_page key) (sym waits) ∙ off) in cc)
 ]
 
 -- the error that a step took is paid, and that stays so

@@ -27,6 +27,7 @@ use Rattle.vm_waits.specs.Wants.{IsSizedWant}
 use Rattle.vm_waits.specs.declared.waiting.Destination.{Destination}
 use Rattle.vm_waits.specs.declared.waiting.On.TheVariants as on
 use Rattle.vm_waits.specs.declared.waiting.Want.TheVariants as want
+use Rattle.vm_kernel.proofs.controls.NothingCopied.{nobody_pushes}
 
 woken_task : (maps : Mapped) (o : ℕ) (w : Waiting) → (woken_on maps o w).task ≡ w.task
 woken_task maps o w = by (is_on maps o w)
@@ -169,7 +170,7 @@ module _ {header : Header} {h : ℕ} {k : Parts} {ids : Ids} {s : SpaceFacts} {c
   -- who waits, once the object has no page any more, and no control
   module _ {stays unmet : PageKey → Type 0} {rs2 : ResidentTable} {os2 : ObjectTable} {waiting_at : ℕ → Option Access} {next_at : ℕ → ℕ}
       {target_at : ℕ → Option Target} {now : ObjectRow}
-      (has : HasWaiters k.maps k.chains k.memory.resident k.memory.objects k.waits.rows (is_woken woken.Nobody) waiting_at stays unmet)
+      (has : HasWaiters k.maps k.chains k.copies k.memory.resident k.memory.objects k.waits.rows (is_woken woken.Nobody) waiting_at stays unmet)
       (copies : HasCopies header k.maps k.chains k.memory.resident k.waits.rows next_at target_at)
       (emptied : IsEmptied k o rs2 os2 now) where
     -- another object is known as before
@@ -188,7 +189,7 @@ module _ {header : Header} {h : ℕ} {k : Parts} {ids : Ids} {s : SpaceFacts} {c
         let bad : false ≡ true = sym off ∙ on_it in cc
 
     reason_beside : (t : ℕ) (w : Waiting) (reason : On) → entry k.waits.rows t ≡ Some w → is_on k.maps o w ≡ false
-        → Reason k.maps k.chains k.memory.resident k.memory.objects t w.want reason → Reason k.maps k.chains rs2 os2 t w.want reason
+        → Reason k.maps k.chains k.copies k.memory.resident k.memory.objects t w.want reason → Reason k.maps k.chains k.copies rs2 os2 t w.want reason
     reason_beside t w on.Again found off why = tt
     reason_beside t w (on.Ready object) found off why =
         let apart : o ≡ object.0 → ⊥ = λ same. beside t w why.0 found off why.1 (same ∙ sym (ap (λ z. z.0) why.2)) in
@@ -203,9 +204,10 @@ module _ {header : Header} {h : ℕ} {k : Parts} {ids : Ids} {s : SpaceFacts} {c
             | inr locked ↦ inr (record { row = locked.row; found = same ∙ locked.found; here = locked.here; locked = locked.locked; sent = locked.sent })
           ],
         )
+    reason_beside t w (on.Push key) found off why = absurd (nobody_pushes core.setting.uncopied why)
     reason_beside t w on.Frame found off why = tt
 
-    reason_now : (t : ℕ) (v w : Waiting) → entry k.waits.rows t ≡ Some v → Wakened k.maps o v w → Reason k.maps k.chains rs2 os2 t w.want w.on
+    reason_now : (t : ℕ) (v w : Waiting) → entry k.waits.rows t ≡ Some v → Wakened k.maps o v w → Reason k.maps k.chains k.copies rs2 os2 t w.want w.on
     reason_now t v _ found (Woke is) = tt
     reason_now t v _ found (Slept off) = reason_beside t v v.on found off (has.reasons t v found refl)
 
@@ -243,7 +245,7 @@ module _ {header : Header} {h : ℕ} {k : Parts} {ids : Ids} {s : SpaceFacts} {c
           waits = asker.waits;
         }
 
-    pub waits_emptied : HasWaiters k.maps k.chains rs2 os2 (map (woken_on k.maps o) k.waits.rows) (is_woken woken.Nobody) waiting_at stays unmet
+    pub waits_emptied : HasWaiters k.maps k.chains k.copies rs2 os2 (map (woken_on k.maps o) k.waits.rows) (is_woken woken.Nobody) waiting_at stays unmet
     waits_emptied = record {
       is = λ t lives. has.is t lives ∙ sym (ap (waiting_in k.maps.size) (entry_woken k.maps o k.waits.rows t)
           ∙ same_access k.maps o (entry k.waits.rows t));

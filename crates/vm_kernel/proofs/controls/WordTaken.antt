@@ -45,18 +45,23 @@ use Rattle.vm_base.specs.declared.ids.PageKey.{PageKey}
 use Rattle.vm_kernel.proofs.memory.PlacesPassed.{waits_retold}
 use Rattle.vm_state.proofs.Bypassing.{waits_taken}
 use Rattle.vm_legal.specs.Destroyed.{destroy_taken, is_destroyed}
+use Rattle.vm_copies.specs.Copies.{CopyTable}
+use Rattle.vm_state.proofs.Pushing.{push_stays}
+use Rattle.vm_state.specs.Waiters.{IsAsked}
 
 -- who waits, where rows of pages and objects are others
 
-pub waits_heard : {stays unmet : PageKey → Type 0} (maps : Mapped) (cs : ChainTable) (rs rs2 : ResidentTable) (os os2 : ObjectTable) (rows : List Waiting)
+pub waits_heard : {copies : CopyTable} {stays unmet : PageKey → Type 0} (maps : Mapped) (cs : ChainTable) (rs rs2 : ResidentTable) (os os2 : ObjectTable)
+    (rows : List Waiting)
     (who : Woken) (waiting_at : ℕ → Option Access)
-    → HasWaiters maps cs rs os rows (is_woken woken.Nobody) waiting_at stays unmet
+    → HasWaiters maps cs copies rs os rows (is_woken woken.Nobody) waiting_at stays unmet
     → ((what : Want) (o p : ℕ) → is_woken who (on.Page (page_key o p)) ≡ false → IsAwaitedBy rs what o p → IsAwaitedBy rs2 what o p)
+    → ((o p : ℕ) → is_woken who (on.Push (page_key o p)) ≡ false → IsAsked rs o p → IsAsked rs2 o p)
     → ((object : ObjectId) → is_woken who (on.Ready object) ≡ false → IsPagerTold os object.0 → IsPagerTold os2 object.0)
     → ((o p : ℕ) (row : PageRow) → row_at rs2 o p ≡ Some row → is_awaited row ≡ true → row_at rs o p ≡ Some row)
     → ((o : ℕ) → ready_in (object_at os o) ≡ true → ready_in (object_at os2 o) ≡ true)
-    → HasWaiters maps cs rs2 os2 rows (is_woken who) waiting_at stays unmet
-waits_heard maps cs rs rs2 os os2 rows who waiting_at has asked told were ready =
+    → HasWaiters maps cs copies rs2 os2 rows (is_woken who) waiting_at stays unmet
+waits_heard {copies = copies} maps cs rs rs2 os os2 rows who waiting_at has asked pushed told were ready =
     record {
       is = has.is;
       allowed = has.allowed;
@@ -68,10 +73,12 @@ waits_heard maps cs rs rs2 os os2 rows who waiting_at has asked told were ready 
       ready = λ o p row found away_now. ready o (has.ready o p row (were o p row found (away_awaited row away_now)) away_now);
     }
   where
-    by_reason : (t : ℕ) (what : Want) (reason : On) → is_woken who reason ≡ false → Reason maps cs rs os t what reason → Reason maps cs rs2 os2 t what reason
+    by_reason : (t : ℕ) (what : Want) (reason : On) → is_woken who reason ≡ false → Reason maps cs copies rs os t what reason
+        → Reason maps cs copies rs2 os2 t what reason
     by_reason t what on.Again still why = tt
     by_reason t what (on.Ready object) still why = (why.0, why.1, why.2, told object still why.3)
     by_reason t what (on.Page key) still why = (why.0, asked what key.object.0 key.page.0 still why.1)
+    by_reason t what (on.Push key) still why = push_stays why why.at why.owed (pushed key.object.0 key.page.0 still why.asked)
     by_reason t what on.Frame still why = tt
 
 -- a pager that is ready was told before
@@ -100,7 +107,7 @@ pub record Changed (header : Header) (h : ℕ) (k : Parts) (ids : Ids) (who : Wo
   pub frames : HasFrames (slice_get (reverse header.frames.items) h) new.frames (frames_held header h now) (frames_wired h past)
   pub referred : AllReferred k.chains new.objects new.resident
   pub thin : IsThin k.chains new.objects
-  pub waits : HasWaiters k.maps k.chains new.resident new.objects k.waits.rows (is_woken who) (λ t. waiting t past) (StaysAway header h now)
+  pub waits : HasWaiters k.maps k.chains k.copies new.resident new.objects k.waits.rows (is_woken who) (λ t. waiting t past) (StaysAway header h now)
       (IsUnmet header h now)
   pub fails : FailsNow header h who now
   pub fresh : EndsNobody who now
@@ -523,6 +530,7 @@ changed_ready header h k ids events after past object control cache strategy who
           (waits_heard k.maps k.chains k.memory.resident k.memory.resident k.memory.objects new.objects k.waits.rows (woken.ReadyOf object)
           (λ t. waiting t past) rests.waits
           (λ what o p still awaits. awaits)
+          (λ o p still asked. asked)
           (λ other still told. told_ready k.memory.objects new.objects object.0 known other readies.ready still told)
           (λ o p row found away_now. found)
           (λ o is. ready_ready k.memory.objects new.objects object.0 known o readies.ready is));

@@ -25,6 +25,7 @@ use Rattle.vm_legal.specs.Licences.{ReturnOn}
 use Rattle.vm_kernel.specs.Plays.{AreSpared, Arrives, AsDestroyed, AsLocked, AsUnheld, AsUnreached, AsVictim, Departs, DepartsFrom, DoesBy, Looks, PlaysBy}
 use Rattle.vm_kernel.specs.Plays.{Reclaims, ReclaimsNone, Sparing, uncreated}
 use Rattle.vm_kernel.proofs.memory.PagesShown.{itself}
+use Rattle.vm_fault.specs.Faults.{Pushed}
 
 -- first some events, and then some more
 pub plays_both : {header : Header} {by : Sparing} {past before mid : List Event} {old k : Paging} {after : List Event} {new : Paging}
@@ -131,6 +132,20 @@ marked_turned f g (page ∷ pages) =
 pub references_turned : (f g : ℕ) (q : Queues) → with_reference f (with_reference g q) ≡ with_reference g (with_reference f q)
 references_turned f g q = λ i. record { active = marked_turned f g q.active i; inactive = marked_turned f g q.inactive i; frames = q.frames }
 
+-- the same mark twice
+
+or_twice : (a b : Bool) → (a || (a || b)) ≡ (a || b)
+or_twice true b = refl
+or_twice false b = refl
+
+marked_twice : (f : ℕ) (pages : List Page) → map (marked f) (map (marked f) pages) ≡ map (marked f) pages
+marked_twice f [] = refl
+marked_twice f (page ∷ pages) =
+    λ i. record { frame = page.frame; referenced = or_twice (page.frame == f) page.referenced i } ∷ marked_twice f pages i
+
+references_twice : (f : ℕ) (q : Queues) → with_reference f (with_reference f q) ≡ with_reference f q
+references_twice f q = λ i. record { active = marked_twice f q.active i; inactive = marked_twice f q.inactive i; frames = q.frames }
+
 -- a page's frame was marked, and each page is where it was
 record Touches (frame : FrameNo) (old new : HostParts) : Type 0 where
   lists : new.queues ≡ with_reference frame.0 old.queues
@@ -213,9 +228,9 @@ prepares_plays header past false region row s mid same =
 
 -- an access has ended, or a slow copy has copied a page
 ended_plays : (header : Header) (past : List Event) (host : HostId) (task : TaskId) (what : Want) (top : PageKey) (at value : ℕ) (s new : FaultState)
-    → Ended host task what top at value s.parts new.parts s.chains s.events new.events
+    → Ended host task what top at value s.parts new.parts s.chains s.copies new.copies s.events new.events
     → Plays header past s.events (paging_in s.parts) new.events (paging_in new.parts)
-ended_plays header past host task what top at value s new (Copied address pages next target is steps key row finds out is_none copies) =
+ended_plays header past host task what top at value s new (Copied address pages next target is steps key row finds out is_none copies same) =
     let frame = copies.frame in
     let made = copied_key target next in
     let was = paging_in s.parts in
@@ -240,13 +255,13 @@ ended_plays header past host task what top at value s new (Copied address pages 
       marks = record { frame = frame; here = here; is = touched_is frame copies.copied copies.hit hit };
       source = record { frame = row.frame; here = source; is = touched_is row.frame copies.hit new.parts last };
     })
-ended_plays header past host task what top at value s new (AtOnce steps key row finds stores opens e hits told) =
+ended_plays header past host task what top at value s new (AtOnce steps key row finds stores opens owes e hits same told) =
     let touched = hit_touches task what key row.frame at value e s.parts new.parts hits in
     plays_told told
     (hit_does header (s.events ++ past) task what key row.frame at value e s.parts new.parts (paging_in s.parts) (paging_in new.parts) hits
     (here_is (row_at s.parts.resident key.object.0 key.page.0) row row.frame finds.found finds.here refl)
     (touched_is row.frame s.parts new.parts touched))
-ended_plays header past host task what top at value s new (AfterZeros sinks frame brought brings plan e hits told) =
+ended_plays header past host task what top at value s new (AfterZeros sinks frame brought brings plan e hits notes told) =
     let zeroed = event.Zeroed host top.object top.page in
     let arrives = came top frame _ _ _ s.parts brought brings refl in
     let come = come_is top frame _ _ _ s.parts brought brings refl in
@@ -257,7 +272,30 @@ ended_plays header past host task what top at value s new (AfterZeros sinks fram
     (Then e (zeroed ∷ s.events) (paging_in brought) (paging_in new.parts) (Then zeroed s.events (paging_in s.parts) (paging_in brought) Still arrives)
     (hit_does header ((zeroed ∷ s.events) ++ past) task what top frame at value e brought new.parts (paging_in brought) (paging_in new.parts) hits here
     (touched_is frame brought new.parts touched)))
-ended_plays header past host task what top at value s new (Raised steps key row finds stores opens frame copied hit raises plan e hits refers told) =
+ended_plays header past host task what top at value s new
+    (Pushed row finds stores opens place owed none frame copied raises plan e hits notes told) =
+    let raised = event.Raised host top.object top.page place.object place.page in
+    let was = paging_in s.parts in
+    let come = paging_in copied in
+    -- the copy has come, and the page that was pushed is marked, as the store marks it again
+    let both : Paging = record come { queues = with_reference row.frame.0 come.queues } in
+    let arrives = came place frame _ _ _ s.parts copied raises refl in
+    let come_so = come_is place frame _ _ _ s.parts copied raises refl in
+    let there : was.frame_at top.object.0 top.page.0 ≡ Some row.frame = here_is (row_at s.parts.resident top.object.0 top.page.0) row row.frame finds.found
+    finds.here refl in
+    let source : come.frame_at top.object.0 top.page.0 ≡ Some row.frame =
+    ap (λ (z : Paging). z.frame_at top.object.0 top.page.0) come_so
+    ∙ apart_placed place.object.0 place.page.0 top.object.0 top.page.0 frame row.frame was.frame_at (ap frame_here raises.found) there ∙ there in
+    let touched = hit_touches task what top row.frame at value e copied new.parts hits in
+    let lists : new.parts.queues ≡ with_reference row.frame.0 (with_reference row.frame.0 copied.queues) =
+    touched.lists ∙ sym (references_twice row.frame.0 copied.queues) in
+    subst (λ (z : List Event). Plays header past s.events (paging_in s.parts) z (paging_in new.parts)) (sym told)
+    (Then e (raised ∷ s.events) both (paging_in new.parts) (Then raised s.events was both Still
+    (record { mid = come; arrives = arrives; marks = record { frame = row.frame; here = source; is = refl } }))
+    (hit_does header ((raised ∷ s.events) ++ past) task what top row.frame at value e copied new.parts both (paging_in new.parts) hits source
+    (same_paging _ _ _ _ touched.frames lists)))
+ended_plays header past host task what top at value s new
+    (Raised steps key row finds stores opens frame copied hit raises plan e hits refers notes told) =
     let raised = event.Raised host key.object key.page top.object top.page in
     let o = top.object.0 in
     let p = top.page.0 in
@@ -288,12 +326,12 @@ comes_plays : (header : Header) (past : List Event) (maps : Mapped) (host : Host
     → Plays header past f.mid.events (paging_in f.mid.parts) new.events (paging_in new.parts)
 comes_plays header past maps host task what may (step.Done value) s new f = ended_plays header past host task what f.top _ value f.mid new f.comes
 comes_plays header past maps host task what may (step.Ask key) s new f =
-    let asked = f.comes in
+    let asked = f.comes.0 in
     plays_told asked.told
     (same_paging _ _ _ _ (frames_kept f.mid.parts.resident new.parts.resident key.object.0 key.page.0 _ asked.page.row (sym (ap frame_here asked.page.found)))
     asked.page.queues)
 comes_plays header past maps host task what may (step.Unlock key) s new f =
-    let asks = f.comes in
+    let asks = f.comes.0 in
     plays_told asks.told
     (same_paging _ _ _ _ (frames_kept f.mid.parts.resident new.parts.resident key.object.0 key.page.0 _ asks.page.row (sym (ap frame_here asks.page.found)))
     asks.page.queues)

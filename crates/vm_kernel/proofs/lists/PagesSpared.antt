@@ -63,8 +63,8 @@ pub waits_for_unlock : (header : Header) (h : ℕ) (k : Parts) (ids : Ids) (past
     → entry k.waits.rows task ≡ Some w → w.on ≡ on.Page (page_key o p) → WaitsUnlocked header h o p past
 waits_for_unlock header h k ids past o p task row w m waits copies found here there on_page =
     let s = shown_at m in
-    let reason : Reason k.maps k.chains k.memory.resident k.memory.objects task w.want (on.Page (page_key o p)) =
-    subst (λ (z : On). Reason k.maps k.chains k.memory.resident k.memory.objects task w.want z) on_page (waits.reasons task w there refl) in
+    let reason : Reason k.maps k.chains k.copies k.memory.resident k.memory.objects task w.want (on.Page (page_key o p)) =
+    subst (λ (z : On). Reason k.maps k.chains k.copies k.memory.resident k.memory.objects task w.want z) on_page (waits.reasons task w there refl) in
     let locked = not_away k.memory.resident o p row w found here reason.1 in
     let shows = shows_row s o p locked.row locked.found locked.here in
     record {
@@ -128,6 +128,7 @@ waited_frame : (rs : ResidentTable) (reason : On) (f : FrameNo) → frame_spared
 waited_frame rs (on.Page key) f is = (key, refl, is)
 waited_frame rs on.Again f is = absurd (let bad : None ≡ Some f = is in cc)
 waited_frame rs (on.Ready object) f is = absurd (let bad : None ≡ Some f = is in cc)
+waited_frame rs (on.Push key) f is = absurd (let bad : None ≡ Some f = is in cc)
 waited_frame rs on.Frame f is = absurd (let bad : None ≡ Some f = is in cc)
 
 -- rows that stand behind another stand in the whole list
@@ -292,8 +293,8 @@ why_skipped : (header : Header) (h : ℕ) (k : Parts) (ids : Ids) (past : List E
 why_skipped header h k ids past spared f m waits is = elim is.why [
   | inl one ↦ inl one
   | inr who ↦
-      let reason : Reason k.maps k.chains k.memory.resident k.memory.objects who.0 who.1.want (on.Page is.key) =
-      subst (λ (z : On). Reason k.maps k.chains k.memory.resident k.memory.objects who.0 who.1.want z) who.3 (waits.reasons who.0 who.1 who.2 refl) in
+      let reason : Reason k.maps k.chains k.copies k.memory.resident k.memory.objects who.0 who.1.want (on.Page is.key) =
+      subst (λ (z : On). Reason k.maps k.chains k.copies k.memory.resident k.memory.objects who.0 who.1.want z) who.3 (waits.reasons who.0 who.1 who.2 refl) in
       let locked = not_away k.memory.resident is.key.object.0 is.key.page.0 is.row who.1 is.found is.here reason.1 in
       inr (ap (λ (z : PageRow). z.unlock_sent) (some_is is.row locked.row (sym is.found ∙ locked.found)) ∙ locked.sent)
 ]

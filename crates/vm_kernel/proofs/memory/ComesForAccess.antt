@@ -57,10 +57,10 @@ page_referred key frame was now held bytes lists k memory c plan is may all =
 pub page_waits : {stays unmet : PageKey → Type 0} (key : PageKey) (frame : FrameNo) (was now : Option PageRow) (held : Bool) (bytes : List ℕ) (lists : Queues)
     (k : Parts) (memory : HostParts) (who : On → Bool) (at : ℕ → Option Access) → Changes key frame was now held bytes lists k.memory memory
     → KeepsPlan k.memory memory → IsUnawaited was → IsUnawaited now
-    → HasWaiters k.maps k.chains k.memory.resident k.memory.objects k.waits.rows who at stays unmet
-    → HasWaiters k.maps k.chains memory.resident memory.objects k.waits.rows who at stays unmet
+    → HasWaiters k.maps k.chains k.copies k.memory.resident k.memory.objects k.waits.rows who at stays unmet
+    → HasWaiters k.maps k.chains k.copies memory.resident memory.objects k.waits.rows who at stays unmet
 page_waits {stays = stays} {unmet = unmet} key frame was now held bytes lists k memory who at c plan before after has =
-    subst (λ (z : ObjectTable). HasWaiters k.maps k.chains memory.resident z k.waits.rows who at stays unmet) (sym plan.objects)
+    subst (λ (z : ObjectTable). HasWaiters k.maps k.chains k.copies memory.resident z k.waits.rows who at stays unmet) (sym plan.objects)
     (waiters_page k.maps k.chains k.memory.resident memory.resident k.memory.objects k.waits.rows who at key.object.0 key.page.0 now has c.row
     (inl (subst (λ (z : Option PageRow). IsUnawaited z) (sym c.found) before)) after)
 

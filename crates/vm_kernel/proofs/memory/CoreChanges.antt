@@ -21,6 +21,7 @@ with_tables k other =
       memory = k.memory;
       maps = k.maps;
       chains = k.chains;
+      copies = k.copies;
       laundry = k.laundry;
       waits = k.waits;
     }

@@ -54,6 +54,7 @@ pub record Beside (k k2 : Parts) : Type 0 where
   pub declared : k2.declared ≡ k.declared
   pub maps : k2.maps ≡ k.maps
   pub chains : k2.chains ≡ k.chains
+  pub copied : k2.copies ≡ k.copies
   pub waits : k2.waits ≡ k.waits
   pub buffers : k2.memory.buffers.size ≡ k.memory.buffers.size
   pub fit : Fit k2.memory
@@ -110,6 +111,7 @@ rests_beside {header = header} {h = h} {k = k} {k2 = k2} {ids = ids} {past = pas
       declared = beside.declared i;
       maps = beside.maps i;
       chains = beside.chains i;
+      copies = beside.copied i;
       waits = beside.waits i;
     }
 

@@ -40,6 +40,7 @@ use Rattle.vm_state.specs.Places.{place_of}
 use Rattle.vm_state.specs.Waiters.{HasWaiters, IsPagerTold, IsPlaceOf, LeadsTo, Reason, access_in}
 use Rattle.vm_waits.specs.declared.waiting.On.TheVariants as on
 use Rattle.vm_state.proofs.Bypassing.{told_pager}
+use Rattle.vm_copies.specs.Copies.{CopyTable}
 
 -- a place is known by its numbers
 key_same : (a b : PageKey) → a.object.0 ≡ b.object.0 → a.page.0 ≡ b.page.0 → a ≡ b
@@ -53,17 +54,19 @@ quiet_place true true false f apart = tt
 quiet_place true true true f apart = absurd (apart refl refl)
 
 -- a page comes to a place that none has passed over who waits, and where none waits for its pager
-pub waits_come : {maps : Mapped} {chains : ChainTable} {rs : ResidentTable} {os : ObjectTable} {rows : List Waiting} {who : On → Bool} {at : ℕ → Option Access}
+pub waits_come : {copies : CopyTable} {maps : Mapped} {chains : ChainTable} {rs : ResidentTable} {os : ObjectTable} {rows : List Waiting} {who : On → Bool}
+    {at : ℕ → Option Access}
     (header : Header) (h : ℕ) (e : Event) (past : List Event) (top : PageKey)
     → ((key : PageKey) → (top.object.0 ≡ key.object.0 → top.page.0 ≡ key.page.0 → ⊥) → IsQuiet (effect_at header h key e past))
-    → ((t : ℕ) (what : Want) (why : On) → Reason maps chains rs os t what why → (to : PageKey) → StopsAt (IsUnmet header h past) why to → (m : ℕ)
+    → ((t : ℕ) (what : Want) (why : On) → Reason maps chains copies rs os t what why → (to : PageKey) → StopsAt (IsUnmet header h past) why to → (m : ℕ)
     → IsPlaceOf maps chains t what top → LeadsOver (StaysAway header h past) chains (suc m) top to → OnlyReturned (named header) h past → ⊥)
     → ((t : ℕ) (what : Want) (object : ObjectId) → IsPagerTold os object.0 → top.object ≡ object → IsPlaceOf maps chains t what top → IsUnmet header h past top
     → ⊥)
     → ((past2 : List Event) → (OnlyReturned (named header) h (e ∷ past2) → OnlyReturned (named header) h past2))
-    → HasWaiters maps chains rs os rows who at (StaysAway header h past) (IsUnmet header h past)
-    → HasWaiters maps chains rs os rows who at (StaysAway header h (e ∷ past)) (IsUnmet header h (e ∷ past))
-waits_come {maps = maps} {chains = chains} {rs = rs} {os = os} {rows = rows} {who = who} {at = at} header h e past top elsewhere above there before has =
+    → HasWaiters maps chains copies rs os rows who at (StaysAway header h past) (IsUnmet header h past)
+    → HasWaiters maps chains copies rs os rows who at (StaysAway header h (e ∷ past)) (IsUnmet header h (e ∷ past))
+waits_come {copies = copies} {maps = maps} {chains = chains} {rs = rs} {os = os} {rows = rows} {who = who} {at = at} header h e past top elsewhere above there
+    before has =
     waits_seen maps chains rs os rows who at has
     (λ t w found asleep reason to stop m from place leads. elim (eqb_tells top.object.0 from.object.0) [
       | inl one ↦ elim (eqb_tells top.page.0 from.page.0) [
@@ -81,7 +84,8 @@ waits_come {maps = maps} {chains = chains} {rs = rs} {os = os} {rows = rows} {wh
       | inl one ↦ elim (eqb_tells top.page.0 to.page.0) [
         | inl two ↦
             let same : to ≡ top = key_same to top (sym one.1) (sym two.1) in
-            absurd (there t w.want object (told_pager maps chains rs os t w.want w.on object why reason) (ap (λ (z : PageKey). z.object) (sym same) ∙ its)
+            absurd (there t w.want object (told_pager maps chains copies rs os t w.want w.on object why reason)
+            (ap (λ (z : PageKey). z.object) (sym same) ∙ its)
             (subst (IsPlaceOf maps chains t w.want) same place) (subst (IsUnmet header h past) same unmet))
         | inr apart ↦ unmet_calm header h e past to (calm_of (effect_at header h to e past) (elsewhere to (λ o p. apart.1 p))) unmet
       ]
@@ -89,10 +93,11 @@ waits_come {maps = maps} {chains = chains} {rs = rs} {os = os} {rows = rows} {wh
     ])
 
 -- who waits in the history does so still
-pub waits_retold : {stays unmet : PageKey → Type 0} {maps : Mapped} {chains : ChainTable} {rs : ResidentTable} {os : ObjectTable} {rows : List Waiting}
+pub waits_retold : {copies : CopyTable} {stays unmet : PageKey → Type 0} {maps : Mapped} {chains : ChainTable} {rs : ResidentTable} {os : ObjectTable}
+    {rows : List Waiting}
     {who : On → Bool} {at at2 : ℕ → Option Access}
     → ((t : ℕ) → at2 t ≡ at t)
-    → HasWaiters maps chains rs os rows who at stays unmet → HasWaiters maps chains rs os rows who at2 stays unmet
+    → HasWaiters maps chains copies rs os rows who at stays unmet → HasWaiters maps chains copies rs os rows who at2 stays unmet
 waits_retold same has =
     record {
       is = λ t here. same t ∙ has.is t here;
@@ -121,7 +126,8 @@ unmet_stops header h k ids past m to object told its unmet over = elim over.none
 ]
 
 pub stops_passing : (header : Header) (h : ℕ) (k : Parts) (ids : Ids) (past : List Event) → Matches header h k ids [] past → (t : ℕ) (what : Want) (why : On)
-    → Reason k.maps k.chains k.memory.resident k.memory.objects t what why → (to : PageKey) → StopsAt (IsUnmet header h past) why to → PassesOver k.memory to
+    → Reason k.maps k.chains k.copies k.memory.resident k.memory.objects t what why → (to : PageKey) → StopsAt (IsUnmet header h past) why to
+    → PassesOver k.memory to
     → ⊥
 stops_passing header h k ids past m t what on.Again reason to stop over = stop
 stops_passing header h k ids past m t what (on.Ready object) reason to stop over = unmet_stops header h k ids past m to object reason.3 stop.0 stop.1 over
@@ -131,11 +137,12 @@ stops_passing header h k ids past m t what (on.Page key) reason to stop over =
       | inl asked ↦ let bad : None ≡ Some asked.row = sym absent ∙ asked.found in cc
       | inr locked ↦ let bad : None ≡ Some locked.row = sym absent ∙ locked.found in cc
     ]
+stops_passing header h k ids past m t what (on.Push key) reason to stop over = stop
 stops_passing header h k ids past m t what on.Frame reason to stop over = stop
 
 -- nor waits one at a page of temporary memory that is here
 pub stops_found : (header : Header) (h : ℕ) (k : Parts) (ids : Ids) (past : List Event) → Matches header h k ids [] past → OnlyReturned (named header) h past
-    → (t : ℕ) (what : Want) (why : On) → Reason k.maps k.chains k.memory.resident k.memory.objects t what why → (to : PageKey)
+    → (t : ℕ) (what : Want) (why : On) → Reason k.maps k.chains k.copies k.memory.resident k.memory.objects t what why → (to : PageKey)
     → StopsAt (IsUnmet header h past) why to → named header ≤ to.object.0 → (row : PageRow) → row_at k.memory.resident to.object.0 to.page.0 ≡ Some row
     → row.here ≡ true → ⊥
 stops_found header h k ids past m only t what on.Again reason to stop least row found here = stop
@@ -156,6 +163,7 @@ stops_found header h k ids past m only t what (on.Page key) reason to stop least
     no_name : (store : Bool) → names 0 store ≡ true → ⊥
     no_name true is = let bad : false ≡ true = is in cc
     no_name false is = let bad : false ≡ true = is in cc
+stops_found header h k ids past m only t what (on.Push key) reason to stop least row found here = stop
 stops_found header h k ids past m only t what on.Frame reason to stop least row found here = stop
 
 -- what is under a shadow is temporary
@@ -172,8 +180,8 @@ under_temporary header h k ids past is (suc m) from to leads = under_temporary h
 -- zeros come to the top place of a walk that finds its page nowhere
 pub waits_zeroed : (header : Header) (h : ℕ) (k : Parts) (ids : Ids) (past : List Event) (top : PageKey) {who : On → Bool} {at : ℕ → Option Access}
     → Matches header h k ids [] past → Sinks k.memory k.chains top
-    → HasWaiters k.maps k.chains k.memory.resident k.memory.objects k.waits.rows who at (StaysAway header h past) (IsUnmet header h past)
-    → HasWaiters k.maps k.chains k.memory.resident k.memory.objects k.waits.rows who
+    → HasWaiters k.maps k.chains k.copies k.memory.resident k.memory.objects k.waits.rows who at (StaysAway header h past) (IsUnmet header h past)
+    → HasWaiters k.maps k.chains k.copies k.memory.resident k.memory.objects k.waits.rows who
     at (StaysAway header h (event.Zeroed (host_id h) top.object top.page ∷ past)) (IsUnmet header h (event.Zeroed (host_id h) top.object top.page ∷ past))
 waits_zeroed header h k ids past top m sinks has =
     waits_come header h (event.Zeroed (host_id h) top.object top.page) past top
@@ -189,8 +197,8 @@ pub waits_raised : (header : Header) (h : ℕ) (k : Parts) (ids : Ids) (past : L
     {at : ℕ → Option Access}
     → Matches header h k ids [] past → WalksTo k.memory k.chains (suc steps) top low
     → row_at k.memory.resident low.object.0 low.page.0 ≡ Some row → row.here ≡ true
-    → HasWaiters k.maps k.chains k.memory.resident k.memory.objects k.waits.rows who at (StaysAway header h past) (IsUnmet header h past)
-    → HasWaiters k.maps k.chains k.memory.resident k.memory.objects k.waits.rows who
+    → HasWaiters k.maps k.chains k.copies k.memory.resident k.memory.objects k.waits.rows who at (StaysAway header h past) (IsUnmet header h past)
+    → HasWaiters k.maps k.chains k.copies k.memory.resident k.memory.objects k.waits.rows who
     at (StaysAway header h (event.Raised (host_id h) low.object low.page top.object top.page ∷ past))
     (IsUnmet header h (event.Raised (host_id h) low.object low.page top.object top.page ∷ past))
 waits_raised header h k ids past steps top low row m walks found here has =
@@ -213,8 +221,8 @@ waits_raised header h k ids past steps top low row m walks found here has =
 pub waits_filled : (header : Header) (h : ℕ) (k : Parts) (ids : Ids) (past : List Event) (task : TaskId) (low top : PageKey) {who : On → Bool}
     {at : ℕ → Option Access}
     → ((t : ℕ) (what : Want) → IsPlaceOf k.maps k.chains t what top → ⊥)
-    → HasWaiters k.maps k.chains k.memory.resident k.memory.objects k.waits.rows who at (StaysAway header h past) (IsUnmet header h past)
-    → HasWaiters k.maps k.chains k.memory.resident k.memory.objects k.waits.rows who
+    → HasWaiters k.maps k.chains k.copies k.memory.resident k.memory.objects k.waits.rows who at (StaysAway header h past) (IsUnmet header h past)
+    → HasWaiters k.maps k.chains k.copies k.memory.resident k.memory.objects k.waits.rows who
     at (StaysAway header h (event.CopiedPage task top.page low.object low.page top.object ∷ past))
     (IsUnmet header h (event.CopiedPage task top.page low.object low.page top.object ∷ past))
 waits_filled header h k ids past task low top none has =

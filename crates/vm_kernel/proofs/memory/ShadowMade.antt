@@ -36,6 +36,7 @@ use Rattle.vm_kernel.proofs.memory.PlacesPassed.{fresh_away}
 use Rattle.vm_kernel.proofs.space.RegionHomes.{homes_caused, homes_put}
 use Rattle.vm_legal.specs.Licences.{Shadows}
 use Rattle.vm_kernel.proofs.controls.FlagsKept.{flags_temporary}
+use Rattle.vm_kernel.proofs.controls.NothingCopied.{newest_nowhere}
 
 -- each region is as it was, but for its top and its mark
 pub record KeepsRegions (old new : ChainTable) : Type 0 where
@@ -164,7 +165,8 @@ shadowed_with header h outside doing past k ids region object row chains objects
           object row works.waits there made
           below
           (fresh_away header h k ids past m works.referred object new unknown)
-          (knows_made k.memory.objects objects object.0 (new_object row.pages) unknown put);
+          (knows_made k.memory.objects objects object.0 (new_object row.pages) unknown put)
+          (newest_nowhere m.core.setting.uncopied row.top.0);
       order = works.order;
     }
   where

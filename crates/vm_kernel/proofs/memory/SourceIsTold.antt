@@ -4,7 +4,7 @@ use Rattle.vm_kernel.proofs.Common.{Option, PageKey, Parts, Passes, Some, Storin
 use Rattle.vm_kernel.proofs.Common.{arith, entry, false, first_in_queue, has_pager, if◌then◌else◌, is_store, nat_lt, nat_tests, page_key, page_of, page_on}
 use Rattle.vm_kernel.proofs.Common.{refl, region_of, sight, some_is, subst, suc, sym, true, waiting, ℕ, ◌&&◌, ◌||◌, ◌∙◌, ◌≡◌, ◌≢◌}
 use Rattle.std.proofs.lemmas.Bool.{or_right}
-use Rattle.vm_fault.specs.Faults.{Needs, Nowhere, ToAsk, ToCopy, ToRaise}
+use Rattle.vm_fault.specs.Faults.{Needs, Nowhere, ToAsk, ToCopy, ToPush, ToRaise}
 use Rattle.vm_fault.specs.Sources.{Reads, source_at}
 use Rattle.vm_fault.specs.Stops.{Stops}
 use Rattle.vm_fault.specs.Walks.{is_copying, is_storing}
@@ -25,6 +25,8 @@ use Rattle.vm_state.proofs.PlainObjects.{OwesNothing}
 use Rattle.vm_kernel.proofs.steps.WhereAccessLeads.{Leads, it_waits, leads_of, top_at}
 use Rattle.vm_kernel.proofs.memory.WalksShown.{shown_at}
 use Rattle.vm_state.proofs.Shown.{IsShown}
+use Rattle.vm_kernel.specs.Matches.{no_copies}
+use Rattle.vm_kernel.proofs.controls.NothingCopied.{owed_nowhere, sources_unowed}
 
 -- an access copies what its walk finds so far down: a store below its top place, a slow copy anywhere
 abbrev copies_at : Want → ℕ → Bool
@@ -165,9 +167,10 @@ key_is key o p object page = λ i. page_key (object i) (page i)
 -- what an access needs a frame for
 pub needs_it : (header : Header) (h : ℕ) (past : List Event) (k : Parts) (task : TaskId) (what : Want) (top : PageKey)
     (at : IsAt k.maps k.chains task.0 what top) (source : Option PageKey) → Leads header h past k task.0 what top at
-    → OwesNothing header h past → IsShown header h k.memory k.chains past → Needs what top k.memory k.chains source → (o p : ℕ)
+    → OwesNothing header h past → IsShown header h k.memory k.chains past → k.copies ≡ no_copies → Needs what top k.memory k.chains k.copies source
+    → (o p : ℕ)
     → IsToCopyPage header h task o p past → source ≡ Some (page_key o p)
-needs_it header h past k task what top at source to unowed shown needs o p copies =
+needs_it header h past k task what top at source to unowed shown uncopied needs o p copies =
     by needs
   where
     ends : EndsAtSource header h past what top o p
@@ -176,11 +179,12 @@ needs_it header h past k task what top at source to unowed shown needs o p copie
     lands : Lands header h past k.memory k.chains top
     lands = record { shown = shown; referred = to.referred; at = ends.at }
 
-    by : {source2 : Option PageKey} → Needs what top k.memory k.chains source2 → source2 ≡ Some (page_key o p)
+    by : {source2 : Option PageKey} → Needs what top k.memory k.chains k.copies source2 → source2 ≡ Some (page_key o p)
     by (Nowhere sinks) = absurd (never_sinks lands sinks)
     by (ToAsk steps key object comes ready) = absurd (never_comes lands steps key object comes (ap has_pager ready))
     by (ToCopy steps key row finds copying out) =
         let same = found_there lands steps key row finds in ap Some (key_is key o p (same.object ∙ ends.object) (same.page ∙ ends.page))
+    by (ToPush row finds stores out place owed none) = absurd (let bad : None ≡ Some place = sym (owed_nowhere uncopied top) ∙ owed in cc)
     by (ToRaise steps key row finds stores out) =
         let same = found_there lands (suc steps) key row finds in ap Some (key_is key o p (same.object ∙ ends.object) (same.page ∙ ends.page))
 
@@ -192,7 +196,7 @@ told_pager state.Ready other = refl
 
 pub reads_it : (header : Header) (h : ℕ) (past : List Event) (k : Parts) (ids : Ids) (who : Woken) (w : Waiting) (source : Option PageKey)
     → Matches header h k ids [] past → HasWaits header h k who past → HasSlow header k past → entry k.waits.rows w.task.0 ≡ Some w
-    → Reads k.maps k.memory k.chains w.task.0 w.want source → (o p : ℕ) → IsToCopyPage header h w.task o p past → source ≡ Some (page_key o p)
+    → Reads k.maps k.memory k.chains k.copies w.task.0 w.want source → (o p : ℕ) → IsToCopyPage header h w.task o p past → source ≡ Some (page_key o p)
 reads_it header h past k ids who w source m waits slow found reads o p copies =
     reads.is ∙ by reads.stop reads.stops
   where
@@ -205,10 +209,11 @@ reads_it header h past k ids who w source m waits slow found reads o p copies =
     lands : Lands header h past k.memory k.chains reads.top
     lands = record { shown = shown_at m; referred = to.referred; at = ends.at }
 
-    by : (s : Stop) → Stops k.memory k.chains reads.top s → source_at w.want s ≡ Some (page_key o p)
+    by : (s : Stop) → Stops k.memory k.chains reads.top s → source_at k.copies w.want s ≡ Some (page_key o p)
     by (stop.Found key row steps) finds =
         let same = found_there lands steps key row finds in
-        ap (λ (b : Bool). if b then Some key else None) (ap (copies_at w.want) same.steps_are ∙ ends.copies)
+        ap (λ (b : Bool). if b then Some key else None) (sources_unowed m.core.setting.uncopied w.want key steps
+        ∙ (ap (copies_at w.want) same.steps_are ∙ ends.copies))
         ∙ ap Some (key_is key o p (same.object ∙ ends.object) (same.page ∙ ends.page))
     by (stop.Asked key) stops = absurd (never_asked lands stops.0 key stops.1 stops.2)
     by (stop.MayCome key object steps) stops = absurd (never_comes lands steps key object stops.0 (told_pager object.state stops.2))

@@ -21,6 +21,7 @@ use Rattle.vm_state.proofs.Walks.{comes_of}
 use Rattle.vm_kernel.proofs.memory.WalksShown.{page_left, page_of_want, shown_at, want_address}
 use Rattle.vm_kernel.proofs.space.RegionRows.{region_row}
 use Rattle.vm_base.specs.Pages.{page_positive}
+use Rattle.vm_kernel.proofs.controls.NothingCopied.{sources_unowed}
 
 -- an access that an entry allows can be followed down its chain
 pub walks_down : (header : Header) (h : ℕ) (k : Parts) (ids : Ids) (past : List Event) (lost : List Entry) (task : ℕ) (what : Want)
@@ -63,7 +64,8 @@ wants_copy header h size task to region page past (want.CopyTo address pages tar
 -- so the page is one that an access is to copy
 source_is : (header : Header) (h : ℕ) (k : Parts) (ids : Ids) (past : List Event) (who : Woken) (w : Waiting) (source : Option PageKey) (key : PageKey)
     (row : PageRow) (steps : ℕ) → Matches header h k ids [] past → HasWaits header h k who past → HasSlow header k past
-    → entry k.waits.rows w.task.0 ≡ Some w → (reads : Reads k.maps k.memory k.chains w.task.0 w.want source) → Finds k.memory k.chains steps reads.top key row
+    → entry k.waits.rows w.task.0 ≡ Some w → (reads : Reads k.maps k.memory k.chains k.copies w.task.0 w.want source)
+    → Finds k.memory k.chains steps reads.top key row
     → ((is_storing w.want && nat_lt 0 steps) || is_copying w.want) ≡ true → IsToCopyPage header h w.task key.object.0 key.page.0 past
 source_is header h k ids past who w source key row steps m waits copies found reads finds copied =
     let s = shown_at m in
@@ -114,7 +116,8 @@ source_is header h k ids past who w source key row steps m waits copies found re
 -- what an access would copy that waits
 pub to_copy : (header : Header) (h : ℕ) (k : Parts) (ids : Ids) (past : List Event) (who : Woken) (w : Waiting) (source : Option PageKey)
     → Matches header h k ids [] past → HasWaits header h k who past → HasSlow header k past → entry k.waits.rows w.task.0 ≡ Some w
-    → Reads k.maps k.memory k.chains w.task.0 w.want source → IfSome source (λ key. IsToCopyPage header h w.task key.object.0 key.page.0 past × IsHere k key)
+    → Reads k.maps k.memory k.chains k.copies w.task.0 w.want source
+    → IfSome source (λ key. IsToCopyPage header h w.task key.object.0 key.page.0 past × IsHere k key)
 to_copy header h k ids past who w source m waits copies found reads =
     subst (λ (z : Option PageKey). IfSome z (λ key. IsToCopyPage header h w.task key.object.0 key.page.0 past × IsHere k key)) (sym reads.is)
     (go reads.stop reads.stops)
@@ -127,8 +130,11 @@ to_copy header h k ids past who w source m waits copies found reads =
         (source_is header h k ids past who w source key row steps m waits copies found reads finds is, (row, finds.found, finds.here))
 
     go : (s : Stop) → Stops k.memory k.chains reads.top s
-        → IfSome (source_at w.want s) (λ key. IsToCopyPage header h w.task key.object.0 key.page.0 past × IsHere k key)
-    go (stop.Found key row steps) finds = below ((is_storing w.want && nat_lt 0 steps) || is_copying w.want) steps key row refl finds
+        → IfSome (source_at k.copies w.want s) (λ key. IsToCopyPage header h w.task key.object.0 key.page.0 past × IsHere k key)
+    go (stop.Found key row steps) finds =
+        subst (λ (b : Bool). IfSome (if b then Some key else None) (λ z. IsToCopyPage header h w.task z.object.0 z.page.0 past × IsHere k z))
+        (sym (sources_unowed m.core.setting.uncopied w.want key steps))
+        (below ((is_storing w.want && nat_lt 0 steps) || is_copying w.want) steps key row refl finds)
     go (stop.Asked key) stops = tt
     go (stop.MayCome key object steps) stops = tt
     go stop.Nowhere stops = tt

@@ -63,6 +63,7 @@ module _ (chains : ChainTable) (spare : ℕ) where
   passed_roomier stays unmet maps task what on.Again was = tt
   passed_roomier stays unmet maps task what (on.Ready object) was = (was.0, behind_roomier stays maps task what was.0 was.1, was.2, was.3)
   passed_roomier stays unmet maps task what (on.Page key) was = behind_roomier stays maps task what key was
+  passed_roomier stays unmet maps task what (on.Push key) was = tt
   passed_roomier stays unmet maps task what on.Frame was = tt
 
   inside_roomier : (size : ℕ) (row : Entry) → IsInside size chains row → IsInside size (record chains { spare = spare }) row
@@ -203,8 +204,9 @@ fit_roomier rooms memory was = record {
   pages = was.pages;
 }
 
-reason_roomier : (rooms : Rooms) (k : Parts) (task : ℕ) (what : Want) (why : On) → Reason k.maps k.chains k.memory.resident k.memory.objects task what why
-    → Reason k.maps (record k.chains { spare = rooms.shadows }) (record k.memory.resident { spare = rooms.rows })
+reason_roomier : (rooms : Rooms) (k : Parts) (task : ℕ) (what : Want) (why : On)
+    → Reason k.maps k.chains k.copies k.memory.resident k.memory.objects task what why
+    → Reason k.maps (record k.chains { spare = rooms.shadows }) k.copies (record k.memory.resident { spare = rooms.rows })
     (record k.memory.objects { rows = rooms.objects; marks = rooms.marks }) task what why
 reason_roomier rooms k task what on.Again was = tt
 reason_roomier rooms k task what (on.Ready object) was =
@@ -215,6 +217,14 @@ reason_roomier rooms k task what (on.Page key) (place, inr locked) = (
   place_roomier k.chains rooms.shadows k.maps task what key place,
   inr (record { row = locked.row; found = locked.found; here = locked.here; locked = locked.locked; sent = locked.sent }),
 )
+reason_roomier rooms k task what (on.Push key) was =
+    record {
+      stores = was.stores;
+      top = was.top;
+      at = at_roomier k.chains rooms.shadows k.maps task what was.top was.at;
+      owed = was.owed;
+      asked = record { row = was.asked.row; found = was.asked.found; away = was.asked.away };
+    }
 reason_roomier rooms k task what on.Frame was = tt
 
 waiters_roomier : (header : Header) (h : ℕ) (rooms : Rooms) (k : Parts) (who : Woken) (past : List Event) → HasWaits header h k who past

@@ -54,6 +54,7 @@ run_once : (reason : On) → one_again reason + one_frame reason ≤ 1
 run_once on.Again = omega arith
 run_once (on.Ready object) = omega arith
 run_once (on.Page key) = omega arith
+run_once (on.Push key) = omega arith
 run_once on.Frame = omega arith
 
 pub run_few : (rows : List Waiting) → to_run rows ≤ length rows

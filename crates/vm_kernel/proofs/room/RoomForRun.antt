@@ -55,6 +55,7 @@ runs_one w runs = by w.on runs
     by on.Again is = refl
     by (on.Ready object) is = absurd (let bad : false ≡ true = is in cc)
     by (on.Page key) is = absurd (let bad : false ≡ true = is in cc)
+    by (on.Push key) is = absurd (let bad : false ≡ true = is in cc)
     by on.Frame is = refl
 
 pub some_run : (rows : List Waiting) (w : Waiting) → entry rows w.task.0 ≡ Some w → runs_now w.on ≡ true → 0 < to_run rows

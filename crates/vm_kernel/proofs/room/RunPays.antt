@@ -15,6 +15,7 @@ use Rattle.vm_parts.specs.Changes.{clean_row, unlocked}
 use Rattle.vm_waits.specs.Waits.{one}
 use Rattle.vm_waits.specs.Wants.{with_page_done}
 use Rattle.vm_waits.specs.declared.waiting.Want.TheVariants as want
+use Rattle.vm_fault.specs.Faults.{Pushed}
 
 -- what is due for the frames, where so many slow copies wait
 abbrev pub frames_due : ℕ → HostParts → ℕ
@@ -156,15 +157,25 @@ hit_costs task (want.Store address n number) key frame at value e old new hits =
 hit_costs task (want.CopyTo address pages target next) key frame at value e old new hits = absurd hits
 
 ended_due : (copies : ℕ) (host : HostId) (task : TaskId) (what : Want) (top : PageKey) (at value : ℕ) (mid new : FaultState)
-    → (is_copying what ≡ true → 0 < copies) → Ended host task what top at value mid.parts new.parts mid.chains mid.events new.events
+    → (is_copying what ≡ true → 0 < copies) → Ended host task what top at value mid.parts new.parts mid.chains mid.copies new.copies mid.events new.events
     → Pays copies (cost_of_end what) mid.parts new.parts (length mid.events) (length new.events)
-ended_due copies host task what top at value mid new some (AtOnce steps key row finds only opens e hits told) =
+ended_due copies host task what top at value mid new some (AtOnce steps key row finds only opens owes e hits same told) =
     let costs : cost_of_end what ≡ 3 = hit_costs task what key row.frame at value e mid.parts new.parts hits in
     let due = hits_due copies task what key row.frame at value e mid.parts new.parts hits in
     let less = due.0 in
     let more : length new.events ≡ length (e ∷ mid.events) = ap length told in
     record { pays = omega (arith, costs, less, more); buffers = due.1 }
-ended_due copies host task what top at value mid new some (Raised steps key row finds stores opens frame copied hit raises plan e hits refers told) =
+ended_due copies host task what top at value mid new some
+    (Pushed row finds stores opens place owed none frame copied raises plan e hits notes told) =
+    let costs : cost_of_end what ≡ 3 = hit_costs task what top row.frame at value e copied new.parts hits in
+    let come : frames_due copies copied + 2 * if_copies copies (one (is_kept frame.0
+    (Some (record (clean_row frame unlocked false) { dirty = true })))) ≤ frames_due copies mid.parts + 1 = comes_due copies raises in
+    let due = hits_due copies task what top row.frame at value e copied new.parts hits in
+    let less = due.0 in
+    let more : length new.events ≡ suc (suc (length mid.events)) = ap length told in
+    record { pays = omega (arith, costs, come, less, more); buffers = due.1 ∙ plan.buffers }
+ended_due copies host task what top at value mid new some
+    (Raised steps key row finds stores opens frame copied hit raises plan e hits refers notes told) =
     let costs : cost_of_end what ≡ 3 = hit_costs task what top frame at value e copied hit hits in
     let come : frames_due copies copied + 2 * if_copies copies (one (is_kept frame.0
     (Some (record (clean_row frame unlocked false) { dirty = true })))) ≤ frames_due copies mid.parts + 1 = comes_due copies raises in
@@ -174,7 +185,7 @@ ended_due copies host task what top at value mid new some (Raised steps key row 
     let same = last.0 in
     let more : length new.events ≡ suc (suc (length mid.events)) = ap length told in
     record { pays = omega (arith, costs, come, less, same, more); buffers = last.1 ∙ (due.1 ∙ plan.buffers) }
-ended_due copies host task what top at value mid new some (AfterZeros sinks frame brought brings plan e hits told) =
+ended_due copies host task what top at value mid new some (AfterZeros sinks frame brought brings plan e hits notes told) =
     let costs : cost_of_end what ≡ 3 = hit_costs task what top frame at value e brought new.parts hits in
     let come : frames_due copies brought + 2 * if_copies copies (one (is_kept frame.0 (Some (clean_row frame unlocked false)))) ≤ frames_due copies
     mid.parts + 1 = comes_due copies brings in
@@ -182,7 +193,8 @@ ended_due copies host task what top at value mid new some (AfterZeros sinks fram
     let less = due.0 in
     let more : length new.events ≡ suc (suc (length mid.events)) = ap length told in
     record { pays = omega (arith, costs, come, less, more); buffers = due.1 ∙ plan.buffers }
-ended_due copies host task what top at value mid new some (Copied address pages next target is steps key row finds out none made) =
+ended_due copies host task what top at value mid new some
+    (Copied address pages next target is steps key row finds out none made same) =
     let come : frames_due copies made.copied + 2 * if_copies copies (one (is_kept made.frame.0
     (Some (record (clean_row made.frame unlocked false) { dirty = true })))) ≤ frames_due copies mid.parts + 1 = comes_due copies made.page in
     let kept : if_copies copies (one (is_kept made.frame.0 (Some (record (clean_row made.frame unlocked false) { dirty = true })))) ≡ 1 = by_copies copies
@@ -210,17 +222,17 @@ comes_to : (copies : ℕ) (host : HostId) (task : TaskId) (what : Want) (may : B
     → Pays copies (cost answer what) mid.parts new.parts (length mid.events) (length new.events)
 comes_to copies host task what may top at (step.Done value) mid new some ended = ended_due copies host task what top at value mid new some ended
 comes_to copies host task what may top at (step.Ask key) mid new some asks =
-    let come = comes_due copies asks.page in
-    let more : length new.events ≡ suc (length mid.events) = ap length asks.told in
-    record { pays = omega (arith, come, more); buffers = asks.plan.buffers }
+    let come = comes_due copies asks.0.page in
+    let more : length new.events ≡ suc (length mid.events) = ap length asks.0.told in
+    record { pays = omega (arith, come, more); buffers = asks.0.plan.buffers }
 comes_to copies host task what may top at (step.Unlock key) mid new some asks =
-    let row = asks.row in
+    let row = asks.0.row in
     let stays : frames_due copies new.parts + 2 * if_copies copies (one (is_kept row.frame.0 (Some (record row { unlock_sent = true })))) ≡ frames_due copies
-    mid.parts + 2 * if_copies copies (one (is_kept row.frame.0 (Some row))) = stays_due copies asks.page in
+    mid.parts + 2 * if_copies copies (one (is_kept row.frame.0 (Some row))) = stays_due copies asks.0.page in
     let same : if_copies copies (one (is_kept row.frame.0 (Some (record row { unlock_sent = true })))) ≡ if_copies copies
     (one (is_kept row.frame.0 (Some row))) = refl in
-    let more : length new.events ≡ suc (length mid.events) = ap length asks.told in
-    record { pays = omega (arith, stays, same, more); buffers = asks.plan.buffers }
+    let more : length new.events ≡ suc (length mid.events) = ap length asks.0.told in
+    record { pays = omega (arith, stays, same, more); buffers = asks.0.plan.buffers }
 comes_to copies host task what may top at (step.WaitReady object) mid new some waits = nothing_due copies mid new 3 waits.1
 comes_to copies host task what may top at (step.WaitAnswer key) mid new some waits = nothing_due copies mid new 3 waits.1
 comes_to copies host task what may top at (step.NeedFrame source) mid new some needs = nothing_due copies mid new 0 needs.2

@@ -106,7 +106,8 @@ pub record Changed (header : Header) (h : ℕ) (past : List Event) (k : Parts) (
     pub used : AllUsed header maps chains k.memory.resident k.waits.rows (λ t. next_page t past) (λ t. copy_target t past)
     pub referred : AllReferred chains k.memory.objects k.memory.resident
     pub thin : IsThin chains k.memory.objects
-    pub waits : HasWaiters maps chains k.memory.resident k.memory.objects k.waits.rows (is_woken woken.Nobody) (λ t. waiting t past) (StaysAway header h past)
+    pub waits : HasWaiters maps chains k.copies k.memory.resident k.memory.objects k.waits.rows (is_woken woken.Nobody) (λ t. waiting t past)
+        (StaysAway header h past)
         (IsUnmet header h past)
 
 pub changed_by : (header : Header) (h : ℕ) (past : List Event) (k : Parts) (ids : Ids) (maps : Mapped) (chains : ChainTable) (task : ℕ)

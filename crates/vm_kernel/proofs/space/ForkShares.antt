@@ -195,7 +195,8 @@ rests_shared header h outside doing task row past k k2 ids before after rests ma
     let free = free_of k.maps.size row (rows_in task.0 k.maps) may.free in
     let waits_at = λ (t : ℕ). waiting t past in
     let none = no_row k.maps.size (entry k.waits.rows task.0) (waiting task.0 past) (rests.waits.is task.0 (ap is_some lives)) may.idle in
-    let now_waits : HasWaiters k2.maps k2.chains k.memory.resident k.memory.objects k.waits.rows (is_woken woken.Nobody) waits_at (StaysAway header h past)
+    let now_waits : HasWaiters k2.maps k2.chains k.copies k.memory.resident k.memory.objects k.waits.rows (is_woken woken.Nobody) waits_at
+    (StaysAway header h past)
     (IsUnmet header h past) =
     waits_changed k.maps k2.maps k.chains k2.chains k.memory.resident k.memory.objects k.waits.rows (is_woken woken.Nobody) waits_at task.0
     (Some (entered row (rows_in task.0 k.maps))) rests.waits s.maps none (keeps_recounted k.chains k2.chains recount)
@@ -205,7 +206,7 @@ rests_shared header h outside doing task row past k k2 ids before after rests ma
       matches =
           record {
             core = record {
-              setting = rw (s.size, s.host, s.declared) m.core.setting;
+              setting = rw (s.size, s.host, s.declared, s.copied) m.core.setting;
               calm = m.core.calm;
               fits = rw (s.memory, s.size) m.core.fits;
               spaces = record {
@@ -251,7 +252,7 @@ rests_shared header h outside doing task row past k k2 ids before after rests ma
       });
       referred = rw s.memory (referred_recounted k.chains k2.chains k.memory.objects k.memory.resident recount rests.referred);
       thin = rw s.memory (thin_chains k.chains k2.chains k.memory.objects recount.recounts.shadows rests.thin);
-      waits = rw (s.memory, s.waits) now_waits;
+      waits = rw (s.memory, s.waits, s.copied) now_waits;
       order = rw s.waits rests.order;
       idle = ap (λ z. count_again z.rows) s.waits ∙ rests.idle;
     }

@@ -252,6 +252,7 @@ with_range k k2 maps =
       memory = record k.memory { objects = k2.memory.objects };
       maps = maps;
       chains = k2.chains;
+      copies = k.copies;
       laundry = k.laundry;
       waits = k.waits;
       skip = k2.skip;
@@ -603,6 +604,7 @@ ran_range header h outside task address bytes pages past k k2 ids before after m
       memory = made.memory i;
       maps = maps;
       chains = k2.chains;
+      copies = made.copied i;
       laundry = made.laundry i;
       waits = made.waits i;
       skip = k2.skip;

@@ -509,7 +509,8 @@ rests_copied header h outside doing task source offset row past k k2 ids ids2 be
     let rows_are : k2.memory.resident ≡ k.memory.resident = ap (λ (z : HostParts). z.resident) s.memory in
     let waits_at = λ (t : ℕ). waiting t past in
     let none = no_row k.maps.size (entry k.waits.rows task.0) (waiting task.0 past) (rests.waits.is task.0 (ap is_some lives)) may.idle in
-    let now_waits : HasWaiters k2.maps k2.chains k.memory.resident k2.memory.objects k.waits.rows (is_woken woken.Nobody) waits_at (StaysAway header h past)
+    let now_waits : HasWaiters k2.maps k2.chains k.copies k.memory.resident k2.memory.objects k.waits.rows (is_woken woken.Nobody) waits_at
+    (StaysAway header h past)
     (IsUnmet header h past) =
     waits_referred k2.maps k2.chains k.memory.resident k.memory.objects k2.memory.objects k.waits.rows (is_woken woken.Nobody) waits_at top
     (s.known.references + 1) s.known
@@ -527,7 +528,7 @@ rests_copied header h outside doing task source offset row past k k2 ids ids2 be
       matches =
           record {
             core = record {
-              setting = rw (s.size, s.host, s.declared) m.core.setting;
+              setting = rw (s.size, s.host, s.declared, s.copied) m.core.setting;
               calm = m.core.calm;
               fits = record {
                 parts =
@@ -606,7 +607,7 @@ rests_copied header h outside doing task source offset row past k k2 ids ids2 be
           (λ o shadow found. sym (ap (λ f. f o) copies.shadows) ∙ found) s.object (λ none. none)
           (λ one. let some = referred_source m.core.objects.regions source.0 s.region s.known s.there s.object in omega (arith, one, some)) s.refers
           rests.thin);
-      waits = rw (rows_are, s.waits) now_waits;
+      waits = rw (rows_are, s.waits, s.copied) now_waits;
       order = rw s.waits rests.order;
       idle = ap (λ z. count_again z.rows) s.waits ∙ rests.idle;
     }

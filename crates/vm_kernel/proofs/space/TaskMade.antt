@@ -24,6 +24,7 @@ use Rattle.vm_kernel.proofs.abroad.OwnHost.{named_host}
 use Rattle.vm_kernel.proofs.abroad.OwnEvents.{own_new}
 use Rattle.vm_kernel.proofs.controls.LockReplied.{replied_behind}
 use Rattle.vm_base.specs.declared.ids.PageKey.{PageKey}
+use Rattle.vm_copies.specs.Copies.{CopyTable}
 
 -- who doesn't wait in the history has no row
 pub idle_of : (size : ℕ) (x : Option Waiting) (w : Option Access) → w ≡ waiting_in size x → is_some w ≡ false → x ≡ None
@@ -31,9 +32,10 @@ idle_of size None w is none = refl
 idle_of size (Some row) w is none = absurd (let bad : true ≡ false = sym (ap is_some is) ∙ none in cc)
 
 -- who waits lives
-pub no_waiter : {stays unmet : PageKey → Type 0} (maps : Mapped) (cs : ChainTable) (rs : ResidentTable) (os : ObjectTable) (rows : List Waiting)
+pub no_waiter : {copies : CopyTable} {stays unmet : PageKey → Type 0} (maps : Mapped) (cs : ChainTable) (rs : ResidentTable) (os : ObjectTable)
+    (rows : List Waiting)
     (who : On → Bool) (waiting_at : ℕ → Option Access) (task : ℕ)
-    → HasWaiters maps cs rs os rows who waiting_at stays unmet → entries_in task maps ≡ None → entry rows task ≡ None
+    → HasWaiters maps cs copies rs os rows who waiting_at stays unmet → entries_in task maps ≡ None → entry rows task ≡ None
 no_waiter maps cs rs os rows who waiting_at task has free = by_entry (entry rows task) refl
   where
     by_entry : (x : Option Waiting) → entry rows task ≡ x → entry rows task ≡ None
@@ -41,10 +43,11 @@ no_waiter maps cs rs os rows who waiting_at task has free = by_entry (entry rows
     by_entry (Some w) is = absurd (let bad : None ≡ Some (rows_in task maps) = sym free ∙ (has.allowed task w is).lives in cc)
 
 -- a new task doesn't wait
-pub waits_made : {stays unmet : PageKey → Type 0} (maps new : Mapped) (cs : ChainTable) (rs : ResidentTable) (os : ObjectTable) (rows : List Waiting)
+pub waits_made : {copies : CopyTable} {stays unmet : PageKey → Type 0} (maps new : Mapped) (cs : ChainTable) (rs : ResidentTable) (os : ObjectTable)
+    (rows : List Waiting)
     (who : On → Bool) (task : TaskId) (host : HostId) (past : List Event)
-    → HasWaiters maps cs rs os rows who (λ t. waiting t past) stays unmet → entries_in task.0 maps ≡ None → ChangesOnly maps new task.0 (Some [])
-    → HasWaiters new cs rs os rows who (λ t. waiting t (event.TaskMade task host ∷ past)) stays unmet
+    → HasWaiters maps cs copies rs os rows who (λ t. waiting t past) stays unmet → entries_in task.0 maps ≡ None → ChangesOnly maps new task.0 (Some [])
+    → HasWaiters new cs copies rs os rows who (λ t. waiting t (event.TaskMade task host ∷ past)) stays unmet
 waits_made maps new cs rs os rows who task host past has free changes =
     let none = no_waiter maps cs rs os rows who (λ t. waiting t past) task.0 has free in
     waits_changed maps new cs cs rs os rows who (λ t. waiting t past) task.0 (Some []) has changes none (tops_same cs)

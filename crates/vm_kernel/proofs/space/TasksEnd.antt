@@ -23,6 +23,7 @@ use Rattle.vm_state.specs.Passed.{IsUnmet, StaysAway}
 use Rattle.vm_base.specs.declared.ids.PageKey.{PageKey}
 use Rattle.vm_kernel.proofs.space.RegionHomes.{homes_caused}
 use Rattle.vm_merge.specs.Merges.{IsThin}
+use Rattle.vm_copies.specs.Copies.{CopyTable}
 
 -- a task ends
 
@@ -45,9 +46,10 @@ tasks_ended h size task maps new host_at rows_at has changes =
     }
 
 -- a task that ends didn't wait
-waits_ended : {stays unmet : PageKey → Type 0} (maps : Mapped) (cs : ChainTable) (rs : ResidentTable) (os : ObjectTable) (rows : List Waiting) (who : On → Bool)
-    (waiting_at : ℕ → Option Access) (task : ℕ) → HasWaiters maps cs rs os rows who waiting_at stays unmet → entries_in task maps ≡ None
-    → HasWaiters maps cs rs os rows who (λ t. if task == t then None else waiting_at t) stays unmet
+waits_ended : {copies : CopyTable} {stays unmet : PageKey → Type 0} (maps : Mapped) (cs : ChainTable) (rs : ResidentTable) (os : ObjectTable)
+    (rows : List Waiting) (who : On → Bool)
+    (waiting_at : ℕ → Option Access) (task : ℕ) → HasWaiters maps cs copies rs os rows who waiting_at stays unmet → entries_in task maps ≡ None
+    → HasWaiters maps cs copies rs os rows who (λ t. if task == t then None else waiting_at t) stays unmet
 waits_ended maps cs rs os rows who waiting_at task has none =
     record {
       is = λ t here. elim (eqb_tells task t) [
@@ -85,7 +87,7 @@ sweeps_exit header h outside task past events k ids maps gone s value changes =
     let c = changed_by header h past k ids maps k.chains task.0 None gone [] s.rests idle changes live.1 cuts (raised_none k.chains) in
     let shown_tasks : HasTasks h header.size maps (λ t. host_of t (event.TaskEnded task ∷ past)) (λ t. entries_of header.size t (event.TaskEnded task ∷ past)) =
     tasks_ended h header.size task.0 k.maps maps (λ t. host_of t past) (λ t. entries_of header.size t past) m.core.spaces.tasks changes in
-    let shown_waits : HasWaiters maps k.chains k.memory.resident k.memory.objects k.waits.rows (is_woken woken.Nobody)
+    let shown_waits : HasWaiters maps k.chains k.copies k.memory.resident k.memory.objects k.waits.rows (is_woken woken.Nobody)
     (λ t. waiting t (event.TaskEnded task ∷ past)) (StaysAway header h (event.TaskEnded task ∷ past)) (IsUnmet header h (event.TaskEnded task ∷ past)) =
     waits_ended maps k.chains k.memory.resident k.memory.objects k.waits.rows (is_woken woken.Nobody) (λ t. waiting t past) task.0 c.waits changes.changed in
     record {

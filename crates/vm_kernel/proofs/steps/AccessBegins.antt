@@ -30,6 +30,7 @@ use Rattle.vm_kernel.proofs.abroad.OwnEvents.{own_task}
 use Rattle.vm_kernel.proofs.controls.LockReplied.{replied_behind}
 use Rattle.vm_base.specs.declared.ids.PageKey.{PageKey}
 use Rattle.vm_state.specs.Passed.{IsUnmet, Passed, StaysAway}
+use Rattle.vm_copies.specs.Copies.{CopyTable}
 
 -- what tests find of an access that isn't refused
 
@@ -196,13 +197,14 @@ begun_grows header h outside k ids past task (Stores address size value) m fine 
     })
 
 -- a task that didn't wait waits with an access that is to be run
-pub waits_added : {stays unmet : PageKey → Type 0} (maps : Mapped) (chains : ChainTable) (resident : ResidentTable) (objects : ObjectTable)
+pub waits_added : {copies : CopyTable} {stays unmet : PageKey → Type 0} (maps : Mapped) (chains : ChainTable) (resident : ResidentTable) (objects : ObjectTable)
     (rows new : List Waiting) (w : Waiting) (was : ℕ → Option Access) (now : ℕ → Option Access)
-    → HasWaiters maps chains resident objects rows (is_woken woken.Nobody) was stays unmet → PutsEntry w.task.0 (Some w) rows new → entry rows w.task.0 ≡ None
+    → HasWaiters maps chains copies resident objects rows (is_woken woken.Nobody) was stays unmet → PutsEntry w.task.0 (Some w) rows new
+    → entry rows w.task.0 ≡ None
     → w.on ≡ on.Again → IsAllowed maps w.task.0 (address_in maps.size w.want) (need_in w.want) → IsSizedWant maps.size w.want
     → ((t : ℕ) → now t ≡ (if w.task.0 == t then Some (access_in maps.size (copies_to w.destination) w.want) else was t))
-    → HasWaiters maps chains resident objects new (is_woken woken.Nobody) now stays unmet
-waits_added {stays = stays} {unmet = unmet} maps chains resident objects rows new w was now has puts none again allowed sized is =
+    → HasWaiters maps chains copies resident objects new (is_woken woken.Nobody) now stays unmet
+waits_added {copies = copies} {stays = stays} {unmet = unmet} maps chains resident objects rows new w was now has puts none again allowed sized is =
     record {
       is = λ t here. is t ∙ (both (w.task.0 == t) t here ∙ ap (waiting_in maps.size) (sym (puts.at t)));
       allowed = λ t v found. puts_cases w.task.0 t (Some w) rows new v puts found
@@ -213,7 +215,7 @@ waits_added {stays = stays} {unmet = unmet} maps chains resident objects rows ne
           (λ same row. subst (λ (z : Waiting). IsSizedWant maps.size z.want) (some_is w v row) sized)
           (λ apart old. has.sized t v old);
       reasons = λ t v found unwoken. puts_cases w.task.0 t (Some w) rows new v puts found
-          (λ same row. subst (λ (z : On). Reason maps chains resident objects t v.want z) (sym again ∙ ap (λ (z : Waiting). z.on) (some_is w v row)) tt)
+          (λ same row. subst (λ (z : On). Reason maps chains copies resident objects t v.want z) (sym again ∙ ap (λ (z : Waiting). z.on) (some_is w v row)) tt)
           (λ apart old. has.reasons t v old unwoken);
       passed = λ t v found unwoken. puts_cases w.task.0 t (Some w) rows new v puts found
           (λ same row. subst (λ (z : On). Passed stays unmet maps chains t v.want z) (sym again ∙ ap (λ (z : Waiting). z.on) (some_is w v row)) tt)
@@ -244,12 +246,12 @@ waits_added {stays = stays} {unmet = unmet} maps chains resident objects rows ne
           waits = asker.waits;
         }
 
-pub waits_begun : {stays unmet : PageKey → Type 0} (maps : Mapped) (chains : ChainTable) (resident : ResidentTable) (objects : ObjectTable)
+pub waits_begun : {copies : CopyTable} {stays unmet : PageKey → Type 0} (maps : Mapped) (chains : ChainTable) (resident : ResidentTable) (objects : ObjectTable)
     (rows new : List Waiting) (task : TaskId) (what : Number) (was : ℕ → Option Access) (now : ℕ → Option Access)
-    → HasWaiters maps chains resident objects rows (is_woken woken.Nobody) was stays unmet → PutsEntry task.0 (Some (begun_row task what)) rows new
+    → HasWaiters maps chains copies resident objects rows (is_woken woken.Nobody) was stays unmet → PutsEntry task.0 (Some (begun_row task what)) rows new
     → entry rows task.0 ≡ None → IsAllowed maps task.0 (address_in maps.size (want_of what)) (need_in (want_of what)) → IsSizedWant maps.size (want_of what)
     → ((t : ℕ) → now t ≡ (if task.0 == t then Some (access_in maps.size 0 (want_of what)) else was t))
-    → HasWaiters maps chains resident objects new (is_woken woken.Nobody) now stays unmet
+    → HasWaiters maps chains copies resident objects new (is_woken woken.Nobody) now stays unmet
 waits_begun maps chains resident objects rows new task what was now has puts none allowed sized is =
     waits_added maps chains resident objects rows new (begun_row task what) was now has puts none refl allowed sized is
 
@@ -283,10 +285,11 @@ begun_log : (task : TaskId) (what : Number) (before log : List Event) → before
 begun_log task what before log none told = told ∙ ap (λ (z : List Event). begun task what ∷ z) none
 
 -- to pages its beginning is nothing
-waits_after : {maps : Mapped} {chains : ChainTable} {resident : ResidentTable} {objects : ObjectTable} {rows : List Waiting} {who : On → Bool}
+waits_after : {copies : CopyTable} {maps : Mapped} {chains : ChainTable} {resident : ResidentTable} {objects : ObjectTable} {rows : List Waiting}
+    {who : On → Bool}
     {at : ℕ → Option Access} (header : Header) (h : ℕ) (task : TaskId) (what : Number) (past : List Event)
-    → HasWaiters maps chains resident objects rows who at (StaysAway header h past) (IsUnmet header h past)
-    → HasWaiters maps chains resident objects rows who at (StaysAway header h (begun task what ∷ past)) (IsUnmet header h (begun task what ∷ past))
+    → HasWaiters maps chains copies resident objects rows who at (StaysAway header h past) (IsUnmet header h past)
+    → HasWaiters maps chains copies resident objects rows who at (StaysAway header h (begun task what ∷ past)) (IsUnmet header h (begun task what ∷ past))
 waits_after header h task (Loads address size) past has = has
 waits_after header h task (Stores address size value) past has = has
 

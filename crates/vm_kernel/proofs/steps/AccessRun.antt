@@ -7,8 +7,13 @@ use Rattle.vm_kernel.proofs.Common.{with_on, zero, ℕ, ◌%◌, ◌&&◌, ◌++
 use Rattle.vm_kernel.proofs.space.RegionsFilled.{at_unfilled, entry_some}
 use Rattle.vm_state.proofs.Places.{on_its_region}
 use Rattle.vm_base.specs.declared.entry.Entry.{Entry}
-use Rattle.vm_fault.specs.Faults.{AfterZeros, AsksUnlock, AtOnce, Copied, Ended, FaultState, Faulted, Hits, Needs, NothingChanges, Nowhere, Prepares, Raised}
-use Rattle.vm_fault.specs.Faults.{RequestsPage, ToAsk, ToCopy, ToRaise}
+use Rattle.vm_copies.specs.Copies.{CopyTable}
+use Rattle.vm_base.specs.declared.ids.TaskId.{TaskId}
+use Rattle.vm_kernel.proofs.controls.NothingCopied.{notes_nothing, owed_nowhere}
+use Rattle.vm_kernel.specs.Matches.{no_copies}
+use Rattle.vm_fault.specs.Faults.{AfterZeros, AsksUnlock, AtOnce, AwaitsPage, Copied, Ended, FaultState, Faulted, Hits, Needs, NothingChanges, Nowhere}
+use Rattle.vm_fault.specs.Faults.{Prepares, Raised}
+use Rattle.vm_fault.specs.Faults.{Pushed, RequestsPage, ToAsk, ToCopy, ToPush, ToRaise}
 use Rattle.vm_fault.specs.Walks.{Finds, PassesOver, Sinks, StopsAsked, WalksTo, is_copying, is_storing, keeps_out, top_place, wanted_number, writes_at}
 use Rattle.vm_fault.specs.declared.step.FaultStep.{FaultStep}
 use Rattle.vm_fault.specs.declared.step.FaultStep.TheVariants as step
@@ -202,15 +207,17 @@ top_temporary header h past k ids w top t served sinks = elim (kind_cases header
 
 -- it ends with its page, after a copy or zeros came, or at once
 ended : (header : Header) (h : ℕ) (outside : Outside) (doing : Command) (past : List Event) (k : Parts) (ids : Ids) (w : Waiting) (top : PageKey)
-    (events : List Event) (value : ℕ) (m2 : HostParts) (after : List Event) (waits2 : WaitTable)
+    (events : List Event) (value : ℕ) (m2 : HostParts) (have : CopyTable) (after : List Event) (waits2 : WaitTable)
     → IsOfNumber w.want → Tries header h (events ++ past) k ids w top → IsServed header h k w.task.0 w.want (events ++ past)
-    → Ended (host_id h) w.task w.want top (address_in k.maps.size w.want % header.size) value k.memory m2 k.chains events after
+    → Ended (host_id h) w.task w.want top (address_in k.maps.size w.want % header.size) value k.memory m2 k.chains k.copies have
+    events after
     → PutsInOrder w.task.0 None k.waits.rows waits2.rows → Reaches header h outside doing past events (record k { memory = m2; waits = waits2 }) ids after
-ended header h outside doing past k ids w top events value m2 after waits2 number t served (AtOnce steps key row finds none out e hits told) put =
+ended header h outside doing past k ids w top events value m2 have after waits2 number t served (AtOnce steps key row finds none out owes e hits same told)
+    put =
     subst (λ (z : List Event). Reaches header h outside doing past events (record k { memory = m2; waits = waits2 }) ids z) (sym told)
     (hit header h outside doing past k ids w top events steps key row value e m2 waits2 t finds none out hits put)
-ended header h outside doing past k ids w top events value m2 after waits2 number t served
-    (Raised steps key row finds stores out frame copied with_hit raises keeps e hits touched told) put =
+ended header h outside doing past k ids w top events value m2 have after waits2 number t served
+    (Raised steps key row finds stores out frame copied with_hit raises keeps e hits touched notes told) put =
     let moment = events ++ past in
     let raised : Event = event.Raised (host_id h) key.object key.page top.object top.page in
     let to = leads_there header h moment k ids w top t in
@@ -236,7 +243,11 @@ ended header h outside doing past k ids w top events value m2 after waits2 numbe
       works = works_touched header h (e ∷ raised ∷ moment) (record k { memory = with_hit; waits = waits2 }) ids woken.Nobody row.frame m2 touched two.works;
       goes = goes_both header h outside doing past events (raised ∷ events) (e ∷ raised ∷ events) one two.goes;
     })
-ended header h outside doing past k ids w top events value m2 after waits2 number t served (AfterZeros sinks frame brought brings keeps e hits told) put =
+ended header h outside doing past k ids w top events value m2 have after waits2 number t served
+    (Pushed row finds stores out place owed none frame copied raises keeps e hits notes told) put =
+    absurd (let bad : None ≡ Some place = sym (owed_nowhere t.works.matches.core.setting.uncopied top) ∙ owed in cc)
+ended header h outside doing past k ids w top events value m2 have after waits2 number t served
+    (AfterZeros sinks frame brought brings keeps e hits notes told) put =
     let moment = events ++ past in
     let zeros : Event = event.Zeroed (host_id h) top.object top.page in
     let to = leads_there header h moment k ids w top t in
@@ -259,9 +270,19 @@ ended header h outside doing past k ids w top events value m2 after waits2 numbe
     (plain_open row2.lock (writes_at w.want 0) refl) hits put in
     subst (λ (z : List Event). Reaches header h outside doing past events (record k { memory = m2; waits = waits2 }) ids z) (sym told)
     (record { works = two.works; goes = goes_both header h outside doing past events (zeros ∷ events) (e ∷ zeros ∷ events) one two.goes })
-ended header h outside doing past k ids w top events value m2 after waits2 number t served
-    (Copied address pages next target is steps key row finds out is_none copies) put =
+ended header h outside doing past k ids w top events value m2 have after waits2 number t served
+    (Copied address pages next target is steps key row finds out is_none copies same) put =
     absurd (subst IsOfNumber is number)
+
+-- what its page was noted for
+ended_copies : {host : HostId} {task : TaskId} {what : Want} {top : PageKey} {at value : ℕ} {old new : HostParts} {chains : ChainTable}
+    {had have : CopyTable} {before after : List Event} → had ≡ no_copies
+    → Ended host task what top at value old new chains had have before after → have ≡ had
+ended_copies uncopied (AtOnce steps key row finds none out owes e hits same told) = same
+ended_copies uncopied (Raised steps key row finds stores out frame copied with_hit raises keeps e hits touched notes told) = notes_nothing uncopied notes
+ended_copies {top = top} uncopied (Pushed row finds stores out place owed none frame copied raises keeps e hits notes told) = notes_nothing uncopied notes
+ended_copies uncopied (AfterZeros sinks frame brought brings keeps e hits notes told) = notes_nothing uncopied notes
+ended_copies uncopied (Copied address pages next target is steps key row finds out is_none copies same) = same
 
 -- a place to which its walk leads is one of its places, and it has passed over those above
 place_of_walk : (header : Header) (h : ℕ) (past : List Event) (k : Parts) (ids : Ids) (w : Waiting) (top key : PageKey) (steps : ℕ)
@@ -379,6 +400,12 @@ prepared header h outside doing past k ids w may answer events new works is now 
           goes = goes_none header h outside doing past events;
         }) at clear
 
+    recopied : (mid : FaultState) (past2 : List Event) → mid.copies ≡ k.copies
+        → Works header h (record k { memory = mid.parts; chains = mid.chains }) mid.ids woken.Nobody past2
+        → Works header h (with_state k mid) mid.ids woken.Nobody past2
+    recopied mid past2 same has =
+        subst (λ (z : CopyTable). Works header h (record k { memory = mid.parts; chains = mid.chains; copies = z }) mid.ids woken.Nobody past2) (sym same) has
+
     by : (b : Bool) → (is_storing w.want && f.row.marked) ≡ b → Prepares b f.entry.region f.row (state_of k ids events) f.mid
         → Prepared header h outside doing past k ids w events f.mid f.top
     by false test same =
@@ -404,7 +431,8 @@ prepared header h outside doing past k ids w may answer events new works is now 
         made.chains.at f.entry.region.0 ∙ ap (λ b. if b then Some row2 else region_at k.chains f.entry.region.0) (own_host f.entry.region.0) in
         record {
           tries = record {
-            works = subst (λ (z : List Event). Works header h (with_state k f.mid) f.mid.ids woken.Nobody (z ++ past)) (sym made.told) works1;
+            works = subst (λ (z : List Event). Works header h (with_state k f.mid) f.mid.ids woken.Nobody (z ++ past)) (sym made.told)
+                (recopied f.mid (shadow ∷ moment) made.copies works1);
             is = is;
             now = now;
             at = f.at;
@@ -432,7 +460,8 @@ prepared header h outside doing past k ids w may answer events new works is now 
         loses.chains.at f.entry.region.0 ∙ ap (λ b. if b then Some row2 else region_at k.chains f.entry.region.0) (own_host f.entry.region.0) in
         record {
           tries = record {
-            works = subst (λ (z : List Event). Works header h (with_state k f.mid) f.mid.ids woken.Nobody (z ++ past)) (sym loses.told) works1;
+            works = subst (λ (z : List Event). Works header h (with_state k f.mid) f.mid.ids woken.Nobody (z ++ past)) (sym loses.told)
+                (recopied f.mid (mark ∷ moment) loses.copies works1);
             is = is;
             now = now;
             at = f.at;
@@ -443,17 +472,19 @@ prepared header h outside doing past k ids w may answer events new works is now 
               (goes_one header h outside doing past events mark works.matches.settled follows);
         }
 
--- the chains and the next numbers are those behind what the mark brought
+-- the chains, the copy objects and the next numbers are those behind what the mark brought
 settle : (header : Header) (h : ℕ) (outside : Outside) (doing : Command) (past : List Event) (k : Parts) (events : List Event) (mid new : FaultState)
     (waits2 : WaitTable) → LegalEvents header h outside doing past events mid.events
     → Reaches header h outside doing past mid.events (record (with_state k mid) { memory = new.parts; waits = waits2 }) mid.ids new.events
-    → new.chains ≡ mid.chains → new.ids ≡ mid.ids
+    → new.chains ≡ mid.chains → new.ids ≡ mid.ids → new.copies ≡ mid.copies
     → Reaches header h outside doing past events (record (with_state k new) { waits = waits2 }) new.ids new.events
-settle header h outside doing past k events mid new waits2 first r chains ids =
+settle header h outside doing past k events mid new waits2 first r chains ids copies =
     record {
       works = subst (λ (z : Ids). Works header h (record (with_state k new) { waits = waits2 }) z woken.Nobody (new.events ++ past)) (sym ids)
-          (subst (λ (z : ChainTable). Works header h (record k { memory = new.parts; chains = z; waits = waits2 }) mid.ids woken.Nobody (new.events ++ past))
-          (sym chains) r.works);
+          (subst (λ (z : CopyTable). Works header h (record k { memory = new.parts; chains = new.chains; copies = z; waits = waits2 }) mid.ids woken.Nobody
+          (new.events ++ past)) (sym copies)
+          (subst (λ (z : ChainTable). Works header h (record k { memory = new.parts; chains = z; copies = mid.copies; waits = waits2 }) mid.ids woken.Nobody
+          (new.events ++ past)) (sym chains) r.works));
       goes = goes_both header h outside doing past events mid.events new.events first r.goes;
     }
 
@@ -485,14 +516,14 @@ pub done_reaches : (header : Header) (h : ℕ) (outside : Outside) (doing : Comm
 done_reaches header h outside doing past k ids w may value events new waits2 number works is now served f put =
     let p = prepared header h outside doing past k ids w may (step.Done value) events new works is now f in
     let address = address_in k.maps.size w.want in
-    let named = subst (λ (z : HostId). Ended z w.task w.want f.top (address % k.memory.buffers.size) value f.mid.parts new.parts f.mid.chains f.mid.events
-    new.events) (named_host k.host h works.matches.core.setting.numbered) f.comes in
-    let sized = subst (λ (z : ℕ). Ended (host_id h) w.task w.want f.top (address % z) value f.mid.parts new.parts f.mid.chains f.mid.events new.events)
-    (works.matches.core.fits.buffers ∙ works.matches.core.setting.sized) named in
+    let named = subst (λ (z : HostId). Ended z w.task w.want f.top (address % k.memory.buffers.size) value f.mid.parts new.parts f.mid.chains f.mid.copies
+    new.copies f.mid.events new.events) (named_host k.host h works.matches.core.setting.numbered) f.comes in
+    let sized = subst (λ (z : ℕ). Ended (host_id h) w.task w.want f.top (address % z) value f.mid.parts new.parts f.mid.chains f.mid.copies
+    new.copies f.mid.events new.events) (works.matches.core.fits.buffers ∙ works.matches.core.setting.sized) named in
     settle header h outside doing past k events f.mid new waits2 p.goes (ended header h outside doing past (with_state k f.mid) f.mid.ids w f.top f.mid.events
-    value new.parts new.events waits2 number p.tries
+    value new.parts new.copies new.events waits2 number p.tries
     (prepared_served header h past (is_storing w.want && f.row.marked) f.entry.region f.row k ids events f.mid w.task.0 w.want f.prepares served)
-    sized put) f.chains f.ids
+    sized put) f.chains f.ids (ended_copies p.tries.works.matches.core.setting.uncopied f.comes)
 
 -- it waits for its object's pager
 pub ready_reaches : (header : Header) (h : ℕ) (outside : Outside) (doing : Command) (past : List Event) (k : Parts) (ids : Ids) (w : Waiting) (may : Bool)
@@ -515,7 +546,7 @@ ready_reaches header h outside doing past k ids w may object events new waits2 w
     settle header h outside doing past k events f.mid new waits2 p.goes
     (stays header h outside doing past k f.mid new waits2 f.comes.1
     (works_turned header h (f.mid.events ++ past) (with_state k f.mid) f.mid.ids w (on.Ready object) waits2 p.tries.works is now
-    (key, behind_place place, same, told) (key, place, same, unmet) put)) f.chains f.ids
+    (key, behind_place place, same, told) (key, place, same, unmet) put)) f.chains f.ids f.comes.1.copies
 
 -- its page is asked, or an unlock of it is outstanding; it was asked for now or before
 pub page_reaches : (header : Header) (h : ℕ) (outside : Outside) (doing : Command) (past : List Event) (k : Parts) (ids : Ids) (w : Waiting) (may : Bool)
@@ -530,20 +561,20 @@ page_reaches header h outside doing past k ids w may answer key events new waits
     (λ (z : FaultStep). Faulted k.maps k.host w.task w.want may z (state_of k ids events) new) asks faulted in
     let p = prepared header h outside doing past k ids w may (step.Ask key) events new works is now f in
     let named = subst (λ (z : HostId). RequestsPage z w.want f.top key f.mid.parts new.parts f.mid.chains f.mid.events new.events)
-    (named_host k.host h works.matches.core.setting.numbered) f.comes in
+    (named_host k.host h works.matches.core.setting.numbered) f.comes.0 in
     settle header h outside doing past k events f.mid new waits2 p.goes (asked header h outside doing past (with_state k f.mid) f.mid.ids w f.top key
-    f.mid.events new.parts new.events waits2 p.tries named put) f.chains f.ids
+    f.mid.events new.parts new.events waits2 p.tries named put) f.chains f.ids f.comes.1
 page_reaches header h outside doing past k ids w may answer key events new waits2 works is now faulted (inr (inl unlocks)) put =
     let f : Faulted k.maps k.host w.task w.want may (step.Unlock key) (state_of k ids events) new = subst
     (λ (z : FaultStep). Faulted k.maps k.host w.task w.want may z (state_of k ids events) new) unlocks faulted in
     let p = prepared header h outside doing past k ids w may (step.Unlock key) events new works is now f in
     let named = subst (λ (z : HostId). AsksUnlock z w.want f.top key f.mid.parts new.parts f.mid.chains f.mid.events new.events)
-    (named_host k.host h works.matches.core.setting.numbered) f.comes in
+    (named_host k.host h works.matches.core.setting.numbered) f.comes.0 in
     settle header h outside doing past k events f.mid new waits2 p.goes (unlocked_by header h outside doing past (with_state k f.mid) f.mid.ids w f.top key
-    f.mid.events new.parts new.events waits2 p.tries named put) f.chains f.ids
+    f.mid.events new.parts new.events waits2 p.tries named put) f.chains f.ids f.comes.1
 page_reaches header h outside doing past k ids w may answer key events new waits2 works is now faulted (inr (inr joins)) put =
-    settle header h outside doing past k events f.mid new waits2 p.goes (stays header h outside doing past k f.mid new waits2 f.comes.1 (by f.comes.0.why))
-    f.chains f.ids
+    settle header h outside doing past k events f.mid new waits2 p.goes (stays header h outside doing past k f.mid new waits2 f.comes.1 (by awaits.why))
+    f.chains f.ids f.comes.1.copies
   where
     f : Faulted k.maps k.host w.task w.want may (step.WaitAnswer key) (state_of k ids events) new
     f = subst (λ (z : FaultStep). Faulted k.maps k.host w.task w.want may z (state_of k ids events) new) joins faulted
@@ -551,11 +582,17 @@ page_reaches header h outside doing past k ids w may answer key events new waits
     p : Prepared header h outside doing past k ids w events f.mid f.top
     p = prepared header h outside doing past k ids w may (step.WaitAnswer key) events new works is now f
 
+    awaits : AwaitsPage w.want f.top key f.mid.parts f.mid.chains
+    awaits = elim f.comes.0 [
+      | inl page ↦ page
+      | inr push ↦ absurd (let bad : None ≡ Some key = sym (owed_nowhere p.tries.works.matches.core.setting.uncopied f.top) ∙ push.owed in cc)
+    ]
+
     steps : ℕ
-    steps = f.comes.0.steps
+    steps = awaits.steps
 
     row : PageRow
-    row = f.comes.0.row
+    row = awaits.row
 
     by : (Finds f.mid.parts f.mid.chains steps f.top key row × (keeps_out row.lock (writes_at w.want steps) ≡ true) × (row.unlock_sent ≡ true))
         ⊎ StopsAsked f.mid.parts f.mid.chains steps f.top key row
@@ -581,6 +618,7 @@ queued_reaches header h outside doing past k ids w may source events new waits2 
     settle header h outside doing past k events f.mid new waits2 p.goes
     (stays header h outside doing past k f.mid new waits2 f.comes.2
     (works_turned header h (f.mid.events ++ past) (with_state k f.mid) f.mid.ids w on.Frame waits2 p.tries.works is now tt tt put)) f.chains f.ids
+    f.comes.2.copies
 
 -- or stands in it, and stays there
 pub still_reaches : (header : Header) (h : ℕ) (outside : Outside) (doing : Command) (past : List Event) (k : Parts) (ids : Ids) (w : Waiting) (may : Bool)
@@ -591,14 +629,14 @@ pub still_reaches : (header : Header) (h : ℕ) (outside : Outside) (doing : Com
 still_reaches header h outside doing past k ids w may source events new works is now f =
     let p = prepared header h outside doing past k ids w may (step.NeedFrame source) events new works is now f in
     settle header h outside doing past k events f.mid new k.waits p.goes (stays header h outside doing past k f.mid new k.waits f.comes.2 p.tries.works)
-    f.chains f.ids
+    f.chains f.ids f.comes.2.copies
 
 -- the access wants a frame
 
 -- why
 frame_why : (header : Header) (h : ℕ) (past : List Event) (k : Parts) (ids : Ids) (w : Waiting) (top : PageKey) {source : Option PageKey}
     → (t : Tries header h past k ids w top) → IsServed header h k w.task.0 w.want past → (to : Leads header h past k w.task.0 w.want top t.at)
-    → Needs w.want top k.memory k.chains source
+    → Needs w.want top k.memory k.chains k.copies source
     → WantsFrame header h w.task.0 (access_in k.maps.size to.destination w.want) t.at.entry.region.0
     (page_of header w.task.0 (access_in k.maps.size to.destination w.want) past t.at.entry) past
 frame_why header h past k ids w top t served to (Nowhere sinks) =
@@ -615,6 +653,8 @@ frame_why header h past k ids w top t served to (ToAsk steps key object comes re
     let may = may_ask s steps top key object comes ready in
     legal.Elsewhere key.object.0 key.page.0 (comes_at header h past k w.task.0 w.want top t.at to s steps key comes.walks) may.away may.unasked may.may_have
     may.ready
+frame_why header h past k ids w top t served to (ToPush row finds stores out place owed none) =
+    absurd (let bad : None ≡ Some place = sym (owed_nowhere t.works.matches.core.setting.uncopied top) ∙ owed in cc)
 frame_why header h past k ids w top t served to (ToRaise steps key row finds stores out) =
     let s = shown_at t.works.matches in
     legal.Raises top.object.0 top.page.0 steps key.object.0 key.page.0 (top_at header h past k w.task.0 w.want top t.at to)
@@ -625,7 +665,7 @@ frame_why header h past k ids w top t served to (ToRaise steps key row finds sto
 
 found_source : (header : Header) (h : ℕ) (past : List Event) (k : Parts) (ids : Ids) (w : Waiting) (top : PageKey) → Tries header h past k ids w top
     → IsServed header h k w.task.0 w.want past → (steps : ℕ) (key : PageKey) (row : PageRow) → Finds k.memory k.chains steps top key row
-    → Needs w.want top k.memory k.chains (Some key)
+    → Needs w.want top k.memory k.chains k.copies (Some key)
     → IsToCopyPage header h w.task key.object.0 key.page.0 past × IsHere k key
 found_source header h past k ids w top t served steps key row finds needs =
     let to = leads_there header h past k ids w top t in
@@ -646,12 +686,14 @@ found_source header h past k ids w top t served steps key row finds needs =
     )
 
 frame_source : (header : Header) (h : ℕ) (past : List Event) (k : Parts) (ids : Ids) (w : Waiting) (top : PageKey) {source : Option PageKey}
-    → Tries header h past k ids w top → IsServed header h k w.task.0 w.want past → Needs w.want top k.memory k.chains source
+    → Tries header h past k ids w top → IsServed header h k w.task.0 w.want past → Needs w.want top k.memory k.chains k.copies source
     → IfSome source (λ key. IsToCopyPage header h w.task key.object.0 key.page.0 past × IsHere k key)
 frame_source header h past k ids w top t served (Nowhere sinks) = tt
 frame_source header h past k ids w top t served (ToAsk steps key object comes ready) = tt
 frame_source header h past k ids w top t served (ToCopy steps key row finds copying out) =
     found_source header h past k ids w top t served steps key row finds (ToCopy steps key row finds copying out)
+frame_source header h past k ids w top t served (ToPush row finds stores out place owed none) =
+    absurd (let bad : None ≡ Some place = sym (owed_nowhere t.works.matches.core.setting.uncopied top) ∙ owed in cc)
 frame_source header h past k ids w top t served (ToRaise steps key row finds stores out) =
     found_source header h past k ids w top t served (suc steps) key row finds (ToRaise steps key row finds stores out)
 
@@ -695,7 +737,8 @@ wanting_of header h outside doing past k ids w may source events new waits2 work
     record {
       is = only_copies header h moment mid w.task source found;
       only = needs_it header h moment mid w.task w.want f.top t.at source to
-          (owes_nothing header h mid f.mid.ids [] moment t.works.matches t.works.used.copies) (shown_at t.works.matches) f.comes.0;
+          (owes_nothing header h mid f.mid.ids [] moment t.works.matches t.works.used.copies) (shown_at t.works.matches) t.works.matches.core.setting.uncopied
+          f.comes.0;
     } in
     let here = subst (λ (z : HostParts). IsToCopy header h (record mid { memory = z }) source moment) (sym same.parts) copies in
     record {

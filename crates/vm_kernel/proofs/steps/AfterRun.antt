@@ -4,6 +4,7 @@ use Rattle.vm_kernel.proofs.Common.{ObjectId, On, Option, Outside, PageKey, Pagi
 use Rattle.vm_kernel.proofs.Common.{Want, Works, ap, append_assoc, arith, count_again, entry, false, free, inl, inr, map, nat_lt, nat_tests, one_again}
 use Rattle.vm_kernel.proofs.Common.{one_frame, paging, queue_without, queued, refl, rows_without, subst, sym, true, turned, with_on, ℕ, ◌*◌, ◌++◌, ◌+◌, ◌-◌}
 use Rattle.vm_kernel.proofs.Common.{◌<◌, ◌∙◌, ◌∷◌, ◌≡◌, ◌⊎◌}
+use Rattle.vm_copies.specs.Copies.{CopyTable}
 use Rattle.vm_fault.specs.Faults.{FaultState, Faulted, Runs, has_more, want_after}
 use Rattle.vm_fault.specs.declared.step.FaultStep.{FaultStep}
 use Rattle.vm_fault.specs.declared.step.FaultStep.TheVariants as step
@@ -131,15 +132,19 @@ pub record CopiesLast (header : Header) (h : ℕ) (outside : Outside) (doing : C
   pub goes : LegalEvents header h outside doing past events new.events
   pub over : (x : Option Waiting) (rows : List Waiting) → PutsInOrder w.task.0 x k.waits.rows rows → PutsInOrder w.task.0 x waits.rows rows
 
-at_copying : (header : Header) (h : ℕ) (past : List Event) (k : Parts) (new : FaultState) (chains : ChainTable) (ids : Ids) (events : List Event)
-    (waits : WaitTable) (w : Waiting) (address pages : ℕ) (target : ObjectId) (next : ℕ) → new.chains ≡ chains → new.ids ≡ ids → new.events ≡ events
-    → Copying header h (record k { memory = new.parts; chains = chains; waits = waits }) ids (events ++ past) w address pages target next
+at_copying : (header : Header) (h : ℕ) (past : List Event) (k : Parts) (new : FaultState) (chains : ChainTable) (copies : CopyTable) (ids : Ids)
+    (events : List Event) (waits : WaitTable) (w : Waiting) (address pages : ℕ) (target : ObjectId) (next : ℕ) → new.chains ≡ chains → new.copies ≡ copies
+    → new.ids ≡ ids
+    → new.events ≡ events
+    → Copying header h (record k { memory = new.parts; chains = chains; copies = copies; waits = waits }) ids (events ++ past) w address pages target next
     → Copying header h (record (with_state k new) { waits = waits }) new.ids (new.events ++ past) w address pages target next
-at_copying header h past k new chains ids events waits w address pages target next same_chains same_ids told copying =
+at_copying header h past k new chains copies ids events waits w address pages target next same_chains same_copies same_ids told copying =
     subst (λ (z : List Event). Copying header h (record (with_state k new) { waits = waits }) new.ids (z ++ past) w address pages target next) (sym told)
     (subst (λ (z : Ids). Copying header h (record (with_state k new) { waits = waits }) z (events ++ past) w address pages target next) (sym same_ids)
-    (subst (λ (z : ChainTable). Copying header h (record k { memory = new.parts; chains = z; waits = waits }) ids (events ++ past) w address pages target next)
-    (sym same_chains) copying))
+    (subst (λ (z : CopyTable). Copying header h (record k { memory = new.parts; chains = new.chains; copies = z; waits = waits }) ids (events ++ past) w address
+    pages target next) (sym same_copies)
+    (subst (λ (z : ChainTable). Copying header h (record k { memory = new.parts; chains = z; copies = copies; waits = waits }) ids (events ++ past) w address
+    pages target next) (sym same_chains) copying)))
 
 copies_last : (header : Header) (h : ℕ) (outside : Outside) (doing : Command) (past : List Event) (k : Parts) (ids : Ids) (w : Waiting) (may : Bool) (value : ℕ)
     (last : Want) (events : List Event) (new : FaultState) (address pages : ℕ) (target : ObjectId) (first : ℕ) → w.want ≡ want.CopyTo address pages target first
@@ -169,7 +174,9 @@ copies_last header h outside doing past k ids w may value last events new addres
       next = next;
       waits = r.waits;
       copying =
-          at_copying header h past k new r.mid.chains r.mid.ids (e ∷ r.mid.events) r.waits w2 address pages target next page.chains page.ids page.copies.told
+          at_copying header h past k new r.mid.chains r.mid.copies r.mid.ids (e ∷ r.mid.events) r.waits w2 address pages target next page.chains page.kept
+          page.ids
+          page.copies.told
           copying;
       last = grind (arith, nat_tests);
       goes =

@@ -17,6 +17,7 @@ use Rattle.vm_kernel.proofs.controls.LockReplied.{replied_none}
 use Rattle.vm_model.specs.Regions.{region_of}
 use Rattle.vm_state.specs.Counts.{marked_in, marks_of}
 use Rattle.vm_state.specs.Pagers.{cached_in}
+use Rattle.vm_kernel.specs.Matches.{no_copies}
 
 no_claims : (n : ℕ) → count_claims (replicate n false) ≡ 0
 no_claims zero = refl
@@ -48,9 +49,9 @@ unmarked header (suc n) = unmarked header n
 pub first_rests : (header : Header) (h : ℕ) (k : Parts) (count : ℕ) → IsRanged header → h < length header.frames.items → k.size ≡ header.size → k.host.0 ≡ h
     → k.declared.items ≡ header.objects.items → slice_get (reverse header.frames.items) h ≡ Some count → IsStart count header.size k.memory
     → k.maps ≡ record { size = header.size; tasks = [] } → ((r : ℕ) → region_at k.chains r ≡ None) → ((o : ℕ) → shadow_at k.chains o ≡ None)
-    → k.laundry.held ≡ [] → k.laundry.room ≡ count → k.waits.rows ≡ []
+    → k.copies ≡ no_copies → k.laundry.held ≡ [] → k.laundry.room ≡ count → k.waits.rows ≡ []
     → Rests header h k (first_ids header) []
-first_rests header h k count ranged known size host declared hosts start maps regions shadows held room waits =
+first_rests header h k count ranged known size host declared hosts start maps regions shadows copies held room waits =
     let frames = start.frames_are in
     let rows = start.rows in
     let claims : k.memory.frames.claims ≡ replicate count false = ap (λ z. z.claims) frames in
@@ -78,6 +79,7 @@ first_rests header h k count ranged known size host declared hosts start maps re
                 sized = size;
                 numbered = host;
                 objects = declared;
+                uncopied = copies;
               };
               calm = λ o is. absurd (let bad : false ≡ true = is in cc);
               fits = record {

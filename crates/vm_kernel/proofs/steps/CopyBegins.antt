@@ -82,6 +82,7 @@ with_copy k k2 waits =
       memory = record k.memory { objects = k2.memory.objects };
       maps = k.maps;
       chains = k2.chains;
+      copies = k.copies;
       laundry = k.laundry;
       waits = waits;
       skip = k2.skip;
@@ -412,7 +413,8 @@ module _ (header : Header) (h : ℕ) (outside : Outside) (task : TaskId) (addres
 
   -- the access waits, and is to be run
 
-  waits_now : HasWaiters k.maps k2.chains k.memory.resident k2.memory.objects waits.rows (is_woken woken.Nobody) (λ t. waiting t now) (StaysAway header h now)
+  waits_now : HasWaiters k.maps k2.chains k.copies k.memory.resident k2.memory.objects waits.rows (is_woken woken.Nobody) (λ t. waiting t now)
+      (StaysAway header h now)
       (IsUnmet header h now)
   waits_now =
       let sized = rests.matches.core.spaces.tasks.sized in
@@ -587,6 +589,7 @@ has_begun {doing = doing} {task = task} {address = address} {bytes = bytes} {to 
       host = b.made.host;
       size = b.made.size;
       declared = b.made.declared;
+      copied = b.made.copied;
       memory = b.made.memory;
       maps = b.made.maps;
       laundry = b.made.laundry;
@@ -616,6 +619,7 @@ has_begun {doing = doing} {task = task} {address = address} {bytes = bytes} {to 
       memory = b.made.memory i;
       maps = b.made.maps i;
       chains = k2.chains;
+      copies = b.made.copied i;
       laundry = b.made.laundry i;
       waits = waits;
       skip = k2.skip;

@@ -142,7 +142,7 @@ copies_left {k = k} {w = w} c rows2 put =
 
 waits_left : {header : Header} {h : ℕ} {k : Parts} {ids : Ids} {past : List Event} {w : Waiting} {address pages : ℕ} {target : ObjectId} {next : ℕ}
     → (c : Copying header h k ids past w address pages target next) → runs_now w.on ≡ true → (rows2 : List Waiting) → PutsEntry w.task.0 None k.waits.rows rows2
-    → HasWaiters k.maps k.chains k.memory.resident k.memory.objects rows2 (is_woken woken.Nobody) (λ t. waiting t (event.CopyEnded w.task ∷ past))
+    → HasWaiters k.maps k.chains k.copies k.memory.resident k.memory.objects rows2 (is_woken woken.Nobody) (λ t. waiting t (event.CopyEnded w.task ∷ past))
     (StaysAway header h (event.CopyEnded w.task ∷ past)) (IsUnmet header h (event.CopyEnded w.task ∷ past))
 waits_left {k = k} {past = past} {w = w} c now rows2 put =
     waiters_over k.maps k.chains k.memory.resident k.memory.objects k.waits.rows rows2 (λ t. waiting t past) (λ t. waiting t (event.CopyEnded w.task ∷ past))
@@ -477,6 +477,7 @@ copy_ends header h outside doing k k2 ids past w address pages target next waits
       memory = sym is.memory i;
       maps = k2.maps;
       chains = k2.chains;
+      copies = sym is.copied i;
       laundry = sym is.laundry i;
       waits = sym is.waits i;
       skip = k2.skip;

@@ -50,6 +50,7 @@ use Rattle.vm_kernel.proofs.memory.PlacesPassed.{waits_filled}
 use Rattle.vm_state.specs.Passed.{IsUnmet, Passed, StaysAway}
 use Rattle.vm_kernel.proofs.space.RegionsFilled.{place_unfilled}
 use Rattle.vm_merge.specs.Merges.{IsThin}
+use Rattle.vm_state.proofs.Waiting.{words_same}
 
 -- a slow copy has made its next page, which its row doesn't say yet
 pub record Copying (header : Header) (h : ℕ) (k : Parts) (ids : Ids) (past : List Event) (w : Waiting) (address pages : ℕ) (target : ObjectId) (next : ℕ) : Type
@@ -291,10 +292,11 @@ copy_goes_on header h past k ids w address pages target next waits2 c more now p
           waiters_put k.maps k.chains k.memory.resident k.memory.resident k.memory.objects k.waits.rows waits2.rows (λ u. waiting u past) (λ u. waiting u past)
           w.task.0 (Some w2) c.waits put.entry told
           (λ v it. subst (λ (z : Waiting). Suits k.maps w.task.0 z) (some_is w2 v it) suits)
-          (λ v it. subst (λ (z : Waiting). Reason k.maps k.chains k.memory.resident k.memory.objects w.task.0 z.want z.on) (some_is w2 v it) (reason w.on now))
+          (λ v it. subst (λ (z : Waiting). Reason k.maps k.chains k.copies k.memory.resident k.memory.objects w.task.0 z.want z.on) (some_is w2 v it)
+          (reason w.on now))
           (λ v it. subst (λ (z : Waiting). Passed (StaysAway header h past) (IsUnmet header h past) k.maps k.chains w.task.0 z.want z.on) (some_is w2 v it)
           (passed w.on now))
-          (λ what o p awaits. awaits)
+          (words_same k.memory.resident)
           (λ o p row found awaits. asker_kept k.waits.rows waits2.rows w.task.0 w (Some w2) o p put.entry c.is (λ why. none.at o p row found awaits why)
           (c.waits.askers o p row found awaits))
           c.waits.ready;
@@ -321,17 +323,19 @@ copy_goes_on header h past k ids w address pages target next waits2 c more now p
       sized = (sized.0, more, sized.2);
     }
 
-    reason : (why : On) → runs_now why ≡ true → Reason k.maps k.chains k.memory.resident k.memory.objects w.task.0 w2.want why
+    reason : (why : On) → runs_now why ≡ true → Reason k.maps k.chains k.copies k.memory.resident k.memory.objects w.task.0 w2.want why
     reason on.Again is = tt
     reason on.Frame is = tt
     reason (on.Ready object) is = absurd (let bad : false ≡ true = is in cc)
     reason (on.Page key) is = absurd (let bad : false ≡ true = is in cc)
+    reason (on.Push key) is = absurd (let bad : false ≡ true = is in cc)
 
     passed : (why : On) → runs_now why ≡ true → Passed (StaysAway header h past) (IsUnmet header h past) k.maps k.chains w.task.0 w2.want why
     passed on.Again is = tt
     passed on.Frame is = tt
     passed (on.Ready object) is = absurd (let bad : false ≡ true = is in cc)
     passed (on.Page key) is = absurd (let bad : false ≡ true = is in cc)
+    passed (on.Push key) is = absurd (let bad : false ≡ true = is in cc)
 
     shown_now : (u : ℕ) → waiting_in k.maps.size (entry waits2.rows u) ≡ waiting_in k.maps.size (entry k.waits.rows u)
     shown_now u = elim (eqb_tells w.task.0 u) [

@@ -19,6 +19,7 @@ use Rattle.vm_waits.proofs.Tables.{puts_rewanted}
 use Rattle.vm_waits.specs.Waits.{rewanted, with_want}
 use Rattle.vm_waits.specs.Wants.{with_page_done}
 use Rattle.vm_waits.specs.declared.waiting.Want.TheVariants as want
+use Rattle.vm_fault.specs.Faults.{Pushed}
 
 -- a run of a slow copy has made its next page
 pub record MakesPage (maps : Mapped) (task : TaskId) (address pages : ℕ) (target : ObjectId) (next : ℕ) (old new : FaultState) : Type 0 where
@@ -31,6 +32,7 @@ pub record MakesPage (maps : Mapped) (task : TaskId) (address pages : ℕ) (targ
   pub open_to : keeps_out row.lock false ≡ false
   pub copies : CopiesPage task key row target next old.parts new.parts old.events new.events
   pub chains : new.chains ≡ old.chains
+  pub kept : new.copies ≡ old.copies
   pub ids : new.ids ≡ old.ids
 
 pub makes_page : {maps : Mapped} {host : HostId} {task : TaskId} {may : Bool} {value : ℕ} {old new : FaultState} (address pages : ℕ) (target : ObjectId)
@@ -42,11 +44,12 @@ makes_page {maps = maps} {host = host} {task = task} {may = may} {value = value}
     what : Want
     what = want.CopyTo address pages target next
 
-    one_page : (at : IsAt maps old.chains task.0 what f.top) → new.chains ≡ old.chains → new.ids ≡ old.ids → (a p : ℕ) (t : ObjectId) (n : ℕ)
+    one_page : (at : IsAt maps old.chains task.0 what f.top) → new.chains ≡ old.chains → new.copies ≡ old.copies → new.ids ≡ old.ids
+        → (a p : ℕ) (t : ObjectId) (n : ℕ)
         → what ≡ want.CopyTo a p t n → (steps : ℕ) (key : PageKey) (row : PageRow) → Finds old.parts old.chains steps f.top key row
         → keeps_out row.lock false ≡ false → CopiesPage task key row t n old.parts new.parts old.events new.events
         → MakesPage maps task address pages target next old new
-    one_page at chains ids a p t n is steps key row finds out copies =
+    one_page at chains kept ids a p t n is steps key row finds out copies =
         record {
           top = f.top;
           at = at;
@@ -59,6 +62,7 @@ makes_page {maps = maps} {host = host} {task = task} {may = may} {value = value}
               subst (λ (z : ObjectId). CopiesPage task key row z next old.parts new.parts old.events new.events) (target_of is)
               (subst (λ (z : ℕ). CopiesPage task key row t z old.parts new.parts old.events new.events) (next_of is) copies);
           chains = chains;
+          kept = kept;
           ids = ids;
         }
       where
@@ -69,20 +73,26 @@ makes_page {maps = maps} {host = host} {task = task} {may = may} {value = value}
         next_of same = cc
 
     ends : (at_byte : ℕ) → IsAt maps old.chains task.0 what f.top
-        → Ended host task what f.top at_byte value old.parts new.parts old.chains old.events new.events → new.chains ≡ old.chains → new.ids ≡ old.ids
+        → Ended host task what f.top at_byte value old.parts new.parts old.chains old.copies new.copies old.events new.events → new.chains ≡ old.chains
+        → new.ids ≡ old.ids
         → MakesPage maps task address pages target next old new
-    ends at_byte at (AtOnce steps key row finds none out e hits told) chains ids = absurd hits
-    ends at_byte at (Raised steps key row finds stores out frame copied hit raises keeps e hits touched told) chains ids =
+    ends at_byte at (AtOnce steps key row finds none out owes e hits same told) chains ids = absurd hits
+    ends at_byte at (Raised steps key row finds stores out frame copied hit raises keeps e hits touched notes told) chains ids =
         absurd (let bad : false ≡ true = stores in cc)
-    ends at_byte at (AfterZeros sinks frame brought brings keeps e hits told) chains ids = absurd hits
-    ends at_byte at (Copied a p n t is steps key row finds out none copies) chains ids = one_page at chains ids a p t n is steps key row finds out copies
+    ends at_byte at (Pushed row finds stores out place owed none frame copied raises keeps e hits notes told) chains ids =
+        absurd (let bad : false ≡ true = stores in cc)
+    ends at_byte at (AfterZeros sinks frame brought brings keeps e hits notes told) chains ids = absurd hits
+    ends at_byte at (Copied a p n t is steps key row finds out none copies same) chains ids =
+        one_page at chains same ids a p t n is steps key row finds out copies
 
     by : (mid : FaultState) → mid ≡ old → IsAt maps mid.chains task.0 what f.top
-        → Ended host task what f.top (address_in maps.size what % old.parts.buffers.size) value mid.parts new.parts mid.chains mid.events new.events
+        → Ended host task what f.top (address_in maps.size what % old.parts.buffers.size) value mid.parts new.parts mid.chains mid.copies new.copies mid.events
+        new.events
         → new.chains ≡ mid.chains → new.ids ≡ mid.ids → MakesPage maps task address pages target next old new
     by mid same at comes chains ids =
         subst (λ (z : FaultState). IsAt maps z.chains task.0 what f.top
-        → Ended host task what f.top (address_in maps.size what % old.parts.buffers.size) value z.parts new.parts z.chains z.events new.events
+        → Ended host task what f.top (address_in maps.size what % old.parts.buffers.size) value z.parts new.parts z.chains z.copies new.copies z.events
+        new.events
         → new.chains ≡ z.chains → new.ids ≡ z.ids → MakesPage maps task address pages target next old new) (sym same)
         (λ at2 comes2 chains2 ids2. ends (address_in maps.size what % old.parts.buffers.size) at2 comes2 chains2 ids2) at comes chains ids
 
@@ -193,6 +203,6 @@ runs_to header h outside doing past events k ids w may answer last new works is 
         go (made + 1) next_want last2 mid new2 rest (ap with_page_done is_what ∙ one_more made w.want) waits1
         (puts_twice w.task.0 (Some w0) (Some (with_want w next_want)) k.waits.rows waits.rows waits1.rows put put1)
         (order_twice waits1.rows waits.rows k.waits.rows (rewanted_back w.task.0 next_want waits.rows) back)
-        (at_state header h past k mid old.chains old.ids (e ∷ old.events) waits1 page.chains page.ids page.copies.told held1)
+        (at_state header h past k mid old.chains old.copies old.ids (e ∷ old.events) waits1 page.chains page.kept page.ids page.copies.told held1)
         (subst (λ (z : List Event). LegalEvents header h outside doing past events z) (sym page.copies.told)
         (goes_both header h outside doing past events old.events (e ∷ old.events) goes one))

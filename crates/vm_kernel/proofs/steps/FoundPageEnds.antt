@@ -8,7 +8,7 @@ use Rattle.vm_kernel.proofs.Common.{◌++◌, ◌∙◌, ◌∷◌, ◌≡◌, �
 use Rattle.vm_base.specs.declared.entry.Entry.{Entry}
 use Rattle.vm_fault.specs.Faults.{AfterZeros, AtOnce, Copied, Ended, FaultState, Faulted, Hits, Needs, Nowhere, Prepares, Raised, Runs, ToAsk, ToCopy, ToRaise}
 use Rattle.vm_fault.specs.Faults as fault
-use Rattle.vm_fault.specs.Walks.{Finds, StopsAsked, is_storing, keeps_out, top_place, writes_at}
+use Rattle.vm_fault.specs.Walks.{Finds, is_storing, keeps_out, top_place, writes_at}
 use Rattle.vm_fault.specs.declared.step.FaultStep.{FaultStep}
 use Rattle.vm_fault.specs.declared.step.FaultStep.TheVariants as step
 use Rattle.vm_kernel.proofs.steps.AccessRun.{state_of}
@@ -29,6 +29,11 @@ use Rattle.vm_legal.specs.InTurn.{IsFailureOf}
 use Rattle.std.proofs.lemmas.Bool.{and_left, and_right}
 use Rattle.vm_model.specs.Waiting.{Copying}
 use Rattle.std.specs.Prelude.{◌*◌}
+use Rattle.std.specs.Prelude.{None}
+use Rattle.vm_kernel.proofs.controls.NothingCopied.{owed_nowhere}
+use Rattle.vm_fault.specs.Faults.{Pushed, ToPush}
+use Rattle.vm_fault.specs.Pushes.{owed_at}
+use Rattle.vm_copies.specs.Copies.{CopyTable}
 
 pub some_same : {A : Type 0} (x y : A) → Some x ≡ Some y → x ≡ y
 some_same x y e = cc
@@ -176,14 +181,16 @@ finds_first header h past k task what top at to (ToWrite address bytes value obj
 
 -- what the kernel's walk comes to is what the history's does
 
-record Found (header : Header) (h : ℕ) (past : List Event) (parts : HostParts) (chains : ChainTable) (what : Want) (top : PageKey) : Type 0 where
-  pub number : IsOfNumber what
-  pub shown : IsShown header h parts chains past
-  pub referred : IsReferred parts.objects top.object.0
-  pub finds : FindsAt header h past what top
+record Found (header : Header) (h : ℕ) (past : List Event) (parts : HostParts) (chains : ChainTable) (copies : CopyTable) (what : Want) (top : PageKey) : Type 0
+  where
+    pub number : IsOfNumber what
+    pub shown : IsShown header h parts chains past
+    pub referred : IsReferred parts.objects top.object.0
+    pub finds : FindsAt header h past what top
+    pub unowed : is_storing what ≡ true → owed_at copies top ≡ None
 
-lands : {header : Header} {h : ℕ} {past : List Event} {parts : HostParts} {chains : ChainTable} {what : Want} {top : PageKey}
-    → Found header h past parts chains what top → Lands header h past parts chains top
+lands : {header : Header} {h : ℕ} {past : List Event} {parts : HostParts} {chains : ChainTable} {copies : CopyTable} {what : Want}
+    {top : PageKey} → Found header h past parts chains copies what top → Lands header h past parts chains top
 lands f =
     record {
       shown = f.shown;
@@ -198,8 +205,8 @@ lands f =
     }
 
 -- no lock keeps the access out where it is
-never_locked : {header : Header} {h : ℕ} {past : List Event} {parts : HostParts} {chains : ChainTable} {what : Want} {top : PageKey}
-    → Found header h past parts chains what top → (n : ℕ) (key : PageKey) (row : PageRow) → Finds parts chains n top key row
+never_locked : {header : Header} {h : ℕ} {past : List Event} {parts : HostParts} {chains : ChainTable} {copies : CopyTable} {what : Want}
+    {top : PageKey} → Found header h past parts chains copies what top → (n : ℕ) (key : PageKey) (row : PageRow) → Finds parts chains n top key row
     → keeps_out row.lock (writes_at what n) ≡ true → ⊥
 never_locked {header = header} {h = h} {past = past} {what = what} {top = top} f n key row finds locked =
     let shows = shows_row f.shown key.object.0 key.page.0 row finds.found finds.here in
@@ -215,8 +222,8 @@ never_locked {header = header} {h = h} {past = past} {what = what} {top = top} f
     cc
 
 -- a store finds it in the top place
-never_below : {header : Header} {h : ℕ} {past : List Event} {parts : HostParts} {chains : ChainTable} {what : Want} {top : PageKey}
-    → Found header h past parts chains what top → (n : ℕ) (key : PageKey) (row : PageRow) → Finds parts chains (suc n) top key row
+never_below : {header : Header} {h : ℕ} {past : List Event} {parts : HostParts} {chains : ChainTable} {copies : CopyTable} {what : Want}
+    {top : PageKey} → Found header h past parts chains copies what top → (n : ℕ) (key : PageKey) (row : PageRow) → Finds parts chains (suc n) top key row
     → is_storing what ≡ true → ⊥
 never_below {header = header} {h = h} {past = past} {top = top} f n key row below stores =
     let same = stop_same (λ k q. sight header h k q past) (λ k. backing_of header k past) (suc n) f.finds.steps top.object.0 top.page.0 key.object.0 key.page.0
@@ -225,6 +232,10 @@ never_below {header = header} {h = h} {past = past} {top = top} f n key row belo
     (not_passed header h past f.finds.object f.finds.page f.finds.here) in
     let bad : suc n ≡ 0 = same.0 ∙ f.finds.first stores in
     cc
+
+-- and owes it nowhere
+owes_none : {found : Option PageKey} {place : PageKey} → found ≡ None → found ≡ Some place → ⊥
+owes_none {place = place} none owed = let bad : None ≡ Some place = sym none ∙ owed in cc
 
 -- so it ends with that page
 
@@ -239,40 +250,47 @@ hits_next task (want.CopyTo address pages target next) key frame at value e old 
 never : {A : Type 0} → ⊥ → A
 never bad = absurd bad
 
-ended_next : {header : Header} {h : ℕ} {past : List Event} {what : Want} {top : PageKey} (host : HostId) (task : TaskId) (at value : ℕ) (old new : HostParts)
-    (chains : ChainTable) (before after : List Event) → Found header h past old chains what top
-    → Ended host task what top at value old new chains before after → EndsNext task.0 before after
-ended_next {what = what} host task at value old new chains before after f (AtOnce steps key row finds none out e hits told) =
+ended_next : {header : Header} {h : ℕ} {past : List Event} {what : Want} {top : PageKey} {had have : CopyTable} (host : HostId) (task : TaskId) (at value : ℕ)
+    (old new : HostParts) (chains : ChainTable) (before after : List Event) → Found header h past old chains had what top
+    → Ended host task what top at value old new chains had have before after → EndsNext task.0 before after
+ended_next {what = what} host task at value old new chains before after f (AtOnce steps key row finds none out owes e hits same told) =
     hits_next task what key row.frame at value e old new before after hits told
-ended_next host task at value old new chains before after f (Raised steps key row finds stores out frame copied hit raises keeps e hits touched told) =
-    never (never_below f steps key row finds stores)
-ended_next host task at value old new chains before after f (AfterZeros sinks frame brought brings keeps e hits told) = never (never_sinks (lands f) sinks)
-ended_next {what = what} host task at value old new chains before after f (Copied address pages next target is steps key row finds out is_none copies) =
+ended_next host task at value old new chains before after f
+    (Raised steps key row finds stores out frame copied hit raises keeps e hits touched notes told) = never (never_below f steps key row finds stores)
+ended_next host task at value old new chains before after f (Pushed row finds stores out place owed none frame copied raises keeps e hits notes told) =
+    never (owes_none (f.unowed stores) owed)
+ended_next host task at value old new chains before after f (AfterZeros sinks frame brought brings keeps e hits notes told) =
+    never (never_sinks (lands f) sinks)
+ended_next {what = what} host task at value old new chains before after f
+    (Copied address pages next target is steps key row finds out is_none copies same) =
     never (subst IsOfNumber is f.number)
 
-never_needs : {header : Header} {h : ℕ} {past : List Event} {parts : HostParts} {chains : ChainTable} {what : Want} {top : PageKey} {source : Option PageKey}
-    → Found header h past parts chains what top → Needs what top parts chains source → ⊥
+never_needs : {header : Header} {h : ℕ} {past : List Event} {parts : HostParts} {chains : ChainTable} {copies : CopyTable} {what : Want} {top : PageKey}
+    {source : Option PageKey} → Found header h past parts chains copies what top → Needs what top parts chains copies source → ⊥
 never_needs f (Nowhere sinks) = never_sinks (lands f) sinks
 never_needs f (ToAsk steps key object comes ready) = never_comes (lands f) steps key object comes (ap has_pager ready)
+never_needs f (ToPush row finds stores out place owed none) = owes_none (f.unowed stores) owed
 never_needs f (ToRaise steps key row finds stores out) = never_below f steps key row finds stores
 never_needs {what = what} f (ToCopy steps key row finds copying out) = no_copy what f.number copying
 
 comes_next : {header : Header} {h : ℕ} {past : List Event} {what : Want} {top : PageKey} (host : HostId) (task : TaskId) (may : Bool) (at : ℕ)
-    (answer : FaultStep) (old new : FaultState) → Found header h past old.parts old.chains what top
+    (answer : FaultStep) (old new : FaultState) → Found header h past old.parts old.chains old.copies what top
     → fault.Comes host task what may top at answer old new → EndsNext task.0 old.events new.events
 comes_next host task may at (step.Done value) old new f comes = ended_next host task at value old.parts new.parts old.chains old.events new.events f comes
-comes_next host task may at (step.Ask key) old new f comes = never (never_comes (lands f) comes.steps key comes.object comes.comes (ap has_pager comes.ready))
+comes_next host task may at (step.Ask key) old new f comes =
+    never (never_comes (lands f) comes.0.steps key comes.0.object comes.0.comes (ap has_pager comes.0.ready))
 comes_next {what = what} host task may at (step.Unlock key) old new f comes =
-    never (never_locked f comes.steps key comes.row comes.finds comes.locked)
+    never (never_locked f comes.0.steps key comes.0.row comes.0.finds comes.0.locked)
 comes_next host task may at (step.WaitReady object) old new f comes =
     let why = comes.0 in
     never (never_comes (lands f) why.0 why.1 why.2 why.3 (ap has_pager why.4))
-comes_next {what = what} {top = top} host task may at (step.WaitAnswer key) old new f comes = by comes.0.why
-  where
-    by : (Finds old.parts old.chains comes.0.steps top key comes.0.row × (keeps_out comes.0.row.lock (writes_at what comes.0.steps) ≡ true)
-        × (comes.0.row.unlock_sent ≡ true)) ⊎ StopsAsked old.parts old.chains comes.0.steps top key comes.0.row → EndsNext task.0 old.events new.events
-    by (inl locked) = never (never_locked f comes.0.steps key comes.0.row locked.0 locked.1)
-    by (inr stops) = never (never_asked (lands f) comes.0.steps key comes.0.row stops)
+comes_next {what = what} {top = top} host task may at (step.WaitAnswer key) old new f comes = elim comes.0 [
+  | inl awaits ↦ elim awaits.why [
+    | inl locked ↦ never (never_locked f awaits.steps key awaits.row locked.0 locked.1)
+    | inr stops ↦ never (never_asked (lands f) awaits.steps key awaits.row stops)
+  ]
+  | inr push ↦ never (owes_none (f.unowed push.stores) push.owed)
+]
 comes_next host task may at (step.NeedFrame source) old new f comes = never (never_needs f comes.0)
 
 -- an access that is run once and finds its page ends
@@ -310,7 +328,14 @@ ends_once header h past k ids w may answer events new works is f finds =
         subst (λ (z : FaultState). fault.Comes k.host w.task w.want may f.top (address_in k.maps.size w.want % k.memory.buffers.size) answer z new) same
         f.comes in
         comes_next k.host w.task may (address_in k.maps.size w.want % k.memory.buffers.size) answer (state_of k ids events) new
-        (record { number = found2.finds.number; shown = shown_at works.matches; referred = referred; finds = found2.finds }) comes
+        (record {
+          number = found2.finds.number;
+          shown = shown_at works.matches;
+          referred = referred;
+          finds = found2.finds;
+          unowed = λ stores. owed_nowhere works.matches.core.setting.uncopied f.top;
+        })
+        comes
 
 -- only a load or a store finds its page
 number_found : (header : Header) (past : List Event) (size to task : ℕ) (what : Want) → waiting task past ≡ Some (access_in size to what)

@@ -41,6 +41,8 @@ use Rattle.vm_waits.specs.declared.waiting.Want.TheVariants as want
 use Rattle.vm_kernel.specs.Turns.{AreCopied, Did, Filled, ForAsked, ForCopy, ForUnlock, ForZeros, Found, IsFront, NoPage, Nothing, OnePage, Pages, QueueAfter}
 use Rattle.vm_kernel.specs.Turns.{RunsOnce, Shadow, Unmark, Unserved}
 use Rattle.vm_kernel.proofs.steps.PageByPage.{PageDone, Pagewise, page_done, pagewise}
+use Rattle.vm_copies.specs.Copies.{CopyTable}
+use Rattle.vm_fault.specs.Faults.{Pushed}
 
 -- what stands first: a shadow claims no frame, and each page of a slow copy one; and no row of a page has gone
 pub record Front (task : TaskId) (copying : Bool) (s mid : FaultState) : Type 0 where
@@ -153,11 +155,13 @@ hits_free task (want.Store address n number) key frame at value e old new hits =
 -- a load or a store has ended
 ended_by : (rows : List Waiting) (host : HostId) (task : TaskId) (what : Want) (may : Bool) (top : PageKey) (at value : ℕ) (s mid new : FaultState)
     → is_copying what ≡ false → Front task false s mid
-    → Ended host task what top at value mid.parts new.parts mid.chains mid.events new.events → (may ≡ false → free new.parts.frames ≡ free s.parts.frames)
+    → Ended host task what top at value mid.parts new.parts mid.chains mid.copies new.copies mid.events new.events
+    → (may ≡ false → free new.parts.frames ≡ free s.parts.frames)
     → RanBy rows task may s.events new.events
-ended_by rows host task what may top at value s mid new other f (Copied address pages next target is steps key row finds out is_none copies) kept =
+ended_by rows host task what may top at value s mid new other f
+    (Copied address pages next target is steps key row finds out is_none copies same) kept =
     absurd (let bad : true ≡ false = sym (ap is_copying is) ∙ other in cc)
-ended_by rows host task what may top at value s mid new other f (AtOnce steps key row finds stores opens e hits told) kept =
+ended_by rows host task what may top at value s mid new other f (AtOnce steps key row finds stores opens owes e hits same told) kept =
     record {
       more = e ∷ f.front;
       told = told ∙ ap (λ z. e ∷ z) f.told;
@@ -165,7 +169,23 @@ ended_by rows host task what may top at value s mid new other f (AtOnce steps ke
       did = Found f.front (plain_front f) e (end_of task what key row.frame at value e mid.parts new.parts hits);
       none = λ bar. refl;
     }
-ended_by rows host task what may top at value s mid new other f (Raised steps key row finds stores opens frame copied hit raises plan e hits refers told) kept =
+ended_by rows host task what may top at value s mid new other f
+    (Pushed row finds stores opens place owed absent frame copied raises plan e hits notes told) kept =
+    let raised = event.Raised host top.object top.page place.object place.page in
+    record {
+      more = e ∷ raised ∷ f.front;
+      told = told ∙ ap (λ z. e ∷ raised ∷ z) f.told;
+      claims = true;
+      did = ForCopy f.front (plain_front f) e host top place (end_of task what top row.frame at value e copied new.parts hits);
+      none = λ bar.
+          let even = kept bar in
+          let less = raises.left in
+          let same = hits_free task what top row.frame at value e copied new.parts hits in
+          let was = f.frames in
+          absurd (omega (arith, even, less, same, was));
+    }
+ended_by rows host task what may top at value s mid new other f
+    (Raised steps key row finds stores opens frame copied hit raises plan e hits refers notes told) kept =
     let raised = event.Raised host key.object key.page top.object top.page in
     record {
       more = e ∷ raised ∷ f.front;
@@ -180,7 +200,7 @@ ended_by rows host task what may top at value s mid new other f (Raised steps ke
           let was = f.frames in
           absurd (omega (arith, even, less, same, last, was));
     }
-ended_by rows host task what may top at value s mid new other f (AfterZeros sinks frame brought brings plan e hits told) kept =
+ended_by rows host task what may top at value s mid new other f (AfterZeros sinks frame brought brings plan e hits notes told) kept =
     let zeroed = event.Zeroed host top.object top.page in
     record {
       more = e ∷ zeroed ∷ f.front;
@@ -357,19 +377,21 @@ waits_page answer reason key (inr (inl is)) at = subst (λ (z : FaultStep). Wait
 waits_page answer reason key (inr (inr is)) at = subst (λ (z : FaultStep). WaitsOn z reason) (sym is) at
 
 -- nobody waits for a page that has no row
-unasked : {stays unmet : PageKey → Type 0} (maps : Mapped) (chains : ChainTable) (resident : ResidentTable) (objects : ObjectTable) (rows : List Waiting)
+unasked : {copies : CopyTable} {stays unmet : PageKey → Type 0} (maps : Mapped) (chains : ChainTable) (resident : ResidentTable) (objects : ObjectTable)
+    (rows : List Waiting)
     (waiting_at : ℕ → Option Access) (key : PageKey) (t : ℕ) (v : Waiting)
-    → HasWaiters maps chains resident objects rows (is_woken woken.Nobody) waiting_at stays unmet
+    → HasWaiters maps chains copies resident objects rows (is_woken woken.Nobody) waiting_at stays unmet
     → row_at resident key.object.0 key.page.0 ≡ None → entry rows t ≡ Some v → v.on ≢ on.Page key
-unasked maps chains resident objects rows waiting_at key t v has absent found waits =
-    let reason : Reason maps chains resident objects t v.want (on.Page key) = subst (λ (z : On). Reason maps chains resident objects t v.want z) waits
+unasked {copies = copies} maps chains resident objects rows waiting_at key t v has absent found waits =
+    let reason : Reason maps chains copies resident objects t v.want (on.Page key) = subst (λ (z : On). Reason maps chains copies resident objects t v.want z)
+    waits
     (has.reasons t v found refl) in
     awaited_row resident v.want key.object.0 key.page.0 reason.1 (λ row there is. let bad : None ≡ Some row = sym absent ∙ there in absurd (cc))
 
 -- an access waits for a word of a pager
 pub once_turned : {stays unmet : PageKey → Type 0} (w : Waiting) (may : Bool) (answer : FaultStep) (reason : On) {maps : Mapped} {host : HostId} {last : Want}
     {s new : FaultState} (objects : ObjectTable) (waits waits2 : WaitTable) (waiting_at : ℕ → Option Access) → WaitsOn answer reason
-    → HasWaiters maps s.chains s.parts.resident objects waits.rows (is_woken woken.Nobody) waiting_at stays unmet
+    → HasWaiters maps s.chains s.copies s.parts.resident objects waits.rows (is_woken woken.Nobody) waiting_at stays unmet
     → Runs maps host w.task may answer w.want last s new → (may ≡ false → free new.parts.frames ≡ free s.parts.frames)
     → PutsEntry w.task.0 (Some (with_on (with_want w last) reason)) waits.rows waits2.rows → waits2.queue ≡ queue_without w.task.0 waits.queue
     → RunsOnce w may false waits waits2 s.events new.events
@@ -391,7 +413,7 @@ once_turned w may (step.Unlock key) reason {host = host} {last = last} {s = s} {
     let p = pagewise runs in
     let row = with_on (with_want w last) reason in
     let first = front_in p in
-    let asks = p.ran.comes in
+    let asks = p.ran.comes.0 in
     let number = wanted_number p.at asks.steps in
     let e : Event = event.Sent (Up host key.object) (message.Unlock asks.object.control key.page number) in
     record {
@@ -412,7 +434,7 @@ once_turned w may (step.Ask key) reason {maps = maps} {host = host} {last = last
     queue =
     let p = pagewise runs in
     let first = front_in p in
-    let asked = p.ran.comes in
+    let asked = p.ran.comes.0 in
     let absent : row_at s.parts.resident key.object.0 key.page.0 ≡ None = first.rows key.object.0 key.page.0 asked.comes.absent in
     let row : Waiting = with_on (with_want w last) reason in
     let rest = puts_rest w.task (Some row) waits.rows waits2.rows put in

@@ -285,6 +285,7 @@ pub again_other : (reason : On) → is_again reason ≡ true → is_frame reason
 again_other on.Again is = refl
 again_other (on.Ready object) is = refl
 again_other (on.Page key) is = refl
+again_other (on.Push key) is = refl
 again_other on.Frame is = absurd (let bad : false ≡ true = is in cc)
 
 -- who may claim none is run behind a queue, and who may behind none

@@ -29,6 +29,7 @@ use Rattle.vm_waits.specs.Wants.{with_page_done}
 use Rattle.vm_waits.specs.declared.waiting.Want.{Want}
 use Rattle.vm_waits.specs.declared.waiting.Want.TheVariants as want
 use Rattle.vm_kernel.specs.Turns.{AreCopied, NoPage, OnePage}
+use Rattle.vm_fault.specs.Faults.{Pushed}
 
 -- a slow copy has made one page
 pub record PageDone (task : TaskId) (old new : FaultState) : Type 0 where
@@ -64,15 +65,18 @@ unprepared (want.Store address n number) region row old new copying made = absur
 unprepared (want.CopyTo address pages target next) region row old new copying same = same
 
 page_of : (host : HostId) (task : TaskId) (what : Want) (top : PageKey) (at value : ℕ) (mid new : FaultState) → is_copying what ≡ true
-    → Ended host task what top at value mid.parts new.parts mid.chains mid.events new.events → new.chains ≡ mid.chains → new.ids ≡ mid.ids
+    → Ended host task what top at value mid.parts new.parts mid.chains mid.copies new.copies mid.events new.events → new.chains ≡ mid.chains → new.ids ≡ mid.ids
     → PageDone task mid new
-page_of host task what top at value mid new copying (AtOnce steps key row finds stores opens e hits told) chains ids =
+page_of host task what top at value mid new copying (AtOnce steps key row finds stores opens owes e hits same told) chains ids =
     absurd (no_hit task what key row.frame at value e mid.parts new.parts copying hits)
-page_of host task what top at value mid new copying (Raised steps key row finds stores opens frame copied hit raises plan e hits refers told) chains ids =
-    absurd (no_store what copying stores)
-page_of host task what top at value mid new copying (AfterZeros sinks frame brought brings plan e hits told) chains ids =
+page_of host task what top at value mid new copying
+    (Raised steps key row finds stores opens frame copied hit raises plan e hits refers notes told) chains ids = absurd (no_store what copying stores)
+page_of host task what top at value mid new copying
+    (Pushed row finds stores opens place owed none frame copied raises plan e hits notes told) chains ids = absurd (no_store what copying stores)
+page_of host task what top at value mid new copying (AfterZeros sinks frame brought brings plan e hits notes told) chains ids =
     absurd (no_hit task what top frame at value e brought new.parts copying hits)
-page_of host task what top at value mid new copying (Copied address pages next target is steps key row finds out none copies) chains ids =
+page_of host task what top at value mid new copying
+    (Copied address pages next target is steps key row finds out none copies same) chains ids =
     let hit : copies.hit.frames ≡ copies.copied.frames = ap (λ (z : HostParts). z.frames) copies.marks.is in
     let last : new.parts.frames ≡ copies.hit.frames = ap (λ (z : HostParts). z.frames) copies.source.is in
     let left = copies.page.left in

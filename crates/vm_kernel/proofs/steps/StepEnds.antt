@@ -24,6 +24,7 @@ use Rattle.vm_state.proofs.Pairs.{KnowsPairs, thin_told}
 use Rattle.vm_state.specs.Counts.{marks_of}
 use Rattle.vm_state.proofs.Filling.{AgreesNext, copies_next}
 use Rattle.vm_model.specs.Waiting.{next_page}
+use Rattle.vm_kernel.proofs.controls.NothingCopied.{nobody_pushes}
 
 -- the row of an access that waits
 pub record HasRow (size : ℕ) (rows : List Waiting) (task : ℕ) (access : Access) : Type 0 where
@@ -56,7 +57,7 @@ each_leads header h k ids past rests task access waits lives =
 
 -- what an access waits for that isn't to be run again
 waits_for : (header : Header) (h : ℕ) (k : Parts) (ids : Ids) (past : List Event) (task to : ℕ) (what : Want) (why : On) → AgreesNext what (next_page task past)
-    → Matches header h k ids [] past → Reason k.maps k.chains k.memory.resident k.memory.objects task what why → is_again why ≡ false
+    → Matches header h k ids [] past → Reason k.maps k.chains k.copies k.memory.resident k.memory.objects task what why → is_again why ≡ false
     → (is_frame why ≡ true → HostIsFull header h past)
     → (waits : Waits header task (access_in k.maps.size to what) past) → waits.at.host ≡ h → WaitsForPager header h task (access_in k.maps.size to what) past
     ⊎ HostIsFull header h past
@@ -78,6 +79,8 @@ waits_for header h k ids past task to what (on.Page key) agrees m reason fresh f
           (waiting_place m to agrees reason.0 (at_home header h k ids past task (access_in k.maps.size to what) m waits home) waits)
           (awaits_word (shown_at m) k.maps.size to key.object.0 key.page.0 what reason.1);
     })
+waits_for header h k ids past task to what (on.Push key) agrees m reason fresh full waits home =
+    absurd (nobody_pushes m.core.setting.uncopied reason)
 waits_for header h k ids past task to what on.Frame agrees m reason fresh full waits home = inr (full refl)
 
 -- an access that wants a frame waits while the queue can't go on

@@ -6,6 +6,7 @@ use Rattle.vm_kernel.proofs.Common.{is_some, length, live_control, live_in, name
 use Rattle.vm_kernel.proofs.Common.{refl, region_at, region_of, region_pages, rows_in, some_is, subst, sym, true, waiting, waiting_in, ℕ, ◌&&◌, ◌*◌, ◌+◌, ◌<◌}
 use Rattle.vm_kernel.proofs.Common.{◌^◌, ◌∙◌, ◌≡◌, ◌≢◌, ◌≤◌}
 use Rattle.std.specs.Prelude.{◌-◌}
+use Rattle.vm_kernel.proofs.controls.NothingCopied.{all_fresh, none_fit}
 use Rattle.vm_fault.specs.Faults.{CanCopy, CanFault, LiesWithin}
 use Rattle.vm_fault.specs.Walks.{is_copying, top_place}
 use Rattle.vm_kernel.proofs.abroad.OwnHost.{lives_here, rows_here}
@@ -118,7 +119,7 @@ can_copy {header = header} {k = k} w (want.CopyTo address pages target next) e r
 -- what waits can be run
 pub can_fault : (header : Header) (h : ℕ) (past : List Event) (k : Parts) (ids : Ids) (who : Woken) (w : Waiting) (events : List Event)
     → Works header h k ids who past → entry k.waits.rows w.task.0 ≡ Some w
-    → CanFault k.maps (record { parts = k.memory; chains = k.chains; ids = ids; events = events }) w.task.0 w.want
+    → CanFault k.maps (record { parts = k.memory; chains = k.chains; copies = k.copies; ids = ids; events = events }) w.task.0 w.want
 can_fault header h past k ids who w events works is =
     let m = works.matches in
     let walk = walks_down header h k ids past [] w.task.0 w.want m (works.waits.allowed w.task.0 w is) (works.waits.sized w.task.0 w is) in
@@ -138,6 +139,8 @@ can_fault header h past k ids who w events works is =
       region = walk.region;
       inside = lies_within w w.want walk.entry walk.row m fits sized walk.found walk.region;
       copies = can_copy w w.want walk.entry walk.row m fits sized walk.found walk.region;
+      copied = none_fit m.core.setting.uncopied k.memory k.chains;
+      fresh = all_fresh m.core.setting.uncopied w.want;
       counted = λ marked.
           (let some = marked_some header past walk.entry.region.0 (small_region m.core.objects.regions walk.entry.region.0 walk.row walk.region)
           (ap (λ (z : Region). z.mark) (m.core.objects.regions.rows walk.entry.region.0 walk.row walk.region) ∙ marked) in

@@ -24,6 +24,7 @@ use Rattle.vm_state.specs.Pagers.{has_pager}
 use Rattle.vm_state.specs.Passed.{IsPlaceBehind, IsUnmet, LeadsOver, Passed, StaysAway}
 use Rattle.vm_state.specs.Places.{place_of}
 use Rattle.vm_waits.specs.declared.waiting.On.TheVariants as on
+use Rattle.vm_kernel.proofs.controls.NothingCopied.{nobody_pushes}
 
 -- how a place that a walk comes to stands to another further down the chain: it is above that, or both are one, or the walk passes over the other
 data Meets (header : Header) (h : ℕ) (past : List Event) (stays : PageKey → Type 0) (to : PageKey) (object page : ℕ) : Type 0 where
@@ -93,7 +94,7 @@ here_at header h past o p object page same also here =
 
 -- an access that doesn't want a frame, and isn't to be run, comes to no page that lets it in
 never_comes : (header : Header) (h : ℕ) (k : Parts) (ids : Ids) (past : List Event) (task to : ℕ) (what : Want) (why : On) → Matches header h k ids [] past
-    → OnlyReturned (named header) h past → Reason k.maps k.chains k.memory.resident k.memory.objects task what why → is_again why ≡ false
+    → OnlyReturned (named header) h past → Reason k.maps k.chains k.copies k.memory.resident k.memory.objects task what why → is_again why ≡ false
     → (is_frame why ≡ true → frames_free header h past ≡ 0) → (object page : ℕ) → (page_on header h object page past).here ≡ true
     → names (page_on header h object page past).lock (is_store (access_in k.maps.size to what)) ≡ false
     → ((key : PageKey) → IsPlaceBehind (StaysAway header h past) k.maps k.chains task what key → Meets header h past (StaysAway header h past) key object page)
@@ -114,6 +115,8 @@ never_comes header h k ids past task to what (on.Ready other) m only reason fres
           sym (ap (λ z. is_some z && not (is_known_absent header (place_of key.object.0 key.page.0) (page_on header h key.object.0 key.page.0 past))) live
           ∙ ap not passed.3.unknown) ∙ passes.without in cc)
     ]
+never_comes header h k ids past task to what (on.Push key) m only reason fresh full object page here let_in meets passed =
+    absurd (nobody_pushes m.core.setting.uncopied reason)
 never_comes header h k ids past task to what (on.Page key) m only reason fresh full object page here let_in meets passed = elim (meets key passed) [
   | IsOver at stays same also ↦ absurd (let bad : false ≡ true = sym (stays.1 only).away
       ∙ here_at header h past at.object.0 at.page.0 object page same also here in cc)

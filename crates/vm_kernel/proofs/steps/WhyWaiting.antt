@@ -15,6 +15,7 @@ use Rattle.vm_state.proofs.Locks.{awaits_word}
 use Rattle.vm_state.proofs.Shown.{awaits_ready}
 use Rattle.std.proofs.lemmas.Bool.{not-true}
 use Rattle.vm_state.proofs.Filling.{copies_next}
+use Rattle.vm_kernel.proofs.controls.NothingCopied.{nobody_pushes}
 
 -- nothing but this place of its page is awaited
 abbrev AwaitsOnly : (header : Header) (h task : ℕ) (access : Access) (past : List Event) → Waits header task access past → ℕ → ℕ → Type 0
@@ -34,8 +35,8 @@ waits_there header h k ids past task object page w on.Again rests queue found is
 waits_there header h k ids past task object page w (on.Ready told) rests queue found is waits only ready frees =
     let m = rests.matches in
     let here = ap is_some (rests.waits.allowed task w found).lives in
-    let reason : Reason k.maps k.chains k.memory.resident k.memory.objects task w.want (on.Ready told) =
-    subst (λ (z : On). Reason k.maps k.chains k.memory.resident k.memory.objects task w.want z) is (rests.waits.reasons task w found refl) in
+    let reason : Reason k.maps k.chains k.copies k.memory.resident k.memory.objects task w.want (on.Ready told) =
+    subst (λ (z : On). Reason k.maps k.chains k.copies k.memory.resident k.memory.objects task w.want z) is (rests.waits.reasons task w found refl) in
     let pager = reason.3 in
     let awaits : Awaits header h (is_store (access_in k.maps.size (copies_to w.destination) w.want)) told.0 reason.0.page.0 past = awaits_ready (shown_at m)
     told.0 pager.row pager.found pager.sent (is_store (access_in k.maps.size (copies_to w.destination) w.want)) reason.0.page.0 in
@@ -48,11 +49,15 @@ waits_there header h k ids past task object page w (on.Ready told) rests queue f
 waits_there header h k ids past task object page w (on.Page key) rests queue found is waits only ready frees =
     let m = rests.matches in
     let here = ap is_some (rests.waits.allowed task w found).lives in
-    let reason : Reason k.maps k.chains k.memory.resident k.memory.objects task w.want (on.Page key) =
-    subst (λ (z : On). Reason k.maps k.chains k.memory.resident k.memory.objects task w.want z) is (rests.waits.reasons task w found refl) in
+    let reason : Reason k.maps k.chains k.copies k.memory.resident k.memory.objects task w.want (on.Page key) =
+    subst (λ (z : On). Reason k.maps k.chains k.copies k.memory.resident k.memory.objects task w.want z) is (rests.waits.reasons task w found refl) in
     let same = only key.object.0 key.page.0 (waiting_place m (copies_to w.destination) (copies_next rests.used.copies task w found) reason.0 here waits)
     (awaits_word (shown_at m) k.maps.size (copies_to w.destination) key.object.0 key.page.0 w.want reason.1) in
     λ i. on.Page (page_key (same.0 i) (same.1 i))
+waits_there header h k ids past task object page w (on.Push key) rests queue found is waits only ready frees =
+    let reason : Reason k.maps k.chains k.copies k.memory.resident k.memory.objects task w.want (on.Push key) =
+    subst (λ (z : On). Reason k.maps k.chains k.copies k.memory.resident k.memory.objects task w.want z) is (rests.waits.reasons task w found refl) in
+    absurd (nobody_pushes rests.matches.core.setting.uncopied reason)
 waits_there header h k ids past task object page w on.Frame rests (inl none) found is waits only ready frees =
     absurd (let bad : true ≡ false = sym (ap is_frame is) ∙ none_queued k.waits.rows task w none found in cc)
 waits_there header h k ids past task object page w on.Frame rests (inr short) found is waits only ready frees = absurd (frees short)

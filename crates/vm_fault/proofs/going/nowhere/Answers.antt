@@ -5,7 +5,7 @@ use Rattle.vm_model.specs.declared.event.Event.TheVariants as event
 use Rattle.vm_fault.proofs.going.nowhere.Goals as goal
 
 pub returns-then-not-has_frame-clause-goes : goal.returns-then-not-has_frame-clause-goes
-returns-then-not-has_frame-clause-goes c = 
+returns-then-not-has_frame-clause-goes c =
     λ chains sinks ids. (Nowhere sinks, c.if-not-has_frame.ensures.none refl, record { parts = refl; copies = refl; told = refl })
 
 pub returns-clause-goes : goal.returns-clause-goes

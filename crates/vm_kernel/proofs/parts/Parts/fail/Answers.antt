@@ -1,4 +1,4 @@
-use Rattle.vm_kernel.proofs.Common.{EndsRegion, Event, IsWhole, List, PageKey, Still, [], ap, arith, fails_access, false, inl, page_frame, paging, refl, rules}
+use Rattle.vm_kernel.proofs.Common.{EndsRegion, Event, IsWhole, List, PageKey, Still, [], ap, arith, fails_access, false, inl, paging, refl, rules}
 use Rattle.vm_kernel.proofs.Common.{since, subst, sym, true, ◌++◌, ◌∷◌, ◌≡◌}
 use Rattle.vm_model.specs.declared.event.Event.TheVariants as event
 use Rattle.vm_supply.specs.declared.woken.Woken.TheVariants as who
@@ -6,7 +6,7 @@ use Rattle.vm_kernel.proofs.space.EntriesGone.{ends_nobody, nobody_both}
 use Rattle.vm_kernel.proofs.space.LosersMerge.{leaves_none}
 use Rattle.vm_kernel.proofs.lists.ListsAsTold.{plays_both, plays_one}
 use Rattle.vm_kernel.proofs.controls.WaitersFail.{EndsOr, FailedOne, Failing, bare_filled, before_none, ends_all, ends_filled, ends_or, failed_ended}
-use Rattle.vm_kernel.proofs.controls.WaitersFail.{failed_one}
+use Rattle.vm_kernel.proofs.controls.WaitersFail.{failed_one, page_unqueued}
 use Rattle.vm_kernel.proofs.controls.WaitersFail.{failed_plain, or_ended, since_goes, since_now}
 use Rattle.vm_kernel.proofs.steps.RowsInOrder.{without_keeps}
 use Rattle.vm_kernel.proofs.steps.FramesInTurn.{nobody_more, quiet_unlisted}
@@ -87,7 +87,7 @@ all-preserved g c =
       quiet =
           (nobody_more c.args.self.now.waits.queue c.all.self.waits.queue c.args.log.now.items c.all.log.items c.push.new.self.items _ was.quiet
           (quiet_unlisted c.all.self.waits.rows c.all.self.waits.queue c.remove.new.self.queue w c.all.log.items c.push.new.self.items _ c.next_on.ensures.line
-          c.in-Some.ensures.row.0 (page_frame key w.on c.in-Some.ensures.row.1) c.remove.ensures.queue c.in_ok-push.ensures.ok tt).queue
+          c.in-Some.ensures.row.0 (page_unqueued key w.on c.in-Some.ensures.row.1) c.remove.ensures.queue c.in_ok-push.ensures.ok tt).queue
           c.in_ok-push.ensures.ok tt);
       spends =
           spends_both c.args.self.now c.all.self (record c.all.self { waits = c.remove.new.self }) c.args.log.now c.all.log c.push.new.self _ _ _ was.spends
@@ -149,7 +149,7 @@ all-preserved-in_ok-end_region g c =
           c.end_region.new.log.items
           (nobody_more c.args.self.now.waits.queue c.all.self.waits.queue c.args.log.now.items c.all.log.items c.push.new.self.items _ was.quiet
           (quiet_unlisted c.all.self.waits.rows c.all.self.waits.queue c.remove.new.self.queue w c.all.log.items c.push.new.self.items _ c.next_on.ensures.line
-          c.in-Some.ensures.row.0 (page_frame key w.on c.in-Some.ensures.row.1) c.remove.ensures.queue c.in_ok-push.ensures.ok tt).queue
+          c.in-Some.ensures.row.0 (page_unqueued key w.on c.in-Some.ensures.row.1) c.remove.ensures.queue c.in_ok-push.ensures.ok tt).queue
           c.in_ok-push.ensures.ok tt)
           (ends_nobody c.remove.new.self c.end_region.new.self.waits c.push.new.self.items c.end_region.new.log.items ends.waits ends.only);
       spends =

@@ -52,6 +52,7 @@ took_it g c =
       declared = refl;
       maps = refl;
       chains = refl;
+      copied = refl;
       waits = refl;
       buffers = c.in_ok-answer.ensures.size;
       fit = c.in_ok-answer.ensures.fit;

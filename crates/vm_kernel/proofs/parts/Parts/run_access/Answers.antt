@@ -269,6 +269,7 @@ returns-clause-attempts g c =
     (record (with_state c.args.self.now (record {
       parts = c.fault.new.parts;
       chains = c.fault.new.chains;
+      copies = c.fault.new.copies;
       ids = c.fault.new.ids;
       events = c.fault.new.log.items;
     })) { waits = c.set_on.new.self }) =

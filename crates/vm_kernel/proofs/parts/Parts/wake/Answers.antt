@@ -1,14 +1,13 @@
-use Rattle.vm_kernel.proofs.Common.{Still, [], ap, arith, length, refl, rules, woken_page, woken_ready, ◌∙◌, ◌≡◌}
+use Rattle.vm_kernel.proofs.Common.{Still, [], ap, arith, false, length, refl, rules, true, woken_page, woken_ready, ◌∙◌, ◌≡◌}
 use Rattle.vm_kernel.proofs.steps.RowsInOrder.{woken_keeps}
 use Rattle.vm_kernel.proofs.abroad.OtherLists.{matches_with}
 use Rattle.vm_state.proofs.Filling.{fills_waked, used_waked}
 use Rattle.vm_state.proofs.Waking.{waits_woken}
 use Rattle.std.proofs.lemmas.List.{length-map}
-use Rattle.vm_kernel.proofs.room.EndsSpend.{roomy_fewer, spends_hand, spends_less, woken_spends}
-use Rattle.vm_kernel.proofs.room.CallsSpend.{spends_nothing}
+use Rattle.vm_kernel.proofs.room.EndsSpend.{roomy_fewer, spends_hand, woken_spends}
+use Rattle.vm_kernel.proofs.room.CallsSpend.{spends_both, spends_nothing}
 use Rattle.vm_kernel.specs.Rooms.{leaving, waking}
 use Rattle.vm_kernel.proofs.room.PartsOfStep.{skip_rows}
-use Rattle.vm_kernel.proofs.steps.EventsGrow.{on_ok}
 use Rattle.vm_kernel.proofs.parts.Parts.wake.Goals as goal
 
 pub returns-in-ReadyOf-clause-works : goal.returns-in-ReadyOf-clause-works
@@ -68,26 +67,46 @@ returns-in-ReadyOf-clause-spends g c = woken_spends _ c.args.self.now c.wake_rea
 pub returns-in-Page-clause-spends : goal.returns-in-Page-clause-spends
 returns-in-Page-clause-spends g c = woken_spends _ c.args.self.now c.wake_page.new.self c.args.log.now _ c.wake_page.ensures.rows
 
-pub returns-in-Fails-clause-spends : goal.returns-in-Fails-clause-spends
-returns-in-Fails-clause-spends g c =
+pub returns-in_ok-fail-in-Fails-clause-works : goal.returns-in_ok-fail-in-Fails-clause-works
+returns-in_ok-fail-in-Fails-clause-works g c =
+    let ended = c.in_ok-fail-in-Fails.ensures.works in
+    let rows = c.fail.new.self.waits.rows in
+    record {
+      matches =
+          matches_with _ _ c.wake_page-in-Fails.new.self (fills_waked _ rows c.wake_page-in-Fails.new.self.rows c.wake_page-in-Fails.ensures.entry)
+          ended.matches.core.fits.parts refl
+          ended.matches;
+      used = used_waked _ rows c.wake_page-in-Fails.new.self.rows ended.used c.wake_page-in-Fails.ensures.entry;
+      referred = ended.referred;
+      thin = ended.thin;
+      waits =
+          waits_woken _ _ _ _ rows c.wake_page-in-Fails.new.self.rows _ _ ended.waits c.wake_page-in-Fails.ensures.entry
+          c.in_ok-fail-in-Fails.ensures.answered.at;
+      order = (woken_keeps (woken_page c.in-Fails.key) rows c.wake_page-in-Fails.new.self.rows c.wake_page-in-Fails.ensures.rows).keeps _ 0 ended.order;
+    }
+
+pub returns-in_ok-fail-in-Fails-clause-spends : goal.returns-in_ok-fail-in-Fails-clause-spends
+returns-in_ok-fail-in-Fails-clause-spends g c =
     let same : waking c.args.woken c.args.self.now c.args.ids.now ≡ leaving c.args.self.now c.args.ids.now = ap (λ z. waking z c.args.self.now c.args.ids.now)
     c.in-Fails.is in
-    on_ok c.fail.result _ _
-    (λ is.
-    spends_hand c.args.self.now c.fail.new.self c.args.log.now c.fail.new.log _ 0 (waking c.args.woken c.args.self.now c.args.ids.now)
-    (spends_less c.args.self.now c.fail.new.self c.args.log.now c.fail.new.log _ _ 0 is (omega arith)) (omega (arith, same)))
-    c.fail.ensures.spends
+    spends_hand c.args.self.now (record c.fail.new.self { waits = c.wake_page-in-Fails.new.self }) c.args.log.now c.fail.new.log _ 0
+    (waking c.args.woken c.args.self.now c.args.ids.now)
+    (spends_both c.args.self.now c.fail.new.self (record c.fail.new.self { waits = c.wake_page-in-Fails.new.self }) c.args.log.now c.fail.new.log c.fail.new.log
+    _ _ 0
+    c.in_ok-fail-in-Fails.ensures.spends (woken_spends _ c.fail.new.self c.wake_page-in-Fails.new.self c.fail.new.log _ c.wake_page-in-Fails.ensures.rows))
+    (omega (arith, same))
 
-pub returns-in-Fails-clause-succeeds : goal.returns-in-Fails-clause-succeeds
-returns-in-Fails-clause-succeeds g c = λ room has.
+pub returns-in_err-fail-in-Fails-clause-succeeds : goal.returns-in_err-fail-in-Fails-clause-succeeds
+returns-in_err-fail-in-Fails-clause-succeeds g c = λ room has.
     let same : waking c.args.woken c.args.self.now c.args.ids.now ≡ leaving c.args.self.now c.args.ids.now = ap (λ z. waking z c.args.self.now c.args.ids.now)
     c.in-Fails.is in
-    c.fail.ensures.succeeds (roomy_fewer _ 0 (leaving c.args.self.now c.args.ids.now) 0 c.args.self.now _ room (omega (arith, same)) (omega arith))
-    (has c.in-Fails.key c.in-Fails.is)
+    let bad : false ≡ true = c.in_err-fail-in-Fails.ensures.succeeds (roomy_fewer _ 0 (leaving c.args.self.now c.args.ids.now) 0 c.args.self.now _ room
+    (omega (arith, same)) (omega arith)) (has c.in-Fails.key c.in-Fails.is) in
+    absurd (cc)
 
-pub returns-in-Fails-clause-enough : goal.returns-in-Fails-clause-enough
-returns-in-Fails-clause-enough g c =
-    on_ok c.fail.result _ _ (λ leaves has some. let left = leaves (has c.in-Fails.key c.in-Fails.is) in omega (arith, left)) c.fail.ensures.buffers
+pub returns-in_ok-fail-in-Fails-clause-enough : goal.returns-in_ok-fail-in-Fails-clause-enough
+returns-in_ok-fail-in-Fails-clause-enough g c = λ has some.
+    let left = c.in_ok-fail-in-Fails.ensures.buffers (has c.in-Fails.key c.in-Fails.is) in omega (arith, left)
 
 pub returns-in-ReadyOf-clause-skip : goal.returns-in-ReadyOf-clause-skip
 returns-in-ReadyOf-clause-skip g c =
