@@ -181,15 +181,15 @@ shadowed_led : (header : Header) (outside : Outside) (host r o : ℕ) (region : 
     → Led header host r o (event.Shadowed region new old ∷ past)
 shadowed_led header outside host r o region new old past caused current number led = elim (ℕ_discrete r region.0) [
   | yes e ↦ record {
-      used_still = led.used_still;
-      depth = suc led.depth;
-      below = subst (λ (k : ℕ). Below after (suc led.depth) k o) (sym (if_yes r region.0 new.0 (region_of header r past).top e)) (over_top e);
-    }
+    used_still = led.used_still;
+    depth = suc led.depth;
+    below = subst (λ (k : ℕ). Below after (suc led.depth) k o) (sym (if_yes r region.0 new.0 (region_of header r past).top e)) (over_top e);
+  }
   | no apart ↦ record {
-      used_still = led.used_still;
-      depth = led.depth;
-      below = subst (λ (k : ℕ). Below after led.depth k o) (sym (if_no r region.0 new.0 (region_of header r past).top apart)) down;
-    }
+    used_still = led.used_still;
+    depth = led.depth;
+    below = subst (λ (k : ℕ). Below after led.depth k o) (sym (if_no r region.0 new.0 (region_of header r past).top apart)) down;
+  }
 ]
   where
     after : ℕ → Backing
