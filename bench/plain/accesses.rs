@@ -178,11 +178,14 @@ impl System {
                     return Step::Page(frame);
                 }
                 match access.want {
-                    Want::Store { .. } if !walk.is_top => return self.raise(task, access, &walk, frame, has_frame),
-                    Want::Copy { next, target, .. } => return self.copy_page(task, next, target, &walk, frame, has_frame),
-                    _ => self.hit(task, access, walk.object, frame),
+                    Want::Store { .. } if !walk.is_top => self.raise(task, access, &walk, frame, has_frame),
+                    Want::Store { .. } => self.write_top(task, access, &walk, frame, has_frame),
+                    Want::Copy { next, target, .. } => self.copy_page(task, next, target, &walk, frame, has_frame),
+                    Want::Load => {
+                        self.hit(task, access, walk.object, frame);
+                        Step::Done
+                    }
                 }
-                Step::Done
             }
             Stop::Asked(frame) => Step::Page(frame),
             Stop::MayCome if self.objects[walk.object].pager == Pager::Sent => Step::Ready(walk.object),
@@ -306,19 +309,75 @@ impl System {
         new
     }
 
+    // The page at which a walk stops, in a frame, is raised into an object; the new frame.
+    fn raise_to(&mut self, walk: &Walk, frame: u16, object: usize, page: u32) -> u16 {
+        let new = self.raise_page(walk.object, frame, object, page);
+        self.objects[object].note_raised(page);
+        let (lower, upper) = (&self.objects[walk.object], &self.objects[object]);
+        let numbers = [upper.host.into(), lower.number.into(), walk.page.into(), upper.number.into(), page.into()];
+        self.out.event("raised", numbers);
+        new
+    }
+
     // A store whose page is below copies it up first.
     fn raise(&mut self, task: u16, access: &Access, walk: &Walk, frame: u16, has_frame: bool) -> Step {
         if !has_frame {
             return Step::NeedsFrame(frame);
         }
         let (top, page) = self.top_place(access);
-        let new = self.raise_page(walk.object, frame, top, page);
-        let (lower, upper) = (&self.objects[walk.object], &self.objects[top]);
-        let numbers = [upper.host.into(), lower.number.into(), walk.page.into(), upper.number.into(), page.into()];
-        self.out.event("raised", numbers);
+        let new = self.raise_to(walk, frame, top, page);
         self.hit(task, access, top, new);
         self.touch(top, frame);
         Step::Done
+    }
+
+    // A store whose page is in the top object; it first pushes the page to the copy object that still shares it. Where that page is asked
+    // it waits for the word, which is no error: the pager never had such a page.
+    fn write_top(&mut self, task: u16, access: &Access, walk: &Walk, frame: u16, has_frame: bool) -> Step {
+        if let Some(copy) = self.owed_to(walk) {
+            if let Some(asked) = self.objects[copy].frame(walk.page) {
+                return Step::Page(asked);
+            }
+            if !has_frame {
+                return Step::NeedsFrame(frame);
+            }
+            self.raise_to(walk, frame, copy, walk.page);
+        }
+        self.hit(task, access, walk.object, frame);
+        Step::Done
+    }
+
+    // The copy object to which a store at the place at which a walk stops owes a push.
+    fn owed_to(&self, walk: &Walk) -> Option<usize> {
+        let newest = self.objects[walk.object].newest;
+        let owes = newest != NONE && !self.objects[newest as usize].was_raised(walk.page);
+        owes.then_some(newest as usize)
+    }
+
+    /// The stores that wait to push a page of a file to a copy object that isn't its newest any more are to be run again.
+    pub fn wake_pushers(&mut self, file: usize, copy: usize) {
+        for page in 0..self.objects[copy].reach() {
+            if let Some(frame) = self.objects[copy].frame(page) {
+                let waiter = std::mem::replace(&mut self.frame_mut(copy, frame).waiter, NO_TASK);
+                self.wake_pushers_of(file, copy, frame, waiter);
+            }
+        }
+    }
+
+    // Of those that waited for the page of a frame, the last of them given, the others wait on.
+    fn wake_pushers_of(&mut self, file: usize, copy: usize, frame: u16, waiter: u16) {
+        let mut task = waiter;
+        while task != NO_TASK {
+            let it = &self.tasks[usize::from(task)];
+            let (before, region) = (it.next_waiter, it.access.region as usize);
+            if self.regions[region].top as usize == file {
+                self.woken.push(task);
+            } else {
+                let last = std::mem::replace(&mut self.frame_mut(copy, frame).waiter, task);
+                self.tasks[usize::from(task)].next_waiter = last;
+            }
+            task = before;
+        }
     }
 
     fn touch(&mut self, object: usize, frame: u16) {
@@ -356,11 +415,15 @@ impl System {
         };
         let access = &self.tasks[usize::from(*task)].access;
         let walk = self.walk(access);
-        match (walk.stop, access.want) {
-            (Stop::Here(frame), Want::Copy { .. }) => frame,
-            (Stop::Here(frame), Want::Store { .. }) if !walk.is_top => frame,
+        match (&walk.stop, access.want) {
+            (Stop::Here(frame), Want::Copy { .. }) => *frame,
+            (Stop::Here(frame), Want::Store { .. }) if !walk.is_top || self.wants_to_push(&walk) => *frame,
             _ => NO_FRAME,
         }
+    }
+
+    fn wants_to_push(&self, walk: &Walk) -> bool {
+        self.owed_to(walk).is_some_and(|copy| self.objects[copy].frame(walk.page).is_none())
     }
 
     // Reclaims a page; whether its frame is free now, and None where no page is to be had.

@@ -144,7 +144,7 @@ impl System {
         let entries = self.entries(task).to_vec();
         let copied = entries.iter().filter(|entry| entry.inherit == COPY).count() as u32;
         if self.check_tables(copied, 2 * copied).is_err() {
-            self.check_tables(copied, copied + self.new_marks(task))?;
+            self.check_tables(copied, copied + self.new_sources(task))?;
         }
         let host = self.host_of(task);
         self.make_task(child, host)?;
@@ -160,21 +160,68 @@ impl System {
                 _ => {}
             }
         }
+        self.restart();
         Ok(())
     }
 
-    // How many regions a fork marks that have no mark.
-    fn new_marks(&self, task: u16) -> u32 {
-        let is_new = |region: &u32| !self.regions[self.index(0, *region)].marked;
+    // How many copy objects a fork makes, and regions it marks that have no mark, but for the new ones.
+    fn new_sources(&self, task: u16) -> u32 {
         let copied = self.entries(task).iter().filter(|entry| entry.inherit == COPY).map(|entry| entry.region);
-        let mut regions: Vec<u32> = copied.filter(is_new).collect();
+        let (files, mut regions): (Vec<u32>, Vec<u32>) = copied.partition(|region| *region < self.declared);
+        regions.retain(|region| !self.regions[self.index(0, *region)].marked);
         regions.sort_unstable();
         regions.dedup();
-        regions.len() as u32
+        (files.len() + regions.len()) as u32
+    }
+
+    // An entry for a range is made on a copy of pages of a region.
+    fn enter_copy(&mut self, task: u16, source: u32, offset: u32, entry: Entry) {
+        if source < self.declared {
+            self.enter_delayed(task, source, offset, entry);
+        } else {
+            self.enter_symmetric(task, source, offset, entry);
+        }
+    }
+
+    // An entry for a range is made on a region over a new copy object of a file.
+    fn enter_delayed(&mut self, task: u16, source: u32, offset: u32, entry: Entry) {
+        let (region, object) = (self.next_region, self.next_object);
+        let pages = self.pages_of(entry.bytes) as u32;
+        let top = self.make_copy(self.index(self.host_of(task), source));
+        self.next_region += 1;
+        self.marks += 1;
+        self.regions.push(Region { top, shift: offset, pages, marked: true, entries: 1 });
+        self.out.event("delayed", [region, source, offset, pages, object].map(u64::from));
+        self.enter(task, Entry { region, offset: 0, ..entry });
+    }
+
+    // A file gets a copy object, which stands under the one that was its newest; its index.
+    fn make_copy(&mut self, file: usize) -> u32 {
+        let (number, copy) = (self.next_object, self.objects.len() as u32);
+        self.next_object += 1;
+        let Object { host, number: of_file, .. } = self.objects[file];
+        let pages = self.pages[of_file as usize];
+        let mut new = Object::copy_of(file as u32, number, host, pages);
+        let it = &mut self.objects[file];
+        let older = std::mem::replace(&mut it.newest, copy);
+        it.over ^= copy;
+        if older == NONE {
+            it.shadows += 1;
+            it.references += 1;
+        } else {
+            it.over ^= older;
+            new.over = older;
+            new.shadows += 1;
+            new.references += 1;
+            self.objects[older as usize].under = copy;
+            self.wake_pushers(file, older as usize);
+        }
+        self.objects.push(new);
+        copy
     }
 
     // An entry for a range is made on a symmetric copy of pages of a temporary region.
-    fn enter_copy(&mut self, task: u16, source: u32, offset: u32, entry: Entry) {
+    fn enter_symmetric(&mut self, task: u16, source: u32, offset: u32, entry: Entry) {
         let at = self.index(0, source);
         let row = &mut self.regions[at];
         self.marks += if row.marked { 1 } else { 2 };
@@ -315,14 +362,19 @@ impl System {
         self.can_act(task)?;
         self.check_range(range)?;
         let entries = self.entries(task);
-        let is_declared = |entry: &Entry| entry.region < self.declared;
-        let copies_declared = inherit == COPY && entries[maps::met(entries, range)].iter().any(is_declared);
-        require(!copies_declared, Code::InvalidArgument)?;
+        let is_shared = |entry: &Entry| self.is_shared(entry.region);
+        let copies_shared = inherit == COPY && entries[maps::met(entries, range)].iter().any(is_shared);
+        require(!copies_shared, Code::InvalidArgument)?;
         for entry in self.change(task, range)? {
             entry.inherit = inherit;
         }
         self.out.event("inherited", [task.into(), range.address, range.bytes, inherit.into()]);
         Ok(())
+    }
+
+    // Whether it is the region of a shared or wild object.
+    fn is_shared(&self, region: u32) -> bool {
+        region < self.declared && self.objects[region as usize].kind != Kind::File
     }
 
     // Where an access of so many bytes leads, which needs this protection.
@@ -370,7 +422,7 @@ impl System {
         let pages = self.pages_of(range.bytes);
         require(pages <= MOST_PAGES, Code::InvalidArgument)?;
         let entry = *maps::entry_at(self.entries(task), range.address).ok_or(Code::InvalidAddress)?;
-        let is_slow = entry.region < self.declared;
+        let is_slow = self.is_shared(entry.region);
         require(!is_slow || task == target, Code::InvalidArgument)?;
         require(range.end() <= entry.end(), Code::InvalidAddress)?;
         require(entry.prot & READ != 0, Code::ProtectionFailure)?;
@@ -381,6 +433,7 @@ impl System {
         let source = self.place(task, &entry, range.address, 0);
         if !is_slow {
             self.enter_copy(target, entry.region, source.page, whole_entry(room, 0));
+            self.restart();
             return Ok(());
         }
         let (region, object) = self.make_region(host, pages, 0);

@@ -11,8 +11,10 @@ pub enum Pager {
     Ready,
 }
 
-// What is kept of a page: its frame plus 1, or 0 where it has none; and whether its pager is known not to have it.
+// What is kept of a page: its frame plus 1, or 0 where it has none; whether it was ever raised there; and whether its pager is known
+// not to have it.
 const FRAME: u16 = 0x1fff;
+const RAISED: u16 = 0x4000;
 const ABSENT: u16 = 0x8000;
 
 /// An object on a host.
@@ -29,6 +31,8 @@ pub struct Object {
     /// How many shadows are over it, and their indices, each a bit's sum without carries: of one it is its index.
     pub shadows: u32,
     pub over: u32,
+    /// The index of the newest copy object of a file that still lives.
+    pub newest: u32,
     // How many pages have a frame.
     resident: u32,
     // By page, as far as something is known.
@@ -41,6 +45,8 @@ pub struct Object {
     pub pager: Pager,
     /// Whether it stays when its last entry goes.
     pub stays: bool,
+    /// Whether it is a copy object of a file.
+    pub is_copy: bool,
 }
 
 impl Object {
@@ -54,6 +60,7 @@ impl Object {
             length: 0,
             shadows: 0,
             over: 0,
+            newest: NONE,
             resident: 0,
             pages: Vec::new(),
             waiter: NO_TASK,
@@ -61,6 +68,7 @@ impl Object {
             kind,
             pager: Pager::Without,
             stays: false,
+            is_copy: false,
         }
     }
 
@@ -69,9 +77,14 @@ impl Object {
         Object { references: 1, under, shift, length, ..Object::new(number, host, Kind::Temporary) }
     }
 
-    /// Whether nothing but one shadow is over it, and it never had a control.
+    /// A copy object of a file, under one region.
+    pub fn copy_of(file: u32, number: u32, host: u8, length: u32) -> Object {
+        Object { is_copy: true, ..Object::temporary(number, host, file, 0, length) }
+    }
+
+    /// Whether nothing but one shadow is over it, it never had a control, and it is no copy object.
     pub fn is_lower(&self) -> bool {
-        self.references == 1 && self.shadows == 1 && self.control == 0
+        self.references == 1 && self.shadows == 1 && self.control == 0 && !self.is_copy
     }
 
     fn known(&self, page: u32) -> u16 {
@@ -97,7 +110,7 @@ impl Object {
     }
 
     pub fn clear_frame(&mut self, page: u32) {
-        *self.known_mut(page) &= ABSENT;
+        *self.known_mut(page) &= !FRAME;
         self.resident -= 1;
     }
 
@@ -121,7 +134,15 @@ impl Object {
 
     /// A page was returned, so its pager has it.
     pub fn note_returned(&mut self, page: u32) {
-        *self.known_mut(page) &= FRAME;
+        *self.known_mut(page) &= !ABSENT;
+    }
+
+    pub fn was_raised(&self, page: u32) -> bool {
+        self.known(page) & RAISED != 0
+    }
+
+    pub fn note_raised(&mut self, page: u32) {
+        *self.known_mut(page) |= RAISED;
     }
 
     pub fn forget_pages(&mut self) {

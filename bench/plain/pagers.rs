@@ -163,7 +163,7 @@ impl System {
         let number = self.objects[object].number;
         match message {
             Message::Init { control } => {
-                self.send(object, control, Message::Ready { strategy: 0 });
+                self.send(object, control, Message::Ready { strategy: 2 });
                 self.files_of[number as usize].known = Some((host, control));
             }
             Message::Request { control, page, .. } => {

@@ -172,6 +172,9 @@ impl System {
             let lower = &mut self.objects[under as usize];
             lower.shadows -= 1;
             lower.over ^= object;
+            if lower.newest == object {
+                lower.newest = NONE;
+            }
             object = under;
         }
     }

@@ -239,7 +239,7 @@ impl Out {
                 self.page(bytes.bytes());
             }
             Message::Completed { control, page, count } => self.says("completed", [*control, *page, *count]),
-            Message::Changed { control, cache } => self.says("changed", [*control, u32::from(*cache), 0]),
+            Message::Changed { control, cache } => self.says("changed", [*control, u32::from(*cache), 2]),
             Message::Terminate { control } => self.says("terminate", [*control]),
             Message::Ready { strategy } => self.says("ready 0", [*strategy]),
             Message::Supply { page, lock, bytes } => {
@@ -251,7 +251,7 @@ impl Out {
             Message::Lock { page, count, returns, flush, lock, reply } => {
                 self.says("lock", [*page, *count, *returns, u32::from(*flush), *lock, u32::from(*reply)]);
             }
-            Message::Attributes { cache } => self.says("attributes", [u32::from(*cache), 0, 1]),
+            Message::Attributes { cache } => self.says("attributes", [u32::from(*cache), 2, 1]),
         }
     }
 }

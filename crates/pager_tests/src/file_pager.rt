@@ -93,7 +93,7 @@ fn says(events: &Events, flag: bool) -> bool {
             },
             message: Message::Attributes {
                 cache,
-                strategy: 0,
+                strategy: 2,
                 reply: true,
             },
         } => *cache == flag,

@@ -36,3 +36,12 @@ fn noted(rt: HostRuntime) -> Result<(), Fail> {
     shows(&rt, copies.had(LAST));
     Ok(())
 }
+
+#[test]
+fn reserved(rt: HostRuntime) -> Result<(), Fail> {
+    let mut copies = Copies::new(rt.alloc());
+    copies.reserve(2)?;
+    shows(&rt, copies.begin(FILE, OLDER, 70)?.is_none());
+    shows(&rt, copies.begin(FILE, NEWER, 4096)? == Some(OLDER));
+    Ok(())
+}

@@ -24,7 +24,7 @@ pub fn sent(host: HostId, object: ObjectId, control: u32, message: Message) -> E
     }
 }
 
-/// The object is ready, with a copy strategy: 0 none, 3 temporary.
+/// The object is ready, with a copy strategy: 0 none, 2 delay, 3 temporary.
 pub fn ready(strategy: u32) -> Message
     ensures { result ≡ Message.Ready false strategy }
 {

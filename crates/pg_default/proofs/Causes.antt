@@ -223,7 +223,8 @@ causes header outside doing host past object m old new events serves stored = by
     by : (m : Message) → PagerAnswer m object old new events → AllInTurn header outside doing events (taking host object m past)
     by (message.Init control size) a =
         subst (λ (es : List Event). AllInTurn header outside doing es (taking host object (message.Init control size) past)) (sym (at control _ a.1))
-        (init_answered header outside doing (record { 0 = host }) object control size past (later_paged header object.0 serves.temporary))
+        (init_answered header outside doing (record { 0 = host }) object control size 0 past (later_paged header object.0 serves.temporary)
+        (ap (λ (file : Bool). if file then 2 else 0) (sym (not_file header object.0 serves.temporary))))
     by (message.Create control size) a =
         subst (λ (es : List Event). AllInTurn header outside doing es (taking host object (message.Create control size) past)) (sym (at control _ a.1))
         (create_answered header outside doing (record { 0 = host }) object control size past (later_paged header object.0 serves.temporary))

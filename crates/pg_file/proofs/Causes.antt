@@ -168,7 +168,8 @@ causes header outside doing host past object m old new events serves kept = by m
     by (message.Init control size) a =
         subst (λ (es : List Event). AllInTurn header outside doing es (taking host object (message.Init control size) past))
         (sym (sent_about host old.object object control _ events serves.stands.object_is a.1))
-        (init_answered header outside doing (record { 0 = host }) (record { 0 = object }) control size past (file_paged header object serves.stands.file))
+        (init_answered header outside doing (record { 0 = host }) (record { 0 = object }) control size 2 past (file_paged header object serves.stands.file)
+        (sym (ap (λ b. if b then 2 else 0) serves.stands.file)))
     by (message.Create control size) a =
         subst (λ (es : List Event). AllInTurn header outside doing es (taking host object (message.Create control size) past))
         (sym (sent_about host old.object object control _ events serves.stands.object_is a.1))

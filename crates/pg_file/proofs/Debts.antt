@@ -61,7 +61,7 @@ paid header host past object m old new events serves = by m serves.answered
   where
     by : (m : Message) → FileAnswer m host old new events → IsPaid header (events ++ taking host object m past)
     by (message.Init control size) a =
-        is_ready header host object (message.Init control size) control 0 past events (λ p. refl) (λ p. refl)
+        is_ready header host object (message.Init control size) control 2 past events (λ p. refl) (λ p. refl)
         (sent_about host old.object object control _ events serves.stands.object_is a.1)
     by (message.Create control size) a =
         is_ready header host object (message.Create control size) control 3 past events (λ p. refl) (λ p. refl)

@@ -146,7 +146,7 @@ stands header host past object m old new events serves = by m serves.answered
   where
     by : (m : Message) → FileAnswer m host old new events → PagerStands header object new (events ++ taking host object m past)
     by (message.Init control size) a =
-        greets header host object control 0 (message.Init control size) old new past events refl (holds_taken host object (message.Init control size) past tt) a
+        greets header host object control 2 (message.Init control size) old new past events refl (holds_taken host object (message.Init control size) past tt) a
         serves.stands
     by (message.Create control size) a =
         greets header host object control 3 (message.Create control size) old new past events refl

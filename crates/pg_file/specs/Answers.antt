@@ -30,9 +30,9 @@ device_failed way object page = event.DeviceFailed Files way (record { 0 = objec
 abbrev pub clean_request : PageNo → ℕ → Bool → Message
 clean_request page count flush = message.Lock page count 2 flush 8 true
 
--- whether the file stays when its last entry goes, with the strategy none; the kernel says when it has heard it
+-- whether the file stays when its last entry goes, with the strategy delay; the kernel says when it has heard it
 abbrev pub cache_request : Bool → Message
-cache_request cache = message.Attributes cache 0 true
+cache_request cache = message.Attributes cache 2 true
 
 -- the bytes of a page are supplied
 abbrev pub Supplied : ℕ → ℕ → ℕ → ℕ → PageNo → List Event → Type 0
@@ -77,7 +77,7 @@ Greets host control strategy old new events =
 
 -- what a file's pager answers to a message from a host, and what it leaves of itself; the newest event stands in front
 abbrev pub FileAnswer : Message → ℕ → FileTable → FileTable → List Event → Type 0
-FileAnswer (message.Init control size) host old new events = Greets host control 0 old new events
+FileAnswer (message.Init control size) host old new events = Greets host control 2 old new events
 FileAnswer (message.Create control size) host old new events = Greets host control 3 old new events
 FileAnswer (message.Request control page access) host old new events =
     (new ≡ old) × RequestAnswer old.size host old.object control page (has_lost old page.0) events

@@ -77,7 +77,7 @@ impl FilePager {
     /// where the file reaches it; for a page that is lost it calls nothing. A return writes once. No
     /// other message calls the backing.
     ///
-    /// The calls are those of memory_object_init (ready, with the strategy none), data_request,
+    /// The calls are those of memory_object_init (ready, with the strategy delay), data_request,
     /// data_return and terminate of the Mach 3 kernel interfaces; a create, which no kernel sends
     /// about a file, is answered as the default pager answers it. What is done where the file is
     /// short, or a page lost, is this profile's.
@@ -109,7 +109,7 @@ impl FilePager {
         events.reserve(2)?;
         match message {
             Message::Init { control, size: _ } => {
-                events.push(sent(host, self.object, *control, ready(0)))?;
+                events.push(sent(host, self.object, *control, ready(2)))?;
                 self.meet(host, *control);
             }
             Message::Create { control, size: _ } => {
@@ -149,14 +149,14 @@ impl FilePager {
     }
 
     /// Says to the control that the pager knows whether the file stays in memory when its last entry
-    /// goes: memory_object_change_attributes of the Mach 3 kernel interfaces, with the strategy none
+    /// goes: memory_object_change_attributes of the Mach 3 kernel interfaces, with the strategy delay
     /// and a reply.
     pub fn cache(&self, cache: bool) -> Result<Events, NoMemory>
         ensures { IfOk result (λ events. CacheEvents self.now.known self.now.object cache events.items) }
     {
         let request = Message::Attributes {
             cache,
-            strategy: 0,
+            strategy: 2,
             reply: true,
         };
         self.tell_known(request)

@@ -10,6 +10,7 @@ use Rattle.vm_base.specs.declared.ids.Inherit.{Inherit}
 use Rattle.vm_base.specs.declared.ids.Inherit.TheVariants.{Copy, Never, Share}
 use Rattle.vm_base.specs.Entries.{entry_at, page_at}
 use Rattle.vm_base.specs.declared.ids.ObjectId.{ObjectId}
+use Rattle.vm_base.specs.declared.ids.RegionId.{RegionId}
 use Rattle.vm_base.specs.declared.ids.TaskId.{TaskId}
 use Rattle.vm_model.specs.declared.command.Command.{Command}
 use Rattle.vm_model.specs.declared.command.Command.TheVariants as command
@@ -30,12 +31,11 @@ use Rattle.vm_model.specs.Tasks.{entries_of, host_of}
 use Rattle.vm_base.specs.declared.ids.PageNo.{PageNo}
 use Rattle.vm_legal.specs.Pagers.{Known, known_below}
 use Rattle.vm_model.specs.declared.message.Message.TheVariants as message
-use Rattle.vm_legal.specs.Follows.{Follows, FollowsSoFar, IsConsequence, IsGroup, IsRun, cache_head, clean_head, map_head, opening, copy_head, fork_head, head}
-use Rattle.vm_legal.specs.Follows.{inherits}
-use Rattle.vm_legal.specs.Follows.{inherits_all, next_behind, say_head, take_head}
+use Rattle.vm_legal.specs.Follows.{Follows, FollowsSoFar, IsConsequence, IsGroup, IsRun, cache_head, clean_head, copied_late, copy_head, fork_head, head}
+use Rattle.vm_legal.specs.Follows.{inherits, inherits_all, map_head, next_behind, object_behind, opening, say_head, take_head}
 use Rattle.vm_legal.specs.Frames.{frames_wired}
 use Rattle.vm_legal.specs.Homes.{EntersNext, enters, is_open, starts_copy}
-use Rattle.vm_legal.specs.Outside.{Outside}
+use Rattle.vm_legal.specs.Outside.{Outside, is_file}
 use Rattle.vm_legal.specs.Refusal.{refusal}
 use Rattle.vm_legal.specs.Stretches.{EachIn, EachOf}
 use Rattle.vm_abroad.specs.Whose.{IsShut}
@@ -88,22 +88,33 @@ both_none : (events more : List Event) → EachOf MakesNone events → EachOf Ma
 both_none [] more one two = two
 both_none (e ∷ events) more one two = (one.0, both_none events more one.1 two)
 
-inherits_none : (kind : Inherit) (size : ℕ) (child : TaskId) (next : ℕ) (row : Entry) → EachOf MakesNone (inherits kind size child next row)
-inherits_none Share size child next row = ((λ r past. refl), tt)
-inherits_none Copy size child next row = ((λ r past. refl), ((λ r past. refl), tt))
-inherits_none Never size child next row = tt
+late_none : (delayed : Bool) (next object : ℕ) (source : RegionId) (offset pages : ℕ) → MakesNone (copied_late delayed next object source offset pages)
+late_none true next object source offset pages = λ region past. refl
+late_none false next object source offset pages = λ region past. refl
 
-all_none : (size : ℕ) (child : TaskId) (next : ℕ) (rows : List Entry) → EachOf MakesNone (inherits_all size child next rows)
-all_none size child next [] = tt
-all_none size child next (row ∷ rows) =
-    both_none (inherits row.inherit size child next row) (inherits_all size child (next_behind row.inherit next) rows)
-    (inherits_none row.inherit size child next row) (all_none size child (next_behind row.inherit next) rows)
+inherits_none : (kind : Inherit) (header : Header) (child : TaskId) (next object : ℕ) (row : Entry)
+    → EachOf MakesNone (inherits kind header child next object row)
+inherits_none Share header child next object row = ((λ r past. refl), tt)
+inherits_none Copy header child next object row = (
+  late_none (nat_lt row.region.0 (named header)) next object row.region row.offset (row.bytes / header.size),
+  ((λ r past. refl), tt),
+)
+inherits_none Never header child next object row = tt
 
-forked : (size next : ℕ) (child : TaskId) (x : Option ℕ) (rows : List Entry) (first past : List Event) → fork_head size next child x rows ≡ Some first
-    → Paired past → Paired (reverse first ++ past)
-forked size next child None rows first past is was = no_head first past is
-forked size next child (Some host) rows first past is was =
-    plain (event.TaskMade child (record { 0 = host }) ∷ inherits_all size child next rows) first past ((λ r h. refl), all_none size child next rows) is was
+all_none : (header : Header) (child : TaskId) (next object : ℕ) (rows : List Entry) → EachOf MakesNone (inherits_all header child next object rows)
+all_none header child next object [] = tt
+all_none header child next object (row ∷ rows) =
+    let region = next_behind row.inherit next in
+    let number = object_behind row.inherit header row.region object in
+    both_none (inherits row.inherit header child next object row) (inherits_all header child region number rows)
+    (inherits_none row.inherit header child next object row) (all_none header child region number rows)
+
+forked : (header : Header) (next object : ℕ) (child : TaskId) (x : Option ℕ) (rows : List Entry) (first past : List Event)
+    → fork_head header next object child x rows ≡ Some first → Paired past → Paired (reverse first ++ past)
+forked header next object child None rows first past is was = no_head first past is
+forked header next object child (Some host) rows first past is was =
+    plain (event.TaskMade child (record { 0 = host }) ∷ inherits_all header child next object rows) first past
+    ((λ r h. refl), all_none header child next object rows) is was
 
 none_left : (b : Bool) → (b && false) ≡ false
 none_left true = refl
@@ -117,26 +128,30 @@ begun_and_made begun made first past is none shut was =
     let front : Paired (begun ∷ past) = paired (begun ∷ []) past (none, tt) was in
     subst (λ (z : List Event). Paired (reverse z ++ past)) same (record { each = (next_shut made (begun ∷ past) front.shut, front.each); shut = shut })
 
-copied : (declared size next object : ℕ) (task : TaskId) (address bytes : ℕ) (target : TaskId) (to : ℕ) (x : Option Entry) (first past : List Event)
-    → copy_head declared size next object task address bytes target to x ≡ Some first → Paired past
+copied : (header : Header) (next object : ℕ) (task : TaskId) (address bytes : ℕ) (target : TaskId) (to : ℕ) (x : Option Entry) (first past : List Event)
+    → copy_head header next object task address bytes target to x ≡ Some first → Paired past
     → Paired (reverse first ++ past)
-copied declared size next object task address bytes target to None first past is was = no_head first past is
-copied declared size next object task address bytes target to (Some row) first past is was = by (nat_lt row.region.0 declared) is
+copied header next object task address bytes target to None first past is was = no_head first past is
+copied header next object task address bytes target to (Some row) first past is was =
+    by (nat_lt row.region.0 (named header) && not (is_file header row.region.0)) is
   where
     begun : Event
     begun = event.BegunCopy task address bytes to
 
     made : Event
-    made = event.RegionMade (record { 0 = next }) (record { 0 = object }) (bytes / size)
+    made = event.RegionMade (record { 0 = next }) (record { 0 = object }) (bytes / header.size)
 
-    events : List Event
-    events =
-        event.RegionCopied (record { 0 = next }) row.region (page_at size address row) (bytes / size)
-        ∷ event.Entered target to bytes (record { 0 = next }) 0 (record { read = true; write = true }) Copy ∷ []
+    new : Event
+    new = copied_late (is_file header row.region.0) next object row.region (page_at header.size address row) (bytes / header.size)
 
-    by : (b : Bool) → Some (if b then begun ∷ made ∷ [] else events) ≡ Some first → Paired (reverse first ++ past)
+    entry : Event
+    entry = event.Entered target to bytes (record { 0 = next }) 0 (record { read = true; write = true }) Copy
+
+    by : (b : Bool) → Some (if b then begun ∷ made ∷ [] else new ∷ entry ∷ []) ≡ Some first → Paired (reverse first ++ past)
     by true is = begun_and_made begun made first past is (λ region front. refl) (λ region. none_left (region == next)) was
-    by false is = plain events first past ((λ r h. refl), ((λ r h. refl), tt)) is was
+    by false is =
+        let none = late_none (is_file header row.region.0) next object row.region (page_at header.size address row) (bytes / header.size) in
+        plain (new ∷ entry ∷ []) first past (none, ((λ r h. refl), tt)) is was
 
 taken : (channel : Channel) (x : Option Message) (first past : List Event) → take_head channel x ≡ Some first → Paired past → Paired (reverse first ++ past)
 taken channel None first past is was = no_head first past is
@@ -172,7 +187,7 @@ cached : (object : ObjectId) (cache : Bool) (x : Option Known) (first past : Lis
     → Paired (reverse first ++ past)
 cached object cache None first past is was = plain [] first past tt is was
 cached object cache (Some known) first past is was =
-    plain (event.Sent (Down (record { 0 = known.host }) object known.control) (message.Attributes cache 0 true) ∷ []) first past ((λ r h. refl), tt) is was
+    plain (event.Sent (Down (record { 0 = known.host }) object known.control) (message.Attributes cache 2 true) ∷ []) first past ((λ r h. refl), tt) is was
 
 made_and_entered : (made entered : Event) (first past : List Event) → Some (made ∷ entered ∷ []) ≡ Some first → MakesNone entered
     → ((region : ℕ) → is_open region (made ∷ past) ≡ true → enters region entered ≡ true)
@@ -197,9 +212,9 @@ head_paired header before past (command.Load task address size) first is was =
 head_paired header before past (command.Store task address size value) first is was =
     plain (event.BegunStore task address size value ∷ []) first past ((λ r h. refl), tt) is was
 head_paired header before past (command.Fork task child) first is was =
-    forked header.size (next_region header before) child (host_of task.0 before) (entries_of header.size task.0 before) first past is was
+    forked header (next_region header before) (next_object header before) child (host_of task.0 before) (entries_of header.size task.0 before) first past is was
 head_paired header before past (command.Copy task address bytes target to) first is was =
-    copied (named header) header.size (next_region header before) (next_object header before) task address bytes target to
+    copied header (next_region header before) (next_object header before) task address bytes target to
     (entry_at address (entries_of header.size task.0 before)) first past is was
 head_paired header before past (command.Exit task) first is was = plain (event.TaskEnded task ∷ []) first past ((λ r h. refl), tt) is was
 head_paired header before past (command.Deallocate task address bytes) first is was =

@@ -1,7 +1,7 @@
 -- The home of a region stays what it is, and so does that of an object; what wasn't made has none; and a region is in use on its home alone.
 use Rattle.std.proofs.Common.{◌≡◌, ◌+◌, ◌≤◌, ◌<◌, ◌&&◌, ◌||◌, not, ℕ, ◌==◌, Bool, true, false, List, [], ◌∷◌, ◌++◌, Option, Some, None, ap, refl, subst, sym}
 use Rattle.std.proofs.Common.{◌∙◌, arith, ◌⊎◌, inl, inr}
-use Rattle.std.proofs.lemmas.Bool.{cases_lt}
+use Rattle.std.proofs.lemmas.Bool.{cases_lt, or_right}
 use Rattle.std.proofs.lemmas.Bool.Decides.{eqb_tells, nat_tests}
 use Rattle.std.specs.Prelude.{if◌then◌else◌, nat_lt, unwrap_or}
 use Rattle.vm_base.specs.declared.ids.Inherit.{Inherit}
@@ -15,7 +15,7 @@ use Rattle.vm_model.specs.declared.script.Header.{Header}
 use Rattle.vm_model.specs.Homes.{copying_host, first_of, home_in, home_of, object_home, region_for}
 use Rattle.vm_model.specs.Local.{is_on}
 use Rattle.vm_model.specs.Named.{declared_pages, named}
-use Rattle.vm_model.specs.Regions.{Backing, backing_of, is_newest, joined, newest_copy, next_object, next_region, over, pushed, region_of}
+use Rattle.vm_model.specs.Regions.{Backing, backing_of, is_copy, is_newest, joined, newest_copy, next_object, next_region, over, pushed, region_of}
 use Rattle.vm_model.specs.Tasks.{host_of}
 use Rattle.vm_model.specs.Waiting.{Target, begins_copy, copy_target}
 use Rattle.vm_legal.specs.Homes.{begins_here, is_home}
@@ -25,7 +25,7 @@ use Rattle.vm_legal.specs.Merges.{Merges}
 use Rattle.vm_legal.specs.Outside.{Outside, is_file}
 use Rattle.vm_legal.specs.Stretches.{EachIn}
 use Rattle.vm_legal.specs.Used.{in_use, is_held, is_kept, made_here}
-use Rattle.vm_abroad.specs.Home.{HaveHomes, IsCopyOf}
+use Rattle.vm_abroad.specs.Home.{HaveHomes, IsCopyOf, IsOverCopy}
 use Rattle.vm_abroad.specs.Sound.{IsAbroad}
 use Rattle.vm_abroad.proofs.Numbers.{unlike}
 use Rattle.vm_legal.proofs.Homes.{first_stays, made_there, region_stays}
@@ -568,6 +568,57 @@ copies_next header outside (event.Merged upper lower) past cause homes file copy
 copies_next header outside e past cause homes file copy is =
     let was = homes.copies file copy is in record { file = was.file; made = region_stays copy file e past was.made; stands = was.stands }
 
+-- and each copy stands on a declared object or another copy
+
+abbrev LinedNow : Header → List Event → ℕ → Type 0
+LinedNow header past o = IsOverCopy header (λ c. is_copy c past) (backing_of header o past)
+
+-- a copy was made
+pub copied_low : (header : Header) (o : ℕ) (past : List Event) → HaveHomes header past → is_copy o past ≡ true → o < next_object header past
+copied_low header o past homes is = elim (cases_lt o (next_object header past)) [
+  | inl less ↦ less
+  | inr high ↦ absurd (let bad : false ≡ true = sym (homes.unmade o high) ∙ (homes.lined o is).backed in cc)
+]
+
+-- one copy more, and the newest until then stands on it
+lined_delayed : (header : Header) (region source : RegionId) (offset pages : ℕ) (new : ObjectId) (past : List Event) → HaveHomes header past
+    → source.0 < named header → (o : ℕ) (this newest : Bool) → (o == new.0) ≡ this → is_newest o (newest_copy source.0 past) ≡ newest
+    → (this || is_copy o past) ≡ true → IsOverCopy header (λ c. c == new.0 || is_copy c past) (pushed this newest source.0 new.0 (backing_of header o past))
+lined_delayed header region source offset pages new past homes low o true newest this its is = record { backed = refl; over = inl low }
+lined_delayed header region source offset pages new past homes low o false true this its is =
+    record { backed = refl; over = inr (ap (λ b. b || is_copy new.0 past) (itself new.0)) }
+lined_delayed header region source offset pages new past homes low o false false this its is =
+    let was = homes.lined o is in
+    record {
+      backed = was.backed;
+      over = elim was.over [
+        | inl declared ↦ inl declared
+        | inr copy ↦ inr (or_right ((backing_of header o past).under == new.0) (is_copy (backing_of header o past).under past) copy)
+      ];
+    }
+
+lined_next : (header : Header) (outside : Outside) (e : Event) (past : List Event) → HasCause header outside e past → HaveHomes header past
+    → (o : ℕ) → is_copy o (e ∷ past) ≡ true → LinedNow header (e ∷ past) o
+lined_next header outside (event.Delayed region source offset pages new) past cause homes o is =
+    lined_delayed header region source offset pages new past homes (file_named header source.0 cause.1.file) o _ _ refl refl is
+lined_next header outside (event.Shadowed changed new old) past cause homes o is =
+    let number = cause.1.next in
+    let less = copied_low header o past homes is in
+    let other : (o == new.0) ≡ false = unlike o new.0 (λ same. omega (arith, same, number, less)) in
+    subst (λ (z : Bool). IsOverCopy header (λ c. is_copy c past) (over z (region_of header changed.0 past) (backing_of header o past))) (sym other)
+    (homes.lined o is)
+lined_next header outside (event.Merged upper lower) past cause homes o is =
+    let was = homes.lined o is in
+    let pair = cause.1.pair in
+    let temporary = pair.temporary in
+    let other : (o == upper.0) ≡ false = unlike o upper.0 (λ same. let its : (backing_of header o past).under ≡ lower.0 =
+    ap (λ z. (backing_of header z past).under) same ∙ pair.under in elim was.over [
+      | inl low ↦ omega (arith, low, its, temporary)
+      | inr copy ↦ let bad : false ≡ true = sym pair.plain ∙ (ap (λ z. is_copy z past) (sym its) ∙ copy) in cc
+    ]) in
+    subst (λ (z : Bool). IsOverCopy header (λ c. is_copy c past) (joined z (backing_of header lower.0 past) (backing_of header o past))) (sym other) was
+lined_next header outside e past cause homes o is = homes.lined o is
+
 -- what has a home was made, whatever is added with its cause
 pub homes_next : (header : Header) (outside : Outside) (e : Event) (past : List Event) → HasCause header outside e past → HaveHomes header past
     → HaveHomes header (e ∷ past)
@@ -584,6 +635,7 @@ homes_next header outside e past cause homes =
       target_made = target_made_next header outside e past cause homes;
       target_bare = target_bare_next header outside e past cause homes;
       copies = copies_next header outside e past cause homes;
+      lined = lined_next header outside e past cause homes;
     }
 
 pub homes_start : (header : Header) → HaveHomes header []
@@ -600,4 +652,5 @@ homes_start header =
       target_made = λ task target is. absurd (let bad : None ≡ Some target = is in cc);
       target_bare = λ task target is. absurd (let bad : None ≡ Some target = is in cc);
       copies = λ file copy is. absurd (let bad : None ≡ Some copy = is in cc);
+      lined = λ copy is. absurd (let bad : false ≡ true = is in cc);
     }

@@ -53,24 +53,24 @@ other_of_another None copy is = refl
 other_of_another (Some c) copy is = rw is refl
 
 -- what is kept, as contracts see it
-abbrev pub table_of : List (ObjectId × ObjectId) → List (ObjectId × CopyRow) → CopyTable
-table_of newest copies = record { newest = newest; copies = copies }
+abbrev pub table_of : List (ObjectId × ObjectId) → List (ObjectId × CopyRow) → ℕ → CopyTable
+table_of newest copies room = record { newest = newest; copies = copies; room = room }
 
 -- a copy object that has had no page is put, or none
-pub cleared : (newest newest2 : List (ObjectId × ObjectId)) (copies copies2 : List (ObjectId × CopyRow)) (copy : ℕ) (row : Option CopyRow)
-    → Puts copy row copies copies2 → ((p : ℕ) → had_in row p ≡ false) → ClearsHad copy (table_of newest copies) (table_of newest2 copies2)
-cleared newest newest2 copies copies2 copy row puts none = record { at = λ c p. ap (λ z. had_in z p) (puts c) ∙ by c p (copy == c) }
+pub cleared : (newest newest2 : List (ObjectId × ObjectId)) (copies copies2 : List (ObjectId × CopyRow)) (room room2 copy : ℕ) (row : Option CopyRow)
+    → Puts copy row copies copies2 → ((p : ℕ) → had_in row p ≡ false) → ClearsHad copy (table_of newest copies room) (table_of newest2 copies2 room2)
+cleared newest newest2 copies copies2 room room2 copy row puts none = record { at = λ c p. ap (λ z. had_in z p) (puts c) ∙ by c p (copy == c) }
   where
     by : (c p : ℕ) (same : Bool) → had_in (if same then row else among c copies) p ≡ (if same then false else had_in (among c copies) p)
     by c p true = none p
     by c p false = refl
 
 -- one page of a copy object is put
-pub noted : (newest newest2 : List (ObjectId × ObjectId)) (copies copies2 : List (ObjectId × CopyRow)) (copy page : ℕ) (old new : CopyRow)
+pub noted : (newest newest2 : List (ObjectId × ObjectId)) (copies copies2 : List (ObjectId × CopyRow)) (room room2 copy page : ℕ) (old new : CopyRow)
     → Puts copy (Some new) copies copies2 → among copy copies ≡ Some old
     → ((p : ℕ) → slice_index_or new.had p false ≡ (if page == p then true else slice_index_or old.had p false))
-    → PutsHad copy page true (table_of newest copies) (table_of newest2 copies2)
-noted newest newest2 copies copies2 copy page old new puts was had = record { at = λ c p. ap (λ z. had_in z p) (puts c) ∙ by c p (copy == c) refl }
+    → PutsHad copy page true (table_of newest copies room) (table_of newest2 copies2 room2)
+noted newest newest2 copies copies2 room room2 copy page old new puts was had = record { at = λ c p. ap (λ z. had_in z p) (puts c) ∙ by c p (copy == c) refl }
   where
     by : (c p : ℕ) (same : Bool) → (copy == c) ≡ same
         → had_in (if same then Some new else among c copies) p ≡ (if same && (page == p) then true else had_in (among c copies) p)
@@ -80,10 +80,10 @@ noted newest newest2 copies copies2 copy page old new puts was had = record { at
     by c p false is = refl
 
 -- each source's newest stays when a row keeps its source
-pub kept : (newest : List (ObjectId × ObjectId)) (copies copies2 : List (ObjectId × CopyRow)) (copy : ℕ) (old new : CopyRow)
+pub kept : (newest : List (ObjectId × ObjectId)) (copies copies2 : List (ObjectId × CopyRow)) (room room2 copy : ℕ) (old new : CopyRow)
     → Puts copy (Some new) copies copies2 → among copy copies ≡ Some old → new.source ≡ old.source
-    → AreNewest (table_of newest copies) → AreNewest (table_of newest copies2)
-kept newest copies copies2 copy old new puts was source are = record { at = λ s. by s (among s newest) (are.at s) }
+    → AreNewest (table_of newest copies room) → AreNewest (table_of newest copies2 room2)
+kept newest copies copies2 room room2 copy old new puts was source are = record { at = λ s. by s (among s newest) (are.at s) }
   where
     by_copy : (s c : ℕ) (same : Bool) → (copy == c) ≡ same → IsCopyOf s (among c copies) → IsCopyOf s (if same then Some new else among c copies)
     by_copy s c true is of =
@@ -97,10 +97,10 @@ kept newest copies copies2 copy old new puts was source are = record { at = λ s
     by s (Some c) of = rw (puts c.0) (by_copy s c.0 (copy == c.0) refl of)
 
 -- a copy object begins, and is its source's newest
-pub begun : (newest newest2 : List (ObjectId × ObjectId)) (copies copies2 : List (ObjectId × CopyRow)) (source copy : ObjectId) (row : CopyRow)
+pub begun : (newest newest2 : List (ObjectId × ObjectId)) (copies copies2 : List (ObjectId × CopyRow)) (room room2 : ℕ) (source copy : ObjectId) (row : CopyRow)
     → Puts copy.0 (Some row) copies copies2 → Puts source.0 (Some copy) newest newest2 → among copy.0 copies ≡ None → row.source ≡ source
-    → AreNewest (table_of newest copies) → AreNewest (table_of newest2 copies2)
-begun newest newest2 copies copies2 source copy row puts first absent of are = record { at = λ s. rw (first s) (by s (source.0 == s) refl) }
+    → AreNewest (table_of newest copies room) → AreNewest (table_of newest2 copies2 room2)
+begun newest newest2 copies copies2 room room2 source copy row puts first absent of are = record { at = λ s. rw (first s) (by s (source.0 == s) refl) }
   where
     by_copy : (s c : ℕ) (same : Bool) → (copy.0 == c) ≡ same → IsCopyOf s (among c copies) → IsCopyOf s (if same then Some row else among c copies)
     by_copy s c true is stood =
@@ -120,10 +120,10 @@ begun newest newest2 copies copies2 source copy row puts first absent of are = r
     by s false is = by_newest s (among s newest) (are.at s)
 
 -- a copy object ends, and is no longer its source's newest if it was
-pub ended : (newest newest2 : List (ObjectId × ObjectId)) (copies copies2 : List (ObjectId × CopyRow)) (copy : ℕ) (row : CopyRow)
+pub ended : (newest newest2 : List (ObjectId × ObjectId)) (copies copies2 : List (ObjectId × CopyRow)) (room room2 copy : ℕ) (row : CopyRow)
     → Puts copy None copies copies2 → Puts row.source.0 (other_than copy (among row.source.0 newest)) newest newest2
-    → among copy copies ≡ Some row → AreNewest (table_of newest copies) → AreNewest (table_of newest2 copies2)
-ended newest newest2 copies copies2 copy row puts first was are = record { at = λ s. rw (first s) (by s (row.source.0 == s) refl) }
+    → among copy copies ≡ Some row → AreNewest (table_of newest copies room) → AreNewest (table_of newest2 copies2 room2)
+ended newest newest2 copies copies2 room room2 copy row puts first was are = record { at = λ s. rw (first s) (by s (row.source.0 == s) refl) }
   where
     by_copy : (s c : ℕ) (same : Bool) → (copy == c) ≡ same → (row.source.0 == s) ≡ false → IsCopyOf s (among c copies)
         → IsCopyOf s (if same then None else among c copies)

@@ -2,7 +2,7 @@
 use Rattle.std.proofs.Common.{ℕ, ◌≡◌, ◌≢◌, ◌<◌, ◌≤◌, ◌*◌, ◌/◌, ◌%◌, ◌^◌, ◌==◌, Bool, true, false, List, ◌∷◌, zero, suc, length, inl, inr, refl, sym, ◌∙◌, ap}
 use Rattle.std.proofs.Common.{arith, w64}
 use Rattle.std.proofs.lemmas.Bool.Decides.{eqb_tells}
-use Rattle.std.proofs.lemmas.List.{get_or-set_other, get_or-set_same, get_or_read}
+use Rattle.std.proofs.lemmas.List.{get_or-set_other, get_or-set_same}
 use Rattle.std.proofs.lemmas.Nat.Bits.{bit_at-zero, bit_at_set_other, bit_at_set_same}
 use Rattle.std.specs.Int.{bit_at}
 use Rattle.std.specs.Prelude.{bit_or, if◌then◌else◌, replicate, slice_index_or, slice_set}
@@ -52,33 +52,33 @@ none_in pages n =
     same_below pages (is_set (replicate {A = ℕ} n 0)) (λ i. false)
     (λ i. ap (λ z. bit_at z (i % 64) == 1) (all_same 0 n (i / 64)) ∙ ap (λ z. z == 1) (bit_at-zero (i % 64))) ∙ none_below pages
 
--- the words with the bit of a page set, whose word this was
-abbrev pub words_with : ℕ → ℕ → List ℕ → List ℕ
-words_with p word words = slice_set words (p / 64) (bit_or word (1 * 2 ^ (p % 64) % 2 ^ 64))
+-- the words with the bit of a page set
+abbrev pub words_with : ℕ → List ℕ → List ℕ
+words_with p words = slice_set words (p / 64) (bit_or (slice_index_or words (p / 64) 0) (1 * 2 ^ (p % 64) % 2 ^ 64))
 
-set_here : (p word : ℕ) (words : List ℕ) → p / 64 < length words → is_set (words_with p word words) p ≡ true
-set_here p word words inside =
-    ap (λ z. bit_at z (p % 64) == 1) (get_or-set_same words (p / 64) _ 0 inside) ∙ ap (λ z. z == 1) (bit_at_set_same w64 word (p % 64) (omega arith))
+set_here : (p : ℕ) (words : List ℕ) → p / 64 < length words → is_set (words_with p words) p ≡ true
+set_here p words inside =
+    ap (λ z. bit_at z (p % 64) == 1) (get_or-set_same words (p / 64) _ 0 inside)
+    ∙ ap (λ z. z == 1) (bit_at_set_same w64 (slice_index_or words (p / 64) 0) (p % 64) (omega arith))
 
-set_elsewhere : (p word : ℕ) (words : List ℕ) → p / 64 < length words → word ≡ slice_index_or words (p / 64) 0 → (q : ℕ) → q ≢ p
-    → is_set (words_with p word words) q ≡ is_set words q
-set_elsewhere p word words inside was q apart = elim (eqb_tells (p / 64) (q / 64)) [
+set_elsewhere : (p : ℕ) (words : List ℕ) → p / 64 < length words → (q : ℕ) → q ≢ p → is_set (words_with p words) q ≡ is_set words q
+set_elsewhere p words inside q apart = elim (eqb_tells (p / 64) (q / 64)) [
   | inl same ↦
       let differ : q % 64 ≢ p % 64 = λ e. apart (omega (arith, e, same.1)) in
-      let now : slice_index_or (words_with p word words) (q / 64) 0 ≡ bit_or word (1 * 2 ^ (p % 64) % 2 ^ 64) =
-      ap (λ z. slice_index_or (words_with p word words) z 0) (sym same.1) ∙ get_or-set_same words (p / 64) _ 0 inside in
+      let word = slice_index_or words (p / 64) 0 in
+      let now : slice_index_or (words_with p words) (q / 64) 0 ≡ bit_or word (1 * 2 ^ (p % 64) % 2 ^ 64) =
+      ap (λ z. slice_index_or (words_with p words) z 0) (sym same.1) ∙ get_or-set_same words (p / 64) _ 0 inside in
       ap (λ z. bit_at z (q % 64) == 1) now ∙ ap (λ z. z == 1) (bit_at_set_other w64 word (p % 64) (omega arith) (q % 64) differ)
-      ∙ ap (λ z. bit_at z (q % 64) == 1) (was ∙ ap (λ z. slice_index_or words z 0) same.1)
+      ∙ ap (λ z. bit_at z (q % 64) == 1) (ap (λ z. slice_index_or words z 0) same.1)
   | inr other ↦ ap (λ z. bit_at z (q % 64) == 1) (get_or-set_other words (p / 64) (q / 64) _ 0 (λ e. other.1 (sym e)))
 ]
 
 -- the bit of a page is set, and so the page is among those that were had
-pub pages_with : (pages p word : ℕ) (words : List ℕ) → pages ≤ 64 * length words → p < pages → word ≡ slice_index_or words (p / 64) word
-    → pages_in pages (words_with p word words) ≡ slice_set (pages_in pages words) p true
-pages_with pages p word words enough less was =
+pub pages_with : (pages p : ℕ) (words : List ℕ) → pages ≤ 64 * length words → p < pages
+    → pages_in pages (words_with p words) ≡ slice_set (pages_in pages words) p true
+pages_with pages p words enough less =
     let inside : p / 64 < length words = omega (arith, enough, less) in
-    sym (set_below pages (is_set words) (is_set (words_with p word words)) p (set_here p word words inside)
-    (set_elsewhere p word words inside (get_or_read words (p / 64) word inside was 0)))
+    sym (set_below pages (is_set words) (is_set (words_with p words)) p (set_here p words inside) (set_elsewhere p words inside))
 
 -- and each other page is among them as it was
 pub had_with : (pages p : ℕ) (words : List ℕ) → p < pages → (q : ℕ)

@@ -1,5 +1,5 @@
 -- The copy objects of a host, as contracts see them.
-use Rattle.std.specs.Prelude.{ℕ, ◌≡◌, ◌==◌, ◌&&◌, Bool, false, List, [], ◌∷◌, Option, Some, None, if◌then◌else◌, slice_index_or, IfSome, IsSomeAnd}
+use Rattle.std.specs.Prelude.{ℕ, ◌≡◌, ◌≤◌, ◌==◌, ◌&&◌, Bool, false, List, [], ◌∷◌, Option, Some, None, if◌then◌else◌, slice_index_or, IfSome, IsSomeAnd}
 use Rattle.vm_base.specs.declared.ids.ObjectId.{ObjectId}
 
 -- a copy object: whose copy it is, of how many pages, and which of them it has had of its own
@@ -8,10 +8,11 @@ pub record CopyRow : Type 0 where
   pub pages : ℕ
   pub had : List Bool
 
--- the newest copy object of each source, and the copy objects that live
+-- the newest copy object of each source, the copy objects that live, and how many further ones begin without memory
 pub record CopyTable : Type 0 where
   pub newest : List (ObjectId × ObjectId)
   pub copies : List (ObjectId × CopyRow)
+  pub room : ℕ
 
 -- what is kept of an object, None where nothing is
 abbrev pub among : {X : Type 0} → ℕ → List (ObjectId × X) → Option X
@@ -47,6 +48,12 @@ IsCopyOf s row = IsSomeAnd row (λ row. row.source.0 ≡ s)
 pub record AreNewest (table : CopyTable) : Type 0 where
   pub at : (s : ℕ) → IfSome (newest_at table s) (λ c. IsCopyOf s (copy_at table c.0))
 
+-- the newest ones live, and both maps have the room that is promised
+pub record AreKept (table : CopyTable) (of_newest of_copies : ℕ) : Type 0 where
+  pub living : AreNewest table
+  pub newest : table.room ≤ of_newest
+  pub copies : table.room ≤ of_copies
+
 -- this is the row of one copy object now, or it doesn't live, and each other is as it was
 pub record PutsCopy (copy : ℕ) (row : Option CopyRow) (old new : CopyTable) : Type 0 where
   pub at : (c : ℕ) → copy_at new c ≡ (if copy == c then row else copy_at old c)
@@ -62,3 +69,15 @@ pub record PutsHad (copy page : ℕ) (b : Bool) (old new : CopyTable) : Type 0 w
 -- one copy object has had no page, and each other those that it had
 pub record ClearsHad (copy : ℕ) (old new : CopyTable) : Type 0 where
   pub at : (c p : ℕ) → had_at new c p ≡ (if copy == c then false else had_at old c p)
+
+-- a copy object ends; where it was its source's newest, that has none any more
+pub record EndsCopy (copy : ℕ) (row : CopyRow) (old new : CopyTable) : Type 0 where
+  pub found : copy_at old copy ≡ Some row
+  pub gone : PutsCopy copy None old new
+  pub had : ClearsHad copy old new
+  pub newest : PutsNewest row.source.0 (other_than copy (newest_at old row.source.0)) old new
+
+-- an object ends: where it is a copy object, its row goes
+pub data LeavesCopies (object : ℕ) (old new : CopyTable) : Type 0 where
+  WasCopy : (row : CopyRow) → EndsCopy object row old new → AreNewest new → LeavesCopies object old new
+  WasNone : copy_at old object ≡ None → new ≡ old → LeavesCopies object old new

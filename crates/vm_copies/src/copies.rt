@@ -1,6 +1,7 @@
 // The copy objects of a host.
-ghost use Rattle.std.specs.Prelude.{ℕ, ◌≡◌, ◌<◌, ◌≤◌, ◌==◌, [], if◌then◌else◌, None, Some, false, is_some, replicate, slice_set, true, IfOk, IfSome, IsSome};
-ghost use Rattle.std.specs.Prelude.{OnErr, OnOk};
+ghost use Rattle.indexmap.specs.IndexMap.{spare};
+ghost use Rattle.std.specs.Prelude.{ℕ, ◌≡◌, ◌+◌, ◌<◌, ◌≤◌, ◌==◌, [], if◌then◌else◌, None, Some, false, is_some, replicate, slice_set, true, IfOk, IfSome};
+ghost use Rattle.std.specs.Prelude.{IsOk, IsSome, OnErr, OnOk};
 ghost use Rattle.vm_base.specs.Limits.{most_pages};
 ghost use Rattle.vm_copies.specs.Copies.{AreNewest, ClearsHad, PutsCopy, PutsHad, PutsNewest, among, copy_at, had_at, newest_at, other_than};
 
@@ -14,39 +15,64 @@ use vm_base::{NoMemory, ObjectId, PageKey};
 ///
 /// A copy object is a delayed copy of a file's pages, and stands between the file and its copies.
 /// Contracts see each source's newest, and of each copy object whose it is, of how many pages, and which
-/// of them it has had of its own. Only `begin` takes memory, and no call scans a table.
+/// of them it has had of its own; and how many further ones begin without memory. Only `reserve` and
+/// `begin` take memory, and no call scans a table.
 #[derive(Drop)]
 pub struct Copies {
-    alloc: Global,
     copies: IndexMap<ObjectId, CopyObject>,
     // The newest copy object of each source that has one.
     newest: IndexMap<ObjectId, ObjectId>,
+    // So many further copy objects have been promised room.
+    promised: u32,
 }
 
 impl Model for Copies {
-    ghost use Rattle.vm_copies.specs.Copies.{AreNewest, CopyTable};
+    ghost use Rattle.indexmap.specs.IndexMap.{spare};
+    ghost use Rattle.vm_copies.specs.Copies.{AreKept, CopyTable};
 
     ghost Value = { CopyTable };
 
-    ghost view = { λ s. record { newest = s.newest.entries; copies = s.copies.entries } };
+    ghost view = { λ s. record { newest = s.newest.entries; copies = s.copies.entries; room = s.promised } };
 
-    ghost invariant = { λ s. AreNewest (record { newest = s.newest.entries; copies = s.copies.entries }) };
+    ghost invariant = { λ s. AreKept
+        (record { newest = s.newest.entries; copies = s.copies.entries; room = s.promised })
+        (spare s.newest) (spare s.copies) };
 }
 
 impl Copies {
     /// No copy objects, and no memory taken.
     pub fn new(alloc: Global) -> Copies
-        ensures { result ≡ record { newest = []; copies = [] } }
+        ensures { result ≡ record { newest = []; copies = []; room = 0 } }
     {
         Copies {
-            alloc,
             copies: IndexMap::new(alloc),
             newest: IndexMap::new(alloc),
+            promised: 0,
         }
     }
 
+    /// Makes room for so many further copy objects; it fails for want of memory alone, and then nothing
+    /// changed.
+    pub fn reserve(&mut self, rows: u32) -> Result<(), NoMemory>
+        ensures same { self.new ≡ record self.old { room = self.new.room } }
+        ensures room { OnOk result (rows ≤ self.new.room) }
+        ensures kept { self.old.room ≤ self.new.room }
+        ensures succeeds { rows ≤ self.old.room → IsOk result }
+        ensures living { AreNewest self.new }
+        ensures err { OnErr result (self.new ≡ self.old) }
+    {
+        if rows <= self.promised {
+            return Ok(());
+        }
+        self.copies.reserve(rows as usize)?;
+        self.newest.reserve(rows as usize)?;
+        self.promised = rows;
+        Ok(())
+    }
+
     /// A copy object of so many pages begins, and is its source's newest; this gives the one that was until
-    /// then, None exactly where none lived. It fails for want of memory alone, and then nothing changed.
+    /// then, None exactly where none lived. It fails for want of memory alone, and then nothing changed but
+    /// the room.
     pub fn begin(
         &mut self,
         source: ObjectId,
@@ -61,12 +87,13 @@ impl Copies {
         ensures had { OnOk result (ClearsHad copy.0 self.old self.new) }
         ensures newest { OnOk result (PutsNewest source.0 (Some copy) self.old self.new) }
         ensures living { AreNewest self.new }
-        ensures err { OnErr result (self.new ≡ self.old) }
+        ensures err { OnErr result (self.new ≡ record self.old { room = self.new.room }) }
+        ensures succeeds { 0 < self.old.room → IsOk result }
+        ensures room { self.old.room ≤ self.new.room + 1 }
     {
-        self.copies.reserve(1)?;
-        self.newest.reserve(1)?;
-        let row = CopyObject::new(self.alloc, source, pages)?;
-        self.copies.insert(copy, row)?;
+        self.reserve(1)?;
+        self.promised -= 1;
+        self.copies.insert(copy, CopyObject::new(source, pages))?;
         Ok(self.newest.insert(source, copy)?)
     }
 
@@ -95,6 +122,7 @@ impl Copies {
             (Some (record row { had = slice_set row.had key.page.0 true })) self.old self.new) }
         ensures had { PutsHad key.object.0 key.page.0 true self.old self.new }
         ensures newest { self.new.newest ≡ self.old.newest }
+        ensures room { self.new.room ≡ self.old.room }
         ensures living { AreNewest self.new }
     {
         let row = self.copies.get_mut(&key.object).unwrap();
@@ -108,6 +136,7 @@ impl Copies {
         ensures had { ClearsHad copy.0 self.old self.new }
         ensures newest { IfSome (copy_at self.old copy.0) (λ row. PutsNewest row.source.0
             (other_than copy.0 (newest_at self.old row.source.0)) self.old self.new) }
+        ensures room { self.old.room ≤ self.new.room }
         ensures living { AreNewest self.new }
     {
         let row = self.copies.swap_remove(&copy).unwrap();
@@ -124,8 +153,9 @@ impl Copies {
 
 // Where a copy object is its source's newest, the source has none any more.
 fn leave_newest(newest: &mut IndexMap<ObjectId, ObjectId>, source: ObjectId, copy: ObjectId)
-    ensures { (s : ℕ) → among s newest.new.entries
+    ensures entries { (s : ℕ) → among s newest.new.entries
         ≡ (if source.0 == s then other_than copy.0 (among source.0 newest.old.entries) else among s newest.old.entries) }
+    ensures room { spare newest.old ≤ spare newest.new }
 {
     if newest.get(&source).copied() == Some(copy) {
         let _ = newest.swap_remove(&source);

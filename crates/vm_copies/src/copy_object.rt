@@ -1,9 +1,12 @@
 // What is kept of one copy object.
-ghost use Rattle.std.specs.Prelude.{ℕ, ◌≡◌, ◌<◌, ◌≤◌, ◌==◌, false, true, replicate, slice_index_or, slice_set, IfOk, if◌then◌else◌};
+ghost use Rattle.std.specs.Prelude.{ℕ, ◌≡◌, ◌<◌, ◌≤◌, ◌==◌, false, true, replicate, slice_index_or, slice_set, if◌then◌else◌};
+ghost use Rattle.vm_base.specs.Limits.{most_pages};
 
-use std::alloc::Global;
 use std::marker::Model;
-use vm_base::{NoMemory, ObjectId, PageNo};
+use vm_base::{ObjectId, PageNo};
+
+// Words of 64 bits, for as many pages as an object can have.
+const WORDS: usize = 64;
 
 /// A copy object: whose copy it is, of how many pages, and which of them it has had of its own.
 #[derive(Drop)]
@@ -11,7 +14,7 @@ pub struct CopyObject {
     source: ObjectId,
     pages: u32,
     // A bit for each page that it has had.
-    words: Vec<u64>,
+    words: [u64; WORDS],
 }
 
 impl Model for CopyObject {
@@ -21,22 +24,22 @@ impl Model for CopyObject {
 
     ghost Value = { CopyRow };
 
-    ghost view = { λ s. record { source = s.source; pages = s.pages; had = pages_in s.pages s.words.items } };
+    ghost view = { λ s. record { source = s.source; pages = s.pages; had = pages_in s.pages s.words } };
 
-    ghost invariant = { λ s. s.pages ≤ 64 * length s.words.items };
+    ghost invariant = { λ s. s.pages ≤ 64 * length s.words };
 }
 
 impl CopyObject {
-    /// A copy object that has had no page yet; it fails for want of memory alone.
-    pub fn new(alloc: Global, source: ObjectId, pages: u32) -> Result<CopyObject, NoMemory>
-        ensures { IfOk result (λ row. row ≡ record { source = source; pages = pages; had = replicate pages false }) }
+    /// A copy object that has had no page yet. It takes no memory.
+    pub fn new(source: ObjectId, pages: u32) -> CopyObject
+        requires { pages ≤ most_pages }
+        ensures { result ≡ record { source = source; pages = pages; had = replicate pages false } }
     {
-        let words = vec![in alloc; 0u64; pages.div_ceil(64) as usize]?;
-        Ok(CopyObject {
+        CopyObject {
             source,
             pages,
-            words,
-        })
+            words: [0u64; WORDS],
+        }
     }
 
     /// Whose copy it is.

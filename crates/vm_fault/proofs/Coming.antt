@@ -165,7 +165,7 @@ noted_rows key row had have living found puts newest =
 -- a page came, and was noted where its object is a copy object
 pub fit_noted : (key : PageKey) (had have : CopyTable) (old new : HostParts) (chains : ChainTable) → CopiesFit had old chains → OneComes key old new
     → Notes key had have → CopiesFit have new chains
-fit_noted key had have old new chains fit comes (OfCopy row found puts marks newest) =
+fit_noted key had have old new chains fit comes (OfCopy row found puts marks newest room) =
     fit_then had have old new chains fit comes.objects rows (λ c p now is here. noted c p now is (comes.here c p here))
   where
     rows : SameRows had have

@@ -103,14 +103,14 @@ within_copy copies parts chains key fit less = by (copy_at copies key.object.0) 
 -- the copy object of a place is there, and is noted
 pub notes_copy : (key : PageKey) (old new : CopyTable) (x : Option CopyRow) → copy_at old key.object.0 ≡ x → IsSome x
     → IfSome x (λ row. PutsCopy key.object.0 (Some (record row { had = slice_set row.had key.page.0 true })) old new)
-    → PutsHad key.object.0 key.page.0 true old new → new.newest ≡ old.newest → Notes key old new
-notes_copy key old new None is some puts marks newest = absurd (false≢true some)
-notes_copy key old new (Some row) is some puts marks newest = OfCopy row is puts marks newest
+    → PutsHad key.object.0 key.page.0 true old new → new.newest ≡ old.newest → new.room ≡ old.room → Notes key old new
+notes_copy key old new None is some puts marks newest room = absurd (false≢true some)
+notes_copy key old new (Some row) is some puts marks newest room = OfCopy row is puts marks newest room
 
 pub noted_owed : (old new : CopyTable) (parts : HostParts) (place : PageKey) → (is : Owes old parts place)
     → IfSome (copy_at old place.object.0) (λ row. PutsCopy place.object.0 (Some (record row { had = slice_set row.had place.page.0 true })) old new)
-    → PutsHad place.object.0 place.page.0 true old new → new.newest ≡ old.newest → Notes place old new
-noted_owed old new parts place is puts marks newest =
+    → PutsHad place.object.0 place.page.0 true old new → new.newest ≡ old.newest → new.room ≡ old.room → Notes place old new
+noted_owed old new parts place is puts marks newest room =
     OfCopy is.row is.found
     (MatchOption-at_some _ (λ row. PutsCopy place.object.0 (Some (record row { had = slice_set row.had place.page.0 true })) old new) is.row is.found puts)
-    marks newest
+    marks newest room

@@ -52,5 +52,5 @@ owed_at copies key = owed_of copies key.page (newest_at copies key.object.0)
 pub data Notes (key : PageKey) (old new : CopyTable) : Type 0 where
   OfCopy : (row : CopyRow) → copy_at old key.object.0 ≡ Some row
       → PutsCopy key.object.0 (Some (record row { had = slice_set row.had key.page.0 true })) old new → PutsHad key.object.0 key.page.0 true old new
-      → new.newest ≡ old.newest → Notes key old new
+      → new.newest ≡ old.newest → new.room ≡ old.room → Notes key old new
   OfOther : copy_at old key.object.0 ≡ None → new ≡ old → Notes key old new

@@ -1,6 +1,7 @@
 // The page that an access would copy.
 ghost use Rattle.std.specs.Prelude.{◌≡◌, ◌<◌, ◌&&◌, ◌||◌, nat_lt, Some, None, if◌then◌else◌};
-ghost use Rattle.vm_fault.specs.Sources.{CanWalk, Reads, source_at};
+ghost use Rattle.vm_fault.specs.Pushes.{owed_at};
+ghost use Rattle.vm_fault.specs.Sources.{CanWalk, Reads, is_due, source_at};
 
 use crate::faults::find;
 use crate::pushing::owed;
@@ -14,9 +15,9 @@ use vm_shadow::Chains;
 use vm_waits::Want;
 
 /// The page that an access would copy if it were run now: that of a store whose walk finds it below its
-/// top place, or which owes it to a copy, and that of a slow copy that finds its next page, whether a
-/// lock keeps it out or not. None for every other access. Whoever waits for a frame to copy it to needs
-/// it meanwhile (this profile).
+/// top place, or which owes it to a copy that isn't asked for it, and that of a slow copy that finds its
+/// next page, whether a lock keeps it out or not. None for every other access. Whoever waits for a frame
+/// to copy it to needs it meanwhile (this profile).
 pub fn source(
     task: TaskId,
     want: Want,
@@ -35,16 +36,27 @@ pub fn source(
         need_of(want),
     );
     let top = top_of(place.region, place.page, parts, chains);
-    source_of(want, walk(top, parts, chains), copies)
+    source_of(want, walk(top, parts, chains), parts, copies)
 }
 
-// The page of a store that was found below its top place, or that it owes to a copy, and that of a slow copy.
-fn source_of(want: Want, stop: Stop, copies: &Copies) -> Option<PageKey>
-    ensures { result ≡ source_at copies.now want stop }
+// Whether a store owes the page to a copy, for which it isn't asked.
+fn is_due(key: PageKey, parts: &HostParts, copies: &Copies) -> bool
+    ensures { result ≡ is_due parts.now.resident (owed_at copies.now key) }
+{
+    match owed(key, copies) {
+        Some(place) => parts.resident.get(place).is_none(),
+        None => false,
+    }
+}
+
+// The page of a store that was found below its top place, or that is due to a copy, and that of a slow
+// copy.
+fn source_of(want: Want, stop: Stop, parts: &HostParts, copies: &Copies) -> Option<PageKey>
+    ensures { result ≡ source_at parts.now.resident copies.now want stop }
 {
     match stop {
         Stop::Found { key, steps, .. } => {
-            if (is_store(want) && (steps > 0 || owed(key, copies).is_some())) || is_copy(want) {
+            if (is_store(want) && (steps > 0 || is_due(key, parts, copies))) || is_copy(want) {
                 Some(key)
             } else {
                 None

@@ -48,10 +48,10 @@ abbrev pub past_8 : List Event
 past_8 = event.Taken (Up (record { 0 = 0 }) (record { 0 = 0 })) (message.Init 1 16) ∷ past_7
 
 abbrev pub past_9 : List Event
-past_9 = event.Sent (Down (record { 0 = 0 }) (record { 0 = 0 }) 1) (message.Ready false 0) ∷ past_8
+past_9 = event.Sent (Down (record { 0 = 0 }) (record { 0 = 0 }) 1) (message.Ready false 2) ∷ past_8
 
 abbrev pub past_10 : List Event
-past_10 = event.Taken (Down (record { 0 = 0 }) (record { 0 = 0 }) 1) (message.Ready false 0) ∷ past_9
+past_10 = event.Taken (Down (record { 0 = 0 }) (record { 0 = 0 }) 1) (message.Ready false 2) ∷ past_9
 
 abbrev pub past_11 : List Event
 past_11 = event.Sent (Up (record { 0 = 0 }) (record { 0 = 0 })) (message.Request 1 (record { 0 = 0 }) 1) ∷ past_10

@@ -38,12 +38,12 @@ use Rattle.vm_model.specs.Server.{first as oldest}
 use Rattle.vm_model.specs.Tasks.{entries_of, host_of}
 use Rattle.vm_model.specs.Waiting.{Access, Copying, Loading, Storing, Target, copy_target, waiting}
 use Rattle.vm_legal.proofs.Heads.{passed}
-use Rattle.vm_legal.specs.Follows.{Follows, FollowsAnyCut, IsBegun, IsConsequence, IsGroup, IsRun, cache_head, clean_head, copy_head, fork_head, head, inherits}
-use Rattle.vm_legal.specs.Follows.{inherits_all, map_head, next_behind, opening, say_head, take_head}
+use Rattle.vm_legal.specs.Follows.{Follows, FollowsAnyCut, IsBegun, IsConsequence, IsGroup, IsRun, cache_head, clean_head, copied_late, copy_head, fork_head}
+use Rattle.vm_legal.specs.Follows.{head, inherits, inherits_all, map_head, next_behind, object_behind, opening, say_head, take_head}
 use Rattle.vm_legal.specs.Frames.{frames_wired}
 use Rattle.vm_legal.specs.Homes.{enters}
 use Rattle.vm_legal.specs.Licences.{AllLicensed, IsOwed, Pays, entry_of}
-use Rattle.vm_legal.specs.Outside.{Outside}
+use Rattle.vm_legal.specs.Outside.{Outside, is_file}
 use Rattle.vm_legal.specs.Pagers.{Known, known_below}
 use Rattle.vm_legal.specs.Refusal.{acting, code_where, refusal}
 use Rattle.vm_legal.specs.Stretches.{EachIn}
@@ -319,51 +319,66 @@ both false b is = absurd (let bad : false ≡ true = is in cc)
 is_ranged : (size address bytes : ℕ) → is_range size address bytes ≡ true → Ranged address bytes
 is_ranged size address bytes is = record { some = grind (arith, nat_tests); end = grind (arith, nat_tests) }
 
+-- a region that is copied, and its entry
+copied_runs : (delayed : Bool) (number object : ℕ) (source : RegionId) (offset pages : ℕ) (task : TaskId) (address bytes : ℕ) (prot : Prot) (inherit : Inherit)
+    (rest past : List Event) → Ranged address bytes → Shut past → ((later : List Event) → Shut later → Runs rest later)
+    → Runs (copied_late delayed number object source offset pages ∷ event.Entered task address bytes (record { 0 = number }) 0 prot inherit ∷ rest) past
+copied_runs true number object source offset pages task address bytes prot inherit rest past range shut more =
+    let new : Event = event.Delayed (record { 0 = number }) source offset pages (record { 0 = object }) in
+    let entry : Event = event.Entered task address bytes (record { 0 = number }) 0 prot inherit in
+    ((next new past shut, tt), (((λ region is. is), range), more (entry ∷ new ∷ past) (λ region. refl)))
+copied_runs false number object source offset pages task address bytes prot inherit rest past range shut more =
+    let new : Event = event.RegionCopied (record { 0 = number }) source offset pages in
+    let entry : Event = event.Entered task address bytes (record { 0 = number }) 0 prot inherit in
+    ((next new past shut, tt), (((λ region is. is), range), more (entry ∷ new ∷ past) (λ region. refl)))
+
 -- the entries that a child inherits
-inherited_runs : (kind : Inherit) (size : ℕ) (child : TaskId) (number : ℕ) (row : Entry) (rest past : List Event) → RangedRow row → Shut past
-    → ((later : List Event) → Shut later → Runs rest later) → Runs (inherits kind size child number row ++ rest) past
-inherited_runs Share size child number row rest past range shut more =
+inherited_runs : (kind : Inherit) (header : Header) (child : TaskId) (number object : ℕ) (row : Entry) (rest past : List Event) → RangedRow row → Shut past
+    → ((later : List Event) → Shut later → Runs rest later) → Runs (inherits kind header child number object row ++ rest) past
+inherited_runs Share header child number object row rest past range shut more =
     let entry : Event = event.Entered child row.address row.bytes row.region row.offset row.prot row.inherit in
     ((next entry past shut, range), more (entry ∷ past) (λ region. refl))
-inherited_runs Copy size child number row rest past range shut more =
-    let new : Event = event.RegionCopied (record { 0 = number }) row.region row.offset (row.bytes / size) in
-    let entry : Event = event.Entered child row.address row.bytes (record { 0 = number }) 0 row.prot row.inherit in
-    ((next new past shut, tt), (((λ region is. is), range), more (entry ∷ new ∷ past) (λ region. refl)))
-inherited_runs Never size child number row rest past range shut more = more past shut
+inherited_runs Copy header child number object row rest past range shut more =
+    copied_runs (nat_lt row.region.0 (named header)) number object row.region row.offset (row.bytes / header.size) child row.address row.bytes row.prot
+    row.inherit rest past range shut more
+inherited_runs Never header child number object row rest past range shut more = more past shut
 
-all_inherited : (size : ℕ) (child : TaskId) (number : ℕ) (rows : List Entry) (past : List Event) → AllRows RangedRow rows → Shut past
-    → Runs (inherits_all size child number rows) past
-all_inherited size child number [] past ranges shut = shut
-all_inherited size child number (row ∷ rows) past ranges shut =
-    let behind = next_behind row.inherit number in
-    inherited_runs row.inherit size child number row (inherits_all size child behind rows) past ranges.0 shut
-    (λ later is. all_inherited size child behind rows later ranges.1 is)
+all_inherited : (header : Header) (child : TaskId) (number object : ℕ) (rows : List Entry) (past : List Event) → AllRows RangedRow rows → Shut past
+    → Runs (inherits_all header child number object rows) past
+all_inherited header child number object [] past ranges shut = shut
+all_inherited header child number object (row ∷ rows) past ranges shut =
+    let region = next_behind row.inherit number in
+    let behind = object_behind row.inherit header row.region object in
+    inherited_runs row.inherit header child number object row (inherits_all header child region behind rows) past ranges.0 shut
+    (λ later is. all_inherited header child region behind rows later ranges.1 is)
 
-forked : (size number : ℕ) (child : TaskId) (x : Option ℕ) (rows : List Entry) (first : List Event) (line : ℕ) (before : List Event)
-    → host_of child.0 before ≡ None → AllRows RangedRow rows → fork_head size number child x rows ≡ Some first → Runs first (event.Line line ∷ before)
-forked size number child None rows first line before fresh ranges is = no_head first (event.Line line ∷ before) is
-forked size number child (Some host) rows first line before fresh ranges is =
+forked : (header : Header) (number object : ℕ) (child : TaskId) (x : Option ℕ) (rows : List Entry) (first : List Event) (line : ℕ) (before : List Event)
+    → host_of child.0 before ≡ None → AllRows RangedRow rows → fork_head header number object child x rows ≡ Some first
+    → Runs first (event.Line line ∷ before)
+forked header number object child None rows first line before fresh ranges is = no_head first (event.Line line ∷ before) is
+forked header number object child (Some host) rows first line before fresh ranges is =
     let made : Event = event.TaskMade child (record { 0 = host }) in
-    let same : made ∷ inherits_all size child number rows ≡ first = cc in
+    let same : made ∷ inherits_all header child number object rows ≡ first = cc in
     subst (λ (z : List Event). Runs z (event.Line line ∷ before)) same (
       (next made (event.Line line ∷ before) (λ region. refl), fresh),
-      all_inherited size child number rows (made ∷ event.Line line ∷ before) ranges (λ region. refl),
+      all_inherited header child number object rows (made ∷ event.Line line ∷ before) ranges (λ region. refl),
     )
 
-copied : (declared size number object : ℕ) (task : TaskId) (address bytes : ℕ) (target : TaskId) (to : ℕ) (x : Option Entry) (first : List Event) (line : ℕ)
+copied : (header : Header) (number object : ℕ) (task : TaskId) (address bytes : ℕ) (target : TaskId) (to : ℕ) (x : Option Entry) (first : List Event) (line : ℕ)
     (before : List Event) → (host_of task.0 before ≡ None → ⊥) → Ranged to bytes
-    → copy_head declared size number object task address bytes target to x ≡ Some first → Runs first (event.Line line ∷ before)
-copied declared size number object task address bytes target to None first line before lives range is = no_head first (event.Line line ∷ before) is
-copied declared size number object task address bytes target to (Some row) first line before lives range is = by (nat_lt row.region.0 declared) is
+    → copy_head header number object task address bytes target to x ≡ Some first → Runs first (event.Line line ∷ before)
+copied header number object task address bytes target to None first line before lives range is = no_head first (event.Line line ∷ before) is
+copied header number object task address bytes target to (Some row) first line before lives range is =
+    by (nat_lt row.region.0 (named header) && not (is_file header row.region.0)) is
   where
     begun : Event
     begun = event.BegunCopy task address bytes to
 
     made : Event
-    made = event.RegionMade (record { 0 = number }) (record { 0 = object }) (bytes / size)
+    made = event.RegionMade (record { 0 = number }) (record { 0 = object }) (bytes / header.size)
 
     new : Event
-    new = event.RegionCopied (record { 0 = number }) row.region (page_at size address row) (bytes / size)
+    new = copied_late (is_file header row.region.0) number object row.region (page_at header.size address row) (bytes / header.size)
 
     entry : Event
     entry = event.Entered target to bytes (record { 0 = number }) 0 (record { read = true; write = true }) Copy
@@ -372,10 +387,9 @@ copied declared size number object task address bytes target to (Some row) first
     by true is = two begun made first line before (lives, range) (λ region. refl) tt (λ region. refl) is
     by false is =
         let same : new ∷ entry ∷ [] ≡ first = cc in
-        subst (λ (z : List Event). Runs z (event.Line line ∷ before)) same (
-          (next new (event.Line line ∷ before) (λ region. refl), tt),
-          (((λ region is. is), range), (λ region. refl)),
-        )
+        subst (λ (z : List Event). Runs z (event.Line line ∷ before)) same
+        (copied_runs (is_file header row.region.0) number object row.region (page_at header.size address row) (bytes / header.size) target to bytes
+        (record { read = true; write = true }) Copy [] (event.Line line ∷ before) range (λ region. refl) (λ later shut. shut))
 
 taken : (channel : Channel) (x : Option Message) (first : List Event) (line : ℕ) (before : List Event) → take_head channel x ≡ Some first
     → Runs first (event.Line line ∷ before)
@@ -416,7 +430,7 @@ cached : (object : ObjectId) (cache : Bool) (x : Option Known) (first : List Eve
     → Some (cache_head object cache x) ≡ Some first → Runs first (event.Line line ∷ before)
 cached object cache None first line before is = nothing first line before is
 cached object cache (Some known) first line before is =
-    one (event.Sent (Down (record { 0 = known.host }) object known.control) (message.Attributes cache 0 true)) first line before tt (λ region. refl) is
+    one (event.Sent (Down (record { 0 = known.host }) object known.control) (message.Attributes cache 2 true)) first line before tt (λ region. refl) is
 
 -- the first three tests of a copy
 record MayCopy (past : List Event) (task : TaskId) (bytes to : ℕ) : Type 0 where
@@ -463,13 +477,13 @@ head_runs header before line (command.Load task address size) first accepted eac
 head_runs header before line (command.Store task address size value) first accepted each is =
     one (event.BegunStore task address size value) first line before tt (λ region. refl) is
 head_runs header before line (command.Fork task child) first accepted each is =
-    forked header.size (next_region header before) child (host_of task.0 before) (entries_of header.size task.0 before) first line before
+    forked header (next_region header before) (next_object header before) child (host_of task.0 before) (entries_of header.size task.0 before) first line before
     (no_host (host_of child.0 before) (passed (is_some (host_of child.0 before)) code.NameTaken _
     (passed (is_none (host_of task.0 before)) code.NoSuchName _ accepted).1).0)
     (ranged header.size task.0 before each) is
 head_runs header before line (command.Copy task address bytes target to) first accepted each is =
     let may = may_copy header before task address bytes target to accepted in
-    copied (named header) header.size (next_region header before) (next_object header before) task address bytes target to
+    copied header (next_region header before) (next_object header before) task address bytes target to
     (entry_at address (entries_of header.size task.0 before)) first line before may.lives may.range is
 head_runs header before line (command.Exit task) first accepted each is = one (event.TaskEnded task) first line before tt (λ region. refl) is
 head_runs header before line (command.Deallocate task address bytes) first accepted each is =

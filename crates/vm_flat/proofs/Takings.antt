@@ -1,6 +1,6 @@
 -- In a step that took a message no task loses an entry; so whoever lives there lives on.
 use Rattle.std.proofs.Common.{Bool, List, MatchOption, None, Option, Some, [], ap, append_assoc, arith, false, if◌then◌else◌, inl, inr, length, refl, reverse}
-use Rattle.std.proofs.Common.{subst, sym, true, ℕ, ◌++◌, ◌+◌, ◌-◌, ◌/◌, ◌<◌, ◌∙◌, ◌∷◌, ◌≡◌, ◌≤◌, ◌⊎◌}
+use Rattle.std.proofs.Common.{not, subst, sym, true, ℕ, ◌++◌, ◌+◌, ◌-◌, ◌/◌, ◌<◌, ◌∙◌, ◌∷◌, ◌≡◌, ◌≤◌, ◌⊎◌}
 use mathlib.Core.List.{reverse_aux}
 use Rattle.std.specs.Prelude.{◌==◌, ◌&&◌, ◌||◌, is_some, nat_lt}
 use Rattle.vm_base.specs.declared.code.Code.{Code}
@@ -11,6 +11,7 @@ use Rattle.vm_base.specs.declared.ids.Inherit.TheVariants.{Copy, Never, Share}
 use Rattle.vm_base.specs.Entries.{entered, entry_at, page_at}
 use Rattle.vm_base.specs.declared.ids.ObjectId.{ObjectId}
 use Rattle.vm_base.specs.declared.ids.PageNo.{PageNo}
+use Rattle.vm_base.specs.declared.ids.RegionId.{RegionId}
 use Rattle.vm_base.specs.declared.ids.TaskId.{TaskId}
 use Rattle.vm_model.proofs.Ports.{at_place}
 use Rattle.vm_model.specs.declared.command.Command.{Command}
@@ -33,12 +34,12 @@ use Rattle.vm_model.specs.Tasks.{entries_of, has_entry, host_of}
 use Rattle.vm_legal.proofs.Inside.{taken_more}
 use Rattle.vm_legal.specs.Bytes.{CopiesCurrent}
 use Rattle.vm_legal.specs.Cached.{is_cached}
-use Rattle.vm_legal.specs.Follows.{Follows, FollowsAnyCut, IsBegun, IsConsequence, IsGroup, IsRun, cache_head, clean_head, copy_head, fork_head, head, inherits}
-use Rattle.vm_legal.specs.Follows.{inherits_all, map_head, next_behind, opening, say_head, take_head}
+use Rattle.vm_legal.specs.Follows.{Follows, FollowsAnyCut, IsBegun, IsConsequence, IsGroup, IsRun, cache_head, clean_head, copied_late, copy_head, fork_head}
+use Rattle.vm_legal.specs.Follows.{head, inherits, inherits_all, map_head, next_behind, object_behind, opening, say_head, take_head}
 use Rattle.vm_legal.specs.Frames.{frames_wired}
 use Rattle.vm_legal.specs.Licences.{AllLicensed, Destroyed, EndCause, HasCause, Unheld, Unreachable}
 use Rattle.vm_legal.specs.Swept.{IsUnheld, IsUnmapped}
-use Rattle.vm_legal.specs.Outside.{Outside}
+use Rattle.vm_legal.specs.Outside.{Outside, is_file}
 use Rattle.vm_legal.specs.Pagers.{Known, known_below}
 use Rattle.vm_legal.specs.Prompt.{Prompt}
 use Rattle.vm_legal.specs.Refusal.{refusal}
@@ -97,39 +98,52 @@ plain events first inner is = let same : events ≡ first = cc in inl (subst All
 no_head : (first : List Event) → None ≡ Some first → IsHead first
 no_head first is = absurd (cc)
 
-inherits_inner : (kind : Inherit) (size : ℕ) (child : TaskId) (next : ℕ) (row : Entry) → AllInner (inherits kind size child next row)
-inherits_inner Share size child next row = (tt, tt)
-inherits_inner Copy size child next row = (tt, (tt, tt))
-inherits_inner Never size child next row = tt
+inner_late : (delayed : Bool) (next object : ℕ) (source : RegionId) (offset pages : ℕ) (events : List Event) → AllInner events
+    → AllInner (copied_late delayed next object source offset pages ∷ events)
+inner_late true next object source offset pages events inner = (tt, inner)
+inner_late false next object source offset pages events inner = (tt, inner)
 
-all_inner : (size : ℕ) (child : TaskId) (next : ℕ) (rows : List Entry) → AllInner (inherits_all size child next rows)
-all_inner size child next [] = tt
-all_inner size child next (row ∷ rows) =
-    inner_both (inherits row.inherit size child next row) (inherits_all size child (next_behind row.inherit next) rows)
-    (inherits_inner row.inherit size child next row) (all_inner size child (next_behind row.inherit next) rows)
+inherits_inner : (kind : Inherit) (header : Header) (child : TaskId) (next object : ℕ) (row : Entry) → AllInner (inherits kind header child next object row)
+inherits_inner Share header child next object row = (tt, tt)
+inherits_inner Copy header child next object row =
+    inner_late (nat_lt row.region.0 (named header)) next object row.region row.offset (row.bytes / header.size)
+    (event.Entered child row.address row.bytes (record { 0 = next }) 0 row.prot row.inherit ∷ []) (tt, tt)
+inherits_inner Never header child next object row = tt
 
-forked : (size next : ℕ) (child : TaskId) (x : Option ℕ) (rows : List Entry) (first : List Event) → fork_head size next child x rows ≡ Some first
-    → IsHead first
-forked size next child None rows first is = no_head first is
-forked size next child (Some host) rows first is =
-    plain (event.TaskMade child (record { 0 = host }) ∷ inherits_all size child next rows) first (tt, all_inner size child next rows) is
+all_inner : (header : Header) (child : TaskId) (next object : ℕ) (rows : List Entry) → AllInner (inherits_all header child next object rows)
+all_inner header child next object [] = tt
+all_inner header child next object (row ∷ rows) =
+    let region = next_behind row.inherit next in
+    let number = object_behind row.inherit header row.region object in
+    inner_both (inherits row.inherit header child next object row) (inherits_all header child region number rows)
+    (inherits_inner row.inherit header child next object row) (all_inner header child region number rows)
 
-copied : (declared size next object : ℕ) (task : TaskId) (address bytes : ℕ) (target : TaskId) (to : ℕ) (x : Option Entry) (first : List Event)
-    → copy_head declared size next object task address bytes target to x ≡ Some first → IsHead first
-copied declared size next object task address bytes target to None first is = no_head first is
-copied declared size next object task address bytes target to (Some row) first is = by (nat_lt row.region.0 declared) is
+forked : (header : Header) (next object : ℕ) (child : TaskId) (x : Option ℕ) (rows : List Entry) (first : List Event)
+    → fork_head header next object child x rows ≡ Some first → IsHead first
+forked header next object child None rows first is = no_head first is
+forked header next object child (Some host) rows first is =
+    plain (event.TaskMade child (record { 0 = host }) ∷ inherits_all header child next object rows) first (tt, all_inner header child next object rows) is
+
+copied : (header : Header) (next object : ℕ) (task : TaskId) (address bytes : ℕ) (target : TaskId) (to : ℕ) (x : Option Entry) (first : List Event)
+    → copy_head header next object task address bytes target to x ≡ Some first → IsHead first
+copied header next object task address bytes target to None first is = no_head first is
+copied header next object task address bytes target to (Some row) first is =
+    by (nat_lt row.region.0 (named header) && not (is_file header row.region.0)) is
   where
     slow : List Event
-    slow = event.BegunCopy task address bytes to ∷ event.RegionMade (record { 0 = next }) (record { 0 = object }) (bytes / size) ∷ []
+    slow = event.BegunCopy task address bytes to ∷ event.RegionMade (record { 0 = next }) (record { 0 = object }) (bytes / header.size) ∷ []
 
-    events : List Event
-    events =
-        event.RegionCopied (record { 0 = next }) row.region (page_at size address row) (bytes / size)
-        ∷ event.Entered target to bytes (record { 0 = next }) 0 (record { read = true; write = true }) Copy ∷ []
+    entry : Event
+    entry = event.Entered target to bytes (record { 0 = next }) 0 (record { read = true; write = true }) Copy
 
-    by : (b : Bool) → Some (if b then slow else events) ≡ Some first → IsHead first
+    late : List Event
+    late = copied_late (is_file header row.region.0) next object row.region (page_at header.size address row) (bytes / header.size) ∷ entry ∷ []
+
+    by : (b : Bool) → Some (if b then slow else late) ≡ Some first → IsHead first
     by true is = plain slow first (tt, (tt, tt)) is
-    by false is = plain events first (tt, (tt, tt)) is
+    by false is =
+        plain late first
+        (inner_late (is_file header row.region.0) next object row.region (page_at header.size address row) (bytes / header.size) (entry ∷ []) (tt, tt)) is
 
 taken : (channel : Channel) (x : Option Message) (first : List Event) → take_head channel x ≡ Some first → IsHead first
 taken channel None first is = no_head first is
@@ -161,7 +175,7 @@ cleaned object page count flush (Some known) first is =
 cached : (object : ObjectId) (cache : Bool) (x : Option Known) (first : List Event) → Some (cache_head object cache x) ≡ Some first → IsHead first
 cached object cache None first is = plain [] first tt is
 cached object cache (Some known) first is =
-    plain (event.Sent (Down (record { 0 = known.host }) object known.control) (message.Attributes cache 0 true) ∷ []) first (tt, tt) is
+    plain (event.Sent (Down (record { 0 = known.host }) object known.control) (message.Attributes cache 2 true) ∷ []) first (tt, tt) is
 
 is_head : (header : Header) (before : List Event) (doing : Command) (first : List Event) → head header before doing ≡ Some first → IsHead first
 is_head header before (command.Allocate task address bytes) first is =
@@ -173,9 +187,9 @@ is_head header before (command.Task task host) first is = plain (event.TaskMade 
 is_head header before (command.Load task address size) first is = plain (event.BegunLoad task address size ∷ []) first (tt, tt) is
 is_head header before (command.Store task address size value) first is = plain (event.BegunStore task address size value ∷ []) first (tt, tt) is
 is_head header before (command.Fork task child) first is =
-    forked header.size (next_region header before) child (host_of task.0 before) (entries_of header.size task.0 before) first is
+    forked header (next_region header before) (next_object header before) child (host_of task.0 before) (entries_of header.size task.0 before) first is
 is_head header before (command.Copy task address bytes target to) first is =
-    copied (named header) header.size (next_region header before) (next_object header before) task address bytes target to
+    copied header (next_region header before) (next_object header before) task address bytes target to
     (entry_at address (entries_of header.size task.0 before)) first is
 is_head header before (command.Exit task) first is = plain (event.TaskEnded task ∷ []) first (tt, tt) is
 is_head header before (command.Deallocate task address bytes) first is = plain (event.Removed task address bytes ∷ []) first (tt, tt) is

@@ -72,8 +72,8 @@ asked =
     event.Sent down (message.Supply page 0 false zero_page) ∷
     event.Taken up (message.Request 1 page 3) ∷
     event.Sent up (message.Request 1 page 3) ∷
-    event.Taken down (message.Ready false 0) ∷
-    event.Sent down (message.Ready false 0) ∷
+    event.Taken down (message.Ready false 2) ∷
+    event.Sent down (message.Ready false 2) ∷
     event.Taken up (message.Init 1 16) ∷
     event.Line 7 ∷
     event.BegunStore task 0 1 7 ∷

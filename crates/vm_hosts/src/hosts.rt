@@ -15,7 +15,7 @@ ghost use Rattle.vm_kernel.specs.Begun.{IsLined, targets_here};
 ghost use Rattle.vm_kernel.specs.Built.{kernel_runs};
 ghost use Rattle.vm_kernel.specs.Matches.{IsRanged};
 ghost use Rattle.vm_kernel.specs.Destroying.{IsDestroyPaid, MayDestroy, is_destroy};
-ghost use Rattle.vm_kernel.specs.Taking.{IsAbsencePaid, IsChangePaid, IsErrorPaid, IsLockPaid, IsWord};
+ghost use Rattle.vm_kernel.specs.Taking.{IsAbsencePaid, IsChangePaid, IsErrorPaid, IsLockPaid, IsOfPushed, IsWord};
 ghost use Rattle.vm_legal.specs.InTurn.{EndsAll};
 ghost use Rattle.vm_kernel.specs.Refusing.{maps_elsewhere, takes_name};
 ghost use Rattle.vm_kernel.specs.Rooms.{IsReady as IsReadyOn, breadth_of, with_rooms_of, word_breadth};
@@ -169,6 +169,7 @@ impl Hosts {
         requires empty { log.old.items ≡ [] }
         requires ready { (events : ℕ) × IsReady (Some host) (word_breadth message.now) events self.old log.old.room }
         requires destroy { is_destroy message.now ≡ true → MayDestroy given.header host.0 object.0 given.past }
+        requires copies { IsOfPushed host.0 object.0 message.now given.past }
         ensures passed { OnOk result (HostsPart given.header given.outside given.command
             (event.Taken (channels.Down host object control) message.now ∷ given.past) self.new log.new.items) }
         ensures failed { OnOk result (IsErrorPaid given.header (log.new.items ++ event.Taken (channels.Down host object control) message.now ∷ given.past)) }
@@ -219,6 +220,7 @@ impl Hosts {
         requires empty { log.old.items ≡ [] }
         requires ready { (events : ℕ) × IsReady (Some host) (word_breadth message.now) events self.old log.old.room }
         requires destroy { is_destroy message.now ≡ true → MayDestroy given.header host.0 object.0 given.past }
+        requires copies { IsOfPushed host.0 object.0 message.now given.past }
         ensures passed { OnOk result (HostsPart given.header given.outside given.command (given.front ++ given.past) self.new log.new.items) }
         ensures failed { OnOk result (IsErrorPaid given.header (log.new.items ++ (given.front ++ given.past))) }
         ensures zeroed { OnOk result (IsAbsencePaid given.header (log.new.items ++ (given.front ++ given.past))) }

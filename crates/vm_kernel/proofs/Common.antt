@@ -60,7 +60,7 @@ pub use Rattle.vm_legal.specs.Outside.{Outside}
 pub use Rattle.vm_legal.specs.Prompt.{AReady, AnAnswer, Awaits, HostIsFull, IsExhausted, NoneInVain, PromptAt, WaitsForPager}
 pub use Rattle.vm_legal.specs.Swept.{IsSwept}
 pub use Rattle.vm_legal.specs.Reclaims.{IsReclaim, PagesOut, ReclaimsOnly, Starves}
-pub use Rattle.vm_legal.specs.Refusal.{access_refusal, acting, code_where, has_copy_mark, is_fork_full, meets_declared, refusal}
+pub use Rattle.vm_legal.specs.Refusal.{access_refusal, acting, code_where, has_copy_mark, is_fork_full, meets_uncopied, refusal}
 pub use Rattle.vm_legal.specs.Steps.{Asked, absence_taken, before_step, departures, error_taken, fails_access, fails_task, since, taken_letter}
 pub use Rattle.vm_legal.specs.Stretches.{AllInner, EachIn, EachOf, IsInner, MomentsIn}
 pub use Rattle.vm_legal.specs.Used.{in_use, is_filled, is_held, is_kept, made_here}

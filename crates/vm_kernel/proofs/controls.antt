@@ -2,8 +2,10 @@
 pub mod AccessesWoken
 pub mod AnswerEffects
 pub mod ControlMissed
+pub mod CopiesAnswered
 pub mod DeclaredKinds
 pub mod DeclaredMapped
+pub mod DeclaredReferences
 pub mod DeclaredRegion
 pub mod DestroyTaken
 pub mod FailureBuffers
@@ -18,7 +20,6 @@ pub mod LockRequested
 pub mod NextControl
 pub mod ObjectDestroyed
 pub mod ObjectEmptied
-pub mod NothingCopied
 pub mod PageAnswered
 pub mod PageAsked
 pub mod PageLocked

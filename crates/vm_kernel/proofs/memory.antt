@@ -1,5 +1,6 @@
 -- What becomes of the pages and the frames of a host, and of the chains over them.
 pub mod ComesForAccess
+pub mod CopiesKept
 pub mod CoreChanges
 pub mod FramesHeld
 pub mod FramesWashed
@@ -10,6 +11,7 @@ pub mod PageChanges
 pub mod PageReclaimed
 pub mod PageReturned
 pub mod PagesKept
+pub mod PagesPushed
 pub mod PagesShown
 pub mod PartsStillFit
 pub mod PlacesPassed

@@ -1,7 +1,12 @@
 -- Tasks, their entries, regions, and the objects under these.
 pub mod ChildEntries
 pub mod CopiesCounted
+pub mod CopiesEnd
+pub mod CopyObjectMade
 pub mod CountsChanged
+pub mod DeclaredPages
+pub mod DelayedObjects
+pub mod DelayedTables
 pub mod EntriesAtBoundary
 pub mod EntriesChanged
 pub mod EntriesCounted
@@ -9,16 +14,19 @@ pub mod EntriesCut
 pub mod EntriesGone
 pub mod EntriesLeave
 pub mod EntriesRewritten
+pub mod ForkDelays
 pub mod ForkShares
 pub mod LosersMerge
 pub mod NothingLeft
 pub mod ObjectEnds
 pub mod ObjectsEnd
 pub mod ObjectsMerged
+pub mod PagedRegions
 pub mod RangeAllocated
 pub mod RangeCopied
 pub mod RegionCases
 pub mod RegionCopied
+pub mod RegionDelayed
 pub mod RegionEnds
 pub mod RegionHomes
 pub mod RegionRows

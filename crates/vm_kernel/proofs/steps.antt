@@ -1,6 +1,7 @@
 -- The phases of a step, and the accesses that are run in it.
 pub mod AccessBegins
 pub mod AccessCauses
+pub mod AccessEnds
 pub mod AccessRun
 pub mod AccessUnserved
 pub mod AfterRun
@@ -21,6 +22,7 @@ pub mod HeadAlone
 pub mod LoadsAndStores
 pub mod PageByPage
 pub mod PagesLeft
+pub mod PushersFreed
 pub mod QueueServed
 pub mod Refusals
 pub mod RoomOfFork

@@ -21,7 +21,7 @@ use Rattle.vm_legal.specs.Refusal.{refusal}
 use Rattle.vm_legal.specs.Stretches.{AllInner, EachIn, EachOf, MomentsIn}
 use Rattle.vm_shadow.specs.declared.ids.Ids.{Ids}
 use Rattle.vm_kernel.specs.Plays.{Sparing}
-use Rattle.vm_kernel.specs.Matches.{HasOrder, HasWaits, Matches, Rests, host_id}
+use Rattle.vm_kernel.specs.Matches.{HasOrder, HasWaits, Matches, Rests, Works, host_id}
 use Rattle.vm_kernel.specs.Serving.{HasQueue}
 use Rattle.vm_supply.specs.declared.woken.Woken.TheVariants as woken
 use Rattle.vm_waits.specs.Waits.{count_again}
@@ -149,6 +149,13 @@ pub record Ran (header : Header) (h : ℕ) (outside : Outside) (doing : Command)
   pub rests : Rests header h k ids (events ++ past)
   pub grows : Grows header h outside doing past events
   pub done : IsDoneInTurn header doing events past
+
+-- the head of a command is told, which asks no more than the accesses that are to be run again now
+pub record HasBegun (header : Header) (h : ℕ) (outside : Outside) (doing : Command) (past : List Event) (k : Parts) (ids : Ids) (events : List Event) : Type 0
+  where
+    pub works : Works header h k ids woken.Nobody (events ++ past)
+    pub grows : Grows header h outside doing past events
+    pub done : (all : List Event) → IsDoneInTurn header doing all past
 
 -- inside a command's step, with some entries that have just gone among the counts
 pub record IsInStep (header : Header) (h : ℕ) (outside : Outside) (doing : Command) (past : List Event) (k : Parts) (ids : Ids) (gone : List Entry)

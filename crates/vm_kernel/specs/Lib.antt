@@ -3,10 +3,12 @@ pub mod Begun
 pub mod Built
 pub mod Caching
 pub mod Changes
+pub mod Delaying
 pub mod Destroying
 pub mod Endings
 pub mod Fits
 pub mod Forking
+pub mod Freeing
 pub mod Mapping
 pub mod Matches
 pub mod Plays

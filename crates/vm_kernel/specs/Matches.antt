@@ -10,6 +10,7 @@ use Rattle.vm_base.specs.declared.ids.HostId.{HostId}
 use Rattle.vm_base.specs.declared.ids.ObjectKind.TheVariants.{Temp}
 use Rattle.vm_copies.specs.Copies.{CopyTable}
 use Rattle.vm_frames.specs.Frames.{FrameTable}
+use Rattle.vm_fault.specs.Pushes.{CopiesFit}
 use Rattle.vm_kernel.specs.Fits.{PartsFit}
 use Rattle.vm_kernel.specs.declared.parts.Parts.{Parts}
 use Rattle.vm_legal.specs.Accesses.{Waits, begun_at, is_ready}
@@ -18,6 +19,7 @@ use Rattle.vm_legal.specs.Destroyed.{destroy_taken, is_destroyed}
 use Rattle.vm_legal.specs.Frames.{frames_held, frames_wired, returns_out}
 use Rattle.vm_legal.specs.Licences.{LockRequest, lock_taken, owed}
 use Rattle.vm_legal.specs.Living.{tasks as made_tasks}
+use Rattle.vm_legal.specs.Pushes.{is_pushed}
 use Rattle.vm_legal.specs.Steps.{before_step, completes, fails_of, since}
 use Rattle.vm_legal.specs.Used.{in_use}
 use Rattle.vm_maps.specs.Maps.{Mapped}
@@ -25,7 +27,7 @@ use Rattle.vm_merge.specs.Merges.{IsThin}
 use Rattle.vm_model.specs.Controls.{last_control, live_control}
 use Rattle.vm_model.specs.Homes.{home_in, home_of, region_for}
 use Rattle.vm_model.specs.Local.{Local, local}
-use Rattle.vm_model.specs.Named.{named}
+use Rattle.vm_model.specs.Named.{declared_pages, named}
 use Rattle.vm_model.specs.Ranges.{IsBetween}
 use Rattle.vm_model.specs.Regions.{Backing, Region, backing_of, is_copy, newest_copy, next_object, next_region, object_pages, region_of}
 use Rattle.vm_model.specs.Tasks.{entries_of, host_of}
@@ -33,12 +35,13 @@ use Rattle.vm_model.specs.Waiting.{Access, Target, copy_target, next_page, waiti
 use Rattle.vm_model.specs.declared.event.Event.{Event}
 use Rattle.vm_model.specs.declared.script.Declared.{Declared}
 use Rattle.vm_model.specs.declared.script.Header.{Header}
-use Rattle.vm_objects.specs.Objects.{ObjectTable, object_at}
-use Rattle.vm_objects.specs.declared.row.ObjectRow.{ObjectRow}
+use Rattle.vm_objects.specs.Objects.{ObjectTable}
 use Rattle.vm_pageout.specs.Laundry.{LaundryList}
+use Rattle.vm_parts.specs.declared.parts.HostParts.{HostParts}
 use Rattle.vm_resident.specs.Resident.{ResidentTable}
 use Rattle.vm_shadow.specs.Chains.{ChainTable}
 use Rattle.vm_shadow.specs.declared.ids.Ids.{Ids}
+use Rattle.vm_state.specs.CopyObjects.{HasCopyObjects}
 use Rattle.vm_state.specs.Counts.{marked_in}
 use Rattle.vm_state.specs.Filling.{AllUsed, HasCopies}
 use Rattle.vm_state.specs.Passed.{IsUnmet, StaysAway}
@@ -166,9 +169,10 @@ control_facts h past =
       destroyed = λ o. is_destroyed h o (destroy_taken past);
     }
 
--- its pages and frames
+-- its pages and frames, and which pages were copied up into places of copies
 pub record MemoryFacts : Type 0 where
   pub seen : ℕ → ℕ → Local
+  pub pushed : ℕ → ℕ → Bool
   pub held : ℕ
   pub wired : ℕ
   pub out : ℕ
@@ -177,6 +181,7 @@ abbrev pub memory_facts : Header → ℕ → List Event → MemoryFacts
 memory_facts header h past =
     record {
       seen = λ o p. known_local header o p (local header h (place_of o p) past);
+      pushed = λ c p. is_pushed h c p past;
       held = frames_held header h past;
       wired = frames_wired h past;
       out = returns_out h past;
@@ -184,37 +189,41 @@ memory_facts header h past =
 
 -- What a kernel stands for, in groups: each is of some of its tables, and of the facts that these keep.
 
--- no copy objects
-abbrev pub no_copies : CopyTable
-no_copies = record { newest = []; copies = [] }
-
--- what never changes; there are no copy objects yet
-pub record Setting (header : Header) (h size : ℕ) (host : HostId) (declared : List Declared) (copies : CopyTable) : Type 0 where
+-- what never changes
+pub record Setting (header : Header) (h size : ℕ) (host : HostId) (declared : List Declared) : Type 0 where
   pub ranged : IsRanged header
   pub known : h < length header.frames.items
   pub sized : size ≡ header.size
   pub numbered : host.0 ≡ h
   pub objects : declared ≡ header.objects.items
-  pub uncopied : copies ≡ no_copies
 
 -- address spaces, and the regions on the host
 pub record Spaces (header : Header) (h : ℕ) (maps : Mapped) (chains : ChainTable) (rows : List Waiting) (gone : List Entry) (s : SpaceFacts) : Type 0 where
   pub tasks : HasTasks h header.size maps s.host s.entries
   pub entries : HasEntries header.size maps chains gone
-  pub shared : AreShared (named header) maps
+  pub shared : AreShared header maps
   pub uses : HasUse header maps rows (s.used_at h) s.made s.holds_at s.objects.regions_made
   pub homes : HasHomes header h chains s.objects.home
       × AreHomes header s.objects.regions_made s.objects.objects_made s.objects.home s.objects.made_for s.used_at s.objects.region s.objects.backing s.target
-      s.objects.newest
+      s.objects.newest s.objects.copy
 
--- objects, and what stands on what; none of them is a copy of a file, and no declared one is
+-- a declared object is no copy, and was made with the pages that it was declared with
+pub record IsAsDeclared (header : Header) (o : ℕ) (copied : Bool) (made_with : ℕ) : Type 0 where
+  pub copy : copied ≡ false
+  pub pages : made_with ≡ declared_pages header o
+
+-- objects, and what stands on what; the declared ones are as they were declared
 pub record Objects (header : Header) (h : ℕ) (chains : ChainTable) (objects : ObjectTable) (ids : Ids) (s : ObjectFacts) : Type 0 where
   pub regions : HasRegions chains objects ids s.region s.backing s.regions_made s.objects_made (marked_in s.regions_made s.region)
   pub kinds : HasKinds header objects chains
   pub files : KnowsFiles header h objects s.home
   pub sizes : KnowsPages (named header) objects s.made_with
-  pub plain : (o : ℕ) (row : ObjectRow) → object_at objects o ≡ Some row → s.copy o ≡ false
-  pub undelayed : (o : ℕ) → o < named header → s.copy o ≡ false
+  pub undelayed : (o : ℕ) → o < named header → IsAsDeclared header o (s.copy o) (s.made_with o)
+
+-- copy objects, and which pages each has had
+pub record Copied (copies : CopyTable) (memory : HostParts) (chains : ChainTable) (s : ObjectFacts) (pushed : ℕ → ℕ → Bool) : Type 0 where
+  pub known : HasCopyObjects copies memory.objects s.copy s.newest pushed
+  pub fits : CopiesFit copies memory chains
 
 -- pages and frames
 pub record Pages (header : Header) (h : ℕ) (frames : FrameTable) (resident : ResidentTable) (objects : ObjectTable) (laundry : LaundryList) (m : MemoryFacts) :
@@ -225,10 +234,11 @@ pub record Pages (header : Header) (h : ℕ) (frames : FrameTable) (resident : R
 
 -- all but what goes across
 pub record Core (header : Header) (h : ℕ) (k : Parts) (ids : Ids) (gone : List Entry) (s : SpaceFacts) (c : ControlFacts) (m : MemoryFacts) : Type 0 where
-  pub setting : Setting header h k.size k.host k.declared.items k.copies
+  pub setting : Setting header h k.size k.host k.declared.items
   pub fits : PartsFit k.memory k.size
   pub spaces : Spaces header h k.maps k.chains k.waits.rows gone s
   pub objects : Objects header h k.chains k.memory.objects ids s.objects
+  pub copied : Copied k.copies k.memory k.chains s.objects m.pushed
   pub controls : HasControls (named header) h k.memory.objects c.last c.live c.ready (λ o. home_in s.objects.home (s.objects.made_for o))
   pub flags : HasFlags (named header) k.memory.objects c.cached
   pub calm : IsCalm (named header) c.live c.destroyed
@@ -270,7 +280,7 @@ pub record Works (header : Header) (h : ℕ) (k : Parts) (ids : Ids) (who : Woke
   pub matches : Matches header h k ids [] past
   pub used : UsesAll header k past
   pub referred : AllReferred k.chains k.memory.objects k.memory.resident
-  pub thin : IsThin k.chains k.memory.objects
+  pub thin : IsThin k.copies k.chains k.memory.objects
   pub waits : HasWaits header h k who past
   pub order : HasOrder k past
 
@@ -280,7 +290,7 @@ pub record Undone (header : Header) (h : ℕ) (k : Parts) (ids : Ids) (past : Li
   pub settled : IsSettled past
   pub used : UsesAll header k past
   pub referred : AllReferred k.chains k.memory.objects k.memory.resident
-  pub thin : IsThin k.chains k.memory.objects
+  pub thin : IsThin k.copies k.chains k.memory.objects
   pub waits : HasWaits header h k woken.Nobody past
   pub order : HasOrder k past
 
@@ -291,7 +301,7 @@ pub record WorksBut (header : Header) (h : ℕ) (k : Parts) (ids : Ids) (who : W
   pub replied : IsReplied header past
   pub used : UsesAll header k past
   pub referred : AllReferred k.chains k.memory.objects k.memory.resident
-  pub thin : IsThin k.chains k.memory.objects
+  pub thin : IsThin k.copies k.chains k.memory.objects
   pub waits : HasWaits header h k who past
   pub order : HasOrder k past
 
@@ -300,7 +310,7 @@ pub record Rests (header : Header) (h : ℕ) (k : Parts) (ids : Ids) (past : Lis
   pub matches : Matches header h k ids [] past
   pub used : UsesAll header k past
   pub referred : AllReferred k.chains k.memory.objects k.memory.resident
-  pub thin : IsThin k.chains k.memory.objects
+  pub thin : IsThin k.copies k.chains k.memory.objects
   pub waits : HasWaits header h k woken.Nobody past
   pub order : HasOrder k past
   pub idle : count_again k.waits.rows ≡ 0

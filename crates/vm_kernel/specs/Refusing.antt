@@ -1,10 +1,12 @@
 -- Why a kernel refuses a command, from what it keeps.
-use Rattle.std.specs.Prelude.{ℕ, ◌+◌, ◌/◌, ◌%◌, ◌<◌, ◌==◌, ◌&&◌, ◌||◌, if◌then◌else◌, Bool, false, not, List, length, nat_le, nat_lt, reverse, slice_get}
-use Rattle.std.specs.Prelude.{Option, Some, None, IsSome, is_some}
+use Rattle.std.specs.Prelude.{ℕ, ◌+◌, ◌/◌, ◌%◌, ◌<◌, ◌==◌, ◌&&◌, ◌||◌, if◌then◌else◌, Bool, false, not, List, [], ◌∷◌, length, nat_le, nat_lt, reverse}
+use Rattle.std.specs.Prelude.{Option, Some, None, IsSome, is_some, slice_get}
 use Rattle.vm_base.specs.declared.code.Code.{Code}
 use Rattle.vm_base.specs.declared.code.Code.TheVariants.{Blocked, InvalidAddress, InvalidArgument, NoSpace, ProtectionFailure, ResourceShortage, TableFull}
 use Rattle.vm_base.specs.declared.code.Code.TheVariants.{WrongHost}
 use Rattle.vm_base.specs.declared.entry.Entry.{Entry}
+use Rattle.vm_base.specs.declared.ids.ObjectKind.{ObjectKind}
+use Rattle.vm_base.specs.declared.ids.ObjectKind.TheVariants.{Temp}
 use Rattle.vm_base.specs.declared.ids.Access.{Access}
 use Rattle.vm_base.specs.declared.ids.Access.TheVariants as need
 use Rattle.vm_base.specs.Entries.{allows, entry_at, is_range, meets_range, most_entries}
@@ -12,14 +14,13 @@ use Rattle.vm_base.specs.Limits.{most_objects, most_pages, most_regions}
 use Rattle.vm_model.specs.declared.command.Command.{Command}
 use Rattle.vm_model.specs.declared.command.Command.TheVariants as command
 use Rattle.vm_model.specs.declared.event.Event.{Event}
+use Rattle.vm_model.specs.declared.script.Declared.{Declared}
 use Rattle.vm_model.specs.declared.script.Header.{Header}
 use Rattle.vm_model.specs.Named.{pages_kept}
-use Rattle.vm_model.specs.Tasks.{copies, host_of, is_copied, new_marks}
-use Rattle.vm_legal.specs.Outside.{is_wild_kind}
-use Rattle.vm_legal.specs.Refusal.{access_refusal, code_where, is_elsewhere, meets_declared}
+use Rattle.vm_model.specs.Tasks.{copies, copies_below, host_of, is_copied, new_marks}
+use Rattle.vm_legal.specs.Outside.{is_file_kind, is_wild_kind, kind_in}
+use Rattle.vm_legal.specs.Refusal.{access_refusal, code_where, is_elsewhere}
 use Rattle.vm_frames.specs.Frames.{free}
-use Rattle.vm_objects.specs.Objects.{ObjectTable, object_at}
-use Rattle.vm_objects.specs.declared.row.ObjectRow.{ObjectRow}
 use Rattle.vm_maps.specs.declared.change.MapChange.{MapChange}
 use Rattle.vm_maps.specs.Judge.{judged}
 use Rattle.vm_maps.specs.Maps.{Mapped, entries_in, rows_in}
@@ -76,37 +77,58 @@ is_marked chains r = mark_in (region_at chains r)
     mark_in None = false
     mark_in (Some row) = row.marked
 
--- a fork of these entries makes too many regions, or leaves too few objects for those that are marked
-abbrev pub makes_too_many : ChainTable → List Entry → Ids → Bool
-makes_too_many chains rows ids =
-    nat_lt most_regions (ids.next_region + copies rows) || nat_lt most_objects (object_total ids + copies rows + new_marks (is_marked chains) rows)
+-- the kind of a region: that of a declared object, of which these are the declarations, or temporary
+abbrev pub kind_among : List Declared → ℕ → ObjectKind
+kind_among declared r = if nat_lt r (length declared) then kind_in (slice_get (reverse declared) r) else Temp
+
+-- a copy of the region gives it no mark: it is one of so many declared objects', or has one
+abbrev pub takes_no_mark : ℕ → ChainTable → ℕ → Bool
+takes_no_mark declared chains r = nat_lt r declared || is_marked chains r
+
+-- where so many objects are declared, a fork of these entries makes too many regions, or leaves too few objects: for delayed copies, and for those that are
+-- marked
+abbrev pub makes_too_many : ℕ → ChainTable → List Entry → Ids → Bool
+makes_too_many declared chains rows ids =
+    nat_lt most_regions (ids.next_region + copies rows) || nat_lt most_objects
+    (object_total ids + copies rows + new_marks (takes_no_mark declared chains) rows + copies_below declared rows)
 
 -- the code of a fork of a task with these entries
-abbrev pub fork_code : ChainTable → List Entry → Ids → Option Code
-fork_code chains rows ids = code_where (makes_too_many chains rows ids) TableFull None
+abbrev pub fork_code : ℕ → ChainTable → List Entry → Ids → Option Code
+fork_code declared chains rows ids = code_where (makes_too_many declared chains rows ids) TableFull None
 
--- so many objects are declared: one copy of the region more is too much, with its mark and the one that a temporary region may get
-abbrev pub is_copy_full : ℕ → ChainTable → Ids → ℕ → Bool
+-- what a copy of the region takes of the objects: of a file one and its mark, of another declared object one, of temporary memory its mark and the one that
+-- the region may get
+abbrev pub copy_cost : List Declared → ChainTable → ℕ → ℕ
+copy_cost declared chains r = if is_file_kind (kind_among declared r) then 2 else if takes_no_mark (length declared) chains r then 1 else 2
+
+-- one copy of the region more is too much
+abbrev pub is_copy_full : List Declared → ChainTable → Ids → ℕ → Bool
 is_copy_full declared chains ids source =
-    nat_le most_regions ids.next_region || nat_lt most_objects (object_total ids + (if nat_lt source declared || is_marked chains source then 1 else 2))
+    nat_le most_regions ids.next_region || nat_lt most_objects (object_total ids + copy_cost declared chains source)
 
-abbrev pub is_wild_row : Option ObjectRow → Bool
-is_wild_row None = false
-is_wild_row (Some known) = is_wild_kind known.kind
+-- the region has temporary pages, or those of a file: the copies of its pages are delayed
+abbrev pub is_paged : List Declared → ℕ → Bool
+is_paged declared r = not (nat_lt r (length declared)) || is_file_kind (kind_among declared r)
 
--- so many objects are declared: an entry on a wild one is not copied from, and one on another to another task
-abbrev pub is_uncopied : ℕ → ObjectTable → Bool → ℕ → Bool
-is_uncopied declared objects own region = nat_lt region declared && (is_wild_row (object_at objects region) || not own)
+-- an entry on a wild object is not copied from, nor one on a shared object to another task
+abbrev pub is_uncopied : List Declared → Bool → ℕ → Bool
+is_uncopied declared own r = is_wild_kind (kind_among declared r) || (not (is_paged declared r) && not own)
+
+-- an entry on a shared or wild object has an address of the range
+abbrev pub meets_uncopied : List Declared → ℕ → ℕ → List Entry → Bool
+meets_uncopied declared address bytes [] = false
+meets_uncopied declared address bytes (row ∷ rows) =
+    (not (is_paged declared row.region.0) && meets_range address bytes (row ∷ [])) || meets_uncopied declared address bytes rows
 
 -- the code of a copy from an entry of a task, to itself or to another with these entries, of a range whose numbers are right
 abbrev pub source_code : Parts → Ids → Bool → List Entry → ℕ → ℕ → ℕ → Option Entry → Option Code
 source_code k ids own rows address bytes to None = Some InvalidAddress
 source_code k ids own rows address bytes to (Some row) =
-    code_where (is_uncopied (length k.declared.items) k.memory.objects own row.region.0) InvalidArgument
+    code_where (is_uncopied k.declared.items own row.region.0) InvalidArgument
     (code_where (nat_lt (row.address + row.bytes) (address + bytes)) InvalidAddress
     (code_where (not (allows need.Load row.prot)) ProtectionFailure
     (code_where (meets_range to bytes rows) NoSpace
-    (code_where (nat_lt most_entries (length rows + 1) || is_copy_full (length k.declared.items) k.chains ids row.region.0) TableFull None))))
+    (code_where (nat_lt most_entries (length rows + 1) || is_copy_full k.declared.items k.chains ids row.region.0) TableFull None))))
 
 -- the code of a copy from a task to another, or to itself
 abbrev pub copy_code : Parts → Ids → ℕ → ℕ → ℕ → ℕ → ℕ → Option Code
@@ -128,13 +150,13 @@ changing_code k (command.Deallocate task address bytes) = change_code k task.0 (
 changing_code k (command.Protect task address bytes prot) = change_code k task.0 (protection address bytes prot)
 changing_code k (command.Inherit task address bytes inherit) =
     acting_in k task.0
-    (code_where (is_copied inherit && meets_declared (length k.declared.items) address bytes (rows_in task.0 k.maps)) InvalidArgument
+    (code_where (is_copied inherit && meets_uncopied k.declared.items address bytes (rows_in task.0 k.maps)) InvalidArgument
     (judged k.maps.size (inheritance address bytes inherit) (rows_in task.0 k.maps)))
 changing_code k other = None
 
 -- the code of a command; what it maps may belong to another host
 abbrev pub code_of : Parts → Ids → Bool → Command → Option Code
-code_of k ids elsewhere (command.Fork task child) = acting_in k task.0 (fork_code k.chains (rows_in task.0 k.maps) ids)
+code_of k ids elsewhere (command.Fork task child) = acting_in k task.0 (fork_code (length k.declared.items) k.chains (rows_in task.0 k.maps) ids)
 code_of k ids elsewhere (command.Exit task) = acting_in k task.0 None
 code_of k ids elsewhere (command.Allocate task address bytes) = acting_in k task.0 (range_code k.size (rows_in task.0 k.maps) ids address bytes)
 code_of k ids elsewhere (command.Map task address bytes object offset) = acting_in k task.0 (map_code k elsewhere task.0 address bytes object.0 offset)

@@ -85,15 +85,17 @@ pub record IsRoomy (more rows_more : ℕ) (k : Parts) (room : ℕ) : Type 0 wher
   pub rows : full_dues k + rows_more ≤ k.memory.resident.spare
   pub shadows : k.chains.marked + rows_more ≤ k.chains.spare
   pub objects : k.chains.marked + rows_more ≤ k.memory.objects.rows
+  pub copies : rows_more ≤ k.copies.room
 
 -- What a call in front of the accesses that are run has told and taken, where it had so much in hand and has so much left: no more events than it had in hand;
--- and no more rows, shadows and objects than it makes.
+-- and no more rows, shadows, objects and copy objects than it makes.
 pub record Spends (hand makes left : ℕ) (old : Parts) (before : Listed Event) (new : Parts) (after : Listed Event) : Type 0 where
   pub told : length after.items + (full_dues new + left) ≤ length before.items + (full_dues old + hand)
   pub room : before.room + (full_dues new + left) ≤ after.room + (full_dues old + hand)
   pub rows : old.memory.resident.spare + full_dues new ≤ new.memory.resident.spare + (full_dues old + makes)
   pub shadows : old.chains.spare + new.chains.marked ≤ new.chains.spare + (old.chains.marked + makes)
   pub objects : old.memory.objects.rows + new.chains.marked ≤ new.memory.objects.rows + (old.chains.marked + makes)
+  pub copies : old.copies.room ≤ new.copies.room + makes
 
 -- what the end of all regions would tell: each page that is here leaves, and each control that lives ends
 abbrev pub leaving : Parts → Ids → ℕ
@@ -183,6 +185,7 @@ pub record IsReady (breadth : Breadth) (k : Parts) : Type 0 where
   pub rows : full_dues k + making breadth k ≤ k.memory.resident.spare
   pub shadows : k.chains.marked + making breadth k ≤ k.chains.spare
   pub objects : k.chains.marked + making breadth k ≤ k.memory.objects.rows
+  pub copies : making breadth k ≤ k.copies.room
   pub mark : 0 < k.memory.objects.marks
   pub access : 0 < k.waits.room
   pub buffers : HasBuffers k
@@ -199,6 +202,7 @@ pub record Rooms : Type 0 where
   pub objects : ℕ
   pub marks : ℕ
   pub shadows : ℕ
+  pub copies : ℕ
   pub buffers : ℕ
   pub accesses : ℕ
 
@@ -216,6 +220,7 @@ abbrev pub with_rooms : Rooms → Parts → Parts
 with_rooms rooms k = record k {
   memory = memory_with rooms k.memory;
   chains = record k.chains { spare = rooms.shadows };
+  copies = record k.copies { room = rooms.copies };
   waits = record k.waits { room = rooms.accesses };
 }
 
@@ -238,6 +243,7 @@ pub record LeavesRoom (answer : Reclaim) (old new : Parts) (before after : ℕ) 
   pub rows : old.memory.resident.spare ≤ new.memory.resident.spare
   pub objects : old.memory.objects.rows ≤ new.memory.objects.rows
   pub chains : new.chains ≡ old.chains
+  pub copies : new.copies ≡ old.copies
   pub skip : vec_capacity old.skip ≤ vec_capacity new.skip
   pub none : answer ≡ reclaim.Nothing → listed_pages new.memory.queues ≡ listed_pages old.memory.queues
   pub fewer : (answer ≡ reclaim.Nothing → ⊥) → listed_pages new.memory.queues + 1 ≡ listed_pages old.memory.queues
@@ -291,6 +297,7 @@ rooms_of k = record {
   objects = k.memory.objects.rows;
   marks = k.memory.objects.marks;
   shadows = k.chains.spare;
+  copies = k.copies.room;
   buffers = k.memory.buffers.count;
   accesses = k.waits.room;
 }

@@ -1,5 +1,7 @@
 -- Accesses are run, and the frame queue is served.
-use Rattle.std.specs.Prelude.{ℕ, ◌+◌, ◌-◌, ◌<◌, ◌≤◌, ◌≡◌, ◌⊎◌, ◌||◌, Bool, IfSome, true, false, List, [], ◌∷◌, ◌++◌, Option, Some, None}
+use Rattle.std.specs.Prelude.{ℕ, ◌+◌, ◌-◌, ◌<◌, ◌≤◌, ◌≡◌, ◌⊎◌, ◌||◌, ◌&&◌, ◌==◌, nat_lt, not, Bool, IfSome, true, false, List, [], ◌∷◌, ◌++◌, length, Option}
+use Rattle.std.specs.Prelude.{Some}
+use Rattle.std.specs.Prelude.{None, if◌then◌else◌}
 use Rattle.vm_base.specs.declared.ids.FrameNo.{FrameNo}
 use Rattle.vm_base.specs.declared.ids.PageKey.{PageKey}
 use Rattle.vm_queues.specs.Queues.{is_skipped}
@@ -18,7 +20,10 @@ use Rattle.vm_resident.specs.Resident.{ResidentTable, page_key, row_at}
 use Rattle.vm_resident.specs.declared.page_row.PageRow.{PageRow}
 use Rattle.vm_waits.specs.Waits.{count_again, entry, is_again, is_frame, one_again, one_frame, queued}
 use Rattle.vm_waits.specs.declared.waiting.On.{On}
+use Rattle.vm_waits.specs.declared.waiting.On.TheVariants as on
 use Rattle.vm_waits.specs.declared.waiting.Waiting.{Waiting}
+use Rattle.vm_maps.specs.declared.place.Place.{Place}
+use Rattle.vm_kernel.specs.Destroying.{place_led}
 use Rattle.vm_kernel.specs.Plays.{IsKeptSource, Sparing, SparesSource, frame_here}
 use Rattle.vm_kernel.specs.Taking.{page_waited}
 use Rattle.vm_kernel.specs.Turns.{IsFront}
@@ -141,3 +146,12 @@ HasQueue header h k past = (queued k.waits.rows ≡ 0) ⊎ (frames_free header h
 -- an access is run that is to be run again, or that wants a frame
 abbrev pub runs_now : On → Bool
 runs_now reason = is_again reason || is_frame reason
+
+-- an access on a declared region waits for a place of another object: that is the one to which it owes its page
+abbrev pub is_pushing : ℕ → PageKey → Option Place → Bool
+is_pushing declared key None = false
+is_pushing declared key (Some place) = nat_lt place.region.0 declared && not (place.region.0 == key.object.0)
+
+-- what an access waits for, where somebody's word on a page is outstanding
+abbrev pub waits_at : Parts → Waiting → PageKey → On
+waits_at k w key = if is_pushing (length k.declared.items) key (place_led k.maps w.task.0 w.want) then on.Push key else on.Page key

@@ -144,4 +144,4 @@ pub record IsBareTop (region : ℕ) (k : Parts) : Type 0 where
 abbrev pub LeavesLoser : Option ObjectId → Parts → Parts → Type 0
 LeavesLoser left old new =
     (losers more : List ObjectId) → ((x : ObjectId) → Contains losers x → Contains more x) → ((o : ObjectId) → left ≡ Some o → Contains more o)
-    → IsThinBut losers old.chains old.memory.objects → IsThinBut more new.chains new.memory.objects
+    → IsThinBut old.copies losers old.chains old.memory.objects → IsThinBut new.copies more new.chains new.memory.objects

@@ -7,6 +7,8 @@ use Rattle.vm_model.specs.declared.message.Message.{Message}
 use Rattle.vm_model.specs.declared.message.Message.TheVariants as message
 use Rattle.vm_model.specs.declared.script.Header.{Header}
 use Rattle.vm_model.specs.Named.{named}
+use Rattle.vm_model.specs.Regions.{is_copy}
+use Rattle.vm_legal.specs.Pushes.{is_pushed}
 use Rattle.vm_legal.specs.Debts.{HasLocked}
 use Rattle.vm_legal.specs.Outside.{Outside}
 use Rattle.vm_legal.specs.Licences.{LockRequest, lock_taken, zeroes}
@@ -37,6 +39,12 @@ IsWord size (message.Error page reason) = IsAnswer size (message.Error page reas
 IsWord size (message.Attributes cache strategy reply) = Unit {0}
 IsWord size (message.Destroy reason) = Unit {0}
 IsWord size other = ⊥
+
+-- of a copy object a pager gives, or can't give, what was copied up into it
+abbrev pub IsOfPushed : ℕ → ℕ → Message → List Event → Type 0
+IsOfPushed h object (message.Supply page lock precious bytes) past = is_copy object past ≡ true → is_pushed h object page.0 past ≡ true
+IsOfPushed h object (message.Error page reason) past = is_copy object past ≡ true → is_pushed h object page.0 past ≡ true
+IsOfPushed h object other past = Unit {0}
 
 -- the message is a lock request
 abbrev pub is_lock_request : Message → Bool

@@ -1,11 +1,11 @@
-// What a fork makes of a task's entries, and which of them are on declared objects.
+// What a fork makes of a task's entries, and which of them no fork copies.
 ghost use Rattle.std.specs.Prelude.{◌≡◌, ◌≤◌, ◌==◌, ◌&&◌, [], ◌∷◌, drop, length, nat_lt, not};
 ghost use Rattle.vm_base.specs.Entries.{by_address, meets_range};
-ghost use Rattle.vm_legal.specs.Refusal.{meets_declared};
-ghost use Rattle.vm_model.specs.Tasks.{copies, copies_from, is_copied, new_marks};
-ghost use Rattle.vm_kernel.specs.Refusing.{is_marked};
+ghost use Rattle.vm_model.specs.Tasks.{copies, copies_below, copies_from, is_copied, new_marks};
+ghost use Rattle.vm_kernel.specs.Refusing.{is_marked, is_paged, kind_among, meets_uncopied, takes_no_mark};
 
-use vm_base::{Entries, Entry, Inherit, RegionId};
+use vm_base::{Entries, Entry, Inherit, ObjectKind, RegionId};
+use vm_model::Declarations;
 use vm_shadow::Chains;
 
 fn is_copied(inherit: Inherit) -> bool
@@ -31,33 +31,67 @@ pub fn copies(entries: &Entries) -> u32
     count
 }
 
-// How many regions a fork marks that had no mark.
-pub fn new_marks(entries: &Entries, chains: &Chains) -> u32
-    ensures count { result ≡ new_marks (is_marked chains.now) (by_address entries.now) }
+// How many of them are on one of so many declared objects.
+pub fn copies_below(entries: &Entries, declared: u32) -> u32
+    ensures count { result ≡ copies_below declared (by_address entries.now) }
     ensures few { result ≤ length entries.now.items }
 {
     let mut count = 0;
     'all: for i in 0..entries.len() {
-        if is_newly_marked(*entries.at(i), entries, i + 1, chains) {
+        if is_copied_below(*entries.at(i), declared) {
             count += 1;
         }
     }
     count
 }
 
-// Whether a fork copies an entry on a region without a mark, and none on its region of the entries
-// from a place on.
-fn is_newly_marked(entry: Entry, entries: &Entries, from: u32, chains: &Chains) -> bool
+// Whether a fork copies the entry, which is on one of so many declared objects.
+fn is_copied_below(entry: Entry, declared: u32) -> bool
+    ensures { result ≡ (is_copied entry.inherit && nat_lt entry.region.0 declared) }
+{
+    is_copied(entry.inherit) && entry.region.0 < declared
+}
+
+// How many regions a fork marks that had no mark.
+pub fn new_marks(entries: &Entries, declared: u32, chains: &Chains) -> u32
+    ensures count { result ≡ new_marks (takes_no_mark declared chains.now) (by_address entries.now) }
+    ensures few { result ≤ length entries.now.items }
+{
+    let mut count = 0;
+    'all: for i in 0..entries.len() {
+        if is_newly_marked(*entries.at(i), entries, i + 1, declared, chains) {
+            count += 1;
+        }
+    }
+    count
+}
+
+// Whether a fork copies an entry on a region to which that gives a mark, and none on its region of the
+// entries from a place on.
+fn is_newly_marked(
+    entry: Entry,
+    entries: &Entries,
+    from: u32,
+    declared: u32,
+    chains: &Chains,
+) -> bool
     ensures { result ≡ (is_copied entry.inherit && (not (copies_from entry.region.0 (drop from (by_address entries.now))) && not
-        (is_marked chains.now entry.region.0))) }
+        (takes_no_mark declared chains.now entry.region.0))) }
 {
     is_copied(entry.inherit)
-        && !is_marked(chains, entry.region)
+        && !takes_no_mark(declared, chains, entry.region)
         && !copies_from(entries, from, entry.region)
 }
 
+// Whether a copy of the region gives it no mark: it is one of so many declared objects', or has one.
+pub fn takes_no_mark(declared: u32, chains: &Chains, region: RegionId) -> bool
+    ensures { result ≡ takes_no_mark declared chains.now region.0 }
+{
+    region.0 < declared || is_marked(chains, region)
+}
+
 // Whether a region has the copy mark.
-pub fn is_marked(chains: &Chains, region: RegionId) -> bool
+fn is_marked(chains: &Chains, region: RegionId) -> bool
     ensures { result ≡ is_marked chains.now region.0 }
 {
     match chains.region(region) {
@@ -94,19 +128,36 @@ fn meets(entry: Entry, address: u64, bytes: u64) -> bool
     ends_behind && begins_before
 }
 
-// Whether the entry is on one of so many declared objects, and has an address of the range.
-fn is_declared_in(entry: Entry, declared: u32, address: u64, bytes: u64) -> bool
-    ensures { result ≡ (nat_lt entry.region.0 declared && meets_range address bytes (entry ∷ [])) }
+// The kind of a region: that of a declared object, or temporary.
+pub fn kind_of(declared: &Declarations, region: RegionId) -> ObjectKind
+    ensures { result ≡ kind_among declared.now.items region.0 }
 {
-    entry.region.0 < declared && meets(entry, address, bytes)
+    if region.0 >= declared.len() {
+        return ObjectKind::Temp;
+    }
+    declared.at(region.0).kind
 }
 
-// Whether an entry on one of so many declared objects has an address of the range.
-pub fn meets_declared(entries: &Entries, declared: u32, address: u64, bytes: u64) -> bool
-    ensures { result ≡ meets_declared declared address bytes (by_address entries.now) }
+// Whether the region has temporary pages, or those of a file: the copies of its pages are delayed.
+pub fn is_paged(declared: &Declarations, region: RegionId) -> bool
+    ensures { result ≡ is_paged declared.now.items region.0 }
+{
+    region.0 >= declared.len() || kind_of(declared, region) == ObjectKind::File
+}
+
+// Whether the entry is on a shared or wild object, and has an address of the range.
+fn is_uncopied_in(entry: Entry, declared: &Declarations, address: u64, bytes: u64) -> bool
+    ensures { result ≡ (not (is_paged declared.now.items entry.region.0) && meets_range address bytes (entry ∷ [])) }
+{
+    !is_paged(declared, entry.region) && meets(entry, address, bytes)
+}
+
+// Whether an entry on a shared or wild object has an address of the range.
+pub fn meets_uncopied(entries: &Entries, declared: &Declarations, address: u64, bytes: u64) -> bool
+    ensures { result ≡ meets_uncopied declared.now.items address bytes (by_address entries.now) }
 {
     'all: for i in 0..entries.len() {
-        if is_declared_in(*entries.at(i), declared, address, bytes) {
+        if is_uncopied_in(*entries.at(i), declared, address, bytes) {
             return true;
         }
     }

@@ -6,7 +6,7 @@ ghost use Rattle.vm_base.specs.Entries.{InOrder, entry_at};
 ghost use Rattle.vm_maps.specs.Judge.{IsAllowed, place_at};
 ghost use Rattle.vm_maps.specs.Maps.{rows_in};
 ghost use Rattle.vm_model.specs.declared.command.Command.TheVariants as command;
-ghost use Rattle.vm_kernel.specs.Begun.{Ran, Given, Starts};
+ghost use Rattle.vm_kernel.specs.Begun.{Doing, Given, HasBegun, Ran, Starts};
 ghost use Rattle.vm_kernel.specs.Forking.{CanCopy, CanShare, EntersCopy, Shares};
 ghost use Rattle.vm_kernel.specs.Plays.{Plays, paging};
 ghost use Rattle.vm_kernel.specs.Rooms.{HasBuffers, HasMore, HasRoom, IsRoomy, IsSkipRoom, KeepsSpare, Spends, dues, front, full_dues, making, of_entries};
@@ -16,6 +16,7 @@ ghost use Rattle.vm_kernel.specs.Turns.{QueueIsStill, Restarted};
 ghost use Rattle.vm_shadow.specs.declared.ids.Ids.{Ids as Numbers};
 
 use crate::building::{entered, entering, whole_entry};
+use crate::copying::is_paged;
 use crate::counting::{count_of, set_count};
 use crate::parts::Parts;
 use vm_base::{Access, Entry, Inherit, NoMemory, RegionId, TaskId};
@@ -25,8 +26,34 @@ use vm_shadow::Ids;
 
 impl Parts {
     // A child of the task is made, with those of its entries that are to be shared, and one on a copy
-    // for each that is to be copied.
+    // for each that is to be copied; then whoever waited to push a page of a file is run again.
     pub fn fork(
+        &mut self,
+        ids: &mut Ids,
+        task: TaskId,
+        child: TaskId,
+        log: &mut Events,
+    ) -> Result<(), NoMemory>
+        ghost given: { Doing }
+        requires is { given.command ≡ command.Fork task child }
+        requires starts { Starts given.header given.host given.command given.past self.old ids.old log.old.items }
+        ensures ran { OnOk result (Ran given.header given.host given.outside given.command given.past self.new ids.new log.new.items) }
+        ensures plays { OnOk result (Plays given.header given.past log.old.items (paging self.old) log.new.items (paging self.new)) }
+        ensures restarts { OnOk result (Restarted given.header given.host self.new.waits.rows given.past self.old.waits.queue self.new.waits.queue
+            log.new.items) }
+        ensures few { OnOk result (length log.new.items + dues self.new ≤ length log.old.items + (full_dues self.old + of_entries task.0 self.old)) }
+        ensures room { (more : ℕ) → HasMore (of_entries task.0 self.old) (of_entries task.0 self.old) more self.old log.old.room → HasBuffers self.old
+            → length self.old.waits.rows + 1 < vec_capacity self.old.skip
+            → OnOk result (HasRoom more self.new log.new.room × (0 < self.new.memory.buffers.count × IsSkipRoom self.new)) }
+        ensures err { HasMore (of_entries task.0 self.old) (of_entries task.0 self.old) 0 self.old log.old.room
+            → OnErr result ((self.new ≡ self.old) × ((ids.new ≡ ids.old) × (log.new.items ≡ log.old.items))) }
+    {
+        self.fork_entries(ids, task, child, log)?;
+        self.restart(ids, log)
+    }
+
+    // A child of the task is made, with the entries that it gets.
+    fn fork_entries(
         &mut self,
         ids: &mut Ids,
         task: TaskId,
@@ -35,7 +62,7 @@ impl Parts {
     ) -> Result<(), NoMemory>
         ghost given: { Given }
         requires { Starts given.header given.host (command.Fork task child) given.past self.old ids.old log.old.items }
-        ensures ran { OnOk result (Ran given.header given.host given.outside (command.Fork task child) given.past self.new ids.new log.new.items) }
+        ensures begun { OnOk result (HasBegun given.header given.host given.outside (command.Fork task child) given.past self.new ids.new log.new.items) }
         ensures plays { OnOk result (Plays given.header given.past log.old.items (paging self.old) log.new.items (paging self.new)) }
         ensures quiet { OnOk result (QueueIsStill self.old.waits.queue self.new.waits.queue log.old.items log.new.items) }
         ensures spends { OnOk result (Spends (of_entries task.0 self.old) (of_entries task.0 self.old) 0 self.old log.old self.new log.new) }
@@ -53,7 +80,11 @@ impl Parts {
             match entry.inherit {
                 Inherit::Share => self.share(child, entry, log)?,
                 Inherit::Copy => {
-                    self.enter_copy(ids, child, entry.region, entry.offset, entry, log)?
+                    if entry.region.0 < self.declared.len() {
+                        self.enter_delayed(ids, child, entry.region, entry.offset, entry, log)?;
+                    } else {
+                        self.enter_copy(ids, child, entry.region, entry.offset, entry, log)?;
+                    }
                 }
                 Inherit::Never => {}
             }
@@ -61,7 +92,8 @@ impl Parts {
         Ok(())
     }
 
-    // A task gets a range on a copy of pages of another task's region.
+    // A task gets a range on a copy of pages of another task's region; where that is a file's, whoever
+    // waited to push a page of the file is run again.
     pub fn copy(
         &mut self,
         ids: &mut Ids,
@@ -72,10 +104,10 @@ impl Parts {
         to: u64,
         log: &mut Events,
     ) -> Result<(), NoMemory>
-        ghost given: { Given }
-        requires { Starts given.header given.host (command.Copy task address bytes target to) given.past self.old ids.old log.old.items }
-        ensures ran { OnOk result (Ran given.header given.host given.outside (command.Copy task address bytes target to) given.past self.new ids.new
-            log.new.items) }
+        ghost given: { Doing }
+        requires is { given.command ≡ command.Copy task address bytes target to }
+        requires starts { Starts given.header given.host given.command given.past self.old ids.old log.old.items }
+        ensures ran { OnOk result (Ran given.header given.host given.outside given.command given.past self.new ids.new log.new.items) }
         ensures plays { OnOk result (Plays given.header given.past log.old.items (paging self.old) log.new.items (paging self.new)) }
         ensures restarts { OnOk result (Restarted given.header given.host self.new.waits.rows given.past self.old.waits.queue self.new.waits.queue
             log.new.items) }
@@ -88,10 +120,14 @@ impl Parts {
             → OnErr result ((self.new ≡ self.old) × ((ids.new ≡ ids.old) × (log.new.items ≡ log.old.items))) }
     {
         let place = self.place(task, address);
-        if place.region.0 < self.declared.len() {
+        if !is_paged(&self.declared, place.region) {
             return self.begin_copy(ids, task, address, bytes, to, log);
         }
         let range = whole_entry(to, bytes, place.region);
+        if place.region.0 < self.declared.len() {
+            self.enter_delayed(ids, target, place.region, place.page.0, range, log)?;
+            return self.restart(ids, log);
+        }
         self.enter_copy(ids, target, place.region, place.page.0, range, log)
     }
 

@@ -20,7 +20,7 @@ ghost use Rattle.vm_kernel.specs.Matches.{IsRanged, Rests, first_ids, host_id};
 ghost use Rattle.vm_kernel.specs.Refusing.{maps_elsewhere, takes_name};
 ghost use Rattle.vm_kernel.specs.Rooms.{IsReady, MayServe, ServeRoom, breadth_of, dues, front, full_dues, has_queue, most, own_dues};
 ghost use Rattle.vm_kernel.specs.Rooms.{with_rooms_of, word_breadth};
-ghost use Rattle.vm_kernel.specs.Taking.{IsAbsencePaid, IsChangePaid, IsErrorPaid, IsLockPaid, IsWord};
+ghost use Rattle.vm_kernel.specs.Taking.{IsAbsencePaid, IsChangePaid, IsErrorPaid, IsLockPaid, IsOfPushed, IsWord};
 ghost use Rattle.vm_legal.specs.InTurn.{EndsAll, NoneSleepsOn};
 ghost use Rattle.vm_legal.specs.Returned.{OnlyReturned};
 ghost use Rattle.vm_model.specs.Named.{named};
@@ -168,6 +168,7 @@ impl Kernel {
         requires word { IsWord given.header.size message.now }
         requires destroy { is_destroy message.now ≡ true → MayDestroy given.header given.host object.0 given.past }
         requires nothing { log.old.items ≡ [] }
+        requires copies { IsOfPushed given.host object.0 message.now given.past }
         ensures passed { OnOk result (Passed given.header given.host given.outside given.command (given.front ++ given.past) self.new ids.new log.new.items) }
         ensures failed { OnOk result (IsErrorPaid given.header (log.new.items ++ (given.front ++ given.past))) }
         ensures zeroed { OnOk result (IsAbsencePaid given.header (log.new.items ++ (given.front ++ given.past))) }
@@ -217,7 +218,7 @@ impl Kernel {
         requires rests { Rests given.header given.host self.old ids.old (log.old.items ++ given.past) }
         requires room { (more : ℕ) × MayServe more self.old log.old.room }
         ensures served { Served given.header given.host given.outside given.command given.past log.old.items self.new ids.new log.new.items }
-        ensures awake { OnlyReturned (named given.header) given.host (log.new.items ++ given.past)
+        ensures awake { OnlyReturned given.header given.host (log.new.items ++ given.past)
             → NoneSleepsOn given.header given.host (log.new.items ++ given.past) }
         ensures leaves { LeavesInTurn given.header given.past self.old self.new log.old.items log.new.items }
         ensures others { KeepsOthers self.old.waits.queue self.old.waits.rows self.new.waits.rows }

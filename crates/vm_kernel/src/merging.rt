@@ -47,9 +47,9 @@ impl Parts {
     ) -> Result<(), NoMemory>
         ghost given: { Doing }
         requires sweeps { Sweeps given.header given.host given.outside given.command given.past self.old ids.now [] log.old.items }
-        requires thin { IsThinBut losers.old.items self.old.chains self.old.memory.objects }
+        requires thin { IsThinBut self.old.copies losers.old.items self.old.chains self.old.memory.objects }
         ensures sweeps { OnOk result (Sweeps given.header given.host given.outside given.command given.past self.new ids.now [] log.new.items) }
-        ensures thin { OnOk result (IsThin self.new.chains self.new.memory.objects) }
+        ensures thin { OnOk result (IsThin self.new.copies self.new.chains self.new.memory.objects) }
         ensures plays { OnOk result (Plays given.header given.past log.old.items (paging self.old) log.new.items (paging self.new)) }
         ensures only { OnOk result (MergesOnly log.old.items log.new.items) }
         ensures quiet { OnOk result (QueueIsStill self.old.waits.queue self.new.waits.queue log.old.items log.new.items) }
@@ -69,7 +69,13 @@ impl Parts {
             return Err(NoMemory);
         }
         log.reserve(most)?;
-        merge_losers(losers, &mut self.memory, &mut self.chains, log);
+        merge_losers(
+            losers,
+            &mut self.memory,
+            &mut self.chains,
+            &self.copies,
+            log,
+        );
         Ok(())
     }
 }

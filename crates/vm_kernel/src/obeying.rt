@@ -10,7 +10,7 @@ ghost use Rattle.vm_kernel.specs.Plays.{Plays, PlaysAnswer, paging};
 ghost use Rattle.vm_kernel.specs.Rooms.{Dies, HasBuffers, IsRoomy, KeepsSkip, Spends, heeding, may_end};
 ghost use Rattle.vm_parts.specs.Listed.{listed_pages};
 ghost use Rattle.vm_kernel.specs.Taking.{EndsNobody, FailsNow, HasAsker, IsAbsencePaid, IsAnswered, IsChangePaid, IsLockPaid, IsWord, KeepsAskers};
-ghost use Rattle.vm_kernel.specs.Taking.{PageWaitedFor};
+ghost use Rattle.vm_kernel.specs.Taking.{IsOfPushed, PageWaitedFor};
 ghost use Rattle.vm_kernel.specs.Taking.{is_away, is_lock_request, is_unlocked, page_awaited, page_waited};
 ghost use Rattle.vm_waits.specs.Waits.{oldest_row, woken};
 ghost use Rattle.vm_kernel.specs.Turns.{RunsNoneYet};
@@ -47,6 +47,7 @@ impl Parts {
         requires word { IsWord self.old.size message.now }
         requires destroy { is_destroy message.now ≡ true → MayDestroy given.header given.host object.0 given.past }
         requires nothing { log.old.items ≡ [] }
+        requires copies { IsOfPushed given.host object.0 message.now given.past }
         ensures works { IfOk result (λ woken. Works given.header given.host self.new ids.now woken (log.new.items ++ (given.front ++ given.past))) }
         ensures fails { IfOk result (λ woken. FailsNow given.header given.host woken (log.new.items ++ (given.front ++ given.past))) }
         ensures fresh { IfOk result (λ woken. EndsNobody woken (log.new.items ++ (given.front ++ given.past))) }

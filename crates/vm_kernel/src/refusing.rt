@@ -2,7 +2,7 @@
 ghost use Rattle.std.specs.Prelude.{◌≡◌, ◌==◌, ◌&&◌, ◌≤◌, ◌+◌, ◌<◌, ◌^◌, true, IsSome, length, nat_lt, not, None};
 ghost use Rattle.vm_base.specs.declared.code.Code.TheVariants as code;
 ghost use Rattle.vm_base.specs.Entries.{by_address, entry_at, is_range};
-ghost use Rattle.vm_legal.specs.Refusal.{code_where, meets_declared};
+ghost use Rattle.vm_legal.specs.Refusal.{code_where};
 ghost use Rattle.vm_maps.specs.Judge.{judged};
 ghost use Rattle.vm_model.specs.Tasks.{is_copied};
 ghost use Rattle.vm_kernel.specs.Changes.{inheritance as inheritance_of};
@@ -10,16 +10,18 @@ ghost use Rattle.vm_frames.specs.Frames.{free};
 ghost use Rattle.vm_maps.specs.Maps.{entries_in, rows_in};
 ghost use Rattle.vm_kernel.specs.Begun.{Given, acts_on};
 ghost use Rattle.vm_state.specs.Stands.{HasTasks};
-ghost use Rattle.vm_kernel.specs.Refusing.{IsForHere, access_code, acting_in, change_code, changing_code, code_of, copy_code, fork_code, is_copy_full};
-ghost use Rattle.vm_kernel.specs.Refusing.{is_uncopied, makes_too_many, map_code, object_total, range_code, source_code};
+ghost use Rattle.vm_kernel.specs.Refusing.{IsForHere, access_code, acting_in, change_code, changing_code, code_of, copy_code, copy_cost, fork_code};
+ghost use Rattle.vm_kernel.specs.Refusing.{is_copy_full, is_uncopied, makes_too_many, map_code, meets_uncopied, object_total, range_code, source_code};
 
 use crate::changes::{enter, inheritance, protection, removal};
-use crate::copying::{copies, is_marked, meets_declared, new_marks};
+use crate::copying::{
+    copies, copies_below, is_paged, kind_of, meets_uncopied, new_marks, takes_no_mark,
+};
 use crate::parts::Parts;
 use vm_base::limits::{MOST_OBJECTS, MOST_PAGES, MOST_REGIONS};
 use vm_base::{Access, Code, Entries, Entry, Inherit, ObjectId, ObjectKind, RegionId, TaskId};
 use vm_maps::MapChange;
-use vm_model::Command;
+use vm_model::{Command, Declarations};
 use vm_shadow::{Chains, Ids};
 
 // The objects that there are, and those that marked regions may still get.
@@ -30,23 +32,35 @@ fn object_total(ids: &Ids) -> u64
     u64::from(ids.next_object) + u64::from(ids.marks)
 }
 
-// Whether a copy of the region is one too many, where so many objects are declared.
-fn is_copy_full(declared: u32, chains: &Chains, ids: &Ids, source: RegionId) -> bool
-    ensures { result ≡ is_copy_full declared chains.now ids.now source.0 }
+// What a copy of the region takes of the objects.
+fn copy_cost(declared: &Declarations, chains: &Chains, source: RegionId) -> u64
+    ensures cost { result ≡ copy_cost declared.now.items chains.now source.0 }
+    ensures few { result ≤ 2 }
 {
-    let marks = if source.0 < declared || is_marked(chains, source) {
+    if kind_of(declared, source) == ObjectKind::File {
+        return 2;
+    }
+    if takes_no_mark(declared.len(), chains, source) {
         1
     } else {
         2
-    };
-    ids.next_region >= MOST_REGIONS || object_total(ids) + marks > u64::from(MOST_OBJECTS)
+    }
 }
 
-// Whether a fork of these entries makes too many regions, or leaves too few objects for those that are
-// marked. No more sources are marked than entries are copied: which ones is looked up near the limit alone.
+// Whether a copy of the region is one too many.
+fn is_copy_full(declared: &Declarations, chains: &Chains, ids: &Ids, source: RegionId) -> bool
+    ensures { result ≡ is_copy_full declared.now.items chains.now ids.now source.0 }
+{
+    ids.next_region >= MOST_REGIONS
+        || object_total(ids) + copy_cost(declared, chains, source) > u64::from(MOST_OBJECTS)
+}
+
+// Whether a fork of these entries makes too many regions, or leaves too few objects: for delayed copies
+// of so many declared objects, and for those that are marked. No more of both are made than entries are
+// copied: how many is counted near the limit alone.
 #[tactic(auto, using(crate::proofs::space::CopiesCounted::marks_few))]
-fn makes_too_many(entries: &Entries, chains: &Chains, ids: &Ids) -> bool
-    ensures { result ≡ makes_too_many chains.now (by_address entries.now) ids.now }
+fn makes_too_many(entries: &Entries, declared: u32, chains: &Chains, ids: &Ids) -> bool
+    ensures { result ≡ makes_too_many declared chains.now (by_address entries.now) ids.now }
 {
     let copied = u64::from(copies(entries));
     if u64::from(ids.next_region) + copied > u64::from(MOST_REGIONS) {
@@ -56,7 +70,8 @@ fn makes_too_many(entries: &Entries, chains: &Chains, ids: &Ids) -> bool
     if objects + copied <= u64::from(MOST_OBJECTS) {
         return false;
     }
-    objects + u64::from(new_marks(entries, chains)) > u64::from(MOST_OBJECTS)
+    let marks = u64::from(new_marks(entries, declared, chains));
+    objects + marks + u64::from(copies_below(entries, declared)) > u64::from(MOST_OBJECTS)
 }
 
 // Whether so many bytes from an address of the entry on end behind it.
@@ -225,7 +240,7 @@ impl Parts {
         self.maps.judge(task, change)
     }
 
-    // No fork copies from a declared object.
+    // No fork copies from a shared or wild object.
     fn inherit_refusal(
         &self,
         task: TaskId,
@@ -235,16 +250,14 @@ impl Parts {
     ) -> Option<Code>
         requires { IsSome (entries_in task.0 self.now.maps) }
         ensures { result ≡ acting_in self.now task.0
-            (code_where (is_copied inherit && meets_declared (length self.now.declared.items) address bytes (rows_in task.0 self.now.maps)) code.InvalidArgument
+            (code_where (is_copied inherit && meets_uncopied self.now.declared.items address bytes (rows_in task.0 self.now.maps)) code.InvalidArgument
             (judged self.now.maps.size (inheritance_of address bytes inherit) (rows_in task.0 self.now.maps))) }
     {
         if let Some(code) = self.acting_refusal(task) {
             return Some(code);
         }
         let entries = self.maps.entries(task);
-        if inherit == Inherit::Copy
-            && meets_declared(entries, self.declared.len(), address, bytes)
-        {
+        if inherit == Inherit::Copy && meets_uncopied(entries, &self.declared, address, bytes) {
             return Some(Code::InvalidArgument);
         }
         self.maps.judge(task, &inheritance(address, bytes, inherit))
@@ -252,12 +265,13 @@ impl Parts {
 
     fn fork_refusal(&self, task: TaskId, ids: &Ids) -> Option<Code>
         requires { IsSome (entries_in task.0 self.now.maps) }
-        ensures { result ≡ acting_in self.now task.0 (fork_code self.now.chains (rows_in task.0 self.now.maps) ids.now) }
+        ensures { result ≡ acting_in self.now task.0 (fork_code (length self.now.declared.items) self.now.chains (rows_in task.0 self.now.maps) ids.now) }
     {
         if let Some(code) = self.acting_refusal(task) {
             return Some(code);
         }
-        if makes_too_many(self.maps.entries(task), &self.chains, ids) {
+        let declared = self.declared.len();
+        if makes_too_many(self.maps.entries(task), declared, &self.chains, ids) {
             return Some(Code::TableFull);
         }
         None
@@ -337,7 +351,7 @@ impl Parts {
         if let Some(code) = self.maps.judge(target, &enter(to, bytes)) {
             return Some(code);
         }
-        if is_copy_full(self.declared.len(), &self.chains, ids, entry.region) {
+        if is_copy_full(&self.declared, &self.chains, ids, entry.region) {
             return Some(Code::TableFull);
         }
         None
@@ -345,15 +359,10 @@ impl Parts {
 
     // Whether nothing is copied from entries on the region: to the same task, or to another.
     fn is_uncopied(&self, region: RegionId, own: bool) -> bool
-        ensures { result ≡ is_uncopied (length self.now.declared.items) self.now.memory.objects own region.0 }
+        ensures { result ≡ is_uncopied self.now.declared.items own region.0 }
     {
-        if region.0 >= self.declared.len() {
-            return false;
-        }
-        match self.memory.objects.find(ObjectId(region.0)) {
-            Some(known) => known.kind == ObjectKind::Wild || !own,
-            None => !own,
-        }
+        kind_of(&self.declared, region) == ObjectKind::Wild
+            || !(own || is_paged(&self.declared, region))
     }
 
     fn wire_refusal(&self, count: u32) -> Option<Code>

@@ -113,6 +113,7 @@ impl Parts {
         self.memory.resident.keep(pages);
         self.memory.objects.reserve(shadows, 1)?;
         self.chains.reserve(shadows)?;
+        self.copies.reserve(shadows)?;
         self.waits.reserve(1)?;
         self.reserve_skip()?;
         self.reserve_buffers(self.returning())

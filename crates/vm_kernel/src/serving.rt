@@ -1,30 +1,37 @@
 // Accesses that wait are run again, and the frame queue is served.
 ghost use Rattle.std.specs.Prelude.{ℕ, ◌≡◌, ◌+◌, ◌<◌, ◌≤◌, ◌++◌, true, false, length, IfOk, IfSome, IsOk, None, OnOk, Some};
 ghost use Rattle.vm_frames.specs.Frames.{claimed, free};
+ghost use Rattle.std.specs.Option.{option_map};
+ghost use Rattle.vm_base.specs.Entries.{entry_at};
 ghost use Rattle.vm_legal.specs.Accesses.{FindsPage, Wants};
 ghost use Rattle.vm_legal.specs.InTurn.{EndsNext, FailsNext, MeetsNoControl, NoneSleepsOn};
 ghost use Rattle.vm_legal.specs.Prompt.{HostIsFull, PromptAt};
 ghost use Rattle.vm_legal.specs.Returned.{OnlyReturned};
+ghost use Rattle.vm_maps.specs.Judge.{IsAllowed, place_at};
+ghost use Rattle.vm_maps.specs.Maps.{rows_in};
 ghost use Rattle.vm_model.specs.Named.{named};
 ghost use Rattle.vm_supply.specs.declared.woken.Woken.TheVariants as woken;
 ghost use Rattle.vm_waits.specs.Waits.{entry, first_in_queue, queued};
+ghost use Rattle.vm_waits.specs.Wants.{address_in, need_in};
 ghost use Rattle.vm_kernel.specs.Begun.{Doing, LegalEvents};
-ghost use Rattle.vm_kernel.specs.Destroying.{unserved};
+ghost use Rattle.vm_kernel.specs.Destroying.{place_led, unserved};
 ghost use Rattle.vm_kernel.specs.Matches.{Rests, Works};
 ghost use Rattle.vm_kernel.specs.Rooms.{HasRoom, IsSkipRoom, KeepsSpare, ServeRoom, StopsRoom, dues, to_run};
-ghost use Rattle.vm_kernel.specs.Serving.{Attempts, HasQueue, IsHere, IsTheSource, IsToCopy, QueueIsServed, RunsFirst, runs_now, wants_frame};
+ghost use Rattle.vm_kernel.specs.Serving.{Attempts, HasQueue, IsHere, IsTheSource, IsToCopy, QueueIsServed, RunsFirst, is_pushing, runs_now, waits_at};
+ghost use Rattle.vm_kernel.specs.Serving.{wants_frame};
 ghost use Rattle.vm_kernel.specs.Plays.{Plays, PlaysBy, SparesSource, paging};
 ghost use Rattle.vm_kernel.specs.Taking.{EachGone};
 ghost use Rattle.vm_kernel.specs.Turns.{KeepsOthers, LeavesInTurn, Restarted, RunsNoneYet, RunsOnce};
 
 use crate::attempt::Attempt;
 use crate::parts::Parts;
-use vm_base::{NoMemory, PageKey};
+use vm_base::{Access, NoMemory, PageKey};
 use vm_fault::{FaultStep, fault};
+use vm_maps::Place;
 use vm_model::Events;
 use vm_pageout::Reclaim;
 use vm_shadow::Ids;
-use vm_waits::{On, Waiting};
+use vm_waits::{On, Waiting, Want};
 
 impl Parts {
     // Runs an access once; one on a declared object without a control fails.
@@ -112,12 +119,40 @@ impl Parts {
                 return Ok(Attempt::Wants { source });
             }
             FaultStep::WaitReady { object } => On::Ready { object },
-            FaultStep::Ask { key } | FaultStep::Unlock { key } | FaultStep::WaitAnswer { key } => {
-                On::Page { key }
-            }
+            FaultStep::Ask { key } | FaultStep::Unlock { key } => On::Page { key },
+            FaultStep::WaitAnswer { key } => self.waits_at(waiting, key),
         };
         self.waits.set_on(waiting.task, on);
         Ok(Attempt::Ran)
+    }
+
+    // Where an access leads; a slow copy is asked about no place.
+    fn led(&self, waiting: Waiting) -> Option<Place>
+        requires allowed { IsAllowed self.now.maps waiting.task.0 (address_in self.now.maps.size waiting.want) (need_in waiting.want) }
+        ensures { result ≡ place_led self.now.maps waiting.task.0 waiting.want }
+    {
+        let (address, need) = match waiting.want {
+            Want::Load { address, .. } => (address, Access::Load),
+            Want::Store { address, .. } => (address, Access::Store),
+            Want::CopyTo { .. } => return None,
+        };
+        let Ok(place) = self.maps.lookup(waiting.task, address, need) else {
+            unreachable!()
+        };
+        Some(place)
+    }
+
+    // What an access waits for that is told to wait for somebody's word on a page: for the page, or, if it
+    // is on a declared region and the page is none of that region's object, until it can push its own there.
+    fn waits_at(&self, waiting: Waiting, key: PageKey) -> On
+        requires allowed { IsAllowed self.now.maps waiting.task.0 (address_in self.now.maps.size waiting.want) (need_in waiting.want) }
+        ensures { result ≡ waits_at self.now waiting key }
+    {
+        match self.led(waiting) {
+            Some(place) if place.region.0 < self.declared.len() && place.region.0 != key.object.0 =>
+                { On::Push { key } }
+            _ => On::Page { key },
+        }
     }
 
     /// Runs each access again that is to be, in the order in which they began.
@@ -212,7 +247,7 @@ impl Parts {
         ensures goes { OnOk result (LegalEvents given.header given.host given.outside given.command given.past log.old.items log.new.items) }
         ensures queue { OnOk result (HasQueue given.header given.host self.new (log.new.items ++ given.past)) }
         ensures prompt { OnOk result (PromptAt given.header given.host (log.new.items ++ given.past)) }
-        ensures awake { OnOk result (OnlyReturned (named given.header) given.host (log.new.items ++ given.past)
+        ensures awake { OnOk result (OnlyReturned given.header given.host (log.new.items ++ given.past)
             → NoneSleepsOn given.header given.host (log.new.items ++ given.past)) }
         ensures leaves { OnOk result (LeavesInTurn given.header given.past self.old self.new log.old.items log.new.items) }
         ensures others { OnOk result (KeepsOthers self.old.waits.queue self.old.waits.rows self.new.waits.rows) }

@@ -1,5 +1,5 @@
 // Slow copies.
-ghost use Rattle.std.specs.Prelude.{ℕ, ◌≡◌, ◌+◌, ◌<◌, ◌≤◌, ◌^◌, true, length, vec_capacity, IsOk, OnOk, Some};
+ghost use Rattle.std.specs.Prelude.{ℕ, ◌≡◌, ◌+◌, ◌<◌, ◌≤◌, ◌^◌, false, true, length, vec_capacity, IsOk, OnOk, Some};
 ghost use Rattle.vm_base.specs.declared.entry.Entry.{Entry as Row};
 ghost use Rattle.vm_base.specs.Entries.{InOrder, entry_at};
 ghost use Rattle.vm_fault.specs.Walks.{is_copying};
@@ -7,6 +7,7 @@ ghost use Rattle.vm_maps.specs.Maps.{rows_in};
 ghost use Rattle.vm_model.specs.declared.command.Command.TheVariants as command;
 ghost use Rattle.vm_kernel.specs.Begun.{Doing, Ran, Starts};
 ghost use Rattle.vm_kernel.specs.Plays.{Plays, paging};
+ghost use Rattle.vm_kernel.specs.Refusing.{is_paged};
 ghost use Rattle.vm_kernel.specs.Rooms.{HasMore, HasRoom, KeepsSpare, dues, front, full_dues, making};
 ghost use Rattle.vm_kernel.specs.Slow.{CanEndCopy, EndsCopyIn};
 ghost use Rattle.vm_kernel.specs.Turns.{Restarted};
@@ -35,7 +36,7 @@ impl Parts {
         ghost given: { Doing }
         requires is { given.command ≡ command.Copy task address bytes task to }
         requires starts { Starts given.header given.host given.command given.past self.old ids.old log.old.items }
-        requires declared { (entry : Row) → entry_at address (rows_in task.0 self.old.maps) ≡ Some entry → entry.region.0 < length self.old.declared.items }
+        requires slow { (entry : Row) → entry_at address (rows_in task.0 self.old.maps) ≡ Some entry → is_paged self.old.declared.items entry.region.0 ≡ false }
         requires order { InOrder 0 (2 ^ 32) (rows_in task.0 self.old.maps) }
         ensures ran { OnOk result (Ran given.header given.host given.outside given.command given.past self.new ids.new log.new.items) }
         ensures plays { OnOk result (Plays given.header given.past log.old.items (paging self.old) log.new.items (paging self.new)) }

@@ -47,11 +47,11 @@ impl Parts {
     ) -> Result<(), NoMemory>
         ghost given: { Doing }
         requires sweeps { Sweeps given.header given.host given.outside given.command given.past self.old ids.now (by_address gone.now) log.old.items }
-        requires thin { IsThin self.old.chains self.old.memory.objects }
+        requires thin { IsThin self.old.copies self.old.chains self.old.memory.objects }
         requires none { losers.old.items ≡ [] }
         requires room { length gone.now.items ≤ losers.old.room }
         ensures sweeps { OnOk result (Sweeps given.header given.host given.outside given.command given.past self.new ids.now [] log.new.items) }
-        ensures thin { OnOk result (IsThin self.new.chains self.new.memory.objects) }
+        ensures thin { OnOk result (IsThin self.new.copies self.new.chains self.new.memory.objects) }
         ensures plays { OnOk result (Plays given.header given.past log.old.items (paging self.old) log.new.items (paging self.new)) }
         ensures quiet { OnOk result (QueueIsStill self.old.waits.queue self.new.waits.queue log.old.items log.new.items) }
         ensures ends { OnOk result (EndsAndMerges given.header (log.old.items ++ given.past) (by_address gone.now) log.old.items log.new.items) }
@@ -78,10 +78,10 @@ impl Parts {
     ) -> Result<(), NoMemory>
         ghost given: { Doing }
         requires sweeps { Sweeps given.header given.host given.outside given.command given.past self.old ids.now (by_address gone.now) log.old.items }
-        requires thin { IsThinBut losers.old.items self.old.chains self.old.memory.objects }
+        requires thin { IsThinBut self.old.copies losers.old.items self.old.chains self.old.memory.objects }
         requires room { length gone.now.items ≤ losers.old.room }
         ensures sweeps { OnOk result (Sweeps given.header given.host given.outside given.command given.past self.new ids.now [] log.new.items) }
-        ensures thin { OnOk result (IsThinBut losers.new.items self.new.chains self.new.memory.objects) }
+        ensures thin { OnOk result (IsThinBut self.new.copies losers.new.items self.new.chains self.new.memory.objects) }
         ensures count { OnOk result (length losers.new.items ≤ length losers.old.items + length gone.now.items) }
         ensures plays { OnOk result (Plays given.header given.past log.old.items (paging self.old) log.new.items (paging self.new)) }
         ensures quiet { OnOk result (QueueIsStill self.old.waits.queue self.new.waits.queue log.old.items log.new.items) }
@@ -111,10 +111,10 @@ impl Parts {
         requires inside { i < length gone.now.items }
         requires rest { given.rest ≡ drop (i + 1) (by_address gone.now) }
         requires sweeps { Sweeps given.header given.host given.outside given.command given.past self.old ids.now (drop i (by_address gone.now)) log.old.items }
-        requires thin { IsThinBut losers.old.items self.old.chains self.old.memory.objects }
+        requires thin { IsThinBut self.old.copies losers.old.items self.old.chains self.old.memory.objects }
         requires room { 0 < losers.old.room }
         ensures sweeps { OnOk result (Sweeps given.header given.host given.outside given.command given.past self.new ids.now given.rest log.new.items) }
-        ensures thin { OnOk result (IsThinBut losers.new.items self.new.chains self.new.memory.objects) }
+        ensures thin { OnOk result (IsThinBut self.new.copies losers.new.items self.new.chains self.new.memory.objects) }
         ensures count { OnOk result (length losers.new.items ≤ length losers.old.items + 1) }
         ensures room { OnOk result (losers.old.room ≤ losers.new.room + 1) }
         ensures plays { OnOk result (Plays given.header given.past log.old.items (paging self.old) log.new.items (paging self.new)) }
@@ -198,6 +198,7 @@ impl Parts {
             object,
             &mut self.memory,
             &mut self.chains,
+            &mut self.copies,
             &mut self.laundry,
             log,
         )?;

@@ -8,7 +8,7 @@ ghost use Rattle.vm_kernel.specs.Destroying.{IsDestroyPaid, MayDestroy, is_destr
 ghost use Rattle.vm_kernel.specs.Matches.{Rests, Works, host_id};
 ghost use Rattle.vm_frames.specs.Frames.{frame_count};
 ghost use Rattle.vm_kernel.specs.Taking.{EndsEach, EndsNobody, Erring, FailsNow, HasAsker, HasEnded, HasFailed, IsAbsencePaid, IsAnswered, IsErrorPaid};
-ghost use Rattle.vm_kernel.specs.Taking.{IsChangePaid, IsLockPaid, IsWord, is_lock_request};
+ghost use Rattle.vm_kernel.specs.Taking.{IsChangePaid, IsLockPaid, IsOfPushed, IsWord, is_lock_request};
 ghost use Rattle.vm_legal.specs.Steps.{is_ready_message};
 ghost use Rattle.vm_base.specs.declared.ids.PageKey.{PageKey};
 ghost use Rattle.vm_objects.specs.Objects.{object_at};
@@ -43,6 +43,7 @@ impl Parts {
         requires answer { IsAnswer self.old.size message.now }
         requires other { is_ready_message message.now ≡ false }
         requires nothing { log.old.items ≡ [] }
+        requires copies { IsOfPushed given.host object.0 message.now given.past }
         ensures works { IfOk result (λ woken. Works given.header given.host self.new ids.now woken (log.new.items ++ (given.front ++ given.past))) }
         ensures fails { IfOk result (λ woken. FailsNow given.header given.host woken (log.new.items ++ (given.front ++ given.past))) }
         ensures fresh { IfOk result (λ woken. EndsNobody woken (log.new.items ++ (given.front ++ given.past))) }
@@ -159,6 +160,7 @@ impl Parts {
         requires word { IsWord self.old.size message.now }
         requires destroy { is_destroy message.now ≡ true → MayDestroy given.header given.host object.0 given.past }
         requires nothing { log.old.items ≡ [] }
+        requires copies { IsOfPushed given.host object.0 message.now given.past }
         ensures rests { OnOk result (Rests given.header given.host self.new ids.new (log.new.items ++ (given.front ++ given.past))) }
         ensures goes { OnOk result (LegalEvents given.header given.host given.outside given.command (given.front ++ given.past) [] log.new.items) }
         ensures failed { OnOk result (IsErrorPaid given.header (log.new.items ++ (given.front ++ given.past))) }

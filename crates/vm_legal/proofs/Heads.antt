@@ -17,12 +17,12 @@ use Rattle.vm_model.specs.declared.message.Message.{Message}
 use Rattle.vm_model.specs.declared.script.Header.{Header}
 use Rattle.vm_model.specs.Channels.{queue}
 use Rattle.vm_model.specs.Controls.{live_control}
-use Rattle.vm_model.specs.Named.{named}
 use Rattle.vm_model.specs.Regions.{next_object, next_region}
 use Rattle.vm_model.specs.Server.{first as oldest}
 use Rattle.vm_model.specs.Tasks.{entries_of, host_of}
 use Rattle.vm_model.specs.Waiting.{waiting}
 use Rattle.vm_legal.specs.Follows.{copy_head, fork_head, head, map_head, say_head, take_head}
+use Rattle.vm_legal.specs.Licences.{is_paged}
 use Rattle.vm_legal.specs.Outside.{is_wild}
 use Rattle.vm_legal.specs.Refusal.{code_where, copy_refusal, is_empty, is_uncopied, refusal, same_host}
 use Rattle.vm_legal.specs.Undelivered.{is_made}
@@ -38,9 +38,10 @@ neither false b is = (refl, is)
 
 -- heads
 
-forked : (size next : ℕ) (child : TaskId) (x : Option ℕ) (rows : List Entry) → is_none x ≡ false → IsSome (fork_head size next child x rows)
-forked size next child None rows is = absurd (let bad : true ≡ false = is in cc)
-forked size next child (Some host) rows is = refl
+forked : (header : Header) (next object : ℕ) (child : TaskId) (x : Option ℕ) (rows : List Entry) → is_none x ≡ false
+    → IsSome (fork_head header next object child x rows)
+forked header next object child None rows is = absurd (let bad : true ≡ false = is in cc)
+forked header next object child (Some host) rows is = refl
 
 mapped : (header : Header) (task : TaskId) (address bytes : ℕ) (object : ObjectId) (offset : ℕ) (past : List Event) (x : Option ℕ) → is_none x ≡ false
     → IsSome (map_head header task address bytes object offset past x)
@@ -57,7 +58,7 @@ taken channel (m ∷ more) is = refl
 
 copied : (header : Header) (next object : ℕ) (task : TaskId) (address bytes : ℕ) (target : TaskId) (to : ℕ) (past : List Event) (x : Option Entry)
     → copy_refusal header address bytes target.0 to past x ≡ None
-    → IsSome (copy_head (named header) header.size next object task address bytes target to x)
+    → IsSome (copy_head header next object task address bytes target to x)
 copied header next object task address bytes target to past None is = absurd (let bad : Some code.InvalidAddress ≡ None = is in cc)
 copied header next object task address bytes target to past (Some row) is = refl
 
@@ -88,7 +89,7 @@ has_head header past (command.Allocate task address bytes) accepted = refl
 has_head header past (command.Load task address size) accepted = refl
 has_head header past (command.Store task address size value) accepted = refl
 has_head header past (command.Fork task child) accepted =
-    forked header.size (next_region header past) child (host_of task.0 past) (entries_of header.size task.0 past)
+    forked header (next_region header past) (next_object header past) child (host_of task.0 past) (entries_of header.size task.0 past)
     (passed (is_none (host_of task.0 past)) code.NoSuchName _ accepted).0
 has_head header past (command.Exit task) accepted = refl
 has_head header past (command.Deallocate task address bytes) accepted = refl
@@ -113,18 +114,18 @@ has_head header past (command.Copy task address bytes target to) accepted =
 has_head header past (command.Clean object page count flush) accepted = refl
 has_head header past (command.Cache object cache) accepted = refl
 
--- an accepted copy of a declared object's region is to the task itself, and the object isn't wild
+-- an accepted copy isn't of a wild object's region, and one of a region whose copies aren't delayed is to the task itself
 
-own : (wild declared same : Bool) → (wild || (declared && not same)) ≡ false → declared ≡ true → (wild ≡ false) × (same ≡ true)
-own true declared same is below = absurd (let bad : true ≡ false = is in cc)
-own false false same is below = absurd (let bad : false ≡ true = below in cc)
-own false true true is below = (refl, refl)
-own false true false is below = absurd (let bad : true ≡ false = is in cc)
+own : (wild paged same : Bool) → (wild || (not paged && not same)) ≡ false → (wild ≡ false) × (paged ≡ false → same ≡ true)
+own true paged same is = absurd (let bad : true ≡ false = is in cc)
+own false true same is = (refl, λ below. absurd (let bad : true ≡ false = below in cc))
+own false false true is = (refl, λ below. refl)
+own false false false is = absurd (let bad : true ≡ false = is in cc)
 
 pub to_itself : (header : Header) (past : List Event) (task : TaskId) (address bytes : ℕ) (target : TaskId) (to : ℕ) (row : Entry)
     → refusal header past (command.Copy task address bytes target to) ≡ None
-    → entry_at address (entries_of header.size task.0 past) ≡ Some row → nat_lt row.region.0 (named header) ≡ true → (is_wild header row.region.0 ≡ false)
-    × ((task.0 == target.0) ≡ true)
-to_itself header past task address bytes target to row accepted there declared =
-    own (is_wild header row.region.0) (nat_lt row.region.0 (named header)) (task.0 == target.0)
-    (ap (is_uncopied header (task.0 == target.0)) (sym there) ∙ (copy_passed header past task address bytes target to accepted).copied) declared
+    → entry_at address (entries_of header.size task.0 past) ≡ Some row → (is_wild header row.region.0 ≡ false)
+    × (is_paged header row.region.0 ≡ false → (task.0 == target.0) ≡ true)
+to_itself header past task address bytes target to row accepted there =
+    own (is_wild header row.region.0) (is_paged header row.region.0) (task.0 == target.0)
+    (ap (is_uncopied header (task.0 == target.0)) (sym there) ∙ (copy_passed header past task address bytes target to accepted).copied)

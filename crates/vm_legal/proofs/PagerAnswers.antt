@@ -11,19 +11,19 @@ use Rattle.vm_model.specs.declared.message.Message.TheVariants as message
 use Rattle.vm_model.specs.declared.script.Header.{Header}
 use Rattle.vm_legal.proofs.Served.{paged_sends}
 use Rattle.vm_legal.specs.InTurn.{AllInTurn}
-use Rattle.vm_legal.specs.Licences.{is_paged, up}
+use Rattle.vm_legal.specs.Licences.{init_strategy, is_paged, up}
 use Rattle.vm_legal.specs.Outside.{Outside}
 use Rattle.vm_legal.specs.Pagers.{is_lost}
 
--- it is ready once, with the strategy that the first message asks for
-pub init_answered : (header : Header) (outside : Outside) (doing : Command) (host : HostId) (object : ObjectId) (control size : ℕ) (past : List Event)
-    → is_paged header object.0 ≡ true
-    → AllInTurn header outside doing (event.Sent (Down host object control) (message.Ready false 0) ∷ [])
+-- it is ready once, with the strategy that the first message and the object's kind ask for
+pub init_answered : (header : Header) (outside : Outside) (doing : Command) (host : HostId) (object : ObjectId) (control size strategy : ℕ) (past : List Event)
+    → is_paged header object.0 ≡ true → strategy ≡ init_strategy header object.0
+    → AllInTurn header outside doing (event.Sent (Down host object control) (message.Ready false strategy) ∷ [])
     (event.Taken (up host.0 object.0) (message.Init control size) ∷ past)
-init_answered header outside doing host object control size past paged = (
+init_answered header outside doing host object control size strategy past paged fits = (
   (
-    paged_sends header outside doing host.0 object.0 control (message.Ready false 0) (event.Taken (up host.0 object.0) (message.Init control size) ∷ past) paged
-        (size, refl, refl, inr (refl, refl)),
+    paged_sends header outside doing host.0 object.0 control (message.Ready false strategy)
+        (event.Taken (up host.0 object.0) (message.Init control size) ∷ past) paged (size, refl, refl, inr (refl, fits)),
     tt,
   ),
   tt,

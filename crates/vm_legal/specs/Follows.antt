@@ -1,6 +1,6 @@
 -- What the commands make of a history: a group of events for each. Commands too have the newest first.
-use Rattle.std.specs.Prelude.{ℕ, ◌+◌, ◌-◌, ◌/◌, ◌≡◌, ◌⊎◌, Bool, true, List, [], ◌∷◌, ◌++◌, length, reverse, if◌then◌else◌, nat_lt, Option, Some, None}
-use Rattle.std.specs.Prelude.{MatchOption, IfNone}
+use Rattle.std.specs.Prelude.{ℕ, ◌+◌, ◌-◌, ◌/◌, ◌≡◌, ◌&&◌, ◌⊎◌, Bool, false, not, true, List, [], ◌∷◌, ◌++◌, length, reverse, if◌then◌else◌, nat_lt, Option}
+use Rattle.std.specs.Prelude.{MatchOption, IfNone, None, Some}
 use Rattle.vm_base.specs.declared.entry.Entry.{Entry}
 use Rattle.vm_base.specs.declared.ids.Inherit.{Inherit}
 use Rattle.vm_base.specs.declared.ids.Inherit.TheVariants.{Share, Copy, Never}
@@ -8,6 +8,7 @@ use Rattle.vm_base.specs.Entries.{entry_at, page_at}
 use Rattle.vm_base.specs.declared.ids.HostId.{HostId}
 use Rattle.vm_base.specs.declared.ids.ObjectId.{ObjectId}
 use Rattle.vm_base.specs.declared.ids.PageNo.{PageNo}
+use Rattle.vm_base.specs.declared.ids.RegionId.{RegionId}
 use Rattle.vm_base.specs.declared.ids.TaskId.{TaskId}
 use Rattle.vm_model.specs.declared.event.Event.{Event}
 use Rattle.vm_model.specs.declared.event.Event.TheVariants as event
@@ -29,7 +30,7 @@ use Rattle.vm_model.specs.Named.{named}
 use Rattle.vm_model.specs.Tasks.{host_of, entries_of}
 use Rattle.vm_legal.specs.Frames.{frames_wired}
 use Rattle.vm_legal.specs.Licences.{AllLicensed, IsOwed}
-use Rattle.vm_legal.specs.Outside.{Outside}
+use Rattle.vm_legal.specs.Outside.{Outside, is_file}
 use Rattle.vm_legal.specs.Pagers.{Known, known_below}
 use Rattle.vm_legal.specs.Prompt.{IsExhausted}
 use Rattle.vm_legal.specs.Reclaims.{IsReclaim}
@@ -38,14 +39,19 @@ use Rattle.vm_legal.specs.Steps.{departures, takings}
 use Rattle.vm_legal.specs.Stretches.{EachIn, EachOf}
 use Rattle.vm_legal.specs.Undelivered.{undelivered}
 
--- what a child gets of an entry of the forked task, where the next region has this number: the same entry, where it is shared; one on a copy of its
--- pages, where it is copied
-abbrev pub inherits : Inherit → ℕ → TaskId → ℕ → Entry → List Event
-inherits Share size child next row = event.Entered child row.address row.bytes row.region row.offset row.prot row.inherit ∷ []
-inherits Copy size child next row =
-    event.RegionCopied (record { 0 = next }) row.region row.offset (row.bytes / size)
+-- pages of a region are copied, none of them now: a file's in a delayed copy, over a new object, and temporary ones in a symmetric copy
+abbrev pub copied_late : Bool → ℕ → ℕ → RegionId → ℕ → ℕ → Event
+copied_late true next object source offset pages = event.Delayed (record { 0 = next }) source offset pages (record { 0 = object })
+copied_late false next object source offset pages = event.RegionCopied (record { 0 = next }) source offset pages
+
+-- what a child gets of an entry of the forked task, where the next region and the next object have these numbers: the same entry, where it is shared;
+-- one on a copy of its pages, where it is copied, and is on a file or on temporary memory
+abbrev pub inherits : Inherit → Header → TaskId → ℕ → ℕ → Entry → List Event
+inherits Share header child next object row = event.Entered child row.address row.bytes row.region row.offset row.prot row.inherit ∷ []
+inherits Copy header child next object row =
+    copied_late (nat_lt row.region.0 (named header)) next object row.region row.offset (row.bytes / header.size)
     ∷ event.Entered child row.address row.bytes (record { 0 = next }) 0 row.prot row.inherit ∷ []
-inherits Never size child next row = []
+inherits Never header child next object row = []
 
 -- the number of the next region behind that
 abbrev pub next_behind : Inherit → ℕ → ℕ
@@ -53,26 +59,35 @@ next_behind Share next = next
 next_behind Copy next = next + 1
 next_behind Never next = next
 
+-- the number of the next object behind that, for an entry on this region
+abbrev pub object_behind : Inherit → Header → RegionId → ℕ → ℕ
+object_behind Share header region object = object
+object_behind Copy header region object = if nat_lt region.0 (named header) then object + 1 else object
+object_behind Never header region object = object
+
 -- what it gets of all of them, by rising address
-abbrev pub inherits_all : ℕ → TaskId → ℕ → List Entry → List Event
-inherits_all size child next [] = []
-inherits_all size child next (row ∷ rows) = inherits row.inherit size child next row ++ inherits_all size child (next_behind row.inherit next) rows
+abbrev pub inherits_all : Header → TaskId → ℕ → ℕ → List Entry → List Event
+inherits_all header child next object [] = []
+inherits_all header child next object (row ∷ rows) =
+    inherits row.inherit header child next object row
+    ++ inherits_all header child (next_behind row.inherit next) (object_behind row.inherit header row.region object) rows
 
 -- a forked task is made on the host of the other, whose entries are these
-abbrev pub fork_head : ℕ → ℕ → TaskId → Option ℕ → List Entry → Option (List Event)
-fork_head size next child None rows = None
-fork_head size next child (Some host) rows = Some (event.TaskMade child (record { 0 = host }) ∷ inherits_all size child next rows)
+abbrev pub fork_head : Header → ℕ → ℕ → TaskId → Option ℕ → List Entry → Option (List Event)
+fork_head header next object child None rows = None
+fork_head header next object child (Some host) rows =
+    Some (event.TaskMade child (record { 0 = host }) ∷ inherits_all header child next object rows)
 
--- a task gets a range on a copy of pages of a temporary region, those at an address of an entry; a copy of a declared object's region begins
--- with a region of its own, into which its pages come later
-abbrev pub copy_head : ℕ → ℕ → ℕ → ℕ → TaskId → ℕ → ℕ → TaskId → ℕ → Option Entry → Option (List Event)
-copy_head declared size next object task address bytes target to None = None
-copy_head declared size next object task address bytes target to (Some row) =
+-- a task gets a range on a copy of pages of a file or of temporary memory, those at an address of an entry; a copy of another declared object's
+-- region begins with a region of its own, into which its pages come later
+abbrev pub copy_head : Header → ℕ → ℕ → TaskId → ℕ → ℕ → TaskId → ℕ → Option Entry → Option (List Event)
+copy_head header next object task address bytes target to None = None
+copy_head header next object task address bytes target to (Some row) =
     Some
-    (if nat_lt row.region.0 declared
-    then event.BegunCopy task address bytes to ∷ event.RegionMade (record { 0 = next }) (record { 0 = object }) (bytes / size) ∷ []
+    (if nat_lt row.region.0 (named header) && not (is_file header row.region.0)
+    then event.BegunCopy task address bytes to ∷ event.RegionMade (record { 0 = next }) (record { 0 = object }) (bytes / header.size) ∷ []
     else
-    event.RegionCopied (record { 0 = next }) row.region (page_at size address row) (bytes / size)
+    copied_late (is_file header row.region.0) next object row.region (page_at header.size address row) (bytes / header.size)
     ∷ event.Entered target to bytes (record { 0 = next }) 0 (record { read = true; write = true }) Copy ∷ [])
 
 -- the oldest message of a channel is taken, where there is one
@@ -104,10 +119,10 @@ clean_head object page count flush None = []
 clean_head object page count flush (Some known) =
     event.Sent (Down (record { 0 = known.host }) object known.control) (message.Lock page count 2 flush 8 true) ∷ []
 
--- a file's pager says whether the file stays, where it knows a control
+-- a file's pager says whether the file stays, and that copies of it are delayed, where it knows a control
 abbrev pub cache_head : ObjectId → Bool → Option Known → List Event
 cache_head object cache None = []
-cache_head object cache (Some known) = event.Sent (Down (record { 0 = known.host }) object known.control) (message.Attributes cache 0 true) ∷ []
+cache_head object cache (Some known) = event.Sent (Down (record { 0 = known.host }) object known.control) (message.Attributes cache 2 true) ∷ []
 
 -- the head of a command's group behind its line, in the order of writing; a command without one is never run
 abbrev pub head : Header → List Event → Command → Option (List Event)
@@ -118,7 +133,8 @@ head header past (command.Allocate task address bytes) =
     ∷ event.Entered task address bytes (record { 0 = next_region header past }) 0 (record { read = true; write = true }) Copy ∷ [])
 head header past (command.Load task address size) = Some (event.BegunLoad task address size ∷ [])
 head header past (command.Store task address size value) = Some (event.BegunStore task address size value ∷ [])
-head header past (command.Fork task child) = fork_head header.size (next_region header past) child (host_of task.0 past) (entries_of header.size task.0 past)
+head header past (command.Fork task child) =
+    fork_head header (next_region header past) (next_object header past) child (host_of task.0 past) (entries_of header.size task.0 past)
 head header past (command.Exit task) = Some (event.TaskEnded task ∷ [])
 head header past (command.Deallocate task address bytes) = Some (event.Removed task address bytes ∷ [])
 head header past (command.Protect task address bytes prot) = Some (event.Protected task address bytes prot ∷ [])
@@ -133,7 +149,7 @@ head header past (command.FailPaging count) = Some []
 head header past (command.Say host object m) = say_head host object m (live_control host.0 object.0 past)
 head header past (command.Map task address bytes object offset) = map_head header task address bytes object offset past (host_of task.0 past)
 head header past (command.Copy task address bytes target to) =
-    copy_head (named header) header.size (next_region header past) (next_object header past) task address bytes target to
+    copy_head header (next_region header past) (next_object header past) task address bytes target to
     (entry_at address (entries_of header.size task.0 past))
 head header past (command.Clean object page count flush) = Some (clean_head object page count flush (known_below (length header.frames.items) object.0 past))
 head header past (command.Cache object cache) = Some (cache_head object cache (known_below (length header.frames.items) object.0 past))

@@ -15,10 +15,11 @@ use Rattle.vm_model.specs.declared.script.Header.{Header}
 use Rattle.vm_model.specs.Controls.{live_control}
 use Rattle.vm_model.specs.Local.{Local}
 use Rattle.vm_model.specs.PagePart.{page_part}
+use Rattle.vm_model.specs.Regions.{is_copy}
 use Rattle.vm_model.specs.Server.{Wanting, first, line, wants_write}
 use Rattle.vm_model.specs.Side.{side}
 use Rattle.vm_model.specs.Waiting.{Access, is_store}
-use Rattle.vm_legal.specs.Accesses.{Comes, FindsPage, HasPlace, Waits, begun_at, names, page_of}
+use Rattle.vm_legal.specs.Accesses.{Comes, FindsPage, HasPlace, Waits, begun_at, is_ready, names, page_of}
 use Rattle.vm_legal.specs.Destroyed.{destroy_taken}
 use Rattle.vm_legal.specs.Follows.{FollowsBy, FollowsSoFarBy, IsDone, IsGroupBy, IsRunBy, IsWholeBy, SoFarBy}
 use Rattle.vm_legal.specs.Frames.{frames_free}
@@ -26,7 +27,7 @@ use Rattle.vm_legal.specs.Licences.{ByError, Caused, DeviceFails, DropCause, Dro
 use Rattle.vm_legal.specs.Licences.{ReturnCause, TakesReturn, Unreached, Unserved}
 use Rattle.vm_legal.specs.Outside.{Outside, is_shared, is_wild}
 use Rattle.vm_legal.specs.Prompt.{Awaits}
-use Rattle.vm_legal.specs.Pushes.{OwesPush}
+use Rattle.vm_legal.specs.Pushes.{OwesPush, is_pushed}
 use Rattle.vm_legal.specs.Serving.{HostsServed}
 use Rattle.vm_legal.specs.Steps.{before_step, error_taken, fails_of, fails_task, since}
 use Rattle.vm_legal.specs.Walks.{page_on}
@@ -93,7 +94,8 @@ abbrev pub AllInTurn : Header → Outside → Command → List Event → List Ev
 AllInTurn header outside why [] past = Unit {0}
 AllInTurn header outside why (e ∷ more) past = LicensedInTurn header outside why e (more ++ past) × AllInTurn header outside why more past
 
--- a task of the host waits with an access whose walk stops at the place, and which awaits nothing at another place of its page
+-- a task of the host waits with an access whose walk stops at the place, and which awaits nothing at another place of its page, nor at that of a copy to which
+-- it owes the page
 pub record WaitsAt (header : Header) (host task object page : ℕ) (past : List Event) : Type 0 where
   pub access : Access
   pub waits : Waits header task access past
@@ -101,6 +103,7 @@ pub record WaitsAt (header : Header) (host task object page : ℕ) (past : List 
   pub comes : Comes header host waits.at.entry.region.0 (page_of header task access past waits.at.entry) object page past
   pub only : (other other_page : ℕ) → HasPlace header waits.at.entry.region.0 (page_of header task access past waits.at.entry) other other_page past
       → Awaits header host (is_store access) other other_page past → (other ≡ object) × (other_page ≡ page)
+  pub free : is_store access ≡ true → (copy : ℕ) → OwesPush header host object page copy past → (page_on header host copy page past).asked ≡ false
 
 -- an error has ended each access that waited for its page when the step began; on a host without a free frame some may have waited for a frame
 abbrev pub EndsWaiters : Header → ℕ → ℕ → ℕ → List Event → Type 0
@@ -114,7 +117,9 @@ EndsAll header past =
     (host object page : ℕ) → error_taken header past ≡ Some (record { host = host; object = object; page = page })
     → EndsWaiters header host object page past
 
--- a task of the host waits whose walk comes to a page that is here, and whose lock lets it in; where it owes that page to a copy, it isn't asked for that
+-- A task of the host waits whose walk comes to a page that is here, and whose lock lets it in; where it owes that page to a copy, it isn't asked for that.
+-- Where something was copied up into a copy object's place of its page, that object has no pager, or one that is ready: an access may wait for the ready there
+-- while somebody pushes its page.
 pub record ComesToPage (header : Header) (host task : ℕ) (past : List Event) : Type 0 where
   pub access : Access
   pub waits : Waits header task access past
@@ -125,6 +130,9 @@ pub record ComesToPage (header : Header) (host task : ℕ) (past : List Event) :
   pub here : (page_on header host object page past).here ≡ true
   pub let_in : names (page_on header host object page past).lock (is_store access) ≡ false
   pub free : is_store access ≡ true → (copy : ℕ) → OwesPush header host object page copy past → (page_on header host copy page past).asked ≡ false
+  pub told : (other other_page : ℕ) → HasPlace header waits.at.entry.region.0 (page_of header task access past waits.at.entry) other other_page past
+      → is_copy other past ≡ true → is_pushed host other other_page past ≡ true → (control : ℕ) → live_control host other past ≡ Some control
+      → is_ready host other past ≡ true
 
 -- whoever waits beside its page wants a frame for it, and none is free
 abbrev pub NoneSleepsOn : Header → ℕ → List Event → Type 0

@@ -408,6 +408,10 @@ abbrev pub IsCache : Command → ℕ → Bool → Type 0
 IsCache (command.Cache file flag) object cache = (file.0 ≡ object) × (flag ≡ cache)
 IsCache other object cache = ⊥
 
+-- the copy strategy of an object whose pager is told of a control: copies of a file are delayed
+abbrev pub init_strategy : Header → ℕ → ℕ
+init_strategy header object = if is_file header object then 2 else 0
+
 -- what the pager of a temporary object or a file sends down
 abbrev pub MaySendDown : Header → Outside → Command → ℕ → ℕ → ℕ → Message → List Event → Type 0
 MaySendDown header outside why host object control (message.Supply page lock precious bytes) past =
@@ -421,14 +425,14 @@ MaySendDown header outside why host object control (message.Error page reason) p
 MaySendDown header outside why host object control (message.Ready cache strategy) past =
     (size : ℕ) × (cache ≡ false) × (since (readies object) past ≡ false)
     × (((taken_letter past ≡ Some (record { channel = up host object; message = message.Create control size })) × (strategy ≡ 3))
-    ⊎ ((taken_letter past ≡ Some (record { channel = up host object; message = message.Init control size })) × (strategy ≡ 0)))
+    ⊎ ((taken_letter past ≡ Some (record { channel = up host object; message = message.Init control size })) × (strategy ≡ init_strategy header object)))
 -- a clean wants all changed pages of a file back, from the control that its pager knows
 MaySendDown header outside why host object control (message.Lock page count returns flush lock reply) past =
     (is_file header object ≡ true) × (returns ≡ 2) × (lock ≡ 8) × (reply ≡ true)
     × (known_control host object past ≡ Some control) × IsClean why object page.0 count flush × (just_begun past ≡ true)
 -- the pager of a file says whether the file stays, to the control that it knows
 MaySendDown header outside why host object control (message.Attributes cache strategy reply) past =
-    (is_file header object ≡ true) × (strategy ≡ 0) × (reply ≡ true)
+    (is_file header object ≡ true) × (strategy ≡ 2) × (reply ≡ true)
     × (known_control host object past ≡ Some control) × IsCache why object cache × (just_begun past ≡ true)
 MaySendDown header outside why host object control other past = ⊥
 

@@ -16,12 +16,13 @@ use Rattle.vm_model.specs.declared.script.Header.{Header}
 use Rattle.vm_model.specs.Controls.{live_control}
 use Rattle.vm_model.specs.Local.{is_on}
 use Rattle.vm_model.specs.Named.{declared_pages, named}
-use Rattle.vm_model.specs.Tasks.{host_of, entries_of, is_copied, copies, new_marks}
+use Rattle.vm_model.specs.Tasks.{copies, copies_below, entries_of, host_of, is_copied, new_marks}
 use Rattle.vm_model.specs.Waiting.{waiting}
 use Rattle.vm_model.specs.Regions.{marked_regions, next_region, next_object, region_of}
 use Rattle.vm_model.specs.Channels.{queue}
 use Rattle.vm_model.specs.declared.message.Message.{Message}
 use Rattle.vm_legal.specs.Frames.{frames_free, frames_wired}
+use Rattle.vm_legal.specs.Licences.{is_paged}
 use Rattle.vm_legal.specs.Outside.{is_file, is_wild}
 use Rattle.vm_legal.specs.Undelivered.{is_made}
 use Rattle.vm_legal.specs.Used.{in_use}
@@ -48,22 +49,28 @@ are_too_many rows = nat_lt most_entries (length rows)
 abbrev pub has_copy_mark : Header → List Event → ℕ → Bool
 has_copy_mark header past region = (region_of header region past).mark
 
--- so many regions and marks of regions more, by a fork, are too much
+-- a copy of the region gives it no mark: it is a declared object's, or has one
+abbrev pub takes_no_mark : Header → List Event → ℕ → Bool
+takes_no_mark header past region = nat_lt region (named header) || has_copy_mark header past region
+
+-- so many regions, marks of regions and objects of delayed copies more, by a fork, are too much
 abbrev pub is_fork_full : Header → List Entry → List Event → Bool
 is_fork_full header rows past =
     nat_lt most_regions (next_region header past + copies rows) || nat_lt most_objects
-    (next_object header past + marked_regions header past + copies rows + new_marks (has_copy_mark header past) rows)
+    (next_object header past + marked_regions header past + copies rows + new_marks (takes_no_mark header past) rows + copies_below (named header) rows)
 
--- one region more is too much, with its object, or with its mark and the one of the region that it copies
+-- One region more is too much: of a file with its object and its mark, of another declared object with its object, of temporary memory with its mark and
+-- the one of the region that it copies.
 abbrev pub is_copy_full : Header → ℕ → List Event → Bool
 is_copy_full header source past =
     nat_le most_regions (next_region header past) || nat_lt most_objects (next_object header past + marked_regions header past + copy_cost
-    (nat_lt source (named header)) (has_copy_mark header past source))
+    (is_file header source) (nat_lt source (named header)) (has_copy_mark header past source))
   where
-    copy_cost : Bool → Bool → ℕ
-    copy_cost true marked = 1
-    copy_cost false true = 1
-    copy_cost false false = 2
+    copy_cost : Bool → Bool → Bool → ℕ
+    copy_cost true declared marked = 2
+    copy_cost false true marked = 1
+    copy_cost false false true = 1
+    copy_cost false false false = 2
 
 abbrev pub same_host : Option ℕ → Option ℕ → Bool
 same_host None other = false
@@ -74,10 +81,10 @@ abbrev pub is_elsewhere : Header → ℕ → Option ℕ → List Event → Bool
 is_elsewhere header object None past = false
 is_elsewhere header object (Some host) past = is_file header object && not (in_use header host object past)
 
--- a range is not copied from an entry on a wild object, nor from one on another declared object to another task
+-- a range is not copied from an entry on a wild object, nor from one on a shared object to another task
 abbrev pub is_uncopied : Header → Bool → Option Entry → Bool
 is_uncopied header own None = false
-is_uncopied header own (Some entry) = is_wild header entry.region.0 || (nat_lt entry.region.0 (named header) && not own)
+is_uncopied header own (Some entry) = is_wild header entry.region.0 || (not (is_paged header entry.region.0) && not own)
 
 -- why a copy of a range in this entry is refused, if its numbers are right
 abbrev pub copy_refusal : Header → ℕ → ℕ → ℕ → ℕ → List Event → Option Entry → Option Code
@@ -88,10 +95,11 @@ copy_refusal header address bytes target to past (Some entry) =
     (code_where (meets_range to bytes (entries_of header.size target past)) NoSpace
     (code_where (nat_lt most_entries (length (entries_of header.size target past) + 1) || is_copy_full header entry.region.0 past) TableFull None)))
 
--- an entry on a declared object, of which there are so many, has an address of the range
-abbrev pub meets_declared : ℕ → ℕ → ℕ → List Entry → Bool
-meets_declared count address bytes [] = false
-meets_declared count address bytes (row ∷ rows) = (nat_lt row.region.0 count && meets_range address bytes (row ∷ [])) || meets_declared count address bytes rows
+-- an entry on a shared or wild object has an address of the range
+abbrev pub meets_uncopied : Header → ℕ → ℕ → List Entry → Bool
+meets_uncopied header address bytes [] = false
+meets_uncopied header address bytes (row ∷ rows) =
+    (not (is_paged header row.region.0) && meets_range address bytes (row ∷ [])) || meets_uncopied header address bytes rows
 
 -- the entry of an address must be there, and allow the access
 abbrev pub access_refusal : Access → Option Entry → Option Code
@@ -135,7 +143,7 @@ refusal header past (command.Protect task address bytes prot) =
     (code_where (are_too_many (protected header.size address bytes prot (entries_of header.size task.0 past))) TableFull None)))
 refusal header past (command.Inherit task address bytes inherit) =
     acting past task.0
-    (code_where (not (is_range header.size address bytes) || (is_copied inherit && meets_declared (length header.objects.items) address bytes
+    (code_where (not (is_range header.size address bytes) || (is_copied inherit && meets_uncopied header address bytes
     (entries_of header.size task.0 past))) InvalidArgument
     (code_where (not (is_mapped header.size address bytes (entries_of header.size task.0 past))) InvalidAddress
     (code_where (are_too_many (inherited header.size address bytes inherit (entries_of header.size task.0 past))) TableFull None)))

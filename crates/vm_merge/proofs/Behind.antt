@@ -3,6 +3,7 @@ use Rattle.std.proofs.Common.{◌≡◌, ◌∙◌, ℕ, ◌+◌, ◌≤◌, ◌
 use Rattle.std.proofs.Common.{arith}
 use Rattle.std.specs.Prelude.{◌≢◌, if◌then◌else◌}
 use Rattle.vm_base.specs.declared.ids.ObjectId.{ObjectId}
+use Rattle.vm_copies.specs.Copies.{CopyTable, copy_at}
 use Rattle.vm_merge.proofs.Moving.{pages_here}
 use Rattle.vm_merge.specs.Merges.{CanMerge, IsThinBut, MergeState, MergesInto}
 use Rattle.vm_merge.specs.Standing.{CountsFit, MayMerge, ShadowsFit}
@@ -79,10 +80,10 @@ record CouldMerge (upper lower : ObjectId) (old : MergeState) (u l : ℕ) : Type
   other : l ≢ lower.0
   was : ℕ
   stood : StoodAs upper.0 lower.0 u was
-  pair : CanMerge old.chains old.parts.objects was l
+  pair : CanMerge old.copies old.chains old.parts.objects was l
 
 could_merge : (upper lower : ObjectId) (old new : MergeState) → MergesInto upper lower old new → (u l : ℕ)
-    → CanMerge new.chains new.parts.objects u l → CouldMerge upper lower old u l
+    → CanMerge new.copies new.chains new.parts.objects u l → CouldMerge upper lower old u l
 could_merge upper lower old new merges u l can =
     by (comes_from upper.0 lower.0 merges.can.link old.chains new.chains merges.chain u can.link can.over)
   where
@@ -90,6 +91,9 @@ could_merge upper lower old new merges u l can =
     low =
         referred lower.0 merges.can.lower_row old.parts.objects l can.lower_row
         (known_from upper lower old new merges l can.lower_row can.lower_known) can.sole
+
+    plain : copy_at old.copies l ≡ None
+    plain = ap (λ (z : CopyTable). copy_at z l) (sym merges.copied) ∙ can.plain
 
     by : ComesFrom upper.0 lower.0 merges.can.link old.chains u can.link → CouldMerge upper lower old u l
     by (Joins link is over sum) =
@@ -108,6 +112,7 @@ could_merge upper lower old new merges u l can =
             sole = can.sole;
             upper_never = merges.can.lower_never;
             lower_never = can.lower_never;
+            plain = plain;
           };
         }
     by (Stays not_upper not_lower over) =
@@ -128,6 +133,7 @@ could_merge upper lower old new merges u l can =
             sole = can.sole;
             upper_never = can.upper_never;
             lower_never = can.lower_never;
+            plain = plain;
           };
         }
 
@@ -141,8 +147,8 @@ stands_there upper lower link old u was l (AsItself other same) only o row (Join
     absurd (other (sym (only.shadows lower low over (ap (λ (z : ShadowRow). z.under.0) (sym sum) ∙ under) ∙ same)))
 stands_there upper lower link old u was l (AsItself other same) only o row (Stays not_upper not_lower over) under = only.shadows o row over under ∙ same
 
-counts_behind : (upper lower : ObjectId) (old new : MergeState) → MergesInto upper lower old new → CountsFit old.chains old.parts.objects
-    → CountsFit new.chains new.parts.objects
+counts_behind : (upper lower : ObjectId) (old new : MergeState) → MergesInto upper lower old new → CountsFit old.copies old.chains old.parts.objects
+    → CountsFit new.copies new.chains new.parts.objects
 counts_behind upper lower old new merges counts u l can =
     let could = could_merge upper lower old new merges u l can in
     let only = counts could.was l could.pair in
@@ -155,8 +161,8 @@ counts_behind upper lower old new merges counts u l can =
 
 -- what could be merged but the lower can be at most
 pub thin_behind : (upper lower : ObjectId) (old new : MergeState) → MergesInto upper lower old new → (items left : List ObjectId)
-    → IsThinBut items old.chains old.parts.objects → ((o : ObjectId) → Contains items o → (o ≡ lower) ⊎ Contains left o)
-    → IsThinBut left new.chains new.parts.objects
+    → IsThinBut old.copies items old.chains old.parts.objects → ((o : ObjectId) → Contains items o → (o ≡ lower) ⊎ Contains left o)
+    → IsThinBut new.copies left new.chains new.parts.objects
 thin_behind upper lower old new merges items left thin rest u l can =
     let could = could_merge upper lower old new merges u l can in
     elim (rest (record { 0 = l }) (thin could.was l could.pair)) [
@@ -165,12 +171,12 @@ thin_behind upper lower old new merges items left thin rest u l can =
     ]
 
 -- where the object can't be merged, the others alone can be
-pub thin_past : (lower : ObjectId) (chains : ChainTable) (objects : ObjectTable) (items left : List ObjectId)
-    → IsThinBut items chains objects → ((upper : ℕ) → CanMerge chains objects upper lower.0 → ⊥)
-    → ((o : ObjectId) → Contains items o → (o ≡ lower) ⊎ Contains left o) → IsThinBut left chains objects
-thin_past lower chains objects items left thin none rest u l can =
+pub thin_past : {copies : CopyTable} (lower : ObjectId) (chains : ChainTable) (objects : ObjectTable) (items left : List ObjectId)
+    → IsThinBut copies items chains objects → ((upper : ℕ) → CanMerge copies chains objects upper lower.0 → ⊥)
+    → ((o : ObjectId) → Contains items o → (o ≡ lower) ⊎ Contains left o) → IsThinBut copies left chains objects
+thin_past {copies = copies} lower chains objects items left thin none rest u l can =
     elim (rest (record { 0 = l }) (thin u l can)) [
-      | inl same ↦ absurd (none u (subst (λ (n : ℕ). CanMerge chains objects u n) (ap (λ (z : ObjectId). z.0) same) can))
+      | inl same ↦ absurd (none u (subst (λ (n : ℕ). CanMerge copies chains objects u n) (ap (λ (z : ObjectId). z.0) same) can))
       | inr more ↦ more
     ]
 
@@ -224,8 +230,8 @@ here_behind upper lower old new merges here o known is never p row found =
     none o was p row (ap (λ z. row_at z.resident o p) (sym merges.rest) ∙ found)
 
 -- the next merge may stand on what the last one left
-pub may_go_on : (pages : ℕ) (upper lower : ObjectId) (old new : MergeState) → MergesInto upper lower old new → MayMerge pages old.parts old.chains
-    → Fit new.parts → MayMerge pages new.parts new.chains
+pub may_go_on : (pages : ℕ) (upper lower : ObjectId) (old new : MergeState) → MergesInto upper lower old new → MayMerge pages old.parts old.chains old.copies
+    → Fit new.parts → MayMerge pages new.parts new.chains new.copies
 may_go_on pages upper lower old new merges may fit =
     record {
       fit = fit;

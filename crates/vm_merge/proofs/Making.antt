@@ -2,6 +2,7 @@
 use Rattle.std.proofs.Common.{◌≡◌, ◌∙◌, ℕ, ◌+◌, ◌≤◌, List, ◌∷◌, Some, IfSome, refl, ap, subst, arith}
 use Rattle.std.proofs.lemmas.Option.{MatchOption-at_some}
 use Rattle.vm_base.specs.declared.ids.ObjectId.{ObjectId}
+use Rattle.vm_copies.specs.Copies.{CopyTable}
 use Rattle.vm_merge.specs.Merges.{CanMerge, MergesInto}
 use Rattle.vm_merge.specs.Standing.{merge_state}
 use Rattle.vm_model.specs.declared.event.Event.{Event}
@@ -23,8 +24,8 @@ pub record Calls (upper lower : ObjectId) (link : ShadowRow) (left : ℕ) (parts
   pub put : IfSome (object_at moved.objects lower.0) (λ row. PutsObject lower.0 (Some (record row { references = left })) moved.objects objects)
   pub marks : SameMarks moved.objects objects
 
-none_left : (upper lower : ObjectId) (link : ShadowRow) (left : ℕ) (parts moved : HostParts) (objects : ObjectTable) (old new : ChainTable)
-    → (can : CanMerge old parts.objects upper.0 lower.0) → Calls upper lower link left parts moved objects old new
+none_left : {copies : CopyTable} (upper lower : ObjectId) (link : ShadowRow) (left : ℕ) (parts moved : HostParts) (objects : ObjectTable)
+    (old new : ChainTable) → (can : CanMerge copies old parts.objects upper.0 lower.0) → Calls upper lower link left parts moved objects old new
     → PutsObject lower.0 (Some (record can.lower_row { references = 0 })) parts.objects objects
 none_left upper lower link left parts moved objects old new can calls =
     let known : object_at moved.objects lower.0 ≡ Some can.lower_row = ap (λ z. object_at z lower.0) calls.same ∙ can.lower_known in
@@ -36,11 +37,12 @@ none_left upper lower link left parts moved objects old new can calls =
     subst (λ (z : ObjectTable). PutsObject lower.0 (Some (record can.lower_row { references = 0 })) z objects) calls.same
     (subst (λ (n : ℕ). PutsObject lower.0 (Some (record can.lower_row { references = n })) moved.objects objects) none put)
 
-pub merges_into : (upper lower : ObjectId) (link : ShadowRow) (left : ℕ) (parts moved : HostParts) (objects : ObjectTable) (old new : ChainTable)
-    (before after : List Event)
-    → CanMerge old parts.objects upper.0 lower.0 → Calls upper lower link left parts moved objects old new
-    → after ≡ event.Merged upper lower ∷ before → ((u l : ℕ) → CanMerge old parts.objects u l → lower.0 ≤ l)
-    → MergesInto upper lower (merge_state parts old before) (merge_state (record moved { objects = objects }) new after)
+pub merges_into : {copies : CopyTable} (upper lower : ObjectId) (link : ShadowRow) (left : ℕ) (parts moved : HostParts) (objects : ObjectTable)
+    (old new : ChainTable) (before after : List Event)
+    → CanMerge copies old parts.objects upper.0 lower.0 → Calls upper lower link left parts moved objects old new
+    → after ≡ event.Merged upper lower ∷ before → ((u l : ℕ) → CanMerge copies old parts.objects u l → lower.0 ≤ l)
+    → MergesInto upper lower (merge_state parts old copies before)
+    (merge_state (record moved { objects = objects }) new copies after)
 merges_into upper lower link left parts moved objects old new before after can calls told least =
     let both : Some link ≡ Some can.link = calls.found ∙ can.over in
     let same_link : link ≡ can.link = cc in
@@ -55,6 +57,7 @@ merges_into upper lower link left parts moved objects old new before after can c
           (subst (λ (n : ℕ). PagesMerge upper lower link.shift n 0 parts moved) pages calls.pages);
       same = calls.same;
       chain = MatchOption-at_some _ (λ up. MergesShadow upper.0 lower.0 up old new) can.link can.over calls.chain;
+      copied = refl;
       object = none_left upper lower link left parts moved objects old new can calls;
       marks = subst (λ (z : ObjectTable). SameMarks z objects) calls.same calls.marks;
       rest = refl;

@@ -1,6 +1,7 @@
 -- What a turn of the merges asks and leaves.
 use Rattle.std.proofs.Common.{◌≡◌, ◌∙◌, ℕ, ◌+◌, ◌*◌, ◌<◌, ◌^◌, List, [], Contains, Option, Some, None, IfSome, refl, sym, ap, subst, arith}
 use Rattle.vm_base.specs.declared.ids.ObjectId.{ObjectId}
+use Rattle.vm_copies.specs.Copies.{CopyTable}
 use Rattle.vm_merge.proofs.Heaps.{in_none}
 use Rattle.vm_merge.specs.Merges.{CanMerge, IsThin, IsThinBut}
 use Rattle.vm_merge.specs.Standing.{MayMerge}
@@ -11,8 +12,8 @@ use Rattle.vm_shadow.specs.Chains.{ChainTable, shadow_at}
 use Rattle.vm_shadow.specs.declared.shadow_row.ShadowRow.{ShadowRow}
 
 -- the sum of both shifts is counted by 32 bits
-pub shift_fits : (pages : ℕ) (parts : HostParts) (chains : ChainTable) (upper lower : ℕ) → MayMerge pages parts chains
-    → CanMerge chains parts.objects upper lower
+pub shift_fits : {copies : CopyTable} (pages : ℕ) (parts : HostParts) (chains : ChainTable) (upper lower : ℕ) → MayMerge pages parts chains copies
+    → CanMerge copies chains parts.objects upper lower
     → IfSome (shadow_at chains upper) (λ up. IfSome (shadow_at chains lower) (λ low. up.shift + low.shift < 2 ^ 32))
 shift_fits pages parts chains upper lower may can = by (shadow_at chains upper) refl
   where
@@ -38,6 +39,7 @@ shift_fits pages parts chains upper lower may can = by (shadow_at chains upper) 
 pub one_of : (left all pages : ℕ) → left + 1 ≡ all → left * pages + pages ≡ all * pages
 one_of left all pages is = let same = ap (λ (n : ℕ). n * pages) is in omega (arith, same)
 
-pub none_of_none : (items : List ObjectId) (chains : ChainTable) (objects : ObjectTable) → items ≡ [] → IsThinBut items chains objects → IsThin chains objects
+pub none_of_none : {copies : CopyTable} (items : List ObjectId) (chains : ChainTable) (objects : ObjectTable) → items ≡ []
+    → IsThinBut copies items chains objects → IsThin copies chains objects
 none_of_none items chains objects empty thin u l can =
     in_none (record { 0 = l }) (subst (λ (xs : List ObjectId). Contains xs (record { 0 = l })) empty (thin u l can))

@@ -1,5 +1,5 @@
 -- Tasks and their entries.
-use Rattle.std.specs.Prelude.{ℕ, ◌+◌, List, [], ◌∷◌, if◌then◌else◌, ◌==◌, ◌&&◌, ◌||◌, not, Bool, true, false, Option, Some, None}
+use Rattle.std.specs.Prelude.{ℕ, ◌+◌, List, [], ◌∷◌, if◌then◌else◌, ◌==◌, ◌&&◌, ◌||◌, nat_lt, not, Bool, true, false, Option, Some, None}
 use Rattle.vm_base.specs.declared.entry.Entry.{Entry}
 use Rattle.vm_base.specs.declared.ids.Inherit.{Inherit}
 use Rattle.vm_base.specs.declared.ids.Inherit.TheVariants.{Share, Copy, Never}
@@ -57,6 +57,11 @@ shared (row ∷ rows) = if is_shared row.inherit then row ∷ shared rows else s
 abbrev pub copies : List Entry → ℕ
 copies [] = 0
 copies (row ∷ rows) = if is_copied row.inherit then copies rows + 1 else copies rows
+
+-- how many of them are on regions below a number
+abbrev pub copies_below : ℕ → List Entry → ℕ
+copies_below count [] = 0
+copies_below count (row ∷ rows) = if is_copied row.inherit && nat_lt row.region.0 count then copies_below count rows + 1 else copies_below count rows
 
 -- a fork copies an entry on the region
 abbrev pub copies_from : ℕ → List Entry → Bool

@@ -28,7 +28,7 @@ use Rattle.vm_model.specs.Words.{in_range}
 use Rattle.vm_legal.specs.Accesses.{is_ready}
 use Rattle.vm_legal.specs.Debts.{IsPaid}
 use Rattle.vm_legal.proofs.Served.{paged_may}
-use Rattle.vm_legal.specs.Licences.{HasCause, MaySendDown, MaySendUp, OwesAnswer, PagerSends, is_paged}
+use Rattle.vm_legal.specs.Licences.{HasCause, MaySendDown, MaySendUp, OwesAnswer, PagerSends, init_strategy, is_paged}
 use Rattle.vm_legal.specs.Outside.{Outside, is_wild, is_wild_kind, kind_of}
 use Rattle.vm_legal.specs.Steps.{answers, is_answer, is_ready_message as says_ready, readies, since, taken_letter}
 use Rattle.vm_legal.specs.Walks.{page_on}
@@ -384,7 +384,7 @@ may_ready : (header : Header) (outside : Outside) (doing : Command) (h o n : ℕ
 may_ready header outside doing h o n cache strategy past c = (c.0, by c.3)
   where
     by : ((taken_letter past ≡ Some (record { channel = up_port h o; message = message.Create n c.0 })) × (strategy ≡ 3))
-        ⊎ ((taken_letter past ≡ Some (record { channel = up_port h o; message = message.Init n c.0 })) × (strategy ≡ 0))
+        ⊎ ((taken_letter past ≡ Some (record { channel = up_port h o; message = message.Init n c.0 })) × (strategy ≡ init_strategy header o))
         → (taken_letter past ≡ Some (record { channel = up_port h o; message = message.Create n c.0 }))
         ⊎ (taken_letter past ≡ Some (record { channel = up_port h o; message = message.Init n c.0 }))
     by (inl t) = inl t.0

@@ -1,9 +1,9 @@
--- A history in which a slow copy has copied all its pages, and never ends: a task maps a file of one page, and copies it to an address of its own.
+-- A history in which a slow copy has copied all its pages, and never ends: a task maps a shared object of one page, and copies it to an address of its own.
 use Rattle.std.specs.Prelude.{ℕ, ◌∷◌, [], List, true, false}
 use Rattle.vm_base.specs.declared.ids.HostId.{HostId}
 use Rattle.vm_base.specs.declared.ids.Inherit.TheVariants.{Share}
 use Rattle.vm_base.specs.declared.ids.ObjectId.{ObjectId}
-use Rattle.vm_base.specs.declared.ids.ObjectKind.TheVariants.{File}
+use Rattle.vm_base.specs.declared.ids.ObjectKind.TheVariants.{Shared}
 use Rattle.vm_base.specs.declared.ids.PageNo.{PageNo}
 use Rattle.vm_base.specs.declared.ids.RegionId.{RegionId}
 use Rattle.vm_base.specs.declared.ids.TaskId.{TaskId}
@@ -15,17 +15,17 @@ use Rattle.vm_model.specs.declared.message.Message.TheVariants as message
 use Rattle.vm_model.specs.declared.script.Header.{Header}
 use Rattle.vm_legal.specs.Outside.{Outside, Untold}
 
--- pages of 16 bytes, one host of 4 frames, a file of one page
+-- pages of 16 bytes, one host of 4 frames, a shared object of one page
 abbrev pub header : Header
 header =
     record {
       size = 16;
       slots = 1024;
       frames = record { items = 4 ∷ []; room = 0 };
-      objects = record { items = record { name = 102 ∷ []; kind = File; pages = 1 } ∷ []; room = 0 };
+      objects = record { items = record { name = 115 ∷ []; kind = Shared; pages = 1 } ∷ []; room = 0 };
     }
 
--- nothing is told of what the file holds
+-- nothing is told of files, and there are none
 abbrev pub outside : Outside
 outside = record { files = Untold; paging = true }
 
@@ -35,8 +35,8 @@ host = record { 0 = 0 }
 abbrev pub task : TaskId
 task = record { 0 = 0 }
 
-abbrev pub file : ObjectId
-file = record { 0 = 0 }
+abbrev pub shared : ObjectId
+shared = record { 0 = 0 }
 
 abbrev pub mapped : RegionId
 mapped = record { 0 = 0 }
@@ -52,20 +52,17 @@ abbrev pub page : PageNo
 page = record { 0 = 0 }
 
 abbrev pub up : Channel
-up = Up host file
+up = Up host shared
 
 abbrev pub down : Channel
-down = Down host file 1
+down = Down host shared 1
 
 abbrev pub zero_page : List ℕ
 zero_page = 0 ∷ 0 ∷ 0 ∷ 0 ∷ 0 ∷ 0 ∷ 0 ∷ 0 ∷ 0 ∷ 0 ∷ 0 ∷ 0 ∷ 0 ∷ 0 ∷ 0 ∷ 0 ∷ []
 
--- the events, the newest first: the one page is copied, and then nothing more happens to the copy
-abbrev pub history : List Event
-history =
-    event.CopiedPage task page file page copied ∷
-    event.Taken down (message.Supply page 0 false zero_page) ∷
-    event.Sent down (message.Supply page 0 false zero_page) ∷
+-- the events, the newest first, until the request for the page is taken
+abbrev pub demanded : List Event
+demanded =
     event.Taken up (message.Request 1 page 1) ∷
     event.Line 8 ∷
     event.Sent up (message.Request 1 page 1) ∷
@@ -82,3 +79,11 @@ history =
     event.TaskMade task host ∷
     event.Line 4 ∷
     []
+
+-- the page comes, and is copied, and then nothing more happens to the copy
+abbrev pub history : List Event
+history =
+    event.CopiedPage task page shared page copied ∷
+    event.Taken down (message.Supply page 2 false zero_page) ∷
+    event.Sent down (message.Supply page 2 false zero_page) ∷
+    demanded

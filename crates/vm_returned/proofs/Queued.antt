@@ -34,14 +34,15 @@ pub first_is : (P : Message → Type 0) (q : List Message) (m : Message) → All
 first_is P [] m all is = absurd (let bad : None ≡ Some m = is in cc)
 first_is P (x ∷ q) m all is = let same : x ≡ m = cc in subst P same all.0
 
-pub queue_is : (header : Header) (outside : Outside) (c : Channel) (P : List Event → Message → Type 0)
-    → ((e : Event) (past : List Event) (m : Message) → P past m → P (e ∷ past) m)
+-- what each message has when it is sent, and keeps behind each event that has its cause
+pub queue_caused : (header : Header) (outside : Outside) (c : Channel) (P : List Event → Message → Type 0)
+    → ((e : Event) (past : List Event) (m : Message) → HasCause header outside e past → P past m → P (e ∷ past) m)
     → ((m : Message) (past : List Event) → EachEvent (HasCause header outside) past → HasCause header outside (event.Sent c m) past
     → P (event.Sent c m ∷ past) m)
     → (past : List Event) → EachEvent (HasCause header outside) past → AllAre (P past) (queue c past)
-queue_is header outside c P later sent [] causes = tt
-queue_is header outside c P later sent (event.Sent d m ∷ past) causes =
-    by (is_channel c d) refl (all_map (later (event.Sent d m) past) (queue c past) (queue_is header outside c P later sent past causes.1))
+queue_caused header outside c P later sent [] causes = tt
+queue_caused header outside c P later sent (event.Sent d m ∷ past) causes =
+    by (is_channel c d) refl (all_map (λ n. later (event.Sent d m) past n causes.0) (queue c past) (queue_caused header outside c P later sent past causes.1))
   where
     by : (b : Bool) → is_channel c d ≡ b → AllAre (P (event.Sent d m ∷ past)) (queue c past)
         → AllAre (P (event.Sent d m ∷ past)) (if b then queue c past ++ m ∷ [] else queue c past)
@@ -51,10 +52,20 @@ queue_is header outside c P later sent (event.Sent d m ∷ past) causes =
         let here : P (event.Sent c m ∷ past) m = sent m past causes.1 (subst (λ (k : Channel). HasCause header outside (event.Sent k m) past) channel
         causes.0) in
         all_behind (P (event.Sent d m ∷ past)) m (queue c past) before (subst (λ (k : Channel). P (event.Sent k m ∷ past) m) (sym channel) here)
-queue_is header outside c P later sent (event.Taken d m ∷ past) causes =
-    by (is_channel c d) (all_map (later (event.Taken d m) past) (queue c past) (queue_is header outside c P later sent past causes.1))
+queue_caused header outside c P later sent (event.Taken d m ∷ past) causes =
+    by (is_channel c d)
+    (all_map (λ n. later (event.Taken d m) past n causes.0) (queue c past) (queue_caused header outside c P later sent past causes.1))
   where
-    by : (b : Bool) → AllAre (P (event.Taken d m ∷ past)) (queue c past) → AllAre (P (event.Taken d m ∷ past)) (if b then rest (queue c past) else queue c past)
+    by : (b : Bool) → AllAre (P (event.Taken d m ∷ past)) (queue c past)
+        → AllAre (P (event.Taken d m ∷ past)) (if b then rest (queue c past) else queue c past)
     by false before = before
     by true before = all_rest (P (event.Taken d m ∷ past)) (queue c past) before
-queue_is header outside c P later sent (e ∷ past) causes = all_map (later e past) (queue c past) (queue_is header outside c P later sent past causes.1)
+queue_caused header outside c P later sent (e ∷ past) causes =
+    all_map (λ n. later e past n causes.0) (queue c past) (queue_caused header outside c P later sent past causes.1)
+
+pub queue_is : (header : Header) (outside : Outside) (c : Channel) (P : List Event → Message → Type 0)
+    → ((e : Event) (past : List Event) (m : Message) → P past m → P (e ∷ past) m)
+    → ((m : Message) (past : List Event) → EachEvent (HasCause header outside) past → HasCause header outside (event.Sent c m) past
+    → P (event.Sent c m ∷ past) m)
+    → (past : List Event) → EachEvent (HasCause header outside) past → AllAre (P past) (queue c past)
+queue_is header outside c P later sent past causes = queue_caused header outside c P (λ e before m cause is. later e before m is) sent past causes

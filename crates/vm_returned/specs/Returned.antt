@@ -1,5 +1,5 @@
 -- Pages that went to their pagers and came back.
-use Rattle.std.specs.Prelude.{ℕ, ◌≡◌, ◌≤◌, true, List}
+use Rattle.std.specs.Prelude.{◌≡◌, ◌≤◌, true, List}
 use Rattle.vm_model.specs.declared.event.Event.{Event}
 use Rattle.vm_model.specs.declared.event.Event.TheVariants as event
 use Rattle.vm_model.specs.declared.message.Channel.TheVariants.{Down}

@@ -27,9 +27,9 @@ pub record IsSoleTop (least : ℕ) (used : ℕ → Bool) (region_from : ℕ → 
 -- the one reference by the tables is the one
 pub top_alone : {header : Header} {chains : ChainTable} {objects : ObjectTable} {ids : Ids} {region_from : ℕ → Region} {backing_from : ℕ → Backing}
     {n m : ℕ} {home_from made_for : ℕ → Option ℕ} {used_at : ℕ → ℕ → Bool} {target_from : ℕ → Option Target}
-    {newest_from : ℕ → Option ℕ} {regions_made objects_made marked : ℕ}
+    {newest_from : ℕ → Option ℕ} {copy_from : ℕ → Bool} {regions_made objects_made marked : ℕ}
     → HasRegions chains objects ids region_from backing_from regions_made objects_made marked
-    → AreHomes header n m home_from made_for used_at region_from backing_from target_from newest_from → (used : ℕ → Bool)
+    → AreHomes header n m home_from made_for used_at region_from backing_from target_from newest_from copy_from → (used : ℕ → Bool)
     → ((r : ℕ) → named header ≤ r → used r ≡ true → (row : RegionRow) × (region_at chains r ≡ Some row)) → (region object : ℕ)
     → IsOnlyTop region object chains → IsSoleTop (named header) used region_from backing_from region object
 top_alone {header = header} {chains = chains} {objects = objects} {backing_from = backing_from} has homes used there region object only =
@@ -51,9 +51,9 @@ top_alone {header = header} {chains = chains} {objects = objects} {backing_from 
 -- a temporary region whose top has another reference is not
 pub top_shared : {header : Header} {chains : ChainTable} {objects : ObjectTable} {ids : Ids} {region_from : ℕ → Region} {backing_from : ℕ → Backing}
     {n m : ℕ} {home_from made_for : ℕ → Option ℕ} {used_at : ℕ → ℕ → Bool} {target_from : ℕ → Option Target}
-    {newest_from : ℕ → Option ℕ} {regions_made objects_made marked : ℕ}
+    {newest_from : ℕ → Option ℕ} {copy_from : ℕ → Bool} {regions_made objects_made marked : ℕ}
     → HasRegions chains objects ids region_from backing_from regions_made objects_made marked → HasKinds header objects chains
-    → AreHomes header n m home_from made_for used_at region_from backing_from target_from newest_from
+    → AreHomes header n m home_from made_for used_at region_from backing_from target_from newest_from copy_from
     → ((s : ℕ) (row : ShadowRow) → shadow_at chains s ≡ Some row → IsReferred objects s) → (used : ℕ → Bool)
     → ((r : ℕ) (row : RegionRow) → named header ≤ r → region_at chains r ≡ Some row → used r ≡ true) → (region : ℕ) (row : RegionRow)
     → named header ≤ region → region_at chains region ≡ Some row → has_one (object_at objects row.top.0) ≡ false

@@ -24,9 +24,9 @@ use Rattle.vm_model.specs.declared.script.Header.{Header}
 use Rattle.vm_objects.specs.Objects.{ObjectTable}
 use Rattle.vm_resident.specs.Resident.{ResidentTable}
 use Rattle.vm_shadow.specs.Chains.{ChainTable}
-use Rattle.vm_state.proofs.Passing.{IsCalm, IsQuiet, calm_if, calm_of, effect_at, quiet_if, same_of, stays_quiet, unmet_calm}
+use Rattle.vm_state.proofs.Passing.{IsCalm, IsQuiet, Later, calm_if, calm_of, effect_at, quiet_if, same_of, stays_quiet, unmet_calm, unmet_later}
 use Rattle.vm_state.proofs.Waiting.{waits_seen}
-use Rattle.vm_state.specs.Passed.{IsAway, IsUnmet, StaysAway}
+use Rattle.vm_state.specs.Passed.{IsAway, IsUnmet, StaysAway, Unmet}
 use Rattle.vm_state.specs.Waiters.{HasWaiters, IsPagerTold, Reason}
 use Rattle.vm_waits.specs.declared.waiting.On.{On}
 use Rattle.vm_waits.specs.declared.waiting.On.TheVariants as on
@@ -78,7 +78,7 @@ stays_supplied header h host object control page lock precious bytes past key st
       let page_is : page.0 ≡ key.page.0 = same_of page.0 key.page.0 its in
       let given = only.0 (same_of host.0 h on) (subst (λ (z : ℕ). named header ≤ z) (sym object_is) stays.0) in
       subst (λ (z : ℕ). was_returned h z key.page.0 past ≡ true) object_is (subst (λ (z : ℕ). was_returned h object.0 z past ≡ true) page_is given.1))
-      (stays.1 only.1),
+      (stays.1 only.2),
 )
 
 pub stays_taken : (header : Header) (h : ℕ) (host : HostId) (object : ObjectId) (control : ℕ) (m : Message) (past : List Event) (key : PageKey)
@@ -103,11 +103,11 @@ stays_taken header h host object control m past key stays =
     (object.0 == key.object.0 && is_control control (live_control h key.object.0 past))) Elsewhere Elsewhere tt tt) stays
 
 pub unmet_taken : (header : Header) (h : ℕ) (host : HostId) (object : ObjectId) (control : ℕ) (m : Message) (past : List Event) (key : PageKey)
-    → IsUnmet header h past key → IsUnmet header h (takes_down host object control m ∷ past) key
-unmet_taken header h host object control m past key unmet =
+    → Later (IsUnmet header h past key) (IsUnmet header h (takes_down host object control m ∷ past) key)
+unmet_taken header h host object control m past key =
     unmet_calm header h (takes_down host object control m) past key
     (calm_if (host.0 == h && (object.0 == key.object.0 && is_control control (live_control h key.object.0 past))) (taken_effect key.page.0 m) Elsewhere
-    (calm_taken key.page.0 m) tt) unmet
+    (calm_taken key.page.0 m) tt)
 
 -- a page that is here goes back to its pager
 
@@ -146,14 +146,13 @@ stays_returned header h host object control page dirty keep bytes past here key 
 
 pub unmet_returned : (header : Header) (h : ℕ) (host : HostId) (object : ObjectId) (control : ℕ) (page : PageNo) (dirty keep : Bool) (bytes : List ℕ)
     (past : List Event)
-    → (page_on header h object.0 page.0 past).here ≡ true → (key : PageKey) → IsUnmet header h past key
-    → IsUnmet header h (returning host object control page dirty keep bytes ∷ past) key
-unmet_returned header h host object control page dirty keep bytes past here key unmet =
-    unmet_calm header h (returning host object control page dirty keep bytes) past key
-    (calm_returned (host.0 == h) (object.0 == key.object.0) (page.0 == key.page.0) keep
-    (λ on of its. (let bad : false ≡ true = sym unmet.away
+    → (page_on header h object.0 page.0 past).here ≡ true → (key : PageKey)
+    → Later (IsUnmet header h past key) (IsUnmet header h (returning host object control page dirty keep bytes ∷ past) key)
+unmet_returned header h host object control page dirty keep bytes past here key =
+    unmet_later header h (returning host object control page dirty keep bytes) past key
+    (λ was. calm_returned (host.0 == h) (object.0 == key.object.0) (page.0 == key.page.0) keep
+    (λ on of its. (let bad : false ≡ true = sym was.away
     ∙ here_moved header h object.0 page.0 key.object.0 key.page.0 past (same_of object.0 key.object.0 of) (same_of page.0 key.page.0 its) here in cc)))
-    unmet
 
 -- a page is asked for that its pager may have
 
@@ -200,23 +199,22 @@ stays_asked header h host object control page access past known key stays = (
 )
 
 pub unmet_asked : (header : Header) (h : ℕ) (host : HostId) (object : ObjectId) (control : ℕ) (page : PageNo) (access : ℕ) (past : List Event) (key : PageKey)
-    → (object.0 ≡ key.object.0 → ⊥) → IsUnmet header h past key
-    → IsUnmet header h (requests host object control page access ∷ past) key
-unmet_asked header h host object control page access past key apart unmet =
+    → (object.0 ≡ key.object.0 → ⊥) → Later (IsUnmet header h past key) (IsUnmet header h (requests host object control page access ∷ past) key)
+unmet_asked header h host object control page access past key apart =
     unmet_calm header h (requests host object control page access) past key
     (calm_asked (host.0 == h) (object.0 == key.object.0) (page.0 == key.page.0) (is_control control (live_control h key.object.0 past))
-    (λ of. apart (same_of object.0 key.object.0 of))) unmet
+    (λ of. apart (same_of object.0 key.object.0 of)))
 
 -- so whoever waits has passed over what it had
 
 -- where both stay so at each place
-pub waits_beyond : {stays unmet stays2 unmet2 : PageKey → Type 0} {maps : Mapped} {chains : ChainTable} {copies : CopyTable} {rs : ResidentTable}
-    {os : ObjectTable} {rows : List Waiting} {who : On → Bool} {at : ℕ → Option Access}
-    → ((key : PageKey) → stays key → stays2 key) → ((key : PageKey) → unmet key → unmet2 key)
+pub waits_beyond : {stays stays2 : PageKey → Type 0} {unmet unmet2 : PageKey → Unmet} {maps : Mapped} {chains : ChainTable} {copies : CopyTable}
+    {rs : ResidentTable} {os : ObjectTable} {rows : List Waiting} {who : On → Bool} {at : ℕ → Option Access}
+    → ((key : PageKey) → stays key → stays2 key) → ((key : PageKey) → Later (unmet key) (unmet2 key))
     → HasWaiters maps chains copies rs os rows who at stays unmet → HasWaiters maps chains copies rs os rows who at stays2 unmet2
 waits_beyond {maps = maps} {chains = chains} {rs = rs} {os = os} {rows = rows} {who = who} {at = at} same still has =
     waits_seen maps chains rs os rows who at has (λ t w found asleep reason to stop m from place leads. same from leads.0)
-    (λ t w found asleep reason object why to its place unmet. still to unmet)
+    (λ t w found asleep reason object why to its place. still to)
 
 -- behind an event by which no page comes, or is asked or returned
 pub waits_quiet : {maps : Mapped} {chains : ChainTable} {copies : CopyTable} {rs : ResidentTable} {os : ObjectTable} {rows : List Waiting} {who : On → Bool}
@@ -226,7 +224,7 @@ pub waits_quiet : {maps : Mapped} {chains : ChainTable} {copies : CopyTable} {rs
     → HasWaiters maps chains copies rs os rows who at (StaysAway header h (e ∷ past)) (IsUnmet header h (e ∷ past))
 waits_quiet header h e past quiet has =
     waits_beyond (λ key stays. stays_quiet header h e past key (quiet key) stays)
-    (λ key unmet. unmet_calm header h e past key (calm_of (effect_at header h key e past) (quiet key)) unmet) has
+    (λ key. unmet_calm header h e past key (calm_of (effect_at header h key e past) (quiet key))) has
 
 -- behind a message that was taken
 pub waits_taken : {maps : Mapped} {chains : ChainTable} {copies : CopyTable} {rs : ResidentTable} {os : ObjectTable} {rows : List Waiting} {who : On → Bool}
@@ -236,7 +234,7 @@ pub waits_taken : {maps : Mapped} {chains : ChainTable} {copies : CopyTable} {rs
     (IsUnmet header h (takes_down host object control m ∷ past))
 waits_taken header h host object control m past has =
     waits_beyond (λ key stays. stays_taken header h host object control m past key stays)
-    (λ key unmet. unmet_taken header h host object control m past key unmet) has
+    (λ key. unmet_taken header h host object control m past key) has
 
 -- behind the return of a page that is here
 pub waits_returned : {maps : Mapped} {chains : ChainTable} {copies : CopyTable} {rs : ResidentTable} {os : ObjectTable} {rows : List Waiting} {who : On → Bool}
@@ -247,7 +245,7 @@ pub waits_returned : {maps : Mapped} {chains : ChainTable} {copies : CopyTable} 
     (IsUnmet header h (returning host object control page dirty keep bytes ∷ past))
 waits_returned header h host object control page dirty keep bytes past here has =
     waits_beyond (λ key stays. stays_returned header h host object control page dirty keep bytes past here key stays)
-    (λ key unmet. unmet_returned header h host object control page dirty keep bytes past here key unmet) has
+    (λ key. unmet_returned header h host object control page dirty keep bytes past here key) has
 
 -- who waits for its pager waits for one that was told
 pub told_pager : (maps : Mapped) (chains : ChainTable) (copies : CopyTable) (rs : ResidentTable) (os : ObjectTable) (t : ℕ) (what : Want) (why : On)
@@ -266,7 +264,7 @@ waits_requested {maps = maps} {chains = chains} {copies = copies} {rs = rs} {os 
     access past known ready has =
     waits_seen maps chains rs os rows who at has (λ t w found asleep reason to stop m from place leads. stays_asked header h host object control page access
     past known from leads.0)
-    (λ t w found asleep reason other why to its place unmet.
+    (λ t w found asleep reason other why to its place.
     unmet_asked header h host object control page access past to
     (λ same. ready (subst (λ (z : ℕ). IsPagerTold os z) (ap (λ (z : ObjectId). z.0) (sym its) ∙ sym same)
-    (told_pager maps chains copies rs os t w.want w.on other why reason))) unmet)
+    (told_pager maps chains copies rs os t w.want w.on other why reason))))

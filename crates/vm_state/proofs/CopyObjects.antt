@@ -1,5 +1,5 @@
 -- The copy objects of a host in its tables, while objects come and go and pages are copied up; and the place to which a store owes its page.
-use Rattle.std.proofs.Common.{◌≡◌, ◌≤◌, ◌∙◌, ◌∷◌, ◌==◌, ◌&&◌, ◌||◌, ℕ, Bool, true, false, List, Option, Some, None, ap, arith, refl, sym, subst, inl, inr}
+use Rattle.std.proofs.Common.{◌≡◌, ◌<◌, ◌≤◌, ◌∙◌, ◌∷◌, ◌==◌, ◌&&◌, ◌||◌, ℕ, Bool, true, false, List, Option, Some, None, ap, arith, refl, sym, subst, inl, inr}
 use Rattle.std.proofs.lemmas.Bool.Decides.{eqb_tells}
 use Rattle.std.specs.Prelude.{if◌then◌else◌, is_some, IsSome}
 use Rattle.vm_abroad.proofs.Home.{copy_temporary}
@@ -9,7 +9,7 @@ use Rattle.vm_base.specs.declared.ids.HostId.{HostId}
 use Rattle.vm_base.specs.declared.ids.ObjectId.{ObjectId}
 use Rattle.vm_base.specs.declared.ids.PageKey.{PageKey}
 use Rattle.vm_base.specs.declared.ids.PageNo.{PageNo}
-use Rattle.vm_copies.specs.Copies.{ClearsHad, CopyRow, CopyTable, PutsCopy, PutsNewest, among, copy_at, had_at, newest_at, other_than}
+use Rattle.vm_copies.specs.Copies.{ClearsHad, CopyRow, CopyTable, EndsCopy, PutsCopy, PutsNewest, among, copy_at, had_at, newest_at, other_than}
 use Rattle.vm_fault.specs.Pushes.{Notes, StandsOn, OfCopy, OfOther, owed_at, owed_of}
 use Rattle.vm_legal.proofs.Files.{file_named}
 use Rattle.vm_legal.specs.Pushes.{OwesPush, is_pushed}
@@ -30,7 +30,7 @@ use Rattle.vm_shadow.specs.Chains.{ChainTable, region_at, shadow_at}
 use Rattle.vm_shadow.specs.declared.ids.Ids.{Ids}
 use Rattle.vm_shadow.specs.declared.region_row.RegionRow.{RegionRow}
 use Rattle.vm_shadow.specs.declared.shadow_row.ShadowRow.{ShadowRow}
-use Rattle.vm_state.proofs.Knowing.{known_cases, known_put, known_still}
+use Rattle.vm_state.proofs.Knowing.{referred_before, referred_other, unknown_before}
 use Rattle.vm_state.proofs.PlainObjects.{newest_is_copy}
 use Rattle.vm_state.proofs.Reaching.{temporary_down, temporary_up}
 use Rattle.vm_state.proofs.Shown.{IsShown, asks_row}
@@ -41,104 +41,116 @@ use Rattle.vm_terminate.specs.Finishes.{IsReferred}
 use Rattle.vm_waits.specs.declared.waiting.Want.{Want}
 
 -- what is true of the other case of an option is absurd
-no_row : {A B : Type 0} (found : Option A) (row : A) → found ≡ None → found ≡ Some row → B
+pub no_row : {A B : Type 0} (found : Option A) (row : A) → found ≡ None → found ≡ Some row → B
 no_row found row none some = absurd (let bad : None ≡ Some row = sym none ∙ some in cc)
 
-is_known : {A : Type 0} (found : Option A) → IsSome found → (row : A) × (found ≡ Some row)
+pub is_known : {A : Type 0} (found : Option A) → IsSome found → (row : A) × (found ≡ Some row)
 is_known None known = absurd (let bad : false ≡ true = known in cc)
 is_known (Some row) known = (row, refl)
 
--- an object that isn't known has no copy row
-pub unknown_plain : {is_copy_of : ℕ → Bool} {newest_of : ℕ → Option ℕ} {pushed_at : ℕ → ℕ → Bool} {copies : CopyTable} {os : ObjectTable} (o : ℕ)
-    → HasCopyObjects copies os is_copy_of newest_of pushed_at → object_at os o ≡ None → copy_at copies o ≡ None
-unknown_plain {copies = copies} {os = os} o has none = by (copy_at copies o) refl
+-- an object that is no copy has no copy row
+pub plain_row : {is_copy_of : ℕ → Bool} {newest_of : ℕ → Option ℕ} {pushed_at : ℕ → ℕ → Bool} {copies : CopyTable} {os : ObjectTable} (o : ℕ)
+    → HasCopyObjects copies os is_copy_of newest_of pushed_at → is_copy_of o ≡ false → copy_at copies o ≡ None
+plain_row {is_copy_of = is_copy_of} {copies = copies} o has plain = by (copy_at copies o) refl
   where
     by : (x : Option CopyRow) → copy_at copies o ≡ x → x ≡ None
     by None is = refl
-    by (Some row) is = let known = is_known (object_at os o) (has.known o row is) in no_row (object_at os o) known.0 none known.1
+    by (Some row) is = absurd (let bad : false ≡ true = sym plain ∙ has.copy o row is in cc)
 
--- a known object that is no copy has none
-pub plain_row : {is_copy_of : ℕ → Bool} {newest_of : ℕ → Option ℕ} {pushed_at : ℕ → ℕ → Bool} {copies : CopyTable} {os : ObjectTable} (o : ℕ) (row : ObjectRow)
-    → HasCopyObjects copies os is_copy_of newest_of pushed_at → object_at os o ≡ Some row → is_copy_of o ≡ false → copy_at copies o ≡ None
-plain_row {copies = copies} o row has found plain = by (copy_at copies o) (sym (has.are o row found) ∙ plain)
+-- an object to which something refers has one where it is a copy
+pub copy_row : {is_copy_of : ℕ → Bool} {newest_of : ℕ → Option ℕ} {pushed_at : ℕ → ℕ → Bool} {copies : CopyTable} {os : ObjectTable} (o : ℕ)
+    → HasCopyObjects copies os is_copy_of newest_of pushed_at → IsReferred os o → is_copy_of o ≡ true → (its : CopyRow) × (copy_at copies o ≡ Some its)
+copy_row {copies = copies} o has referred copy = is_known (copy_at copies o) (sym (has.are o referred) ∙ copy)
+
+-- nothing refers to an object without references
+pub not_referred : (o : ℕ) (known : ObjectRow) (os : ObjectTable) → object_at os o ≡ Some known → known.references ≡ 0 → IsReferred os o → ⊥
+not_referred o known os found none is =
+    let same : is.row ≡ known = some_is is.row known (sym is.known ∙ found) in
+    let some : 0 < known.references = subst (λ (z : ObjectRow). 0 < z.references) same is.some in
+    omega (arith, none, some)
+
+-- the history says what it said of the copy objects that are here, of the objects to which something refers, and of the newest among them
+pub record SaysAsMuch (copies : CopyTable) (os : ObjectTable) (is_copy_of is_copy2 : ℕ → Bool) (newest_of newest2 : ℕ → Option ℕ)
+    (pushed_at pushed2 : ℕ → ℕ → Bool) : Type 0
   where
-    by : (x : Option CopyRow) → is_some x ≡ false → x ≡ None
-    by None is = refl
-    by (Some its) is = absurd (let bad : true ≡ false = is in cc)
+    pub are : (o : ℕ) → IsReferred os o → is_copy2 o ≡ is_copy_of o
+    pub copy : (c : ℕ) (row : CopyRow) → copy_at copies c ≡ Some row → is_copy2 c ≡ is_copy_of c
+    pub newest : (f c : ℕ) → newest2 f ≡ Some c → IsReferred os c → newest_of f ≡ Some c
+    pub last : (f : ℕ) (c : ObjectId) → newest_at copies f ≡ Some c → newest2 f ≡ newest_of f
+    pub pushed : (c p : ℕ) → pushed2 c p ≡ pushed_at c p
 
--- a known object that is a copy has one
-pub copy_row : {is_copy_of : ℕ → Bool} {newest_of : ℕ → Option ℕ} {pushed_at : ℕ → ℕ → Bool} {copies : CopyTable} {os : ObjectTable} (o : ℕ) (row : ObjectRow)
-    → HasCopyObjects copies os is_copy_of newest_of pushed_at → object_at os o ≡ Some row → is_copy_of o ≡ true
-    → (its : CopyRow) × (copy_at copies o ≡ Some its)
-copy_row {copies = copies} o row has found copy = is_known (copy_at copies o) (sym (has.are o row found) ∙ copy)
+-- events behind which it does, as those of other hosts
+pub copies_elsewhere : {is_copy_of is_copy2 : ℕ → Bool} {newest_of newest2 : ℕ → Option ℕ} {pushed_at pushed2 : ℕ → ℕ → Bool} {copies : CopyTable}
+    {os : ObjectTable} → SaysAsMuch copies os is_copy_of is_copy2 newest_of newest2 pushed_at pushed2
+    → HasCopyObjects copies os is_copy_of newest_of pushed_at → HasCopyObjects copies os is_copy2 newest2 pushed2
+copies_elsewhere says has =
+    record {
+      are = λ o referred. says.are o referred ∙ has.are o referred;
+      copy = λ c row found. says.copy c row found ∙ has.copy c row found;
+      newest = λ f c is referred. has.newest f c (says.newest f c is referred) referred;
+      last = λ f c is. says.last f c is ∙ has.last f c is;
+      had = λ c row found p. has.had c row found p ∙ sym (says.pushed c p);
+      unpushed = λ o p none. says.pushed o p ∙ has.unpushed o p none;
+    }
 
--- events behind which the known objects are copies as they were, files have the newest that they had, and nothing was copied up into a copy object
+-- events behind which objects are copies as they were, files have the newest that they had, and nothing was copied up into a copy object
 pub copies_silent : {is_copy_of is_copy2 : ℕ → Bool} {newest_of newest2 : ℕ → Option ℕ} {pushed_at pushed2 : ℕ → ℕ → Bool} {copies : CopyTable}
     {os : ObjectTable}
-    → HasCopyObjects copies os is_copy_of newest_of pushed_at → ((o : ℕ) (row : ObjectRow) → object_at os o ≡ Some row → is_copy2 o ≡ is_copy_of o)
-    → ((f : ℕ) → newest2 f ≡ newest_of f)
-    → ((c p : ℕ) (row : CopyRow) → copy_at copies c ≡ Some row → pushed2 c p ≡ pushed_at c p) → HasCopyObjects copies os is_copy2 newest2 pushed2
+    → HasCopyObjects copies os is_copy_of newest_of pushed_at → ((o : ℕ) → is_copy2 o ≡ is_copy_of o) → ((f : ℕ) → newest2 f ≡ newest_of f)
+    → ((c p : ℕ) → pushed2 c p ≡ pushed_at c p) → HasCopyObjects copies os is_copy2 newest2 pushed2
 copies_silent has same newest pushed =
+    copies_elsewhere (record {
+      are = λ o referred. same o;
+      copy = λ c row found. same c;
+      newest = λ f c is referred. sym (newest f) ∙ is;
+      last = λ f c is. newest f;
+      pushed = pushed;
+    }) has
+
+-- no more objects are referred to than were, and all are known that were
+pub copies_fewer : {is_copy_of : ℕ → Bool} {newest_of : ℕ → Option ℕ} {pushed_at : ℕ → ℕ → Bool} {copies : CopyTable} {os os2 : ObjectTable}
+    → ((o : ℕ) → IsReferred os2 o → IsReferred os o) → ((o : ℕ) → object_at os2 o ≡ None → object_at os o ≡ None)
+    → HasCopyObjects copies os is_copy_of newest_of pushed_at → HasCopyObjects copies os2 is_copy_of newest_of pushed_at
+copies_fewer before unknown has =
     record {
-      are = λ o row found. same o row found ∙ has.are o row found;
-      known = has.known;
-      newest = λ f c is there. has.newest f c (sym (newest f) ∙ is) there;
-      last = λ f c is. newest f ∙ has.last f c is;
-      had = λ c row found p. has.had c row found p ∙ sym (pushed c p row found);
+      are = λ o referred. has.are o (before o referred);
+      copy = has.copy;
+      newest = λ f c is referred. has.newest f c is (before c referred);
+      last = has.last;
+      had = has.had;
+      unpushed = λ o p none. has.unpushed o p (unknown o none);
     }
 
 -- all objects are known as they were
 pub copies_same : {is_copy_of : ℕ → Bool} {newest_of : ℕ → Option ℕ} {pushed_at : ℕ → ℕ → Bool} {copies : CopyTable} {os os2 : ObjectTable} → SameObjects os os2
     → HasCopyObjects copies os is_copy_of newest_of pushed_at → HasCopyObjects copies os2 is_copy_of newest_of pushed_at
 copies_same same has =
-    record {
-      are = λ o row found. has.are o row (sym (same.at o) ∙ found);
-      known = λ c row found. ap is_some (same.at c) ∙ has.known c row found;
-      newest = λ f c is there. has.newest f c is (ap is_some (sym (same.at c)) ∙ there);
-      last = has.last;
-      had = has.had;
-    }
+    copies_fewer (λ o is. record { row = is.row; known = sym (same.at o) ∙ is.known; some = is.some }) (λ o none. sym (same.at o) ∙ none) has
 
--- one object is known otherwise
-pub copies_put : {is_copy_of : ℕ → Bool} {newest_of : ℕ → Option ℕ} {pushed_at : ℕ → ℕ → Bool} {copies : CopyTable} (o : ℕ) (row new : ObjectRow)
-    (os os2 : ObjectTable) → object_at os o ≡ Some row → PutsObject o (Some new) os os2
+-- one object is known otherwise, and referred to only where it was
+pub copies_put : {is_copy_of : ℕ → Bool} {newest_of : ℕ → Option ℕ} {pushed_at : ℕ → ℕ → Bool} {copies : CopyTable} (o : ℕ) (new : ObjectRow)
+    (os os2 : ObjectTable) → PutsObject o (Some new) os os2 → (0 < new.references → IsReferred os o)
     → HasCopyObjects copies os is_copy_of newest_of pushed_at → HasCopyObjects copies os2 is_copy_of newest_of pushed_at
-copies_put {is_copy_of = is_copy_of} {copies = copies} o row new os os2 found put has =
-    record {
-      are = λ x its is. elim (known_cases o new os os2 put x) [
-        | inl this ↦ has.are x row (ap (object_at os) (sym this.0) ∙ found)
-        | inr other ↦ has.are x its (sym other.1 ∙ is)
-      ];
-      known = λ c its is. known_still o new os os2 put c (has.known c its is);
-      newest = λ f c is there. has.newest f c is (before c there);
-      last = has.last;
-      had = has.had;
-    }
-  where
-    before : (c : ℕ) → IsSome (object_at os2 c) → IsSome (object_at os c)
-    before c there = elim (known_cases o new os os2 put c) [
-      | inl this ↦ ap is_some (ap (object_at os) (sym this.0) ∙ found)
-      | inr other ↦ ap is_some (sym other.1) ∙ there
-    ]
+copies_put o new os os2 put before has = copies_fewer (referred_before o new os os2 put before) (unknown_before o new os os2 put) has
 
--- one more object is known that is no copy, nor any file's newest
+-- one more object is known, or referred to, that is no copy, nor any file's newest
 pub copies_new : {is_copy_of : ℕ → Bool} {newest_of : ℕ → Option ℕ} {pushed_at : ℕ → ℕ → Bool} {copies : CopyTable} (o : ℕ) (new : ObjectRow)
-    (os os2 : ObjectTable) → object_at os o ≡ None → PutsObject o (Some new) os os2 → is_copy_of o ≡ false → ((f : ℕ) → newest_of f ≡ Some o → ⊥)
+    (os os2 : ObjectTable) → PutsObject o (Some new) os os2 → is_copy_of o ≡ false → ((f : ℕ) → newest_of f ≡ Some o → ⊥)
     → HasCopyObjects copies os is_copy_of newest_of pushed_at → HasCopyObjects copies os2 is_copy_of newest_of pushed_at
-copies_new {is_copy_of = is_copy_of} {newest_of = newest_of} {copies = copies} o new os os2 none put plain bare has =
+copies_new {is_copy_of = is_copy_of} {newest_of = newest_of} {copies = copies} o new os os2 put plain bare has =
     record {
-      are = λ x its is. elim (known_cases o new os os2 put x) [
-        | inl this ↦
-            ap is_copy_of (sym this.0) ∙ (plain ∙ sym (ap is_some (ap (copy_at copies) (sym this.0) ∙ unknown_plain o has none)))
-        | inr other ↦ has.are x its (sym other.1 ∙ is)
+      are = λ x referred. elim (eqb_tells o x) [
+        | inl this ↦ ap is_copy_of (sym this.1) ∙ (plain ∙ sym (ap is_some (ap (copy_at copies) (sym this.1) ∙ plain_row o has plain)))
+        | inr other ↦ has.are x (referred_other o new os os2 put x other.1 referred)
       ];
-      known = λ c its is. known_still o new os os2 put c (has.known c its is);
-      newest = λ f c is there. elim (known_cases o new os os2 put c) [
-        | inl this ↦ absurd (bare f (is ∙ ap (λ (z : ℕ). Some z) (sym this.0)))
-        | inr other ↦ has.newest f c is (ap is_some (sym other.1) ∙ there)
+      copy = has.copy;
+      newest = λ f c is referred. elim (eqb_tells o c) [
+        | inl this ↦ absurd (bare f (is ∙ ap (λ (z : ℕ). Some z) (sym this.1)))
+        | inr other ↦ has.newest f c is (referred_other o new os os2 put c other.1 referred)
       ];
       last = has.last;
       had = has.had;
+      unpushed = λ x p none. has.unpushed x p (unknown_before o new os os2 put x none);
     }
 
 -- a file gets a copy object, which is its newest now and has had no page
@@ -156,22 +168,23 @@ pub record IsNewCopy (source copy : ℕ) (is_copy_of is_copy2 : ℕ → Bool) (n
   pub unmade : (f : ℕ) → newest_of f ≡ Some copy → ⊥
 
 pub copies_begun : {is_copy_of is_copy2 : ℕ → Bool} {newest_of newest2 : ℕ → Option ℕ} {pushed_at pushed2 : ℕ → ℕ → Bool} {copies copies2 : CopyTable}
-    (source copy : ObjectId) (row : CopyRow) (new : ObjectRow) (os os2 : ObjectTable) → object_at os copy.0 ≡ None → PutsObject copy.0 (Some new) os os2
+    (source copy : ObjectId) (row : CopyRow) (new : ObjectRow) (os os2 : ObjectTable) → PutsObject copy.0 (Some new) os os2
     → BeginsCopy source copy row copies copies2 → IsNewCopy source.0 copy.0 is_copy_of is_copy2 newest_of newest2 pushed_at pushed2
     → HasCopyObjects copies os is_copy_of newest_of pushed_at → HasCopyObjects copies2 os2 is_copy2 newest2 pushed2
 copies_begun {is_copy_of = is_copy_of} {is_copy2 = is_copy2} {newest_of = newest_of} {newest2 = newest2} {pushed_at = pushed_at} {pushed2 = pushed2}
-    {copies = copies} {copies2 = copies2} source copy row new os os2 none put begins says has =
+    {copies = copies} {copies2 = copies2} source copy row new os os2 put begins says has =
     record {
-      are = λ x its is. elim (known_cases copy.0 new os os2 put x) [
-        | inl this ↦ subst (λ (z : ℕ). is_copy2 z ≡ is_some (copy_at copies2 z)) this.0
-            (says.copies copy.0 ∙ (ap (λ b. b || is_copy_of copy.0) (itself copy.0) ∙ sym (ap is_some here)))
-        | inr other ↦ copy_else x (λ same. other.0 same) ∙ (has.are x its (sym other.1 ∙ is) ∙ ap is_some (sym (row_else x other.0)))
+      are = λ x referred. elim (eqb_tells copy.0 x) [
+        | inl this ↦ subst (λ (z : ℕ). is_copy2 z ≡ is_some (copy_at copies2 z)) this.1 (is_one ∙ sym (ap is_some here))
+        | inr other ↦
+            copy_else x other.1
+            ∙ (has.are x (referred_other copy.0 new os os2 put x other.1 referred) ∙ ap is_some (sym (row_else x other.1)))
       ];
-      known = λ c its is. elim (one_case copy.0 c (Some row) (copy_at copies c) (copy_at copies2 c) (begins.put.at c)) [
-        | inl this ↦ subst (λ (z : ℕ). IsSome (object_at os2 z)) this.0 (ap is_some (known_put copy.0 new os os2 put))
-        | inr other ↦ known_still copy.0 new os os2 put c (has.known c its (sym other.1 ∙ is))
+      copy = λ c its is. elim (eqb_tells copy.0 c) [
+        | inl this ↦ ap is_copy2 (sym this.1) ∙ is_one
+        | inr other ↦ copy_else c other.1 ∙ has.copy c its (sym (row_else c other.1) ∙ is)
       ];
-      newest = λ f c is there. newest_now f c is there;
+      newest = λ f c is referred. newest_now f c is referred;
       last = λ f c is. elim (one_case source.0 f (Some copy) (newest_at copies f) (newest_at copies2 f) (begins.newest.at f)) [
         | inl this ↦ newest_its f (sym this.0) ∙ ap (λ (z : ObjectId). Some z.0) (some_is copy c (sym this.1 ∙ is))
         | inr other ↦ newest_else f (λ same. other.0 (sym same)) ∙ has.last f c (sym other.1 ∙ is)
@@ -180,8 +193,12 @@ copies_begun {is_copy_of = is_copy_of} {is_copy2 = is_copy2} {newest_of = newest
         | inl this ↦ this.1 ∙ sym (says.pushed c p ∙ (ap (λ z. pushed_at z p) (sym this.0) ∙ says.bare p))
         | inr other ↦ other.1 ∙ (has.had c its (sym (row_else c other.0) ∙ is) p ∙ sym (says.pushed c p))
       ];
+      unpushed = λ o p none. says.pushed o p ∙ has.unpushed o p (unknown_before copy.0 new os os2 put o none);
     }
   where
+    is_one : is_copy2 copy.0 ≡ true
+    is_one = says.copies copy.0 ∙ ap (λ b. b || is_copy_of copy.0) (itself copy.0)
+
     here : copy_at copies2 copy.0 ≡ Some row
     here = if_true copy.0 (Some row) (copy_at copies copy.0) (copy_at copies2 copy.0) (begins.put.at copy.0)
 
@@ -209,54 +226,17 @@ copies_begun {is_copy_of = is_copy_of} {is_copy2 = is_copy2} {newest_of = newest
       | inr other ↦ says.newest f ∙ ap (λ b. if b then Some copy.0 else newest_of f) other.0
     ]
 
-    newest_now : (f c : ℕ) → newest2 f ≡ Some c → IsSome (object_at os2 c) → newest_at copies2 f ≡ Some (record { 0 = c })
-    newest_now f c is there = elim (one_case source.0 f (Some copy) (newest_at copies f) (newest_at copies2 f) (begins.newest.at f)) [
+    newest_now : (f c : ℕ) → newest2 f ≡ Some c → IsReferred os2 c → newest_at copies2 f ≡ Some (record { 0 = c })
+    newest_now f c is referred = elim (one_case source.0 f (Some copy) (newest_at copies f) (newest_at copies2 f) (begins.newest.at f)) [
       | inl this ↦ this.1 ∙ ap (λ (z : ℕ). Some (record { 0 = z })) (some_is copy.0 c (sym (newest_its f (sym this.0)) ∙ is))
       | inr other ↦
           let was : newest_of f ≡ Some c = sym (newest_else f (λ same. other.0 (sym same))) ∙ is in
-          other.1 ∙ has.newest f c was (before f c was there)
+          other.1 ∙ has.newest f c was (before f c was referred)
     ]
       where
-        before : (g d : ℕ) → newest_of g ≡ Some d → IsSome (object_at os2 d) → IsSome (object_at os d)
-        before g d its known = elim (known_cases copy.0 new os os2 put d) [
-          | inl this ↦ absurd (says.unmade g (its ∙ ap (λ (z : ℕ). Some z) (sym this.0)))
-          | inr apart ↦ ap is_some (sym apart.1) ∙ known
-        ]
-
--- an object goes
-
--- what is known is another
-gone_cases : (o : ℕ) (os os2 : ObjectTable) → PutsObject o None os os2 → (x : ℕ) → IsSome (object_at os2 x) → (o ≡ x → ⊥) × (object_at os2 x ≡ object_at os x)
-gone_cases o os os2 put x there = elim (one_case o x None (object_at os x) (object_at os2 x) (put.at x)) [
-  | inl this ↦ let known = is_known (object_at os2 x) there in no_row (object_at os2 x) known.0 this.1 known.1
-  | inr other ↦ other
-]
-
-gone_known : (o : ℕ) (os os2 : ObjectTable) → PutsObject o None os os2 → (x : ℕ) → (o ≡ x → ⊥) → IsSome (object_at os x) → IsSome (object_at os2 x)
-gone_known o os os2 put x apart there = elim (one_case o x None (object_at os x) (object_at os2 x) (put.at x)) [
-  | inl this ↦ absurd (apart this.0)
-  | inr other ↦ ap is_some other.1 ∙ there
-]
-
--- one that is no copy
-pub copies_gone : {is_copy_of : ℕ → Bool} {newest_of : ℕ → Option ℕ} {pushed_at : ℕ → ℕ → Bool} {copies : CopyTable} (o : ℕ) (os os2 : ObjectTable)
-    → copy_at copies o ≡ None → PutsObject o None os os2 → HasCopyObjects copies os is_copy_of newest_of pushed_at
-    → HasCopyObjects copies os2 is_copy_of newest_of pushed_at
-copies_gone {copies = copies} o os os2 none put has =
-    record {
-      are = λ x its is. has.are x its (sym (gone_cases o os os2 put x (ap is_some is)).1 ∙ is);
-      known = λ c its is. gone_known o os os2 put c (λ same. no_row (copy_at copies o) its none (ap (copy_at copies) same ∙ is)) (has.known c its is);
-      newest = λ f c is there. has.newest f c is (ap is_some (sym (gone_cases o os os2 put c there).1) ∙ there);
-      last = has.last;
-      had = has.had;
-    }
-
--- a copy object ends in both tables; where it was its file's newest, that has none now
-pub record EndsCopy (o : ℕ) (row : CopyRow) (old new : CopyTable) : Type 0 where
-  pub found : copy_at old o ≡ Some row
-  pub copy : PutsCopy o None old new
-  pub had : ClearsHad o old new
-  pub newest : PutsNewest row.source.0 (other_than o (newest_at old row.source.0)) old new
+        before : (g d : ℕ) → newest_of g ≡ Some d → IsReferred os2 d → IsReferred os d
+        before g d its referred =
+            referred_other copy.0 new os os2 put d (λ same. says.unmade g (its ∙ ap (λ (z : ℕ). Some z) (sym same))) referred
 
 other_is : (o c : ℕ) → (o ≡ c → ⊥) → other_than o (Some (record { 0 = c })) ≡ Some (record { 0 = c })
 other_is o c apart = elim (eqb_tells c o) [
@@ -289,40 +269,48 @@ ended_newest {o = o} {row = row} {copies = copies} {copies2 = copies2} ends f c 
       | inr other ↦ other.1 ∙ was
     ]
 
-pub copies_ended : {is_copy_of : ℕ → Bool} {newest_of : ℕ → Option ℕ} {pushed_at : ℕ → ℕ → Bool} {copies copies2 : CopyTable} (o : ℕ) (row : CopyRow)
-    (os os2 : ObjectTable) → EndsCopy o row copies copies2 → PutsObject o None os os2 → HasCopyObjects copies os is_copy_of newest_of pushed_at
-    → HasCopyObjects copies2 os2 is_copy_of newest_of pushed_at
-copies_ended {newest_of = newest_of} {pushed_at = pushed_at} {copies = copies} {copies2 = copies2} o row os os2 ends put has =
-    record {
-      are = λ x its is.
-          let other = gone_cases o os os2 put x (ap is_some is) in
-          has.are x its (sym other.1 ∙ is) ∙ ap is_some (sym (beside x other.0));
-      known = λ c its is. let was = before c its is in gone_known o os os2 put c was.0 (has.known c its was.1);
-      newest = λ f c is there.
-          let other = gone_cases o os os2 put c there in
-          ended_newest ends f c other.0 (has.newest f c is (ap is_some (sym other.1) ∙ there));
-      last = λ f c is. has.last f c (newest_was f c is);
-      had = λ c its is p. let was = before c its is in ended_had ends c p was.0 ∙ has.had c its was.1 p;
-    }
-  where
-    beside : (x : ℕ) → (o ≡ x → ⊥) → copy_at copies2 x ≡ copy_at copies x
-    beside x apart = elim (one_case o x None (copy_at copies x) (copy_at copies2 x) (ends.copy.at x)) [
-      | inl this ↦ absurd (apart this.0)
-      | inr other ↦ other.1
+-- what is a file's newest now was so before
+pub newest_was : {o : ℕ} {row : CopyRow} {copies copies2 : CopyTable} → EndsCopy o row copies copies2 → (f : ℕ) (c : ObjectId) → newest_at copies2 f ≡ Some c
+    → newest_at copies f ≡ Some c
+newest_was {o = o} {row = row} {copies = copies} {copies2 = copies2} ends f c is =
+    elim (one_case row.source.0 f (other_than o (newest_at copies row.source.0)) (newest_at copies f) (newest_at copies2 f) (ends.newest.at f)) [
+      | inl this ↦ ap (newest_at copies) (sym this.0) ∙ other_was o (newest_at copies row.source.0) c (sym this.1 ∙ is)
+      | inr other ↦ sym other.1 ∙ is
     ]
 
-    before : (c : ℕ) (its : CopyRow) → copy_at copies2 c ≡ Some its → (o ≡ c → ⊥) × (copy_at copies c ≡ Some its)
-    before c its is = elim (one_case o c None (copy_at copies c) (copy_at copies2 c) (ends.copy.at c)) [
+-- the rows of the others stay
+pub ended_row : {o : ℕ} {row : CopyRow} {copies copies2 : CopyTable} → EndsCopy o row copies copies2 → (x : ℕ) → (o ≡ x → ⊥)
+    → copy_at copies2 x ≡ copy_at copies x
+ended_row {o = o} {copies = copies} {copies2 = copies2} ends x apart = elim (one_case o x None (copy_at copies x) (copy_at copies2 x) (ends.gone.at x)) [
+  | inl this ↦ absurd (apart this.0)
+  | inr other ↦ other.1
+]
+
+-- and each that is there is another's
+pub ended_before : {o : ℕ} {row : CopyRow} {copies copies2 : CopyTable} → EndsCopy o row copies copies2 → (c : ℕ) (its : CopyRow)
+    → copy_at copies2 c ≡ Some its → (o ≡ c → ⊥) × (copy_at copies c ≡ Some its)
+ended_before {o = o} {copies = copies} {copies2 = copies2} ends c its is =
+    elim (one_case o c None (copy_at copies c) (copy_at copies2 c) (ends.gone.at c)) [
       | inl this ↦ no_row (copy_at copies2 c) its this.1 is
       | inr other ↦ (other.0, sym other.1 ∙ is)
     ]
 
-    newest_was : (f : ℕ) (c : ObjectId) → newest_at copies2 f ≡ Some c → newest_at copies f ≡ Some c
-    newest_was f c is =
-        elim (one_case row.source.0 f (other_than o (newest_at copies row.source.0)) (newest_at copies f) (newest_at copies2 f) (ends.newest.at f)) [
-          | inl this ↦ ap (newest_at copies) (sym this.0) ∙ other_was o (newest_at copies row.source.0) c (sym this.1 ∙ is)
-          | inr other ↦ sym other.1 ∙ is
-        ]
+-- a copy object ends to which nothing refers
+pub copies_ended : {is_copy_of : ℕ → Bool} {newest_of : ℕ → Option ℕ} {pushed_at : ℕ → ℕ → Bool} {copies copies2 : CopyTable} {os : ObjectTable}
+    (o : ℕ) (row : CopyRow) → EndsCopy o row copies copies2 → (IsReferred os o → ⊥) → HasCopyObjects copies os is_copy_of newest_of pushed_at
+    → HasCopyObjects copies2 os is_copy_of newest_of pushed_at
+copies_ended {os = os} o row ends none has =
+    record {
+      are = λ x referred. has.are x referred ∙ ap is_some (sym (ended_row ends x (apart x referred)));
+      copy = λ c its is. has.copy c its (ended_before ends c its is).1;
+      newest = λ f c is referred. ended_newest ends f c (apart c referred) (has.newest f c is referred);
+      last = λ f c is. has.last f c (newest_was ends f c is);
+      had = λ c its is p. let was = ended_before ends c its is in ended_had ends c p was.0 ∙ has.had c its was.1 p;
+      unpushed = has.unpushed;
+    }
+  where
+    apart : (x : ℕ) → IsReferred os x → o ≡ x → ⊥
+    apart x referred same = none (subst (λ (z : ℕ). IsReferred os z) (sym same) referred)
 
 -- a page comes to a place
 
@@ -340,30 +328,48 @@ pushed_raised at lower lower_page upper upper_page past c p =
     by true = refl
     by false = refl
 
+-- that is one of an object that is known
+unpushed_noted : {is_copy_of : ℕ → Bool} {newest_of : ℕ → Option ℕ} {pushed_at pushed2 : ℕ → ℕ → Bool} {copies : CopyTable} {os : ObjectTable}
+    (key : PageKey) → IsSome (object_at os key.object.0) → PushesInto key pushed_at pushed2 → HasCopyObjects copies os is_copy_of newest_of pushed_at
+    → (o p : ℕ) → object_at os o ≡ None → pushed2 o p ≡ false
+unpushed_noted {pushed_at = pushed_at} {os = os} key known pushes has o p none = elim (eqb_tells key.object.0 o) [
+  | inl this ↦ let its = is_known (object_at os key.object.0) known in no_row (object_at os key.object.0) its.0 (ap (object_at os) this.1 ∙ none) its.1
+  | inr other ↦ pushes o p ∙ (ap (λ b. if b && (key.page.0 == p) then true else pushed_at o p) other.0 ∙ has.unpushed o p none)
+]
+
 -- so each copy object has had what was copied up into it still
 pub copies_noted : {is_copy_of : ℕ → Bool} {newest_of : ℕ → Option ℕ} {pushed_at pushed2 : ℕ → ℕ → Bool} {copies copies2 : CopyTable} {os : ObjectTable}
-    (key : PageKey)
+    (key : PageKey) → IsSome (object_at os key.object.0)
     → Notes key copies copies2 → PushesInto key pushed_at pushed2 → HasCopyObjects copies os is_copy_of newest_of pushed_at
     → HasCopyObjects copies2 os is_copy_of newest_of pushed2
-copies_noted {is_copy_of = is_copy_of} {newest_of = newest_of} {pushed_at = pushed_at} {pushed2 = pushed2} {copies = copies} {os = os} key
+copies_noted {is_copy_of = is_copy_of} {newest_of = newest_of} {pushed_at = pushed_at} {pushed2 = pushed2} {copies = copies} {os = os} key known
     (OfOther none same) pushes has =
-    subst (λ (z : CopyTable). HasCopyObjects z os is_copy_of newest_of pushed2) (sym same) (copies_silent has (λ o row found. refl) (λ f. refl) unpushed)
+    subst (λ (z : CopyTable). HasCopyObjects z os is_copy_of newest_of pushed2) (sym same)
+    (record {
+      are = has.are;
+      copy = has.copy;
+      newest = has.newest;
+      last = has.last;
+      had = λ c row found p. has.had c row found p ∙ sym (beside c p row found);
+      unpushed = unpushed_noted key known pushes has;
+    })
   where
-    unpushed : (c p : ℕ) (row : CopyRow) → copy_at copies c ≡ Some row → pushed2 c p ≡ pushed_at c p
-    unpushed c p row found = elim (eqb_tells key.object.0 c) [
+    beside : (c p : ℕ) (row : CopyRow) → copy_at copies c ≡ Some row → pushed2 c p ≡ pushed_at c p
+    beside c p row found = elim (eqb_tells key.object.0 c) [
       | inl this ↦ no_row (copy_at copies key.object.0) row none (ap (copy_at copies) this.1 ∙ found)
       | inr other ↦ pushes c p ∙ ap (λ b. if b && (key.page.0 == p) then true else pushed_at c p) other.0
     ]
-copies_noted {is_copy_of = is_copy_of} {pushed_at = pushed_at} {pushed2 = pushed2} {copies = copies} {copies2 = copies2} {os = os} key
-    (OfCopy row found put noted newest) pushes has =
+copies_noted {is_copy_of = is_copy_of} {pushed_at = pushed_at} {pushed2 = pushed2} {copies = copies} {copies2 = copies2} {os = os} key known
+    (OfCopy row found put noted newest room) pushes has =
     record {
-      are = λ o its is. has.are o its is ∙ sym (known_same o);
-      known = λ c its is. let was = is_known (copy_at copies c) (sym (known_same c) ∙ ap is_some is) in has.known c was.0 was.1;
-      newest = λ f c is there. newest_same f ∙ has.newest f c is there;
+      are = λ o referred. has.are o referred ∙ sym (known_same o);
+      copy = λ c its is. let was = is_known (copy_at copies c) (sym (known_same c) ∙ ap is_some is) in has.copy c was.0 was.1;
+      newest = λ f c is referred. newest_same f ∙ has.newest f c is referred;
       last = λ f c is. has.last f c (sym (newest_same f) ∙ is);
       had = λ c its is p.
           let was = is_known (copy_at copies c) (sym (known_same c) ∙ ap is_some is) in
           noted.at c p ∙ (ap (λ z. if (key.object.0 == c) && (key.page.0 == p) then true else z) (has.had c was.0 was.1 p) ∙ sym (pushes c p));
+      unpushed = unpushed_noted key known pushes has;
     }
   where
     known_same : (c : ℕ) → is_some (copy_at copies2 c) ≡ is_some (copy_at copies c)
@@ -428,14 +434,14 @@ pub owed_told : {header : Header} {h : ℕ} {chains : ChainTable} {objects : Obj
     → ((r : ℕ) → named header ≤ r → in_use header h r past ≡ true → (row : RegionRow) × (region_at chains r ≡ Some row))
     → HasCopies copies objects h past → (o p c : ℕ) → OwesPush header h o p c past → owed_at copies (page_key o p) ≡ Some (page_key c p)
 owed_told {header = header} {h = h} {objects = objects} {copies = copies} {past = past} regions homes there has o p c owes =
-    ap (owed_of copies (record { 0 = p })) (has.newest o c owes.newest (ap is_some known.known))
+    ap (owed_of copies (record { 0 = p })) (has.newest o c owes.newest known)
     ∙ ap (λ b. if b then None else Some (page_key c p)) (has.had c its.0 its.1 p ∙ owes.unpushed)
   where
     known : IsReferred objects c
     known = temporary_down regions homes (λ r. in_use header h r past) there c (copy_temporary header o c past homes owes.newest) owes.lives
 
     its : (row : CopyRow) × (copy_at copies c ≡ Some row)
-    its = copy_row c known.row has known.known (newest_is_copy o c past owes.newest)
+    its = copy_row c has known (newest_is_copy o c past owes.newest)
 
 -- and the other way round, where what is known is reached, and each newest copy is known and stands on its file
 pub told_owed : {header : Header} {h : ℕ} {parts : HostParts} {chains : ChainTable} {objects : ObjectTable} {copies : CopyTable} {ids : Ids}
@@ -466,8 +472,7 @@ told_owed {header = header} {h = h} {parts = parts} {chains = chains} {objects =
     on = stands o place.object first
 
     its : (row : CopyRow) × (copy_at copies place.object.0 ≡ Some row)
-    its = copy_row place.object.0 (shadows place.object.0 on.row on.found).row has (shadows place.object.0 on.row on.found).known
-        (newest_is_copy o place.object.0 past newest)
+    its = copy_row place.object.0 has (shadows place.object.0 on.row on.found) (newest_is_copy o place.object.0 past newest)
 
 -- a store that waits to push its page owes it, and the place is asked
 pub push_told : {header : Header} {h : ℕ} {parts : HostParts} {chains : ChainTable} {copies : CopyTable} {ids : Ids}

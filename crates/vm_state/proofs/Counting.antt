@@ -5,7 +5,7 @@ use Rattle.std.specs.Prelude.{if◌then◌else◌}
 use Rattle.vm_base.specs.declared.ids.ObjectId.{ObjectId}
 use Rattle.vm_parts.proofs.Rows.{if_true, one_case}
 use Rattle.vm_parts.specs.Changes.{one}
-use Rattle.vm_shadow.specs.Chains.{ChainTable, CopiesRegion, DropsShadow, PutsRegion, ShadowsRegion, copy_of, region_at, shadow_at}
+use Rattle.vm_shadow.specs.Chains.{ChainTable, CopiesRegion, DropsShadow, PutsRegion, Rebases, ShadowsRegion, copy_of, region_at, shadow_at}
 use Rattle.vm_shadow.specs.declared.region_row.RegionRow.{RegionRow}
 use Rattle.vm_shadow.specs.declared.shadow_row.ShadowRow.{ShadowRow}
 use Rattle.vm_state.specs.References.{is_backing, is_over, references_to, tally}
@@ -120,6 +120,45 @@ references_shadowed cs cs2 rm om region object row there less next shadows x =
     ∙ ap (λ z. one (is_backing x z)) (if_true object.0 (Some (record { under = row.top; shift = row.shift })) (shadow_at cs object.0)
     (shadow_at cs2 object.0) (shadows.under object.0)) in
     omega (arith, tops, was, now, unders, under, backing)
+
+-- a region is made over an object that was made before
+pub references_over : (cs cs2 : ChainTable) (rm om : ℕ) (row : RegionRow) → PutsRegion rm (Some row) cs cs2 → (x : ℕ)
+    → references_to cs2 (rm + 1) om x ≡ references_to cs rm om x + one (row.top.0 == x)
+references_over cs cs2 rm om row put x =
+    let tops = tally_same (λ r. is_over x (region_at cs r)) (λ r. is_over x (region_at cs2 r)) rm
+    (λ r below. ap (is_over x) (elsewhere rm r (Some row) (region_at cs r) (region_at cs2 r) (put.at r) (λ e. omega (arith, e, below)))) in
+    let top = tally_next (λ r. is_over x (region_at cs2 r)) rm in
+    let unders = tally_same (λ o. is_backing x (shadow_at cs o)) (λ o. is_backing x (shadow_at cs2 o)) om
+    (λ o below. ap (λ f. is_backing x (f o)) put.shadows) in
+    let now : one (is_over x (region_at cs2 rm)) ≡ one (row.top.0 == x) = ap (λ z. one (is_over x z))
+    (if_true rm (Some row) (region_at cs rm) (region_at cs2 rm) (put.at rm)) in
+    omega (arith, tops, top, unders, now)
+
+-- a new object stands on another
+pub references_stood : (cs cs2 : ChainTable) (rm om : ℕ) (under : ObjectId) → Rebases om under cs cs2 → (x : ℕ)
+    → references_to cs2 rm (om + 1) x ≡ references_to cs rm om x + one (under.0 == x)
+references_stood cs cs2 rm om under stands x =
+    let row : ShadowRow = record { under = under; shift = 0 } in
+    let tops = tally_same (λ r. is_over x (region_at cs r)) (λ r. is_over x (region_at cs2 r)) rm (λ r below. ap (λ f. is_over x (f r)) stands.regions) in
+    let unders = tally_same (λ o. is_backing x (shadow_at cs o)) (λ o. is_backing x (shadow_at cs2 o)) om
+    (λ o below. ap (is_backing x) (elsewhere om o (Some row) (shadow_at cs o) (shadow_at cs2 o) (stands.at o) (λ e. omega (arith, e, below)))) in
+    let next = tally_next (λ o. is_backing x (shadow_at cs2 o)) om in
+    let now : one (is_backing x (shadow_at cs2 om)) ≡ one (under.0 == x) = ap (λ z. one (is_backing x z))
+    (if_true om (Some row) (shadow_at cs om) (shadow_at cs2 om) (stands.at om)) in
+    omega (arith, tops, unders, next, now)
+
+-- an object stands on another than before
+pub references_rebased : (cs cs2 : ChainTable) (rm om o : ℕ) (was : ShadowRow) (under : ObjectId) → shadow_at cs o ≡ Some was → o < om
+    → Rebases o under cs cs2 → (x : ℕ) → references_to cs2 rm om x + one (was.under.0 == x) ≡ references_to cs rm om x + one (under.0 == x)
+references_rebased cs cs2 rm om o was under there less stands x =
+    let row : ShadowRow = record { under = under; shift = 0 } in
+    let tops = tally_same (λ r. is_over x (region_at cs r)) (λ r. is_over x (region_at cs2 r)) rm (λ r below. ap (λ f. is_over x (f r)) stands.regions) in
+    let unders = tally_put (λ q. is_backing x (shadow_at cs q)) (λ q. is_backing x (shadow_at cs2 q)) om o less
+    (λ q apart. ap (is_backing x) (elsewhere o q (Some row) (shadow_at cs q) (shadow_at cs2 q) (stands.at q) apart)) in
+    let before : one (is_backing x (shadow_at cs o)) ≡ one (was.under.0 == x) = ap (λ z. one (is_backing x z)) there in
+    let now : one (is_backing x (shadow_at cs2 o)) ≡ one (under.0 == x) = ap (λ z. one (is_backing x z))
+    (if_true o (Some row) (shadow_at cs o) (shadow_at cs2 o) (stands.at o)) in
+    omega (arith, tops, unders, before, now)
 
 -- an object that nothing is over
 pub references_none : (cs : ChainTable) (rm om x : ℕ) → ((r : ℕ) → is_over x (region_at cs r) ≡ false) → ((o : ℕ) → is_backing x (shadow_at cs o) ≡ false)

@@ -14,12 +14,12 @@ use Rattle.vm_objects.specs.Objects.{ObjectTable, PutsAbsent, PutsObject, SameMa
 use Rattle.vm_objects.specs.declared.row.ObjectRow.{ObjectRow}
 use Rattle.vm_objects.specs.declared.row.PagerState.TheVariants.{Without}
 use Rattle.vm_parts.proofs.Rows.{one_case, some_is}
-use Rattle.vm_shadow.specs.Chains.{ChainTable, DropsShadow, PutsRegion, ShadowsRegion, region_at, shadow_at}
+use Rattle.vm_shadow.specs.Chains.{ChainTable, DropsShadow, PutsRegion, Rebases, ShadowsRegion, region_at, shadow_at}
 use Rattle.vm_shadow.specs.declared.ids.Ids.{Ids}
 use Rattle.vm_shadow.specs.declared.region_row.RegionRow.{RegionRow}
 use Rattle.vm_shadow.specs.declared.shadow_row.ShadowRow.{ShadowRow}
 use Rattle.vm_state.proofs.Knowing.{known_cases}
-use Rattle.vm_state.specs.Stands.{HasKinds, HasRegions, IsOfKind}
+use Rattle.vm_state.specs.Stands.{HasKinds, HasRegions, IsOfKind, IsUnderKind}
 
 -- one object is known otherwise
 pub kinds_put : (header : Header) (o : ℕ) (new : ObjectRow) (os os2 : ObjectTable) (cs : ChainTable) → PutsObject o (Some new) os os2 → SameMarks os os2
@@ -124,9 +124,23 @@ kinds_shadowed header r object row os cs cs2 over there temporary new has =
           ];
       unders = λ o shadow found.
           elim (one_case object.0 o (Some (record { under = row.top; shift = row.shift })) (shadow_at cs o) (shadow_at cs2 o) (over.under o)) [
-            | inl this ↦ subst (λ (z : ShadowRow). named header ≤ z.under.0) (some_is _ shadow (sym this.1 ∙ found)) (has.tops r row temporary there)
+            | inl this ↦ subst (λ (z : ShadowRow). IsUnderKind header z.under.0) (some_is _ shadow (sym this.1 ∙ found)) (inl (has.tops r row temporary there))
             | inr other ↦ has.unders o shadow (sym other.1 ∙ found)
           ];
+    }
+
+-- an object stands on another, which is temporary or a file's
+pub kinds_rebased : (header : Header) (o : ℕ) (under : ObjectId) (os : ObjectTable) (cs cs2 : ChainTable) → Rebases o under cs cs2
+    → IsUnderKind header under.0 → HasKinds header os cs → HasKinds header os cs2
+kinds_rebased header o under os cs cs2 stands its has =
+    record {
+      kinds = has.kinds;
+      present = has.present;
+      tops = λ q region temporary found. has.tops q region temporary (sym (ap (λ f. f q) stands.regions) ∙ found);
+      unders = λ x shadow found. elim (one_case o x (Some (record { under = under; shift = 0 })) (shadow_at cs x) (shadow_at cs2 x) (stands.at x)) [
+        | inl this ↦ subst (λ (z : ShadowRow). IsUnderKind header z.under.0) (some_is _ shadow (sym this.1 ∙ found)) its
+        | inr other ↦ has.unders x shadow (sym other.1 ∙ found)
+      ];
     }
 
 -- another number of references leaves an object that is referred to as it is
@@ -164,10 +178,10 @@ pub record IsWhole (header : Header) (r : ℕ) (row : RegionRow) : Type 0 where
 
 pub whole_row : {header : Header} {chains : ChainTable} {objects : ObjectTable} {ids : Ids} {region_from : ℕ → Region}
     {backing_from : ℕ → Backing} {n m : ℕ} {home_from made_for : ℕ → Option ℕ} {used_at : ℕ → ℕ → Bool} {target_from : ℕ → Option Target}
-    {newest_from : ℕ → Option ℕ}
+    {newest_from : ℕ → Option ℕ} {copy_from : ℕ → Bool}
     {regions_made objects_made marked : ℕ}
     → HasRegions chains objects ids region_from backing_from regions_made objects_made marked
-    → AreHomes header n m home_from made_for used_at region_from backing_from target_from newest_from
+    → AreHomes header n m home_from made_for used_at region_from backing_from target_from newest_from copy_from
     → (r : ℕ) (row : RegionRow) → r < named header → region_at chains r ≡ Some row → IsWhole header r row
 whole_row {header = header} has homes r row declared found =
     let is : record { mark = row.marked; top = row.top.0; shift = row.shift; pages = row.pages } ≡ record {
@@ -186,10 +200,10 @@ whole_row {header = header} has homes r row declared found =
 -- a marked region is a temporary one
 pub marked_temporary : {header : Header} {chains : ChainTable} {objects : ObjectTable} {ids : Ids} {region_from : ℕ → Region}
     {backing_from : ℕ → Backing} {n m : ℕ} {home_from made_for : ℕ → Option ℕ} {used_at : ℕ → ℕ → Bool} {target_from : ℕ → Option Target}
-    {newest_from : ℕ → Option ℕ}
+    {newest_from : ℕ → Option ℕ} {copy_from : ℕ → Bool}
     {regions_made objects_made marked : ℕ}
     → HasRegions chains objects ids region_from backing_from regions_made objects_made marked
-    → AreHomes header n m home_from made_for used_at region_from backing_from target_from newest_from
+    → AreHomes header n m home_from made_for used_at region_from backing_from target_from newest_from copy_from
     → (r : ℕ) (row : RegionRow) → region_at chains r ≡ Some row → row.marked ≡ true → named header ≤ r
 marked_temporary {header = header} has homes r row found mark = elim (kind_cases header r) [
   | inl declared ↦ absurd (let whole = whole_row has homes r row declared found in let bad : false ≡ true = sym whole.marked ∙ mark in cc)
@@ -213,20 +227,34 @@ shadow_undeclared header has bare o row found = elim (kind_cases header o) [
 
 pub shadow_temporary : {header : Header} {chains : ChainTable} {objects : ObjectTable} {ids : Ids} {region_from : ℕ → Region}
     {backing_from : ℕ → Backing} {n m : ℕ} {home_from made_for : ℕ → Option ℕ} {used_at : ℕ → ℕ → Bool} {target_from : ℕ → Option Target}
-    {newest_from : ℕ → Option ℕ}
+    {newest_from : ℕ → Option ℕ} {copy_from : ℕ → Bool}
     {regions_made objects_made marked : ℕ}
     → HasRegions chains objects ids region_from backing_from regions_made objects_made marked
-    → AreHomes header n m home_from made_for used_at region_from backing_from target_from newest_from
+    → AreHomes header n m home_from made_for used_at region_from backing_from target_from newest_from copy_from
     → (o : ℕ) (row : ShadowRow) → shadow_at chains o ≡ Some row → named header ≤ o
 shadow_temporary {header = header} has homes o row found = shadow_undeclared header has homes.bare o row found
+
+-- a declared object is at the bottom of each chain
+pub declared_bottom : {header : Header} {chains : ChainTable} {objects : ObjectTable} {ids : Ids} {region_from : ℕ → Region}
+    {backing_from : ℕ → Backing} {n m : ℕ} {home_from made_for : ℕ → Option ℕ} {used_at : ℕ → ℕ → Bool} {target_from : ℕ → Option Target}
+    {newest_from : ℕ → Option ℕ} {copy_from : ℕ → Bool}
+    {regions_made objects_made marked : ℕ}
+    → HasRegions chains objects ids region_from backing_from regions_made objects_made marked
+    → AreHomes header n m home_from made_for used_at region_from backing_from target_from newest_from copy_from
+    → (o : ℕ) → o < named header → shadow_at chains o ≡ None
+declared_bottom {chains = chains} has homes o declared = by (shadow_at chains o) refl
+  where
+    by : (x : Option ShadowRow) → shadow_at chains o ≡ x → x ≡ None
+    by None is = refl
+    by (Some row) is = absurd (let least = shadow_temporary has homes o row is in omega (arith, least, declared))
 
 -- a region over a declared object is that object's own
 pub over_declared : {header : Header} {chains : ChainTable} {objects : ObjectTable} {ids : Ids} {region_from : ℕ → Region}
     {backing_from : ℕ → Backing} {n m : ℕ} {home_from made_for : ℕ → Option ℕ} {used_at : ℕ → ℕ → Bool} {target_from : ℕ → Option Target}
-    {newest_from : ℕ → Option ℕ}
+    {newest_from : ℕ → Option ℕ} {copy_from : ℕ → Bool}
     {regions_made objects_made marked : ℕ}
     → HasRegions chains objects ids region_from backing_from regions_made objects_made marked → HasKinds header objects chains
-    → AreHomes header n m home_from made_for used_at region_from backing_from target_from newest_from → (r : ℕ) (row : RegionRow)
+    → AreHomes header n m home_from made_for used_at region_from backing_from target_from newest_from copy_from → (r : ℕ) (row : RegionRow)
     → region_at chains r ≡ Some row → row.top.0 < named header
     → r ≡ row.top.0
 over_declared {header = header} has kinds homes r row found declared = elim (kind_cases header r) [

@@ -1,11 +1,14 @@
 -- Which files a host knows, where objects are known otherwise and regions get homes.
-use Rattle.std.proofs.Common.{List, Option, Some, ap, arith, inl, inr, subst, sym, true, ℕ, ◌≤◌, ◌∙◌, ◌∷◌, ◌≡◌}
+use Rattle.std.proofs.Common.{List, Option, Some, ap, arith, false, inl, inr, subst, sym, true, ℕ, ◌<◌, ◌≤◌, ◌∙◌, ◌∷◌, ◌≡◌}
 use Rattle.std.proofs.lemmas.Bool.Decides.{eqb_tells}
 use Rattle.std.specs.Prelude.{is_some}
 use Rattle.vm_abroad.proofs.Home.{file_named, home_apart, homes_kept, on_own}
 use Rattle.vm_base.specs.declared.entry.Entry.{Entry}
 use Rattle.vm_base.specs.declared.ids.TaskId.{TaskId}
-use Rattle.vm_legal.specs.Outside.{is_file}
+use Rattle.vm_legal.proofs.Files.{file_paged}
+use Rattle.vm_legal.proofs.Served.{later_paged}
+use Rattle.vm_legal.proofs.Unshared.{paged_tame}
+use Rattle.vm_legal.specs.Outside.{is_file, is_wild}
 use Rattle.vm_model.specs.declared.event.Event.{Event}
 use Rattle.vm_model.specs.declared.event.Event.TheVariants as event
 use Rattle.vm_model.specs.declared.script.Header.{Header}
@@ -15,7 +18,9 @@ use Rattle.vm_model.specs.Named.{named}
 use Rattle.vm_objects.specs.Objects.{ObjectTable, PutsObject, SameObjects, object_at}
 use Rattle.vm_objects.specs.declared.row.ObjectRow.{ObjectRow}
 use Rattle.vm_parts.proofs.Rows.{one_case}
-use Rattle.vm_state.specs.Stands.{KnowsFiles}
+use Rattle.vm_shadow.specs.Chains.{ChainTable}
+use Rattle.vm_state.specs.Pagers.{has_pager}
+use Rattle.vm_state.specs.Stands.{HasKinds, IsUnderKind, KnowsFiles}
 
 -- an object that is known is known otherwise
 pub files_put : (header : Header) (h o : ℕ) (row new : ObjectRow) (os os2 : ObjectTable) (home_from : ℕ → Option ℕ) → object_at os o ≡ Some row
@@ -53,6 +58,17 @@ files_same header h os os2 home_from same files x file = files x file ∙ ap is_
 -- what is temporary is no file
 pub no_file : (header : Header) (r : ℕ) → named header ≤ r → is_file header r ≡ true → ⊥
 no_file header r least file = let less = file_named header r file in omega (arith, less, least)
+
+-- and what is under a shadow isn't wild
+pub under_tame : (header : Header) (o : ℕ) → IsUnderKind header o → is_wild header o ≡ false
+under_tame header o kind = paged_tame header o (elim kind [ inl least ↦ later_paged header o least | inr file ↦ file_paged header o file ])
+
+-- a file to which something refers has a pager
+pub file_has_pager : {header : Header} {objects : ObjectTable} {chains : ChainTable} → HasKinds header objects chains → (o : ℕ) (known : ObjectRow)
+    → is_file header o ≡ true → object_at objects o ≡ Some known → 0 < known.references → has_pager known.state ≡ true
+file_has_pager {header = header} kinds o known file found some =
+    let is = kinds.kinds o known found in
+    sym is.lives ∙ (is.declared (file_named header o file)).told (under_tame header o (inr file)) some
 
 -- a task gets an entry, on a region that is the host's already where it is a file's
 pub files_entered : (header : Header) (h : ℕ) (task : TaskId) (row : Entry) (os : ObjectTable) (past : List Event)

@@ -1,9 +1,10 @@
 -- The frames of a host behind a merge, those of returns that are out, and what the history says of them.
-use Rattle.std.proofs.Common.{◌≡◌, ◌∙◌, ℕ, ◌+◌, ◌≤◌, ◌&&◌, Bool, List, ◌∷◌, Option, Some, None, ap, arith, get_or, not, refl, subst, suc, sym, zero}
+use Rattle.std.proofs.Common.{◌≡◌, ◌∙◌, ℕ, ◌+◌, ◌&&◌, Bool, List, ◌∷◌, Option, Some, None, ap, arith, get_or, not, refl, suc, sym, zero}
 use Rattle.std.specs.Prelude.{◌-◌, if◌then◌else◌, nat_lt}
 use Rattle.vm_abroad.proofs.Home.{on_own}
 use Rattle.vm_abroad.specs.Home.{HaveHomes}
 use Rattle.vm_base.specs.declared.ids.ObjectId.{ObjectId}
+use Rattle.vm_copies.specs.Copies.{CopyTable}
 use Rattle.vm_frames.specs.Frames.{FrameTable, claimed}
 use Rattle.vm_legal.specs.Frames.{FrameChange, GivesSome, Keeps, frames_after, frames_held, pages_gone}
 use Rattle.vm_model.specs.declared.event.Event.{Event}
@@ -23,6 +24,7 @@ use Rattle.vm_resident.specs.declared.page_row.PageRow.{PageRow}
 use Rattle.vm_shadow.specs.Chains.{ChainTable}
 use Rattle.vm_shadow.specs.declared.ids.Ids.{Ids}
 use Rattle.vm_state.proofs.Declared.{shadow_temporary}
+use Rattle.vm_state.proofs.Merging.{lower_temporary}
 use Rattle.vm_state.proofs.PagesMerged.{PagesMerged, here_at, washed_merged}
 use Rattle.vm_state.specs.Merging.{CanMerge}
 use Rattle.vm_state.specs.Places.{known_local, local_of_row, place_of}
@@ -46,8 +48,8 @@ row_here fs None lacked = refl
 row_here fs (Some row) lacked = refl
 
 -- the frames that are held behind it, as the history has them
-pub held_merged : (header : Header) (h : ℕ) (past : List Event) (upper lower : ObjectId) (cs : ChainTable) (os : ObjectTable) (rs : ResidentTable)
-    (fs : FrameTable) {ids : Ids} {rm om marked : ℕ} (can : CanMerge cs os upper.0 lower.0)
+pub held_merged : {copies : CopyTable} (header : Header) (h : ℕ) (past : List Event) (upper lower : ObjectId) (cs : ChainTable) (os : ObjectTable)
+    (rs : ResidentTable) (fs : FrameTable) {ids : Ids} {rm om marked : ℕ} (can : CanMerge copies cs os upper.0 lower.0)
     → HasRegions cs os ids (λ q. region_of header q past) (λ q. backing_of header q past) rm om marked → HasKinds header os cs → HaveHomes header past
     → KnowsPages (named header) os (λ o. pages_made header o past) → object_home upper.0 past ≡ Some h
     → HasPages fs rs os (λ o p. known_local header o p (local header h (place_of o p) past))
@@ -61,7 +63,7 @@ held_merged header h past upper lower cs os rs fs can regions kinds homes knows 
     ∙ (ap (λ n. gone can.link.shift n (pages_made header lower.0 past))
     (sym (knows.at upper.0 can.upper_row (shadow_temporary regions homes upper.0 can.link can.over) can.upper_known))
     ∙ (ap (λ n. gone can.link.shift can.upper_row.pages n)
-    (sym (knows.at lower.0 can.lower_row (subst (λ (z : ℕ). named header ≤ z) can.under (kinds.unders upper.0 can.link can.over)) can.lower_known))
+    (sym (knows.at lower.0 can.lower_row (lower_temporary kinds can) can.lower_known))
     ∙ gone_by (λ o p. (local header h (place_of o p) past).here) (here_at rs) upper.0 lower.0 can.link.shift can.upper_row.pages can.lower_row.pages
     (λ o p. ap (λ (z : Local). z.here) (has.shown o p) ∙ row_here fs (row_at rs o p) (absent_at os o p))))))
   where

@@ -42,6 +42,14 @@ unknown_still o new os os2 put x apart none = elim (known_cases o new os os2 put
   | inr other ↦ other.1 ∙ none
 ]
 
+-- and what isn't known now wasn't before
+pub unknown_before : (o : ℕ) (new : ObjectRow) (os os2 : ObjectTable) → PutsObject o (Some new) os os2 → (x : ℕ) → object_at os2 x ≡ None
+    → object_at os x ≡ None
+unknown_before o new os os2 put x none = elim (known_cases o new os os2 put x) [
+  | inl this ↦ absurd (let bad : None ≡ Some new = sym none ∙ this.1 in cc)
+  | inr other ↦ sym other.1 ∙ none
+]
+
 -- an object that is known isn't one of which nothing is known
 pub known_apart : (o x : ℕ) (row : ObjectRow) (os : ObjectTable) → object_at os o ≡ Some row → object_at os x ≡ None → o ≡ x → ⊥
 known_apart o x row os found none same = let bad : None ≡ Some row = sym none ∙ (ap (object_at os) (sym same) ∙ found) in cc

@@ -3,6 +3,7 @@ pub mod Bare
 pub mod Bypassing
 pub mod Chains
 pub mod Changing
+pub mod CopyFits
 pub mod CopyObjects
 pub mod Copying
 pub mod Counting

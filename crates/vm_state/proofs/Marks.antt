@@ -101,6 +101,20 @@ marked_made header past region object pages new =
     let after = marks_next header n now in
     omega (arith, same, none, before, after)
 
+-- the region of a delayed copy has one
+pub marked_delayed : (header : Header) (past : List Event) (region source : RegionId) (offset pages : ℕ) (copy : ObjectId)
+    → region.0 ≡ next_region header past → marks_of header (event.Delayed region source offset pages copy ∷ past) ≡ marks_of header past + 1
+marked_delayed header past region source offset pages copy new =
+    let now = event.Delayed region source offset pages copy ∷ past in
+    let n = next_region header past in
+    let same = tally_same (is_marked header past) (is_marked header now) n
+    (λ m less. ap (λ b. if b then true else is_marked header past m) (not_self m region.0
+    (λ eq. let small : m < next_region header past = less in omega (arith, eq, new, small)))) in
+    let its : one (is_marked header now n) ≡ 1 = ap (λ b. one (if b then true else is_marked header past n)) (is_self n region.0 (sym new)) in
+    let before = marks_counted header n past in
+    let after = marks_next header n now in
+    omega (arith, same, its, before, after)
+
 -- the marks with that of a source
 abbrev source_marked : Header → List Event → ℕ → ℕ → Bool
 source_marked header past source r = if r == source then true else is_marked header past r

@@ -5,6 +5,7 @@ use Rattle.std.specs.Prelude.{if◌then◌else◌, nat_lt, not}
 use Rattle.vm_abroad.proofs.Home.{on_own}
 use Rattle.vm_abroad.specs.Home.{HaveHomes}
 use Rattle.vm_base.specs.declared.ids.ObjectId.{ObjectId}
+use Rattle.vm_copies.specs.Copies.{CopyTable}
 use Rattle.vm_frames.specs.Frames.{FrameTable}
 use Rattle.vm_model.specs.declared.event.Event.{Event}
 use Rattle.vm_model.specs.declared.event.Event.TheVariants as event
@@ -24,7 +25,7 @@ use Rattle.vm_shadow.specs.Chains.{ChainTable}
 use Rattle.vm_shadow.specs.declared.ids.Ids.{Ids}
 use Rattle.vm_state.proofs.Declared.{shadow_temporary}
 use Rattle.vm_state.proofs.Fresh.{other_test, same_test}
-use Rattle.vm_state.proofs.Merging.{lower_quiet, merged_apart, upper_quiet}
+use Rattle.vm_state.proofs.Merging.{lower_quiet, lower_temporary, merged_apart, upper_quiet}
 use Rattle.vm_state.proofs.Moving.{IsBeyond, IsGone, IsMoved, IsOwn, IsSame, RowNow, row_now}
 use Rattle.vm_state.specs.Merging.{CanMerge, KeepsBytes, MergesObjects, MergesRows}
 use Rattle.vm_state.specs.Pagers.{has_pager, is_ready_state, ready_in}
@@ -55,9 +56,10 @@ pub record AreHere (rs : ResidentTable) (upper lower : ℕ) : Type 0 where
   pub above : (p : ℕ) (row : PageRow) → row_at rs upper p ≡ Some row → row.here ≡ true
   pub below : (p : ℕ) (row : PageRow) → row_at rs lower p ≡ Some row → row.here ≡ true
 
-pub all_here : {header : Header} {cs : ChainTable} {os : ObjectTable} {rs : ResidentTable} {upper lower : ℕ} → HasKinds header os cs → named header ≤ upper
+pub all_here : {copies : CopyTable} {header : Header} {cs : ChainTable} {os : ObjectTable} {rs : ResidentTable} {upper lower : ℕ} → HasKinds header os cs
+    → named header ≤ upper
     → AllReferred cs os rs
-    → ((o p : ℕ) (row : PageRow) → row_at rs o p ≡ Some row → row.here ≡ false → ready_in (object_at os o) ≡ true) → CanMerge cs os upper lower
+    → ((o p : ℕ) (row : PageRow) → row_at rs o p ≡ Some row → row.here ≡ false → ready_in (object_at os o) ≡ true) → CanMerge copies cs os upper lower
     → AreHere rs upper lower
 all_here {os = os} {rs = rs} {upper = upper} {lower = lower} kinds least all ready can =
     record {
@@ -276,8 +278,8 @@ merged_effect header h past upper lower shift up low home link above below o p =
     whole : ℕ → ℕ → ℕ → LocalEffect
     whole = λ n m k. merge_effect upper.0 lower.0 n m k (place_of o p) (places header h past)
 
-pub table_effect : (header : Header) (h : ℕ) (past : List Event) (upper lower : ObjectId) (cs : ChainTable) (os : ObjectTable) {ids : Ids} {rm om marked : ℕ}
-    (can : CanMerge cs os upper.0 lower.0)
+pub table_effect : {copies : CopyTable} (header : Header) (h : ℕ) (past : List Event) (upper lower : ObjectId) (cs : ChainTable) (os : ObjectTable)
+    {ids : Ids} {rm om marked : ℕ} (can : CanMerge copies cs os upper.0 lower.0)
     → HasRegions cs os ids (λ q. region_of header q past) (λ q. backing_of header q past) rm om marked → HasKinds header os cs → HaveHomes header past
     → KnowsPages (named header) os (λ o. pages_made header o past) → object_home upper.0 past ≡ Some h
     → IsMerge header h (event.Merged upper lower) past upper.0 lower.0 can.link.shift can.upper_row.pages can.lower_row.pages
@@ -285,11 +287,11 @@ table_effect header h past upper lower cs os can regions kinds homes knows home 
     merged_effect header h past upper lower can.link.shift can.upper_row.pages can.lower_row.pages home
     (ap (λ (z : Backing). z.shift) (regions.shadows upper.0 can.link can.over))
     (sym (knows.at upper.0 can.upper_row (shadow_temporary regions homes upper.0 can.link can.over) can.upper_known))
-    (sym (knows.at lower.0 can.lower_row (subst (λ (z : ℕ). named header ≤ z) can.under (kinds.unders upper.0 can.link can.over)) can.lower_known))
+    (sym (knows.at lower.0 can.lower_row (lower_temporary kinds can) can.lower_known))
 
 -- the pages of a host behind a merge
-pub shown_merged : (header : Header) (h : ℕ) (past : List Event) (upper lower : ObjectId) (cs cs2 : ChainTable) (os os2 : ObjectTable)
-    (rs rs2 : ResidentTable) (fs fs2 : FrameTable) {ids : Ids} {rm om marked : ℕ} (merges : MergesObjects upper.0 lower.0 cs cs2 os os2)
+pub shown_merged : {copies : CopyTable} (header : Header) (h : ℕ) (past : List Event) (upper lower : ObjectId) (cs cs2 : ChainTable) (os os2 : ObjectTable)
+    (rs rs2 : ResidentTable) (fs fs2 : FrameTable) {ids : Ids} {rm om marked : ℕ} (merges : MergesObjects upper.0 lower.0 cs cs2 copies os os2)
     → MergesRows upper.0 lower.0 merges.can.link.shift merges.can.upper_row.pages rs rs2 → KeepsBytes rs2 fs fs2
     → HasRegions cs os ids (λ q. region_of header q past) (λ q. backing_of header q past) rm om marked → HasKinds header os cs → HaveHomes header past
     → KnowsPages (named header) os (λ o. pages_made header o past) → object_home upper.0 past ≡ Some h → AreHere rs upper.0 lower.0

@@ -33,14 +33,14 @@ use Rattle.vm_state.proofs.Declared.{shadow_temporary}
 use Rattle.vm_state.proofs.MergedPages.{AreHere, IsMerge, all_here, effect_else, effect_upper, places, table_effect, unmoved_away}
 use Rattle.vm_state.proofs.Merging.{StandsNow, lower_quiet, merged_apart, others_stand, stands_now, upper_joined, upper_quiet}
 use Rattle.vm_state.proofs.Moving.{IsBeyond, IsGone, IsMoved, IsOwn, IsSame, Rose, RowNow, RowWas, Stayed, row_now, row_was}
-use Rattle.vm_state.proofs.Passing.{IsQuiet, calm_of, effect_at, only_before, over_leads, stays_quiet, unmet_calm}
+use Rattle.vm_state.proofs.Passing.{IsQuiet, Later, calm_of, effect_at, only_before, over_leads, stays_quiet, unmet_calm}
 use Rattle.vm_state.proofs.Pushing.{asked_same, push_stays}
 use Rattle.vm_state.proofs.Referring.{sole_region, sole_shadow}
 use Rattle.vm_state.proofs.Told.{ready_referred, told_referred}
 use Rattle.vm_state.proofs.Waiting.{IsAwaitedBy, awaited_elsewhere}
 use Rattle.vm_state.specs.Merging.{MergesObjects, MergesRows}
 use Rattle.vm_state.specs.Pagers.{has_pager, ready_in}
-use Rattle.vm_state.specs.Passed.{IsPlaceBehind, IsUnmet, LeadsOver, Passed, StaysAway}
+use Rattle.vm_state.specs.Passed.{IsPlaceBehind, IsUnmet, LeadsOver, Passed, StaysAway, Unmet}
 use Rattle.vm_state.specs.Places.{place_of}
 use Rattle.vm_state.specs.References.{AllReferred, MayLock, is_live_in}
 use Rattle.vm_state.specs.Stands.{HasKinds, HasRegions, KnowsPages}
@@ -235,8 +235,8 @@ unwaited header cs rs os o known kinds all is untold here =
     }
 
 -- a merge by the tables, of two objects for which nobody waits
-record IsUnseen (upper lower : ℕ) (cs cs2 : ChainTable) (os os2 : ObjectTable) (rs rs2 : ResidentTable) : Type 0 where
-  pub merges : MergesObjects upper lower cs cs2 os os2
+record IsUnseen (upper lower : ℕ) (cs cs2 : ChainTable) (copies : CopyTable) (os os2 : ObjectTable) (rs rs2 : ResidentTable) : Type 0 where
+  pub merges : MergesObjects upper lower cs cs2 copies os os2
   pub rows : MergesRows upper lower merges.can.link.shift merges.can.upper_row.pages rs rs2
   pub still : LeadsStill upper lower merges.can.link cs cs2
   pub tops : (r : ℕ) (row : RegionRow) → region_at cs r ≡ Some row → row.top.0 ≡ lower → ⊥
@@ -245,10 +245,10 @@ record IsUnseen (upper lower : ℕ) (cs cs2 : ChainTable) (os os2 : ObjectTable)
   pub above : IsUnwaited rs os upper
   pub below : IsUnwaited rs os lower
 
-module _ {upper lower : ℕ} {cs cs2 : ChainTable} {os os2 : ObjectTable} {rs rs2 : ResidentTable}
-    {stays stays2 unmet unmet2 : PageKey → Type 0}
-    (unseen : IsUnseen upper lower cs cs2 os os2 rs rs2) (keeps : StaysStill upper lower unseen.merges.can.link stays stays2)
-    (meets : (key : PageKey) → (upper ≡ key.object.0 → ⊥) → (lower ≡ key.object.0 → ⊥) → unmet key → unmet2 key) where
+module _ {copies : CopyTable} {upper lower : ℕ} {cs cs2 : ChainTable} {os os2 : ObjectTable} {rs rs2 : ResidentTable}
+    {stays stays2 : PageKey → Type 0} {unmet unmet2 : PageKey → Unmet}
+    (unseen : IsUnseen upper lower cs cs2 copies os os2 rs rs2) (keeps : StaysStill upper lower unseen.merges.can.link stays stays2)
+    (meets : (key : PageKey) → (upper ≡ key.object.0 → ⊥) → (lower ≡ key.object.0 → ⊥) → Later (unmet key) (unmet2 key)) where
   told_above : (o : ℕ) → IsPagerTold os o → upper ≡ o → ⊥
   told_above o told same = unseen.above.pager (subst (λ (z : ℕ). IsPagerTold os z) (sym same) told)
 
@@ -281,7 +281,7 @@ module _ {upper lower : ℕ} {cs cs2 : ChainTable} {os os2 : ObjectTable} {rs rs
       asked_same rs rs2 o p
       (row_same o p (awaited_above (want.Load 0 0) o p (inl asked)) (awaited_below (want.Load 0 0) o p (inl asked))) asked
 
-  push_now : {copies : CopyTable} (maps : Mapped) (task : ℕ) (what : Want) (key : PageKey) → WaitsToPush maps cs copies rs task what key
+  push_now : (maps : Mapped) (task : ℕ) (what : Want) (key : PageKey) → WaitsToPush maps cs copies rs task what key
       → WaitsToPush maps cs2 copies rs2 task what key
   push_now maps task what key push =
       push_stays push (at_merged maps cs cs2 task what push.top unseen.merges.chain.regions push.at) push.owed
@@ -302,55 +302,55 @@ module _ {upper lower : ℕ} {cs cs2 : ChainTable} {os os2 : ObjectTable} {rs rs
   told_now maps task what key place told =
       (told_referred maps cs lower 0 unseen.merges.can.lower_row os os2 unseen.merges.can.lower_known unseen.merges.object).at task what key place told
 
-  reason_now : (copies : CopyTable) (maps : Mapped) (task : ℕ) (what : Want) (why : On) → Reason maps cs copies rs os task what why
-      → Reason maps cs2 copies rs2 os2 task what why
-  reason_now copies maps task what on.Again reason = tt
-  reason_now copies maps task what (on.Ready object) reason =
+  reason_now : (maps : Mapped) (task : ℕ) (what : Want) (why : On) → Reason maps cs copies rs os task what why → Reason maps cs2 copies rs2 os2 task what why
+  reason_now maps task what on.Again reason = tt
+  reason_now maps task what (on.Ready object) reason =
       let told : IsPagerTold os reason.0.object.0 = subst (λ (z : ObjectId). IsPagerTold os z.0) (sym reason.2) reason.3 in (
         reason.0,
         place_now maps task what reason.0 (told_below reason.0.object.0 told) reason.1,
         reason.2,
         subst (λ (z : ObjectId). IsPagerTold os2 z.0) reason.2 (told_now maps task what reason.0 reason.1 told),
       )
-  reason_now copies maps task what (on.Page key) reason =
+  reason_now maps task what (on.Page key) reason =
       (place_now maps task what key (awaited_below what key.object.0 key.page.0 reason.1) reason.0, awaited_now what key.object.0 key.page.0 reason.1)
-  reason_now copies maps task what (on.Push key) reason = push_now maps task what key reason
-  reason_now copies maps task what on.Frame reason = tt
+  reason_now maps task what (on.Push key) reason = push_now maps task what key reason
+  reason_now maps task what on.Frame reason = tt
 
-  passed_now : (copies : CopyTable) (maps : Mapped) (task : ℕ) (what : Want) (why : On) → Reason maps cs copies rs os task what why
-      → Passed stays unmet maps cs task what why
+  passed_now : (maps : Mapped) (task : ℕ) (what : Want) (why : On) → Reason maps cs copies rs os task what why → Passed stays unmet maps cs task what why
       → Passed stays2 unmet2 maps cs2 task what why
-  passed_now copies maps task what on.Again reason passed = tt
-  passed_now copies maps task what (on.Ready object) reason passed =
+  passed_now maps task what on.Again reason passed = tt
+  passed_now maps task what (on.Ready object) reason passed =
       let told : IsPagerTold os passed.0.object.0 = subst (λ (z : ObjectId). IsPagerTold os z.0) (sym passed.2) reason.3 in (
         passed.0,
-        behind_now maps task what passed.0 (told_below passed.0.object.0 told) passed.1,
+        place_now maps task what passed.0 (told_below passed.0.object.0 told) passed.1,
         passed.2,
-        meets passed.0 (told_above passed.0.object.0 told) (told_below passed.0.object.0 told) passed.3,
+        λ none.
+            let later = meets passed.0 (told_above passed.0.object.0 told) (told_below passed.0.object.0 told) in
+            let was = passed.3 (later.before none) in
+            (behind_now maps task what passed.0 (told_below passed.0.object.0 told) was.0, later.still none was.1),
       )
-  passed_now copies maps task what (on.Page key) reason passed =
+  passed_now maps task what (on.Page key) reason passed =
       behind_now maps task what key (awaited_below what key.object.0 key.page.0 reason.1) passed
-  passed_now copies maps task what (on.Push key) reason passed = tt
-  passed_now copies maps task what on.Frame reason passed = tt
+  passed_now maps task what (on.Push key) reason passed = tt
+  passed_now maps task what on.Frame reason passed = tt
 
   -- an access that waits for a page of another object waits for no page of the lower
-  aims_now : (copies : CopyTable) (maps : Mapped) (task : ℕ) (what : Want) (why : On) (key : PageKey) → why ≡ on.Page key
-      → Reason maps cs copies rs os task what why
+  aims_now : (maps : Mapped) (task : ℕ) (what : Want) (why : On) (key : PageKey) → why ≡ on.Page key → Reason maps cs copies rs os task what why
       → IsPlaceOf maps cs task what key → IsPlaceOf maps cs2 task what key
-  aims_now copies maps task what why key same reason place =
+  aims_now maps task what why key same reason place =
       let so : Reason maps cs copies rs os task what (on.Page key) = subst (λ (z : On). Reason maps cs copies rs os task what z) same reason in
       place_now maps task what key (awaited_below what key.object.0 key.page.0 so.1) place
 
-  waits_unseen : {copies : CopyTable} (maps : Mapped) (rows : List Waiting) (who : On → Bool) (waiting_at : ℕ → Option Access) → ((why : On) → who why ≡ false)
+  waits_unseen : (maps : Mapped) (rows : List Waiting) (who : On → Bool) (waiting_at : ℕ → Option Access) → ((why : On) → who why ≡ false)
       → HasWaiters maps cs copies rs os rows who waiting_at stays unmet → HasWaiters maps cs2 copies rs2 os2 rows who waiting_at stays2 unmet2
-  waits_unseen {copies = copies} maps rows who waiting_at nobody has =
+  waits_unseen maps rows who waiting_at nobody has =
       record {
         is = has.is;
         allowed = has.allowed;
         sized = has.sized;
-        reasons = λ t w found asleep. reason_now copies maps t w.want w.on (has.reasons t w found asleep);
-        passed = λ t w found asleep. passed_now copies maps t w.want w.on (has.reasons t w found asleep) (has.passed t w found asleep);
-        aims = λ t w key found waits. aims_now copies maps t w.want w.on key waits (has.reasons t w found (nobody w.on)) (has.aims t w key found waits);
+        reasons = λ t w found asleep. reason_now maps t w.want w.on (has.reasons t w found asleep);
+        passed = λ t w found asleep. passed_now maps t w.want w.on (has.reasons t w found asleep) (has.passed t w found asleep);
+        aims = λ t w key found waits. aims_now maps t w.want w.on key waits (has.reasons t w found (nobody w.on)) (has.aims t w key found waits);
         askers = λ o p row found awaits. asker o p row awaits (row_was unseen.apart unseen.rows o p row found);
         ready = λ o p row found gone. ready_still o p row gone (row_was unseen.apart unseen.rows o p row found);
       }
@@ -401,7 +401,7 @@ stays_merged header h e past upper lower pages low up under is =
       both = λ key next same next_is stays two. (
         stays.0,
         λ only. (stays_quiet header h e past key (quiet_upper header h e past upper lower up.shift pages low is key same
-            (gone key next next_is (two.1 (only_before (named header) h e past only)).away)) stays).1 only,
+            (gone key next next_is (two.1 (only_before header h e past only)).away)) stays).1 only,
       );
     }
   where
@@ -413,10 +413,10 @@ stays_merged header h e past upper lower pages low up under is =
         ∙ (ap (λ n. (page_on header h n (key.page.0 + up.shift) past).here) (sym under)
         ∙ (ap (λ (z : PageKey). (page_on header h z.object.0 z.page.0 past).here) (sym next_is) ∙ away))
 
--- the accesses that wait behind a merge, while nobody is to be woken, of two objects
+-- the accesses that wait behind a merge, while nobody is to be woken
 pub waits_merged : {copies : CopyTable} (header : Header) (h : ℕ) (past : List Event) (upper lower : ObjectId) (maps : Mapped)
     (cs cs2 : ChainTable) (os os2 : ObjectTable) (rs rs2 : ResidentTable) {ids : Ids} {rm om marked : ℕ}
-    (rows : List Waiting) (who : On → Bool) (waiting_at : ℕ → Option Access) (merges : MergesObjects upper.0 lower.0 cs cs2 os os2)
+    (rows : List Waiting) (who : On → Bool) (waiting_at : ℕ → Option Access) (merges : MergesObjects upper.0 lower.0 cs cs2 copies os os2)
     → MergesRows upper.0 lower.0 merges.can.link.shift merges.can.upper_row.pages rs rs2
     → HasRegions cs os ids (λ q. region_of header q past) (λ q. backing_of header q past) rm om marked → HasKinds header os cs → HaveHomes header past
     → AllReferred cs os rs → KnowsPages (named header) os (λ o. pages_made header o past) → object_home upper.0 past ≡ Some h → ((why : On) → who why ≡ false)
@@ -427,10 +427,10 @@ waits_merged {copies = copies} header h past upper lower maps cs cs2 os os2 rs r
     has =
     waits_unseen unseen (stays_merged header h (event.Merged upper lower) past upper.0 lower.0 merges.can.upper_row.pages merges.can.lower_row.pages
     merges.can.link merges.can.under effects)
-    (λ key above below unmet. unmet_calm header h (event.Merged upper lower) past key
+    (λ key above below. unmet_calm header h (event.Merged upper lower) past key
     (calm_of (effect_at header h key (event.Merged upper lower) past)
     (quiet_else header h (event.Merged upper lower) past upper.0 lower.0 merges.can.link.shift
-    merges.can.upper_row.pages merges.can.lower_row.pages effects key above below)) unmet)
+    merges.can.upper_row.pages merges.can.lower_row.pages effects key above below)))
     maps rows who waiting_at nobody has
   where
     least : named header ≤ upper.0
@@ -443,7 +443,7 @@ waits_merged {copies = copies} header h past upper lower maps cs cs2 os os2 rs r
     effects =
         table_effect header h past upper lower cs os merges.can regions kinds homes knows home
 
-    unseen : IsUnseen upper.0 lower.0 cs cs2 os os2 rs rs2
+    unseen : IsUnseen upper.0 lower.0 cs cs2 copies os os2 rs rs2
     unseen = record {
       merges = merges;
       rows = moves;

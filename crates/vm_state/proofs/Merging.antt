@@ -2,7 +2,9 @@
 use Rattle.std.proofs.Common.{◌≡◌, ◌∙◌, ℕ, ◌+◌, ◌<◌, ◌≤◌, ◌==◌, Bool, true, false, List, ◌∷◌, Option, Some, None, ap, arith, refl, sym, subst, inl, inr}
 use Rattle.std.proofs.lemmas.Bool.Decides.{eqb_tells}
 use Rattle.std.specs.Prelude.{◌-◌, ◌^◌, if◌then◌else◌, is_some}
+use Rattle.vm_abroad.proofs.Regions.{kind_cases}
 use Rattle.vm_base.specs.declared.ids.ObjectId.{ObjectId}
+use Rattle.vm_copies.specs.Copies.{CopyTable}
 use Rattle.vm_fault.specs.Walks.{ChainsFit}
 use Rattle.vm_model.specs.declared.event.Event.{Event}
 use Rattle.vm_model.specs.declared.event.Event.TheVariants as event
@@ -30,7 +32,7 @@ use Rattle.vm_state.proofs.Tallies.{tally_put, tally_same}
 use Rattle.vm_state.specs.Merging.{CanMerge, MergesObjects}
 use Rattle.vm_state.specs.Pagers.{has_pager, last_in, live_in, ready_in}
 use Rattle.vm_state.specs.References.{is_backing, is_over, references_to}
-use Rattle.vm_state.specs.Stands.{HasControls, HasHomes, HasKinds, HasRegions, IsOfKind, KnowsFiles, KnowsPages}
+use Rattle.vm_state.specs.Stands.{HasControls, HasHomes, HasKinds, HasRegions, IsOfKind, IsUnderKind, KnowsFiles, KnowsPages}
 use Rattle.vm_terminate.specs.Finishes.{IsReferred}
 
 -- what stands under an object behind the merge
@@ -83,7 +85,8 @@ joined_none up None is = refl
 joined_none up (Some low) is = absurd (let bad : Some (record { under = low.under; shift = up.shift + low.shift }) ≡ None = is in cc)
 
 -- the two are not one
-pub merged_apart : {cs : ChainTable} {os : ObjectTable} {upper lower : ℕ} → IsRanked cs → CanMerge cs os upper lower → upper ≡ lower → ⊥
+pub merged_apart : {copies : CopyTable} {cs : ChainTable} {os : ObjectTable} {upper lower : ℕ} → IsRanked cs → CanMerge copies cs os upper lower
+    → upper ≡ lower → ⊥
 merged_apart {upper = upper} {lower = lower} ranked can same =
     let falls = ranked.under upper can.link can.over in
     let low : ranked.rank can.link.under.0 ≡ ranked.rank lower = ap ranked.rank can.under in
@@ -91,7 +94,7 @@ merged_apart {upper = upper} {lower = lower} ranked can same =
     omega (arith, falls, low, high)
 
 -- the lower loses its reference; what stood under it keeps its own
-references_merged : (cs cs2 : ChainTable) (os : ObjectTable) (rm om upper lower : ℕ) (can : CanMerge cs os upper lower)
+references_merged : {copies : CopyTable} (cs cs2 : ChainTable) (os : ObjectTable) (rm om upper lower : ℕ) (can : CanMerge copies cs os upper lower)
     → MergesShadow upper lower can.link cs cs2 → (upper ≡ lower → ⊥) → upper < om → lower < om → (x : ℕ)
     → references_to cs2 rm om x + one (lower == x) ≡ references_to cs rm om x
 references_merged cs cs2 os rm om upper lower can merges apart upper_less lower_less x =
@@ -134,18 +137,21 @@ joined_seen up low row above below over under is =
     sums = omega arith
 
 -- the upper object is known, and what stands under the two
-upper_known : {cs : ChainTable} {os : ObjectTable} {upper lower : ℕ} (can : CanMerge cs os upper lower) → is_some (object_at os upper) ≡ true
+upper_known : {copies : CopyTable} {cs : ChainTable} {os : ObjectTable} {upper lower : ℕ} (can : CanMerge copies cs os upper lower)
+    → is_some (object_at os upper) ≡ true
 upper_known can = ap is_some can.upper_known
 
 -- what is referred to behind the merge was so before
-referred_was : {upper lower : ℕ} {cs cs2 : ChainTable} {os os2 : ObjectTable} → MergesObjects upper lower cs cs2 os os2 → (o : ℕ) → IsReferred os2 o
+referred_was : {copies : CopyTable} {upper lower : ℕ} {cs cs2 : ChainTable} {os os2 : ObjectTable} → MergesObjects upper lower cs cs2 copies os os2
+    → (o : ℕ) → IsReferred os2 o
     → IsReferred os o
 referred_was {lower = lower} {os = os} {os2 = os2} merges o referred =
     referred_before lower (record merges.can.lower_row { references = 0 }) os os2 merges.object
     (λ some. absurd (let bad : 0 < 0 = some in omega (arith, bad))) o referred
 
 -- and the lower isn't
-lower_unreferred : {upper lower : ℕ} {cs cs2 : ChainTable} {os os2 : ObjectTable} → MergesObjects upper lower cs cs2 os os2 → (o : ℕ) → lower ≡ o
+lower_unreferred : {copies : CopyTable} {upper lower : ℕ} {cs cs2 : ChainTable} {os os2 : ObjectTable} → MergesObjects upper lower cs cs2 copies os os2
+    → (o : ℕ) → lower ≡ o
     → IsReferred os2 o → ⊥
 lower_unreferred {lower = lower} {os = os} {os2 = os2} merges o same referred =
     elim (known_cases lower (record merges.can.lower_row { references = 0 }) os os2 merges.object o) [
@@ -158,11 +164,12 @@ lower_unreferred {lower = lower} {os = os} {os2 = os2} merges o same referred =
     ]
 
 -- the lower is referred to before
-lower_referred : {cs : ChainTable} {os : ObjectTable} {upper lower : ℕ} (can : CanMerge cs os upper lower) → IsReferred os lower
+lower_referred : {copies : CopyTable} {cs : ChainTable} {os : ObjectTable} {upper lower : ℕ} (can : CanMerge copies cs os upper lower) → IsReferred os lower
 lower_referred can = record { row = can.lower_row; known = can.lower_known; some = let one_is = can.sole in omega (arith, one_is) }
 
 -- what stands on the upper's page fits, as on the lower's
-fits_merged : {upper lower : ℕ} {cs cs2 : ChainTable} {os os2 : ObjectTable} → MergesObjects upper lower cs cs2 os os2 → ChainsFit cs os → ChainsFit cs2 os2
+fits_merged : {copies : CopyTable} {upper lower : ℕ} {cs cs2 : ChainTable} {os os2 : ObjectTable} → MergesObjects upper lower cs cs2 copies os os2
+    → ChainsFit cs os → ChainsFit cs2 os2
 fits_merged {upper = upper} {lower = lower} {cs = cs} {cs2 = cs2} {os = os} {os2 = os2} merges fits =
     fits_still cs2 os os2
     (same_pages os os2 lower merges.can.lower_row (record merges.can.lower_row { references = 0 }) merges.can.lower_known refl merges.object) (record {
@@ -185,7 +192,8 @@ fits_merged {upper = upper} {lower = lower} {cs = cs} {cs2 = cs2} {os = os} {os2
     by o row found (IsOther above below is) = fits.unders o row (sym is ∙ found)
 
 -- a rank falls still
-ranks_merged : {upper lower : ℕ} {cs cs2 : ChainTable} {os os2 : ObjectTable} → MergesObjects upper lower cs cs2 os os2 → IsRanked cs → IsRanked cs2
+ranks_merged : {copies : CopyTable} {upper lower : ℕ} {cs cs2 : ChainTable} {os os2 : ObjectTable} → MergesObjects upper lower cs cs2 copies os os2
+    → IsRanked cs → IsRanked cs2
 ranks_merged {upper = upper} {lower = lower} {cs = cs} {cs2 = cs2} merges ranked = by (shadow_at cs lower) refl
   where
     others : (o : ℕ) (row : ShadowRow) → (upper ≡ o → ⊥) → shadow_at cs2 o ≡ Some row → shadow_at cs o ≡ Some row
@@ -210,11 +218,12 @@ ranks_merged {upper = upper} {lower = lower} {cs = cs} {cs2 = cs2} merges ranked
         (ap (shadow_at cs) merges.can.under ∙ found) refl (here ∙ ap (joined merges.can.link) found) others ranked
 
 -- the lower has no reference any more, and what stood under it keeps that one
-pub regions_merged : (header : Header) (past : List Event) (upper lower : ObjectId) (cs cs2 : ChainTable) (os os2 : ObjectTable) (ids : Ids) (rm om marked : ℕ)
-    → MergesObjects upper.0 lower.0 cs cs2 os os2 → HasRegions cs os ids (λ q. region_of header q past) (λ q. backing_of header q past) rm om marked
+pub regions_merged : {copies : CopyTable} (header : Header) (past : List Event) (upper lower : ObjectId) (cs cs2 : ChainTable) (os os2 : ObjectTable)
+    (ids : Ids) (rm om marked : ℕ)
+    → MergesObjects upper.0 lower.0 cs cs2 copies os os2 → HasRegions cs os ids (λ q. region_of header q past) (λ q. backing_of header q past) rm om marked
     → HasRegions cs2 os2 ids (λ q. region_of header q (event.Merged upper lower ∷ past)) (λ q. backing_of header q (event.Merged upper lower ∷ past)) rm om
     marked
-regions_merged header past upper lower cs cs2 os os2 ids rm om marked merges has =
+regions_merged {copies = copies} header past upper lower cs cs2 os os2 ids rm om marked merges has =
     record {
       region = has.region;
       object = has.object;
@@ -235,7 +244,7 @@ regions_merged header past upper lower cs cs2 os os2 ids rm om marked merges has
       counts = counts_still lower.0 new os os2 (references_to cs rm om) (references_to cs2 rm om) merges.object its others has.counts;
     }
   where
-    can : CanMerge cs os upper.0 lower.0
+    can : CanMerge copies cs os upper.0 lower.0
     can = merges.can
 
     new : ObjectRow
@@ -294,7 +303,8 @@ regions_merged header past upper lower cs cs2 os os2 ids rm om marked merges has
     others x apart = let now = fewer x in let none = one_other lower.0 x apart in omega (arith, now, none)
 
 -- the kinds of objects are as they were
-pub kinds_merged : (header : Header) (upper lower : ℕ) (cs cs2 : ChainTable) (os os2 : ObjectTable) → MergesObjects upper lower cs cs2 os os2
+pub kinds_merged : {copies : CopyTable} (header : Header) (upper lower : ℕ) (cs cs2 : ChainTable) (os os2 : ObjectTable)
+    → MergesObjects upper lower cs cs2 copies os os2
     → HasKinds header os cs → HasKinds header os2 cs2
 kinds_merged header upper lower cs cs2 os os2 merges has =
     record {
@@ -312,10 +322,10 @@ kinds_merged header upper lower cs cs2 os os2 merges has =
         kinds_put header lower (record merges.can.lower_row { references = 0 }) os os2 cs merges.object merges.marks
         (kind_referred header lower merges.can.lower_row 0 some (has.kinds lower merges.can.lower_row merges.can.lower_known)) has
 
-    by : (o : ℕ) (row : ShadowRow) → shadow_at cs2 o ≡ Some row → StandsNow upper lower merges.can.link cs cs2 o → named header ≤ row.under.0
+    by : (o : ℕ) (row : ShadowRow) → shadow_at cs2 o ≡ Some row → StandsNow upper lower merges.can.link cs cs2 o → IsUnderKind header row.under.0
     by o row found (IsUpper same is) =
         let join = joined_some merges.can.link row (shadow_at cs lower) (sym is ∙ found) in
-        subst (λ (z : ShadowRow). named header ≤ z.under.0) (sym join.is) (has.unders lower join.low join.below)
+        subst (λ (z : ShadowRow). IsUnderKind header z.under.0) (sym join.is) (has.unders lower join.low join.below)
     by o row found (IsLower above same is) = absurd (let bad : None ≡ Some row = sym is ∙ found in cc)
     by o row found (IsOther above below is) = has.unders o row (sym is ∙ found)
 
@@ -330,24 +340,37 @@ never_told header o known least is some never = by (has_pager known.state) refl
         let number = (is.temporary least).number some in
         absurd (let bad : 0 ≡ 1 = sym never ∙ (number ∙ ap (λ z. if z then 1 else 0) told) in omega (arith, bad))
 
+-- the lower is temporary: a declared object had a control
+pub lower_temporary : {copies : CopyTable} {header : Header} {cs : ChainTable} {os : ObjectTable} {upper lower : ℕ} → HasKinds header os cs
+    → CanMerge copies cs os upper lower → named header ≤ lower
+lower_temporary {header = header} {lower = lower} has can = elim (kind_cases header lower) [
+  | inl less ↦
+      let number = ((has.kinds lower can.lower_row can.lower_known).declared less).number in
+      let never = can.lower_never in
+      absurd (omega (arith, number, never))
+  | inr least ↦ least
+]
+
 -- so no control of the lower lives, nor is a pager of it ready
-pub lower_quiet : {header : Header} {cs : ChainTable} {os : ObjectTable} {upper lower : ℕ} → HasKinds header os cs → (can : CanMerge cs os upper lower)
+pub lower_quiet : {copies : CopyTable} {header : Header} {cs : ChainTable} {os : ObjectTable} {upper lower : ℕ} → HasKinds header os cs
+    → (can : CanMerge copies cs os upper lower)
     → has_pager can.lower_row.state ≡ false
 lower_quiet {header = header} {lower = lower} has can =
-    never_told header lower can.lower_row (subst (λ (z : ℕ). named header ≤ z) can.under (has.unders _ can.link can.over))
+    never_told header lower can.lower_row (lower_temporary has can)
     (has.kinds lower can.lower_row can.lower_known) (let one_is = can.sole in omega (arith, one_is)) can.lower_never
 
 -- nor of the upper
-pub upper_quiet : {header : Header} {cs : ChainTable} {os : ObjectTable} {upper lower : ℕ} → HasKinds header os cs → named header ≤ upper
-    → IsReferred os upper → (can : CanMerge cs os upper lower) → has_pager can.upper_row.state ≡ false
+pub upper_quiet : {copies : CopyTable} {header : Header} {cs : ChainTable} {os : ObjectTable} {upper lower : ℕ} → HasKinds header os cs → named header ≤ upper
+    → IsReferred os upper → (can : CanMerge copies cs os upper lower) → has_pager can.upper_row.state ≡ false
 upper_quiet {header = header} {os = os} {upper = upper} has least referred can =
     never_told header upper can.upper_row least (has.kinds upper can.upper_row can.upper_known)
     (subst (λ (z : ObjectRow). 0 < z.references) (some_is referred.row can.upper_row (sym referred.known ∙ can.upper_known)) referred.some)
     can.upper_never
 
 -- controls are what they were
-pub controls_merged : {declared h : ℕ} {last_at : ℕ → ℕ} {live_at : ℕ → Option ℕ} {ready_at : ℕ → Bool} {home_at : ℕ → Option ℕ} (upper lower : ℕ)
-    (cs cs2 : ChainTable) (os os2 : ObjectTable) → MergesObjects upper lower cs cs2 os os2 → HasControls declared h os last_at live_at ready_at home_at
+pub controls_merged : {copies : CopyTable} {declared h : ℕ} {last_at : ℕ → ℕ} {live_at : ℕ → Option ℕ} {ready_at : ℕ → Bool} {home_at : ℕ → Option ℕ}
+    (upper lower : ℕ)
+    (cs cs2 : ChainTable) (os os2 : ObjectTable) → MergesObjects upper lower cs cs2 copies os os2 → HasControls declared h os last_at live_at ready_at home_at
     → HasControls declared h os2 last_at live_at ready_at home_at
 controls_merged {declared = declared} upper lower cs cs2 os os2 merges has =
     record {
@@ -387,31 +410,32 @@ controls_merged {declared = declared} upper lower cs cs2 os os2 merges has =
     ]
 
 -- regions are on their hosts still
-pub homes_merged : (header : Header) (h upper lower : ℕ) (cs cs2 : ChainTable) (os os2 : ObjectTable) (home_from : ℕ → Option ℕ)
-    → MergesObjects upper lower cs cs2 os os2 → HasHomes header h cs home_from → HasHomes header h cs2 home_from
+pub homes_merged : {copies : CopyTable} (header : Header) (h upper lower : ℕ) (cs cs2 : ChainTable) (os os2 : ObjectTable) (home_from : ℕ → Option ℕ)
+    → MergesObjects upper lower cs cs2 copies os os2 → HasHomes header h cs home_from → HasHomes header h cs2 home_from
 homes_merged header h upper lower cs cs2 os os2 home_from merges homes r row paged found = homes r row paged (sym (ap (λ f. f r) merges.chain.regions) ∙ found)
 
 -- the same files are known
-pub files_merged : (header : Header) (h upper lower : ℕ) (cs cs2 : ChainTable) (os os2 : ObjectTable) (home_from : ℕ → Option ℕ)
-    → MergesObjects upper lower cs cs2 os os2 → KnowsFiles header h os home_from → KnowsFiles header h os2 home_from
+pub files_merged : {copies : CopyTable} (header : Header) (h upper lower : ℕ) (cs cs2 : ChainTable) (os os2 : ObjectTable) (home_from : ℕ → Option ℕ)
+    → MergesObjects upper lower cs cs2 copies os os2 → KnowsFiles header h os home_from → KnowsFiles header h os2 home_from
 files_merged header h upper lower cs cs2 os os2 home_from merges files =
     files_put header h lower merges.can.lower_row (record merges.can.lower_row { references = 0 }) os os2 home_from merges.can.lower_known merges.object files
 
 -- objects have as many pages
-pub pages_merged : (least upper lower : ℕ) (cs cs2 : ChainTable) (os os2 : ObjectTable) (pages_from : ℕ → ℕ) → MergesObjects upper lower cs cs2 os os2
+pub pages_merged : {copies : CopyTable} (least upper lower : ℕ) (cs cs2 : ChainTable) (os os2 : ObjectTable) (pages_from : ℕ → ℕ)
+    → MergesObjects upper lower cs cs2 copies os os2
     → KnowsPages least os pages_from → KnowsPages least os2 pages_from
 pages_merged least upper lower cs cs2 os os2 pages_from merges has =
     sizes_put least lower merges.can.lower_row (record merges.can.lower_row { references = 0 }) os os2 pages_from merges.can.lower_known refl merges.object has
 
 -- What can be merged behind it could be before, into another object it may be, and isn't the lower, which has no reference any more.
-pub record CouldMerge (chains : ChainTable) (objects : ObjectTable) (gone lower : ℕ) : Type 0 where
+pub record CouldMerge (chains : ChainTable) (copies : CopyTable) (objects : ObjectTable) (gone lower : ℕ) : Type 0 where
   pub upper : ℕ
-  pub can : CanMerge chains objects upper lower
+  pub can : CanMerge copies chains objects upper lower
   pub other : gone ≡ lower → ⊥
 
-pub could_merge : {upper lower : ℕ} {cs cs2 : ChainTable} {os os2 : ObjectTable} → MergesObjects upper lower cs cs2 os os2 → (u l : ℕ)
-    → CanMerge cs2 os2 u l → CouldMerge cs os lower l
-could_merge {upper = upper} {lower = lower} {cs = cs} {cs2 = cs2} {os = os} {os2 = os2} merges u l can = by (stands_now merges.chain u)
+pub could_merge : {copies : CopyTable} {upper lower : ℕ} {cs cs2 : ChainTable} {os os2 : ObjectTable} → MergesObjects upper lower cs cs2 copies os os2
+    → (u l : ℕ) → CanMerge copies cs2 os2 u l → CouldMerge cs copies os lower l
+could_merge {copies = copies} {upper = upper} {lower = lower} {cs = cs} {cs2 = cs2} {os = os} {os2 = os2} merges u l can = by (stands_now merges.chain u)
   where
     apart : lower ≡ l → ⊥
     apart same = elim (known_cases lower (record merges.can.lower_row { references = 0 }) os os2 merges.object l) [
@@ -429,7 +453,7 @@ could_merge {upper = upper} {lower = lower} {cs = cs} {cs2 = cs2} {os = os} {os2
       | inr that ↦ sym that.1 ∙ found
     ]
 
-    by : StandsNow upper lower merges.can.link cs cs2 u → CouldMerge cs os lower l
+    by : StandsNow upper lower merges.can.link cs cs2 u → CouldMerge cs copies os lower l
     by (IsUpper same is) =
         let join = joined_some merges.can.link can.link (shadow_at cs lower) (sym is ∙ can.over) in
         record {
@@ -445,6 +469,7 @@ could_merge {upper = upper} {lower = lower} {cs = cs} {cs2 = cs2} {os = os} {os2
             sole = can.sole;
             upper_never = merges.can.lower_never;
             lower_never = can.lower_never;
+            plain = can.plain;
           };
           other = apart;
         }
@@ -462,6 +487,7 @@ could_merge {upper = upper} {lower = lower} {cs = cs} {cs2 = cs2} {os = os} {os2
         sole = can.sole;
         upper_never = can.upper_never;
         lower_never = can.lower_never;
+        plain = can.plain;
       };
       other = apart;
     }

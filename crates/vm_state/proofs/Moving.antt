@@ -3,6 +3,7 @@ use Rattle.std.proofs.Common.{◌≡◌, ◌∙◌, ℕ, ◌+◌, ◌<◌, ◌�
 use Rattle.std.proofs.lemmas.Bool.Decides.{nat_tests}
 use Rattle.std.specs.Prelude.{if◌then◌else◌, nat_lt, ◌⊎◌}
 use Rattle.vm_abroad.proofs.Regions.{kind_cases}
+use Rattle.vm_copies.specs.Copies.{CopyTable}
 use Rattle.vm_maps.specs.Maps.{Mapped}
 use Rattle.vm_model.specs.declared.script.Header.{Header}
 use Rattle.vm_model.specs.Named.{named}
@@ -83,8 +84,9 @@ row_was {upper = upper} {lower = lower} {shift = shift} {pages = pages} {rs = rs
     by (IsSame above below is) = Stayed below (sym is ∙ found)
 
 -- something refers to each object that is in use still
-pub referred_merged : (header : Header) (upper lower shift pages : ℕ) (cs cs2 : ChainTable) (os os2 : ObjectTable) (rs rs2 : ResidentTable)
-    → MergesObjects upper lower cs cs2 os os2 → MergesRows upper lower shift pages rs rs2 → IsRanked cs → HasKinds header os cs → AllReferred cs os rs
+pub referred_merged : {copies : CopyTable} (header : Header) (upper lower shift pages : ℕ) (cs cs2 : ChainTable) (os os2 : ObjectTable)
+    (rs rs2 : ResidentTable)
+    → MergesObjects upper lower cs cs2 copies os os2 → MergesRows upper lower shift pages rs rs2 → IsRanked cs → HasKinds header os cs → AllReferred cs os rs
     → AllReferred cs2 os2 rs2
 referred_merged header upper lower shift pages cs cs2 os os2 rs rs2 merges moves ranked kinds all =
     record {
@@ -154,7 +156,8 @@ referred_merged header upper lower shift pages cs cs2 os os2 rs rs2 merges moves
     shadows_now o row found (IsOther above below is) = keeps o below (all.shadows o row (sym is ∙ found))
 
 -- a region that an access fills is as it was, over an object of its own
-filled_merged : (upper lower : ℕ) (cs cs2 : ChainTable) (os os2 : ObjectTable) → MergesObjects upper lower cs cs2 os os2 → KeepsFilled cs cs2
+filled_merged : {copies : CopyTable} (upper lower : ℕ) (cs cs2 : ChainTable) (os os2 : ObjectTable) → MergesObjects upper lower cs cs2 copies os os2
+    → KeepsFilled cs cs2
 filled_merged upper lower cs cs2 os os2 merges r object pages region alone = (
   ap (λ f. f r) merges.chain.regions ∙ region,
   record {
@@ -204,18 +207,18 @@ upper_unfilled {cs = cs} {rows = rows} {target_at = target_at} upper link over b
         cc
 
 -- the slow copies that wait are as the history and the tables have them
-pub copies_merged : {header : Header} {maps : Mapped} {rows : List Waiting} {next_at : ℕ → ℕ} {target_at : ℕ → Option Target}
+pub copies_merged : {copies : CopyTable} {header : Header} {maps : Mapped} {rows : List Waiting} {next_at : ℕ → ℕ} {target_at : ℕ → Option Target}
     (upper lower shift pages : ℕ) (cs cs2 : ChainTable) (os os2 : ObjectTable) (rs rs2 : ResidentTable)
-    → MergesObjects upper lower cs cs2 os os2 → MergesRows upper lower shift pages rs rs2 → IsRanked cs → IsUnfilled cs upper
+    → MergesObjects upper lower cs cs2 copies os os2 → MergesRows upper lower shift pages rs rs2 → IsRanked cs → IsUnfilled cs upper
     → HasCopies header maps cs rs rows next_at target_at → HasCopies header maps cs2 rs2 rows next_at target_at
 copies_merged {maps = maps} upper lower shift pages cs cs2 os os2 rs rs2 merges moves ranked unfilled copies =
     copies_kept maps maps cs cs2 rs rs2 copies (λ t w found. record { size = refl; entries = refl }) (filled_merged upper lower cs cs2 os os2 merges)
     (unmade_merged upper lower shift pages cs rs rs2 (merged_apart ranked merges.can) moves unfilled)
 
 -- and each region has an entry or is filled
-pub used_merged : {header : Header} {maps : Mapped} {rows : List Waiting} {next_at : ℕ → ℕ} {target_at : ℕ → Option Target}
+pub used_merged : {copies : CopyTable} {header : Header} {maps : Mapped} {rows : List Waiting} {next_at : ℕ → ℕ} {target_at : ℕ → Option Target}
     (upper lower shift pages : ℕ) (cs cs2 : ChainTable) (os os2 : ObjectTable) (rs rs2 : ResidentTable)
-    → MergesObjects upper lower cs cs2 os os2 → MergesRows upper lower shift pages rs rs2 → IsRanked cs → IsUnfilled cs upper
+    → MergesObjects upper lower cs cs2 copies os os2 → MergesRows upper lower shift pages rs rs2 → IsRanked cs → IsUnfilled cs upper
     → AllUsed header maps cs rs rows next_at target_at → AllUsed header maps cs2 rs2 rows next_at target_at
 used_merged upper lower shift pages cs cs2 os os2 rs rs2 merges moves ranked unfilled used =
     record {

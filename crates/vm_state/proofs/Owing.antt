@@ -4,7 +4,7 @@ use Rattle.std.proofs.lemmas.Bool.Decides.{eqb_tells}
 use Rattle.std.specs.Prelude.{if◌then◌else◌, ◌⊎◌}
 use Rattle.vm_base.specs.declared.ids.ObjectId.{ObjectId}
 use Rattle.vm_base.specs.declared.ids.PageKey.{PageKey}
-use Rattle.vm_copies.specs.Copies.{ClearsHad, CopyRow, CopyTable, PutsNewest, among, had_at, newest_at}
+use Rattle.vm_copies.specs.Copies.{EndsCopy, ClearsHad, CopyRow, CopyTable, PutsNewest, among, had_at, newest_at}
 use Rattle.vm_fault.specs.Pushes.{Notes, OfCopy, OfOther, owed_at}
 use Rattle.vm_maps.specs.Maps.{Mapped}
 use Rattle.vm_model.specs.Waiting.{Access}
@@ -12,7 +12,7 @@ use Rattle.vm_objects.specs.Objects.{ObjectTable}
 use Rattle.vm_parts.proofs.Rows.{one_case}
 use Rattle.vm_resident.specs.Resident.{ResidentTable, page_key, row_at}
 use Rattle.vm_shadow.specs.Chains.{ChainTable}
-use Rattle.vm_state.proofs.CopyObjects.{EndsCopy, ended_had, ended_newest, owed_from, owed_some}
+use Rattle.vm_state.proofs.CopyObjects.{ended_had, ended_newest, owed_from, owed_some}
 use Rattle.vm_state.proofs.Pushing.{PushesNone, push_same}
 use Rattle.vm_state.proofs.Waiting.{IsUnawaited, away_awaited, awaited_apart, row_moved}
 use Rattle.vm_state.specs.Waiters.{HasWaiters, IsAsked, Reason, WaitsToPush}
@@ -21,6 +21,7 @@ use Rattle.vm_waits.specs.declared.waiting.On.{On}
 use Rattle.vm_waits.specs.declared.waiting.On.TheVariants as on
 use Rattle.vm_waits.specs.declared.waiting.Waiting.{Waiting}
 use Rattle.vm_waits.specs.declared.waiting.Want.{Want}
+use Rattle.vm_state.specs.Passed.{Unmet}
 
 reason_owed : (maps : Mapped) (chains : ChainTable) (copies copies2 : CopyTable) (rs : ResidentTable) (os : ObjectTable) (t : ℕ) (what : Want) (reason : On)
     → ((key : PageKey) → reason ≡ on.Push key → (push : WaitsToPush maps chains copies rs t what key) → owed_at copies2 push.top ≡ Some key)
@@ -31,7 +32,8 @@ reason_owed maps chains copies copies2 rs os t what (on.Page key) owed is = is
 reason_owed maps chains copies copies2 rs os t what (on.Push key) owed is = push_same is is.at (owed key refl is)
 reason_owed maps chains copies copies2 rs os t what on.Frame owed is = tt
 
-pub waits_owed : {copies copies2 : CopyTable} {stays unmet : PageKey → Type 0} (maps : Mapped) (chains : ChainTable) (rs : ResidentTable) (os : ObjectTable)
+pub waits_owed : {copies copies2 : CopyTable} {stays : PageKey → Type 0} {unmet : PageKey → Unmet} (maps : Mapped) (chains : ChainTable) (rs : ResidentTable)
+    (os : ObjectTable)
     (rows : List Waiting) (who : On → Bool) (at : ℕ → Option Access) → HasWaiters maps chains copies rs os rows who at stays unmet
     → ((t : ℕ) (w : Waiting) (key : PageKey) → entry rows t ≡ Some w → who w.on ≡ false → w.on ≡ on.Push key
     → (push : WaitsToPush maps chains copies rs t w.want key) → owed_at copies2 push.top ≡ Some key)
@@ -65,12 +67,13 @@ apart_push rs who key place none asleep asked same also = elim none [
 ]
 
 -- a page came to a place, and is noted where that is a copy object's
-pub waits_noted : {copies copies2 : CopyTable} {stays unmet : PageKey → Type 0} (maps : Mapped) (chains : ChainTable) (rs : ResidentTable) (os : ObjectTable)
+pub waits_noted : {copies copies2 : CopyTable} {stays : PageKey → Type 0} {unmet : PageKey → Unmet} (maps : Mapped) (chains : ChainTable) (rs : ResidentTable)
+    (os : ObjectTable)
     (rows : List Waiting) (who : On → Bool) (at : ℕ → Option Access) (key : PageKey) → HasWaiters maps chains copies rs os rows who at stays unmet
     → Notes key copies copies2 → TakesNoPush rs who key → HasWaiters maps chains copies2 rs os rows who at stays unmet
 waits_noted {stays = stays} {unmet = unmet} maps chains rs os rows who at key has (OfOther none same) apart =
     subst (λ (z : CopyTable). HasWaiters maps chains z rs os rows who at stays unmet) (sym same) has
-waits_noted {copies = copies} {copies2 = copies2} maps chains rs os rows who at key has (OfCopy row found put noted newest) apart =
+waits_noted {copies = copies} {copies2 = copies2} maps chains rs os rows who at key has (OfCopy row found put noted newest room) apart =
     waits_owed maps chains rs os rows who at has
     (λ t w place is asleep waits push. still push.top place push.owed (apart_push rs who key place apart (ap who (sym waits) ∙ asleep) push.asked))
   where
@@ -94,7 +97,8 @@ waits_noted {copies = copies} {copies2 = copies2} maps chains rs os rows who at 
         was.1.1
 
 -- a copy object ends of which no page is asked
-pub waits_ended : {copies copies2 : CopyTable} {stays unmet : PageKey → Type 0} (maps : Mapped) (chains : ChainTable) (rs : ResidentTable) (os : ObjectTable)
+pub waits_ended : {copies copies2 : CopyTable} {stays : PageKey → Type 0} {unmet : PageKey → Unmet} (maps : Mapped) (chains : ChainTable) (rs : ResidentTable)
+    (os : ObjectTable)
     (rows : List Waiting) (who : On → Bool) (at : ℕ → Option Access) (o : ℕ) (row : CopyRow) → HasWaiters maps chains copies rs os rows who at stays unmet
     → EndsCopy o row copies copies2 → ((p : ℕ) → IsAsked rs o p → ⊥) → HasWaiters maps chains copies2 rs os rows who at stays unmet
 waits_ended {copies = copies} {copies2 = copies2} maps chains rs os rows who at o row has ends none =
@@ -109,7 +113,8 @@ waits_ended {copies = copies} {copies2 = copies2} maps chains rs os rows who at 
         was.1.1
 
 -- a file has a newer copy object: nobody waits to push a page of it
-pub waits_copied : {copies copies2 : CopyTable} {stays unmet : PageKey → Type 0} (maps : Mapped) (chains : ChainTable) (rs : ResidentTable) (os : ObjectTable)
+pub waits_copied : {copies copies2 : CopyTable} {stays : PageKey → Type 0} {unmet : PageKey → Unmet} (maps : Mapped) (chains : ChainTable)
+    (rs : ResidentTable) (os : ObjectTable)
     (rows : List Waiting) (who : On → Bool) (at : ℕ → Option Access) (source : ℕ) (copy : ObjectId)
     → HasWaiters maps chains copies rs os rows who at stays unmet → PutsNewest source (Some copy) copies copies2 → ClearsHad copy.0 copies copies2
     → ((p : ℕ) → PushesNone copies rows who source p) → HasWaiters maps chains copies2 rs os rows who at stays unmet
@@ -137,7 +142,8 @@ waits_copied {copies = copies} {copies2 = copies2} maps chains rs os rows who at
         ]
 
 -- nobody waits to push a page where the place to which it is owed isn't asked
-pub pushes_unasked : {copies : CopyTable} {stays unmet : PageKey → Type 0} (maps : Mapped) (chains : ChainTable) (rs : ResidentTable) (os : ObjectTable)
+pub pushes_unasked : {copies : CopyTable} {stays : PageKey → Type 0} {unmet : PageKey → Unmet} (maps : Mapped) (chains : ChainTable) (rs : ResidentTable)
+    (os : ObjectTable)
     (rows : List Waiting) (who : On → Bool) (at : ℕ → Option Access) (o p : ℕ) → HasWaiters maps chains copies rs os rows who at stays unmet
     → ((key : PageKey) → owed_at copies (page_key o p) ≡ Some key → IsAsked rs key.object.0 key.page.0 → ⊥) → PushesNone copies rows who o p
 pushes_unasked {copies = copies} maps chains rs os rows who at o p has none =

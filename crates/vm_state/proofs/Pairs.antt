@@ -1,7 +1,9 @@
 -- Whether two objects can be merged: by the tables of their host, and by what they stand for.
 use Rattle.std.proofs.Common.{[], ◌≡◌, ◌≤◌, ◌<◌, ◌∙◌, ℕ, zero, suc, Bool, true, false, List, Option, Some, None, ap, arith, refl, sym, subst, inl, inr}
+use Rattle.std.specs.Prelude.{is_some}
 use Rattle.vm_abroad.proofs.Regions.{kind_cases}
 use Rattle.vm_abroad.specs.Home.{HaveHomes}
+use Rattle.vm_copies.specs.Copies.{CopyRow, CopyTable, copy_at}
 use Rattle.vm_legal.specs.Merges.{IsPair, Merges}
 use Rattle.vm_legal.specs.Swept.{IsSwept}
 use Rattle.vm_legal.specs.Used.{in_use}
@@ -21,6 +23,7 @@ use Rattle.vm_shadow.specs.declared.region_row.RegionRow.{RegionRow}
 use Rattle.vm_shadow.specs.declared.shadow_row.ShadowRow.{ShadowRow}
 use Rattle.vm_state.proofs.Declared.{shadow_temporary, uncached_temporary, whole_row}
 use Rattle.vm_state.proofs.Fresh.{other_test}
+use Rattle.vm_state.proofs.Merging.{lower_temporary}
 use Rattle.vm_state.proofs.Passing.{same_of}
 use Rattle.vm_state.proofs.Reaching.{temporary_down, temporary_up}
 use Rattle.vm_state.proofs.Referring.{refers_shadow, sole_region, sole_shadow}
@@ -32,12 +35,12 @@ use Rattle.vm_state.specs.Stands.{HasKinds, HasRegions}
 use Rattle.vm_terminate.specs.Finishes.{IsReferred}
 
 -- nothing can be merged but none
-pub thin_none : (chains : ChainTable) (objects : ObjectTable) → IsThinBut [] chains objects → IsThin chains objects
+pub thin_none : {copies : CopyTable} (chains : ChainTable) (objects : ObjectTable) → IsThinBut copies [] chains objects → IsThin copies chains objects
 thin_none chains objects thin upper lower can = let none = thin upper lower can in let less : none.0 < 0 = none.1 in omega (arith, less)
 
 -- what the tables of a host and its history have in common, as far as pairs are concerned
-pub record KnowsPairs (header : Header) (h : ℕ) (chains : ChainTable) (objects : ObjectTable) (ids : Ids) (regions_made objects_made marked : ℕ)
-    (past : List Event) : Type 0 where
+pub record KnowsPairs (header : Header) (h : ℕ) (chains : ChainTable) (table : CopyTable) (objects : ObjectTable) (ids : Ids)
+    (regions_made objects_made marked : ℕ) (past : List Event) : Type 0 where
   pub regions : HasRegions chains objects ids (λ r. region_of header r past) (λ o. backing_of header o past) regions_made objects_made marked
   pub kinds : HasKinds header objects chains
   pub homes : HaveHomes header past
@@ -45,7 +48,7 @@ pub record KnowsPairs (header : Header) (h : ℕ) (chains : ChainTable) (objects
   pub shadows : AreShadowsReferred chains objects
   pub all : (r : ℕ) (row : RegionRow) → named header ≤ r → region_at chains r ≡ Some row → in_use header h r past ≡ true
   pub there : (r : ℕ) → named header ≤ r → in_use header h r past ≡ true → (row : RegionRow) × (region_at chains r ≡ Some row)
-  pub plain : (o : ℕ) (row : ObjectRow) → object_at objects o ≡ Some row → is_copy o past ≡ false
+  pub copies : (o : ℕ) (row : ObjectRow) → object_at objects o ≡ Some row → 0 < row.references → is_copy o past ≡ is_some (copy_at table o)
 
 -- at most one number passes a test that no two pass
 tally_one : (test : ℕ → Bool) (n : ℕ) → ((a b : ℕ) → test a ≡ true → test b ≡ true → a ≡ b) → tally test n ≤ 1
@@ -66,8 +69,13 @@ tally_one test (suc n) unique = by (test n) refl (tally_one test n unique)
         omega (arith, rest, here)
     by false is few = let here : one (test n) ≡ 0 = ap one is in omega (arith, few, here)
 
-module _ {header : Header} {h : ℕ} {chains : ChainTable} {objects : ObjectTable} {ids : Ids} {regions_made objects_made marked : ℕ} {past : List Event}
-    (knows : KnowsPairs header h chains objects ids regions_made objects_made marked past) where
+-- what is not a row is none
+no_copy : (x : Option CopyRow) → is_some x ≡ false → x ≡ None
+no_copy None bare = refl
+no_copy (Some row) bad = absurd (let wrong : true ≡ false = bad in cc)
+
+module _ {header : Header} {h : ℕ} {chains : ChainTable} {copies : CopyTable} {objects : ObjectTable} {ids : Ids} {regions_made objects_made marked : ℕ}
+    {past : List Event} (knows : KnowsPairs header h chains copies objects ids regions_made objects_made marked past) where
   -- what is reached and temporary is referred to
   down : (o : ℕ) → named header ≤ o → Reach header h o past → IsReferred objects o
   down o least reach = temporary_down knows.regions knows.homes (λ r. in_use header h r past) knows.there o least reach
@@ -91,12 +99,12 @@ module _ {header : Header} {h : ℕ} {chains : ChainTable} {objects : ObjectTabl
       by (Some row) found = (row, found, sym (ap (λ (z : Backing). z.under) (knows.regions.shadows o row found)))
 
   -- what can be merged by the tables is a pair
-  pub pair_of : (upper lower : ℕ) → CanMerge chains objects upper lower → IsPair header h upper lower past
+  pub pair_of : (upper lower : ℕ) → CanMerge copies chains objects upper lower → IsPair header h upper lower past
   pair_of upper lower can =
       let link = knows.regions.shadows upper can.link can.over in
       record {
-        temporary = subst (λ (z : ℕ). named header ≤ z) can.under (knows.kinds.unders upper can.link can.over);
-        plain = knows.plain lower can.lower_row can.lower_known;
+        temporary = lower_temporary knows.kinds can;
+        plain = knows.copies lower can.lower_row can.lower_known (let sole = can.sole in omega (arith, sole)) ∙ ap is_some can.plain;
         reached =
             temporary_up knows.regions knows.kinds knows.homes knows.shadows (λ r. in_use header h r past) knows.all upper
             (shadow_temporary knows.regions knows.homes upper can.link can.over)
@@ -148,7 +156,7 @@ module _ {header : Header} {h : ℕ} {chains : ChainTable} {objects : ObjectTabl
       omega (arith, regions, shadows)
 
   -- and a pair can be merged
-  pub pair_can : (upper lower : ℕ) → IsPair header h upper lower past → CanMerge chains objects upper lower
+  pub pair_can : (upper lower : ℕ) → IsPair header h upper lower past → CanMerge copies chains objects upper lower
   pair_can upper lower pair =
       let above : IsReferred objects upper = down upper (backed_temporary upper pair.backed) pair.reached in
       let row = link_of upper pair.reached pair.backed in
@@ -169,19 +177,21 @@ module _ {header : Header} {h : ℕ} {chains : ChainTable} {objects : ObjectTabl
         sole = omega (arith, count, most, some, none_more);
         upper_never = sym (ap last_in above.known) ∙ (sym (knows.last upper) ∙ pair.upper_never);
         lower_never = sym (ap last_in below.known) ∙ (sym (knows.last lower) ∙ pair.lower_never);
+        plain = no_copy (copy_at copies lower) (sym (knows.copies lower below.row below.known below.some) ∙ pair.plain);
       }
 
   -- so where nothing can be merged there is no pair
-  pub thin_told : IsThin chains objects → (upper lower : ℕ) → IsPair header h upper lower past → ⊥
+  pub thin_told : IsThin copies chains objects → (upper lower : ℕ) → IsPair header h upper lower past → ⊥
   thin_told thin upper lower pair = thin upper lower (pair_can upper lower pair)
 
   -- and the least of the lower objects that can be is the least of all pairs
-  pub least_told : (lower : ℕ) → ((u l : ℕ) → CanMerge chains objects u l → lower ≤ l) → (u l : ℕ) → IsPair header h u l past → lower ≤ l
+  pub least_told : (lower : ℕ) → ((u l : ℕ) → CanMerge copies chains objects u l → lower ≤ l) → (u l : ℕ) → IsPair header h u l past → lower ≤ l
   least_told lower least u l pair = least u l (pair_can u l pair)
 
   -- a merge of the least pair of the upper's home, when nothing is left there that was to end
   pub merges_told : ((o : ℕ) (row : ObjectRow) → named header ≤ o → object_at objects o ≡ Some row → object_home o past ≡ Some h) → IsSwept header h past
-      → (upper lower : ℕ) → CanMerge chains objects upper lower → ((u l : ℕ) → CanMerge chains objects u l → lower ≤ l) → Merges header upper lower past
+      → (upper lower : ℕ) → CanMerge copies chains objects upper lower → ((u l : ℕ) → CanMerge copies chains objects u l → lower ≤ l)
+      → Merges header upper lower past
   merges_told homes swept upper lower can least = record {
     host = h;
     home = homes upper can.upper_row (shadow_temporary knows.regions knows.homes upper can.link can.over) can.upper_known;

@@ -2,10 +2,12 @@
 use Rattle.std.proofs.Common.{Bool, List, None, Some, [], ap, arith, false, inl, inr, refl, subst, suc, sym, true, zero, ℕ, ◌&&◌, ◌+◌, ◌<◌, ◌==◌, ◌||◌, ◌∙◌}
 use Rattle.std.proofs.Common.{◌∷◌, ◌≡◌}
 use Rattle.std.proofs.lemmas.Bool.Decides.{eqb_tells}
-use Rattle.std.specs.Prelude.{if◌then◌else◌}
+use Rattle.std.proofs.lemmas.Bool.{or_right}
+use Rattle.std.specs.Prelude.{if◌then◌else◌, ◌||◌}
 use Rattle.vm_base.specs.declared.ids.ObjectId.{ObjectId}
 use Rattle.vm_base.specs.declared.ids.PageKey.{PageKey}
 use Rattle.vm_fault.specs.Walks.{IsUnder, PassesOver, Sinks, WalksTo}
+use Rattle.vm_legal.specs.Pushes.{is_pushed}
 use Rattle.vm_legal.specs.Returned.{OnlyReturned, was_returned}
 use Rattle.vm_legal.specs.Walks.{page_on}
 use Rattle.vm_maps.specs.Maps.{Mapped}
@@ -14,6 +16,7 @@ use Rattle.vm_model.specs.Local.{Asks, Begins, Drops, Elsewhere, Ends, Local, Lo
 use Rattle.vm_model.specs.Local.{TakesNothing}
 use Rattle.vm_model.specs.Local.{TakesPage, Unlocks, Zeroes, effect, is_known_absent, local, local_after}
 use Rattle.vm_model.specs.Named.{named}
+use Rattle.vm_model.specs.Regions.{is_copy}
 use Rattle.vm_model.specs.declared.event.Event.{Event}
 use Rattle.vm_model.specs.declared.event.Event.TheVariants as event
 use Rattle.vm_model.specs.declared.message.Channel.TheVariants.{Down, Up}
@@ -23,7 +26,7 @@ use Rattle.vm_parts.proofs.Rows.{some_is}
 use Rattle.vm_parts.specs.declared.parts.HostParts.{HostParts}
 use Rattle.vm_shadow.specs.Chains.{ChainTable, shadow_at}
 use Rattle.vm_shadow.specs.declared.shadow_row.ShadowRow.{ShadowRow}
-use Rattle.vm_state.specs.Passed.{IsAway, IsPlaceBehind, IsUnmet, LeadsOver, Passed, StaysAway}
+use Rattle.vm_state.specs.Passed.{IsAway, IsPlaceBehind, IsUnmet, LeadsOver, Passed, StaysAway, Unmet}
 use Rattle.vm_state.specs.Places.{place_of}
 use Rattle.vm_state.specs.Waiters.{IsPlaceOf, LeadsTo}
 use Rattle.vm_waits.specs.declared.waiting.On.{On}
@@ -151,14 +154,14 @@ returned_same header h key others (event.Sent (Up host object) (message.Return c
     not_returned (host.0 == h) (object.0 == key.object.0) (page.0 == key.page.0) keep (was_returned h key.object.0 key.page.0 past) quiet
 returned_same header h key others e past quiet = refl
 
-pub only_before : (least h : ℕ) (e : Event) (past : List Event) → OnlyReturned least h (e ∷ past) → OnlyReturned least h past
-only_before least h (event.Taken (Down host object control) (message.Supply page lock precious bytes)) past only = only.1
-only_before least h (event.Taken (Down host object control) (message.Lock page count returns flush lock reply)) past only = only.1
-only_before least h (event.Sent (Up host object) (message.Init control size)) past only = only.1
-only_before least h (event.Sent (Up host object) (message.Create control size)) past only = only.1
-only_before least h (event.Sent (Up host object) (message.Return control page dirty keep bytes)) past only = only.1
-only_before least h (event.Merged upper lower) past only = only.1
-only_before least h e past only = only
+pub only_before : (header : Header) (h : ℕ) (e : Event) (past : List Event) → OnlyReturned header h (e ∷ past) → OnlyReturned header h past
+only_before header h (event.Taken (Down host object control) (message.Supply page lock precious bytes)) past only = only.2
+only_before header h (event.Taken (Down host object control) (message.Lock page count returns flush lock reply)) past only = only.2
+only_before header h (event.Sent (Up host object) (message.Init control size)) past only = only.1
+only_before header h (event.Sent (Up host object) (message.Create control size)) past only = only.1
+only_before header h (event.Sent (Up host object) (message.Return control page dirty keep bytes)) past only = only.1
+only_before header h (event.Merged upper lower) past only = only.1
+only_before header h e past only = only
 
 -- so both stay so behind a quiet event
 
@@ -169,26 +172,62 @@ stays_quiet header h e past key quiet stays = (
   λ only. subst (λ (z : Bool). IsAway (page_on header h key.object.0 key.page.0 (e ∷ past)) z)
       (sym (returned_same header h key (λ source. local header h source past) e past quiet))
       (away_after header.size (effect_at header h key e past) (page_on header h key.object.0 key.page.0 past) (was_returned h key.object.0 key.page.0 past)
-      quiet (stays.1 (only_before (named header) h e past only))),
+      quiet (stays.1 (only_before header h e past only))),
 )
 
+-- of a place where an access waits for its pager: nothing was copied up into it before where nothing was by now, and what held then still does
+pub record Later (was now : Unmet) : Type 0 where
+  pub before : now.unpushed → was.unpushed
+  pub still : now.unpushed → was.vacant → now.vacant
+
+copied_before : (o : ℕ) (e : Event) (past : List Event) → is_copy o past ≡ true → is_copy o (e ∷ past) ≡ true
+copied_before o (event.Delayed region source offset pages copy) past is = or_right (o == copy.0) (is_copy o past) is
+copied_before o other past is = is
+
+pushed_before : (h o p : ℕ) (e : Event) (past : List Event) → is_pushed h o p past ≡ true → is_pushed h o p (e ∷ past) ≡ true
+pushed_before h o p (event.Raised at lower lower_page upper upper_page) past is =
+    or_right (at.0 == h && (upper.0 == o && upper_page.0 == p)) (is_pushed h o p past) is
+pushed_before h o p other past is = is
+
+pub not_yet : (copy copy2 pushed pushed2 : Bool) → (copy ≡ true → copy2 ≡ true) → (pushed ≡ true → pushed2 ≡ true) → (copy2 && pushed2) ≡ false
+    → (copy && pushed) ≡ false
+not_yet false copy2 pushed pushed2 copied into none = refl
+not_yet true copy2 false pushed2 copied into none = refl
+not_yet true copy2 true pushed2 copied into none =
+    absurd (let bad : true ≡ false = sym (ap (λ b. b && pushed2) (copied refl) ∙ into refl) ∙ none in cc)
+
+pub unpushed_before : (header : Header) (h : ℕ) (e : Event) (past : List Event) (key : PageKey) → (IsUnmet header h (e ∷ past) key).unpushed
+    → (IsUnmet header h past key).unpushed
+unpushed_before header h e past key none =
+    not_yet (is_copy key.object.0 past) (is_copy key.object.0 (e ∷ past)) (is_pushed h key.object.0 key.page.0 past)
+    (is_pushed h key.object.0 key.page.0 (e ∷ past)) (copied_before key.object.0 e past) (pushed_before h key.object.0 key.page.0 e past) none
+
+-- where an event is to no place that is vacant
+pub unmet_later : (header : Header) (h : ℕ) (e : Event) (past : List Event) (key : PageKey)
+    → ((IsUnmet header h past key).vacant → IsCalm (effect_at header h key e past)) → Later (IsUnmet header h past key) (IsUnmet header h (e ∷ past) key)
+unmet_later header h e past key calm =
+    record {
+      before = unpushed_before header h e past key;
+      still = λ none was.
+          let is = unmet_after (λ b. is_known_absent header (place_of key.object.0 key.page.0)
+          (record (page_on header h key.object.0 key.page.0 past) { absent = b })) header.size (effect_at header h key e past)
+          (page_on header h key.object.0 key.page.0 past) (calm was)
+          (was.away, was.unasked, was.unknown) in
+          record { away = is.0; unasked = is.1; unknown = is.2 };
+    }
+
 pub unmet_calm : (header : Header) (h : ℕ) (e : Event) (past : List Event) (key : PageKey) → IsCalm (effect_at header h key e past)
-    → IsUnmet header h past key → IsUnmet header h (e ∷ past) key
-unmet_calm header h e past key calm unmet =
-    let is = unmet_after (λ b. is_known_absent header (place_of key.object.0 key.page.0)
-    (record (page_on header h key.object.0 key.page.0 past) { absent = b })) header.size (effect_at header h key e past)
-    (page_on header h key.object.0 key.page.0 past) calm
-    (unmet.away, unmet.unasked, unmet.unknown) in
-    record { away = is.0; unasked = is.1; unknown = is.2 }
+    → Later (IsUnmet header h past key) (IsUnmet header h (e ∷ past) key)
+unmet_calm header h e past key calm = unmet_later header h e past key (λ was. calm)
 
 -- where no control was ever begun, nothing was returned
 
-unreturned_at : (least h o p : ℕ) (a b c x : Bool) (object last : ℕ) → (a ≡ true → 0 < last) → ((b ≡ true) → object ≡ o) → (object ≡ o → last ≡ 0) → x ≡ false
+unreturned_at : (o : ℕ) (a b c x : Bool) (object last : ℕ) → (a ≡ true → 0 < last) → ((b ≡ true) → object ≡ o) → (object ≡ o → last ≡ 0) → x ≡ false
     → ((a && (b && c)) || x) ≡ false
-unreturned_at least h o p true true c x object last some same none is =
+unreturned_at o true true c x object last some same none is =
     let zero_is = none (same refl) in let more = some refl in absurd (omega (arith, zero_is, more))
-unreturned_at least h o p true false c x object last some same none is = is
-unreturned_at least h o p false b c x object last some same none is = is
+unreturned_at o true false c x object last some same none is = is
+unreturned_at o false b c x object last some same none is = is
 
 pub same_of : (a b : ℕ) → (a == b) ≡ true → a ≡ b
 same_of a b test = elim (eqb_tells a b) [ inl same ↦ same.1 | inr apart ↦ absurd (let bad : true ≡ false = sym test ∙ apart.0 in cc) ]
@@ -202,17 +241,17 @@ last_before h o control host object last some is = by (host == h) (object == o) 
     by true false more none = none
     by false b more none = none
 
-pub unreturned : (least h o p : ℕ) (past : List Event) → OnlyReturned least h past → last_control h o past ≡ 0 → was_returned h o p past ≡ false
-unreturned least h o p [] only none = refl
-unreturned least h o p (event.Sent (Up host object) (message.Return control page dirty keep bytes) ∷ past) only none =
-    unreturned_at least h o p (host.0 == h) (object.0 == o) (page.0 == p) (was_returned h o p past) object.0 (last_control h object.0 past)
+pub unreturned : (header : Header) (h o p : ℕ) (past : List Event) → OnlyReturned header h past → last_control h o past ≡ 0 → was_returned h o p past ≡ false
+unreturned header h o p [] only none = refl
+unreturned header h o p (event.Sent (Up host object) (message.Return control page dirty keep bytes) ∷ past) only none =
+    unreturned_at o (host.0 == h) (object.0 == o) (page.0 == p) (was_returned h o p past) object.0 (last_control h object.0 past)
     (λ test. only.0 (same_of host.0 h test)) (same_of object.0 o)
-    (λ same. ap (λ z. last_control h z past) same ∙ none) (unreturned least h o p past only.1 none)
-unreturned least h o p (event.Sent (Up host object) (message.Init control size) ∷ past) only none =
-    unreturned least h o p past only.1 (last_before h o control host.0 object.0 (last_control h o past) only.0 none)
-unreturned least h o p (event.Sent (Up host object) (message.Create control size) ∷ past) only none =
-    unreturned least h o p past only.1 (last_before h o control host.0 object.0 (last_control h o past) only.0 none)
-unreturned least h o p (e ∷ past) only none = unreturned least h o p past (only_before least h e past only) none
+    (λ same. ap (λ z. last_control h z past) same ∙ none) (unreturned header h o p past only.1 none)
+unreturned header h o p (event.Sent (Up host object) (message.Init control size) ∷ past) only none =
+    unreturned header h o p past only.1 (last_before h o control host.0 object.0 (last_control h o past) only.0 none)
+unreturned header h o p (event.Sent (Up host object) (message.Create control size) ∷ past) only none =
+    unreturned header h o p past only.1 (last_before h o control host.0 object.0 (last_control h o past) only.0 none)
+unreturned header h o p (e ∷ past) only none = unreturned header h o p past (only_before header h e past only) none
 
 -- places above one that is waited for
 
@@ -264,41 +303,53 @@ top_place_of : {stays : PageKey → Type 0} {maps : Mapped} {chains : ChainTable
 top_place_of place = record { top = place.top; at = place.at; steps = zero; leads = refl }
 
 -- it is so still where the places are those that they were
-pub passed_placed : (stays unmet : PageKey → Type 0) (maps maps2 : Mapped) (cs cs2 : ChainTable) (task : ℕ) (what : Want) (why : On)
+pub passed_placed : (stays : PageKey → Type 0) (unmet : PageKey → Unmet) (maps maps2 : Mapped) (cs cs2 : ChainTable) (task : ℕ) (what : Want) (why : On)
+    → ((key : PageKey) → IsPlaceOf maps cs task what key → IsPlaceOf maps2 cs2 task what key)
     → ((key : PageKey) → IsPlaceBehind stays maps cs task what key → IsPlaceBehind stays maps2 cs2 task what key)
     → Passed stays unmet maps cs task what why → Passed stays unmet maps2 cs2 task what why
-passed_placed stays unmet maps maps2 cs cs2 task what on.Again placed passed = tt
-passed_placed stays unmet maps maps2 cs cs2 task what (on.Ready object) placed passed = (passed.0, placed passed.0 passed.1, passed.2, passed.3)
-passed_placed stays unmet maps maps2 cs cs2 task what (on.Page key) placed passed = placed key passed
-passed_placed stays unmet maps maps2 cs cs2 task what (on.Push key) placed passed = tt
-passed_placed stays unmet maps maps2 cs cs2 task what on.Frame placed passed = tt
+passed_placed stays unmet maps maps2 cs cs2 task what on.Again placed behind passed = tt
+passed_placed stays unmet maps maps2 cs cs2 task what (on.Ready object) placed behind passed = (
+  passed.0,
+  placed passed.0 passed.1,
+  passed.2,
+  λ none. (let was = passed.3 none in (behind passed.0 was.0, was.1)),
+)
+passed_placed stays unmet maps maps2 cs cs2 task what (on.Page key) placed behind passed = behind key passed
+passed_placed stays unmet maps maps2 cs cs2 task what (on.Push key) placed behind passed = tt
+passed_placed stays unmet maps maps2 cs cs2 task what on.Frame placed behind passed = tt
 
--- the access stops at the place, as it waits for this
-abbrev pub StopsAt : (PageKey → Type 0) → On → PageKey → Type 0
+-- the access stops at the place, as it waits for this, and nothing was copied up into that
+abbrev pub StopsAt : (PageKey → Unmet) → On → PageKey → Type 0
 StopsAt unmet on.Again key = ⊥
-StopsAt unmet (on.Ready object) key = (key.object ≡ object) × unmet key
+StopsAt unmet (on.Ready object) key = (key.object ≡ object) × (unmet key).unpushed × (unmet key).vacant
 StopsAt unmet (on.Page at) key = at ≡ key
 StopsAt unmet (on.Push at) key = ⊥
 StopsAt unmet on.Frame key = ⊥
 
 -- and while what holds of those places still does
-pub passed_now : (stays stays2 unmet unmet2 : PageKey → Type 0) (maps : Mapped) (cs : ChainTable) (task : ℕ) (what : Want) (why : On)
+pub passed_now : (stays stays2 : PageKey → Type 0) (unmet unmet2 : PageKey → Unmet) (maps : Mapped) (cs : ChainTable) (task : ℕ) (what : Want) (why : On)
     → ((to : PageKey) → StopsAt unmet why to → (m : ℕ) (at : PageKey) → IsPlaceOf maps cs task what at → LeadsOver stays cs (suc m) at to → stays2 at)
-    → ((object : ObjectId) → why ≡ on.Ready object → (to : PageKey) → to.object ≡ object → IsPlaceOf maps cs task what to → unmet to → unmet2 to)
+    → ((object : ObjectId) → why ≡ on.Ready object → (to : PageKey) → to.object ≡ object → IsPlaceOf maps cs task what to → Later (unmet to) (unmet2 to))
     → Passed stays unmet maps cs task what why → Passed stays2 unmet2 maps cs task what why
 passed_now stays stays2 unmet unmet2 maps cs task what on.Again now met passed = tt
 passed_now stays stays2 unmet unmet2 maps cs task what (on.Ready object) now met passed =
-    let place = passed.1 in (
+    let later = met object refl passed.0 passed.2 passed.1 in (
       passed.0,
-      record {
-        top = place.top;
-        at = place.at;
-        steps = place.steps;
-        leads = over_mapped stays stays2 maps cs task what passed.0 (now passed.0 (passed.2, passed.3)) place.steps place.top (top_place_of place)
-            place.leads;
-      },
+      passed.1,
       passed.2,
-      met object refl passed.0 passed.2 (behind_place place) passed.3,
+      λ none.
+          let unpushed = later.before none in
+          let was = passed.3 unpushed in
+          let place = was.0 in (
+            record {
+              top = place.top;
+              at = place.at;
+              steps = place.steps;
+              leads = over_mapped stays stays2 maps cs task what passed.0 (now passed.0 (passed.2, unpushed, was.1)) place.steps place.top
+                  (top_place_of place) place.leads;
+            },
+            later.still none was.1,
+          ),
     )
 passed_now stays stays2 unmet unmet2 maps cs task what (on.Page key) now met passed =
     record {

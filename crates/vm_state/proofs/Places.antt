@@ -24,7 +24,7 @@ use Rattle.vm_shadow.specs.declared.region_row.RegionRow.{RegionRow}
 use Rattle.vm_shadow.specs.declared.shadow_row.ShadowRow.{ShadowRow}
 use Rattle.vm_state.proofs.Passing.{over_kept, passed_placed}
 use Rattle.vm_state.proofs.Pushing.{owes_nothing, push_same}
-use Rattle.vm_state.specs.Passed.{IsPlaceBehind, LeadsOver}
+use Rattle.vm_state.specs.Passed.{IsPlaceBehind, LeadsOver, Unmet}
 use Rattle.vm_state.specs.Waiters.{Asker, HasWaiters, IsPlaceOf, LeadsTo, Reason, is_awaited}
 use Rattle.vm_waits.specs.Wants.{address_in}
 use Rattle.vm_waits.specs.declared.waiting.On.{On}
@@ -50,7 +50,8 @@ reason_placed maps cs cs2 copies rs os task what (on.Page key) placed tops reaso
 reason_placed maps cs cs2 copies rs os task what (on.Push key) placed tops reason = push_same reason (tops reason.top key reason.owed reason.at) reason.owed
 reason_placed maps cs cs2 copies rs os task what on.Frame placed tops reason = reason
 
-pub waits_placed : {copies : CopyTable} {stays unmet : PageKey → Type 0} (maps : Mapped) (cs cs2 : ChainTable) (rs : ResidentTable) (os : ObjectTable)
+pub waits_placed : {copies : CopyTable} {stays : PageKey → Type 0} {unmet : PageKey → Unmet} (maps : Mapped) (cs cs2 : ChainTable) (rs : ResidentTable)
+    (os : ObjectTable)
     (rows : List Waiting) (who : On → Bool) (waiting_at : ℕ → Option Access)
     → HasWaiters maps cs copies rs os rows who waiting_at stays unmet
     → ((task : ℕ) (what : Want) (key : PageKey) → IsPlaceOf maps cs task what key → IsPlaceOf maps cs2 task what key)
@@ -63,7 +64,7 @@ waits_placed {copies = copies} {stays = stays} {unmet = unmet} maps cs cs2 rs os
       allowed = has.allowed;
       sized = has.sized;
       reasons = λ t w found apart. reason_placed maps cs cs2 copies rs os t w.want w.on (placed t w.want) (tops t w.want) (has.reasons t w found apart);
-      passed = λ t w found apart. passed_placed stays unmet maps maps cs cs2 t w.want w.on (behind t w.want) (has.passed t w found apart);
+      passed = λ t w found apart. passed_placed stays unmet maps maps cs cs2 t w.want w.on (placed t w.want) (behind t w.want) (has.passed t w found apart);
       aims = λ t w key found is. placed t w.want key (has.aims t w key found is);
       askers = has.askers;
       ready = has.ready;
@@ -188,7 +189,8 @@ tops_shadowed copies maps old new region object row task what there made none to
         ap (λ (z : PageKey). z.object.0) at.is
         ∙ ap (λ (z : RegionRow). z.top.0) (some_is at.row row (sym at.region ∙ (sym (ap (region_at old) same) ∙ there)))
 
-pub waits_shadowed : {copies : CopyTable} {stays unmet : PageKey → Type 0} (maps : Mapped) (old new : ChainTable) (rs : ResidentTable) (os os2 : ObjectTable)
+pub waits_shadowed : {copies : CopyTable} {stays : PageKey → Type 0} {unmet : PageKey → Unmet} (maps : Mapped) (old new : ChainTable) (rs : ResidentTable)
+    (os os2 : ObjectTable)
     (rows : List Waiting) (who : On → Bool) (waiting_at : ℕ → Option Access) (region : ℕ) (object : ObjectId) (row : RegionRow)
     → HasWaiters maps old copies rs os rows who waiting_at stays unmet → region_at old region ≡ Some row → ShadowsRegion region object row old new
     → ObjectsBelow object.0 old → ((page : ℕ) → stays (spot object page)) → KnowsMore os os2 → newest_at copies row.top.0 ≡ None
@@ -265,7 +267,8 @@ at_without maps cs cs2 task what key r put none at =
     ]
 
 -- who waits has entries on other regions
-pub waits_without : {copies : CopyTable} {stays unmet : PageKey → Type 0} (maps : Mapped) (cs cs2 : ChainTable) (rs : ResidentTable) (os : ObjectTable)
+pub waits_without : {copies : CopyTable} {stays : PageKey → Type 0} {unmet : PageKey → Unmet} (maps : Mapped) (cs cs2 : ChainTable) (rs : ResidentTable)
+    (os : ObjectTable)
     (rows : List Waiting) (who : On → Bool) (waiting_at : ℕ → Option Access) (r : ℕ)
     → HasWaiters maps cs copies rs os rows who waiting_at stays unmet → PutsRegion r None cs cs2 → ((task : ℕ) → has_entry r (rows_in task maps) ≡ false)
     → HasWaiters maps cs2 copies rs os rows who waiting_at stays unmet
@@ -297,7 +300,8 @@ place_apart maps cs task what key o tops unders place =
     leads_apart cs o unders place.steps place.top key (top_apart maps cs task what place.top o tops place.at) place.leads
 
 -- its pages that have rows are here, and no unlock of them is outstanding
-pub unawaited_apart : {copies : CopyTable} {stays unmet : PageKey → Type 0} (maps : Mapped) (cs : ChainTable) (rs : ResidentTable) (os : ObjectTable)
+pub unawaited_apart : {copies : CopyTable} {stays : PageKey → Type 0} {unmet : PageKey → Unmet} (maps : Mapped) (cs : ChainTable) (rs : ResidentTable)
+    (os : ObjectTable)
     (rows : List Waiting) (who : On → Bool) (waiting_at : ℕ → Option Access) (o p : ℕ) (row : PageRow)
     → HasWaiters maps cs copies rs os rows who waiting_at stays unmet
     → ((r : ℕ) (row : RegionRow) → region_at cs r ≡ Some row → row.top.0 ≡ o → ⊥)
@@ -311,7 +315,8 @@ unawaited_apart maps cs rs os rows who waiting_at o p row has tops unders found 
         absurd (place_apart maps cs asker.task asker.row.want (page_key o p) o tops unders (has.aims asker.task asker.row (page_key o p) asker.is asker.waits)
         refl)
 
-pub here_apart : {copies : CopyTable} {stays unmet : PageKey → Type 0} (maps : Mapped) (cs : ChainTable) (rs : ResidentTable) (os : ObjectTable)
+pub here_apart : {copies : CopyTable} {stays : PageKey → Type 0} {unmet : PageKey → Unmet} (maps : Mapped) (cs : ChainTable) (rs : ResidentTable)
+    (os : ObjectTable)
     (rows : List Waiting) (who : On → Bool) (waiting_at : ℕ → Option Access) (o p : ℕ) (row : PageRow)
     → HasWaiters maps cs copies rs os rows who waiting_at stays unmet
     → ((r : ℕ) (row : RegionRow) → region_at cs r ≡ Some row → row.top.0 ≡ o → ⊥)
@@ -319,7 +324,8 @@ pub here_apart : {copies : CopyTable} {stays unmet : PageKey → Type 0} (maps :
 here_apart maps cs rs os rows who waiting_at o p row has tops unders found =
     (unawaited_here row (unawaited_apart maps cs rs os rows who waiting_at o p row has tops unders found)).0
 
-pub unsent_apart : {copies : CopyTable} {stays unmet : PageKey → Type 0} (maps : Mapped) (cs : ChainTable) (rs : ResidentTable) (os : ObjectTable)
+pub unsent_apart : {copies : CopyTable} {stays : PageKey → Type 0} {unmet : PageKey → Unmet} (maps : Mapped) (cs : ChainTable) (rs : ResidentTable)
+    (os : ObjectTable)
     (rows : List Waiting) (who : On → Bool) (waiting_at : ℕ → Option Access) (o p : ℕ) (row : PageRow)
     → HasWaiters maps cs copies rs os rows who waiting_at stays unmet
     → ((r : ℕ) (row : RegionRow) → region_at cs r ≡ Some row → row.top.0 ≡ o → ⊥)
@@ -402,7 +408,8 @@ behind_dropped {stays = stays} maps cs cs2 task what key o drops tops unders pla
     }
 
 -- and has another number of references
-pub waits_dropped : {copies : CopyTable} {stays unmet : PageKey → Type 0} (maps : Mapped) (cs cs2 : ChainTable) (rs : ResidentTable) (os os2 : ObjectTable)
+pub waits_dropped : {copies : CopyTable} {stays : PageKey → Type 0} {unmet : PageKey → Unmet} (maps : Mapped) (cs cs2 : ChainTable) (rs : ResidentTable)
+    (os os2 : ObjectTable)
     (rows : List Waiting) (who : On → Bool) (waiting_at : ℕ → Option Access) (o under left : ℕ) (was : ObjectRow)
     → HasWaiters maps cs copies rs os rows who waiting_at stays unmet → DropsShadow o cs cs2
     → ((r : ℕ) (row : RegionRow) → region_at cs r ≡ Some row → row.top.0 ≡ o → ⊥)

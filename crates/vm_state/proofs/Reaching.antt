@@ -16,8 +16,8 @@ use Rattle.vm_shadow.specs.declared.ids.Ids.{Ids}
 use Rattle.vm_shadow.specs.declared.region_row.RegionRow.{RegionRow}
 use Rattle.vm_shadow.specs.declared.shadow_row.ShadowRow.{ShadowRow}
 use Rattle.vm_terminate.specs.Finishes.{IsReferred}
-use Rattle.vm_state.proofs.Declared.{shadow_undeclared, uncached_temporary}
-use Rattle.vm_state.specs.Stands.{HasKinds, HasRegions}
+use Rattle.vm_state.proofs.Declared.{shadow_temporary, shadow_undeclared, uncached_temporary}
+use Rattle.vm_state.specs.Stands.{HasKinds, HasRegions, IsUnderKind}
 use Rattle.vm_state.proofs.Referring.{OfRegion, OfShadow, Referrer, referrer_of, refers_region, refers_shadow}
 
 -- one further down at the end of a chain
@@ -97,31 +97,31 @@ chain_known {objects = objects} {region_from = region_from} has r row found n u 
     chain_referred has n (region_from r).top u (subst (λ (k : ℕ). IsReferred objects k) (sym (ap (λ (z : Region). z.top) (has.rows r row found)))
     (refers_region has r row found)) below
 
--- below an object that isn't declared there are only such objects
-pub chain_temporary : {header : Header} {chains : ChainTable} {objects : ObjectTable} {ids : Ids} {region_from : ℕ → Region} {backing_from : ℕ → Backing}
+-- below an object that is temporary, or a file's, there are only such
+pub chain_kind : {header : Header} {chains : ChainTable} {objects : ObjectTable} {ids : Ids} {region_from : ℕ → Region} {backing_from : ℕ → Backing}
     {regions_made objects_made marked : ℕ} → HasRegions chains objects ids region_from backing_from regions_made objects_made marked
-    → HasKinds header objects chains → (n o u : ℕ) → named header ≤ o → IsReferred objects o → Below backing_from n o u → named header ≤ u
-chain_temporary {header = header} has kinds zero o u least referred below = subst (λ (k : ℕ). named header ≤ k) below least
-chain_temporary {header = header} {chains = chains} {objects = objects} {backing_from = backing_from} has kinds (suc n) o u least referred below =
+    → HasKinds header objects chains → (n o u : ℕ) → IsUnderKind header o → IsReferred objects o → Below backing_from n o u → IsUnderKind header u
+chain_kind {header = header} has kinds zero o u kind referred below = subst (λ (k : ℕ). IsUnderKind header k) below kind
+chain_kind {header = header} {chains = chains} {objects = objects} {backing_from = backing_from} has kinds (suc n) o u kind referred below =
     let it = next (shadow_at chains o) refl in
-    chain_temporary has kinds n (backing_from o).under u it.0 it.1 below.1
+    chain_kind has kinds n (backing_from o).under u it.0 it.1 below.1
   where
-    next : (x : Option ShadowRow) → shadow_at chains o ≡ x → (named header ≤ (backing_from o).under) × IsReferred objects (backing_from o).under
+    next : (x : Option ShadowRow) → shadow_at chains o ≡ x → IsUnderKind header (backing_from o).under × IsReferred objects (backing_from o).under
     next None none = absurd (let bad : true ≡ false = sym below.0 ∙ has.bottoms o referred none in cc)
     next (Some row) found =
         let under : row.under.0 ≡ (backing_from o).under = sym (ap (λ (z : Backing). z.under) (has.shadows o row found)) in (
-          subst (λ (k : ℕ). named header ≤ k) under (kinds.unders o row found),
+          subst (λ (k : ℕ). IsUnderKind header k) under (kinds.unders o row found),
           subst (λ (k : ℕ). IsReferred objects k) under (refers_shadow has o row found),
         )
 
 -- so are all in the chain of a region that isn't declared
-pub region_temporary : {header : Header} {chains : ChainTable} {objects : ObjectTable} {ids : Ids} {region_from : ℕ → Region} {backing_from : ℕ → Backing}
+pub region_kind : {header : Header} {chains : ChainTable} {objects : ObjectTable} {ids : Ids} {region_from : ℕ → Region} {backing_from : ℕ → Backing}
     {regions_made objects_made marked : ℕ} → HasRegions chains objects ids region_from backing_from regions_made objects_made marked
     → HasKinds header objects chains → (r : ℕ) (row : RegionRow) → named header ≤ r → region_at chains r ≡ Some row → (n u : ℕ)
-    → Below backing_from n (region_from r).top u → named header ≤ u
-region_temporary {header = header} {objects = objects} {region_from = region_from} has kinds r row least found n u below =
+    → Below backing_from n (region_from r).top u → IsUnderKind header u
+region_kind {header = header} {objects = objects} {region_from = region_from} has kinds r row least found n u below =
     let top : row.top.0 ≡ (region_from r).top = sym (ap (λ (z : Region). z.top) (has.rows r row found)) in
-    chain_temporary has kinds n (region_from r).top u (subst (λ (k : ℕ). named header ≤ k) top (kinds.tops r row least found))
+    chain_kind has kinds n (region_from r).top u (inl (subst (λ (k : ℕ). named header ≤ k) top (kinds.tops r row least found)))
     (subst (λ (k : ℕ). IsReferred objects k) top (refers_region has r row found)) below
 
 -- what is in the chain of a region in use is referred to
@@ -135,7 +135,8 @@ reach_down has used known o reach =
 -- the chain of a declared region is of its own object alone
 pub chain_declared : {header : Header} {n m : ℕ} {home_from made_for : ℕ → Option ℕ} {used_at : ℕ → ℕ → Bool} {region_from : ℕ → Region}
     {backing_from : ℕ → Backing} {target_from : ℕ → Option Target}
-    {newest_from : ℕ → Option ℕ} → AreHomes header n m home_from made_for used_at region_from backing_from target_from newest_from
+    {newest_from : ℕ → Option ℕ} {copy_from : ℕ → Bool}
+    → AreHomes header n m home_from made_for used_at region_from backing_from target_from newest_from copy_from
     → (r steps u : ℕ) → r < named header → Below backing_from steps (region_from r).top u → r ≡ u
 chain_declared {backing_from = backing_from} homes r steps u declared below =
     by_steps steps (subst (λ (z : ℕ). Below backing_from steps z u) (ap (λ (z : Region). z.top) (homes.whole r declared)) below)
@@ -147,9 +148,9 @@ chain_declared {backing_from = backing_from} homes r steps u declared below =
 -- a temporary object that is referred to is in the chain of a temporary region
 pub temporary_up : {header : Header} {chains : ChainTable} {objects : ObjectTable} {ids : Ids} {region_from : ℕ → Region} {backing_from : ℕ → Backing}
     {n m : ℕ} {home_from made_for : ℕ → Option ℕ} {used_at : ℕ → ℕ → Bool} {target_from : ℕ → Option Target}
-    {newest_from : ℕ → Option ℕ} {regions_made objects_made marked : ℕ}
+    {newest_from : ℕ → Option ℕ} {copy_from : ℕ → Bool} {regions_made objects_made marked : ℕ}
     → HasRegions chains objects ids region_from backing_from regions_made objects_made marked → HasKinds header objects chains
-    → AreHomes header n m home_from made_for used_at region_from backing_from target_from newest_from
+    → AreHomes header n m home_from made_for used_at region_from backing_from target_from newest_from copy_from
     → ((s : ℕ) (row : ShadowRow) → shadow_at chains s ≡ Some row → IsReferred objects s) → (used : ℕ → Bool)
     → ((r : ℕ) (row : RegionRow) → named header ≤ r → region_at chains r ≡ Some row → used r ≡ true) → (o : ℕ) → named header ≤ o → IsReferred objects o
     → Reaches used region_from backing_from o
@@ -181,15 +182,56 @@ temporary_up {header = header} {chains = chains} {region_from = region_from} {ba
     reach : Reaches used_too region_from backing_from o
     reach = reach_up has kinds homes.bare has.ranked shadows used_too each o least referred
 
--- and what is temporary and in the chain of a region in use is referred to
+-- what is under a shadow is in the chain of a temporary region in use, a file too
+pub under_up : {header : Header} {chains : ChainTable} {objects : ObjectTable} {ids : Ids} {region_from : ℕ → Region} {backing_from : ℕ → Backing}
+    {n m : ℕ} {home_from made_for : ℕ → Option ℕ} {used_at : ℕ → ℕ → Bool} {target_from : ℕ → Option Target}
+    {newest_from : ℕ → Option ℕ} {copy_from : ℕ → Bool} {regions_made objects_made marked : ℕ}
+    → HasRegions chains objects ids region_from backing_from regions_made objects_made marked → HasKinds header objects chains
+    → AreHomes header n m home_from made_for used_at region_from backing_from target_from newest_from copy_from
+    → ((s : ℕ) (row : ShadowRow) → shadow_at chains s ≡ Some row → IsReferred objects s) → (used : ℕ → Bool)
+    → ((r : ℕ) (row : RegionRow) → named header ≤ r → region_at chains r ≡ Some row → used r ≡ true) → (s : ℕ) (row : ShadowRow)
+    → shadow_at chains s ≡ Some row
+    → (r : ℕ) × (depth : ℕ) × (named header ≤ r) × (used r ≡ true) × Below backing_from depth (region_from r).top row.under.0
+under_up {header = header} {region_from = region_from} {backing_from = backing_from} has kinds homes shadows used all s row found = (
+  reach.0,
+  suc reach.1,
+  temporary,
+  reach.2,
+  below_more backing_from reach.1 (region_from reach.0).top s row.under.0 reach.3
+      (ap (λ (z : Backing). z.backed) link) (ap (λ (z : Backing). z.under) link),
+)
+  where
+    least : named header ≤ s
+    least = shadow_temporary has homes s row found
+
+    link : backing_from s ≡ record { backed = true; under = row.under.0; shift = row.shift }
+    link = has.shadows s row found
+
+    reach : Reaches used region_from backing_from s
+    reach = temporary_up has kinds homes shadows used all s least (shadows s row found)
+
+    temporary : named header ≤ reach.0
+    temporary = elim (kind_cases header reach.0) [
+      | inl declared ↦ let same = chain_declared homes reach.0 reach.1 s declared reach.3 in absurd (omega (arith, same, declared, least))
+      | inr more ↦ more
+    ]
+
+-- and what is in the chain of a temporary region in use is referred to, a file too
+pub region_down : (header : Header) {chains : ChainTable} {objects : ObjectTable} {ids : Ids} {region_from : ℕ → Region} {backing_from : ℕ → Backing}
+    {regions_made objects_made marked : ℕ} → HasRegions chains objects ids region_from backing_from regions_made objects_made marked → (used : ℕ → Bool)
+    → ((r : ℕ) → named header ≤ r → used r ≡ true → (row : RegionRow) × (region_at chains r ≡ Some row)) → (r depth o : ℕ) → named header ≤ r
+    → used r ≡ true → Below backing_from depth (region_from r).top o → IsReferred objects o
+region_down header has used known r depth o temporary is below = let row = known r temporary is in chain_known has r row.0 row.1 depth o below
+
+-- so is what is temporary and in the chain of any region in use
 pub temporary_down : {header : Header} {chains : ChainTable} {objects : ObjectTable} {ids : Ids} {region_from : ℕ → Region} {backing_from : ℕ → Backing}
     {n m : ℕ} {home_from made_for : ℕ → Option ℕ} {used_at : ℕ → ℕ → Bool} {target_from : ℕ → Option Target}
-    {newest_from : ℕ → Option ℕ} {regions_made objects_made marked : ℕ}
+    {newest_from : ℕ → Option ℕ} {copy_from : ℕ → Bool} {regions_made objects_made marked : ℕ}
     → HasRegions chains objects ids region_from backing_from regions_made objects_made marked
-    → AreHomes header n m home_from made_for used_at region_from backing_from target_from newest_from → (used : ℕ → Bool)
+    → AreHomes header n m home_from made_for used_at region_from backing_from target_from newest_from copy_from → (used : ℕ → Bool)
     → ((r : ℕ) → named header ≤ r → used r ≡ true → (row : RegionRow) × (region_at chains r ≡ Some row)) → (o : ℕ) → named header ≤ o
     → Reaches used region_from backing_from o → IsReferred objects o
 temporary_down {header = header} has homes used known o least reach = elim (kind_cases header reach.0) [
   | inl declared ↦ let same = chain_declared homes reach.0 reach.1 o declared reach.3 in absurd (omega (arith, same, declared, least))
-  | inr temporary ↦ let row = known reach.0 temporary reach.2 in chain_known has reach.0 row.0 row.1 reach.1 o reach.3
+  | inr temporary ↦ region_down header has used known reach.0 reach.1 o temporary reach.2 reach.3
 ]

@@ -13,7 +13,7 @@ use Rattle.vm_resident.specs.Resident.{ResidentTable}
 use Rattle.vm_shadow.specs.Chains.{ChainTable, Rebases, shadow_at}
 use Rattle.vm_shadow.specs.declared.shadow_row.ShadowRow.{ShadowRow}
 use Rattle.vm_state.proofs.Places.{waits_placed}
-use Rattle.vm_state.specs.Passed.{IsPlaceBehind, LeadsOver}
+use Rattle.vm_state.specs.Passed.{IsPlaceBehind, LeadsOver, Unmet}
 use Rattle.vm_state.specs.Waiters.{HasWaiters, IsPlaceOf, LeadsTo}
 use Rattle.vm_waits.specs.declared.waiting.On.{On}
 use Rattle.vm_waits.specs.declared.waiting.Waiting.{Waiting}
@@ -107,7 +107,8 @@ module _ {object : ℕ} {newer file : ObjectId} {cs cs2 : ChainTable} (behind : 
       record { top = place.top; at = at_rebased maps task what place.top place.at; steps = leads.0; leads = leads.1 }
 
   -- who waits, where no page of the newer object stands in the way
-  pub waits_rebased : {copies : CopyTable} {stays unmet : PageKey → Type 0} (maps : Mapped) (rs : ResidentTable) (os : ObjectTable) (rows : List Waiting)
+  pub waits_rebased : {copies : CopyTable} {stays : PageKey → Type 0} {unmet : PageKey → Unmet} (maps : Mapped) (rs : ResidentTable) (os : ObjectTable)
+      (rows : List Waiting)
       (who : On → Bool) (waiting_at : ℕ → Option Access) → HasWaiters maps cs copies rs os rows who waiting_at stays unmet
       → ((page : ℕ) → stays (spot newer page)) → HasWaiters maps cs2 copies rs os rows who waiting_at stays unmet
   waits_rebased {stays = stays} maps rs os rows who waiting_at has bare =

@@ -18,6 +18,7 @@ use Rattle.vm_waits.specs.declared.waiting.On.TheVariants as on
 use Rattle.vm_waits.specs.declared.waiting.Waiting.{Waiting}
 use Rattle.vm_waits.specs.declared.waiting.Want.{Want}
 use Rattle.vm_state.proofs.Waiting.{here_unawaited, none_unawaited, waiters_page}
+use Rattle.vm_state.specs.Passed.{Unmet}
 
 -- the pagers that were told of objects in use are told still
 pub record StillTold (maps : Mapped) (cs : ChainTable) (os os2 : ObjectTable) : Type 0 where
@@ -42,7 +43,8 @@ reason_told maps cs copies rs os os2 task what (on.Page key) told reason = reaso
 reason_told maps cs copies rs os os2 task what (on.Push key) told reason = reason
 reason_told maps cs copies rs os os2 task what on.Frame told reason = reason
 
-pub waits_told : {copies : CopyTable} {stays unmet : PageKey → Type 0} (maps : Mapped) (cs : ChainTable) (rs : ResidentTable) (os os2 : ObjectTable)
+pub waits_told : {copies : CopyTable} {stays : PageKey → Type 0} {unmet : PageKey → Unmet} (maps : Mapped) (cs : ChainTable) (rs : ResidentTable)
+    (os os2 : ObjectTable)
     (rows : List Waiting) (who : On → Bool) (waiting_at : ℕ → Option Access)
     → HasWaiters maps cs copies rs os rows who waiting_at stays unmet → StillTold maps cs os os2
     → ((o p : ℕ) (row : PageRow) → row_at rs o p ≡ Some row → ready_in (object_at os o) ≡ true → ready_in (object_at os2 o) ≡ true)
@@ -60,7 +62,8 @@ waits_told {copies = copies} maps cs rs os os2 rows who waiting_at has told read
     }
 
 -- a page that is here has gone, of which no unlock was outstanding, and its pager may have been told
-pub waiters_lost : {copies : CopyTable} {stays unmet : PageKey → Type 0} (maps : Mapped) (cs : ChainTable) (rs rs2 : ResidentTable) (os os2 : ObjectTable)
+pub waiters_lost : {copies : CopyTable} {stays : PageKey → Type 0} {unmet : PageKey → Unmet} (maps : Mapped) (cs : ChainTable) (rs rs2 : ResidentTable)
+    (os os2 : ObjectTable)
     (rows : List Waiting) (who : On → Bool) (waiting_at : ℕ → Option Access) (o p : ℕ) (row : PageRow)
     → HasWaiters maps cs copies rs os rows who waiting_at stays unmet → row_at rs o p ≡ Some row → row.here ≡ true → row.unlock_sent ≡ false
     → PutsRow o p None rs rs2
@@ -96,7 +99,8 @@ ready_referred r left was os os2 found put o = elim (one_case r o (Some (record 
   | inr other ↦ ap ready_in other.1
 ]
 
-pub waits_referred : {copies : CopyTable} {stays unmet : PageKey → Type 0} (maps : Mapped) (cs : ChainTable) (rs : ResidentTable) (os os2 : ObjectTable)
+pub waits_referred : {copies : CopyTable} {stays : PageKey → Type 0} {unmet : PageKey → Unmet} (maps : Mapped) (cs : ChainTable) (rs : ResidentTable)
+    (os os2 : ObjectTable)
     (rows : List Waiting) (who : On → Bool) (waiting_at : ℕ → Option Access) (r left : ℕ) (was : ObjectRow)
     → HasWaiters maps cs copies rs os rows who waiting_at stays unmet → object_at os r ≡ Some was
     → PutsObject r (Some (record was { references = left })) os os2
@@ -118,7 +122,8 @@ knows_made os os2 n row none put =
       ];
     }
 
-pub waits_known : {copies : CopyTable} {stays unmet : PageKey → Type 0} (maps : Mapped) (cs : ChainTable) (rs : ResidentTable) (os os2 : ObjectTable)
+pub waits_known : {copies : CopyTable} {stays : PageKey → Type 0} {unmet : PageKey → Unmet} (maps : Mapped) (cs : ChainTable) (rs : ResidentTable)
+    (os os2 : ObjectTable)
     (rows : List Waiting) (who : On → Bool) (waiting_at : ℕ → Option Access)
     → HasWaiters maps cs copies rs os rows who waiting_at stays unmet → KnowsMore os os2 → HasWaiters maps cs copies rs os2 rows who waiting_at stays unmet
 waits_known maps cs rs os os2 rows who waiting_at has more =

@@ -30,6 +30,7 @@ use Rattle.vm_copies.specs.Copies.{CopyTable}
 use Rattle.vm_state.specs.Waiters.{HasWaiters}
 use Rattle.vm_waits.specs.declared.waiting.On.{On}
 use Rattle.vm_waits.specs.declared.waiting.Waiting.{Waiting}
+use Rattle.vm_state.specs.Passed.{Unmet}
 
 -- all references are as they were
 pub regions_unmarked : (header : Header) (past : List Event) (region : RegionId) (row : RegionRow) (cs cs2 : ChainTable) (os : ObjectTable) (ids ids2 : Ids)
@@ -100,7 +101,8 @@ kinds_unmarked header region row os cs cs2 put there has =
     kinds_region header region (record row { marked = false }) os cs cs2 put (λ least. has.tops region row least there) has
 
 -- who waits does so still
-pub waits_unmarked : {copies : CopyTable} {stays unmet : PageKey → Type 0} (maps : Mapped) (old new : ChainTable) (rs : ResidentTable) (os : ObjectTable)
+pub waits_unmarked : {copies : CopyTable} {stays : PageKey → Type 0} {unmet : PageKey → Unmet} (maps : Mapped) (old new : ChainTable) (rs : ResidentTable)
+    (os : ObjectTable)
     (rows : List Waiting) (who : On → Bool) (waiting_at : ℕ → Option Access) (region : ℕ) (row : RegionRow)
     → HasWaiters maps old copies rs os rows who waiting_at stays unmet → region_at old region ≡ Some row
     → PutsRegion region (Some (record row { marked = false })) old new → HasWaiters maps new copies rs os rows who waiting_at stays unmet

@@ -17,7 +17,7 @@ use Rattle.vm_shadow.specs.declared.region_row.RegionRow.{RegionRow}
 use Rattle.vm_shadow.specs.declared.shadow_row.ShadowRow.{ShadowRow}
 use Rattle.vm_state.proofs.Passing.{over_kept, passed_placed}
 use Rattle.vm_state.proofs.Pushing.{push_same}
-use Rattle.vm_state.specs.Passed.{IsPlaceBehind}
+use Rattle.vm_state.specs.Passed.{IsPlaceBehind, Unmet}
 use Rattle.vm_state.specs.Waiters.{HasWaiters, IsPlaceOf, LeadsTo, Reason, waiting_in}
 use Rattle.vm_waits.specs.Waits.{entry}
 use Rattle.vm_waits.specs.Wants.{IsSizedWant, address_in, need_in}
@@ -127,7 +127,8 @@ told_changed maps maps2 rows waiting_at task was made told changes lives t here 
     sized u = ap (λ n. waiting_in n (entry rows u)) (sym changes.size)
 
 -- who waits has the entries that it had
-pub waits_kept : {copies : CopyTable} {stays unmet : PageKey → Type 0} {waiting2 : ℕ → Option Access} (maps maps2 : Mapped) (cs cs2 : ChainTable)
+pub waits_kept : {copies : CopyTable} {stays : PageKey → Type 0} {unmet : PageKey → Unmet} {waiting2 : ℕ → Option Access} (maps maps2 : Mapped)
+    (cs cs2 : ChainTable)
     (rs : ResidentTable) (os : ObjectTable) (rows : List Waiting) (who : On → Bool) (waiting_at : ℕ → Option Access)
     → HasWaiters maps cs copies rs os rows who waiting_at stays unmet → ((t : ℕ) (w : Waiting) → entry rows t ≡ Some w → SameOf t maps maps2)
     → KeepsPlaces cs cs2 → AreTold maps2 rows waiting2
@@ -141,6 +142,7 @@ waits_kept {copies = copies} {stays = stays} {unmet = unmet} maps maps2 cs cs2 r
       reasons = λ t w found apart. reason_kept maps maps2 cs cs2 copies rs os t w.want w.on (same t w found) tops (has.reasons t w found apart);
       passed =
           λ t w found apart. passed_placed stays unmet maps maps2 cs cs2 t w.want w.on
+          (λ key place. place_kept maps maps2 cs cs2 t w.want key (same t w found) tops place)
           (λ key place. behind_kept maps maps2 cs cs2 t w.want key (same t w found) tops place) (has.passed t w found apart);
       aims = λ t w key found is. place_kept maps maps2 cs cs2 t w.want key (same t w found) tops (has.aims t w key found is);
       askers = has.askers;
@@ -148,7 +150,8 @@ waits_kept {copies = copies} {stays = stays} {unmet = unmet} maps maps2 cs cs2 r
     }
 
 -- one task's entries change, which doesn't wait
-pub waits_changed : {copies : CopyTable} {stays unmet : PageKey → Type 0} {waiting2 : ℕ → Option Access} (maps maps2 : Mapped) (cs cs2 : ChainTable)
+pub waits_changed : {copies : CopyTable} {stays : PageKey → Type 0} {unmet : PageKey → Unmet} {waiting2 : ℕ → Option Access} (maps maps2 : Mapped)
+    (cs cs2 : ChainTable)
     (rs : ResidentTable) (os : ObjectTable) (rows : List Waiting) (who : On → Bool) (waiting_at : ℕ → Option Access) (task : ℕ) (made : Option (List Entry))
     → HasWaiters maps cs copies rs os rows who waiting_at stays unmet → ChangesOnly maps maps2 task made → entry rows task ≡ None → KeepsPlaces cs cs2
     → AreTold maps2 rows waiting2

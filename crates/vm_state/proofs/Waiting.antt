@@ -17,9 +17,9 @@ use Rattle.vm_resident.specs.Resident.{PutsRow, ResidentTable, page_key, row_at}
 use Rattle.vm_resident.specs.declared.page_row.PageRow.{PageRow}
 use Rattle.vm_shadow.specs.Chains.{ChainTable}
 use Rattle.vm_state.specs.Pagers.{ready_in}
-use Rattle.vm_state.proofs.Passing.{StopsAt, behind_place, passed_now}
+use Rattle.vm_state.proofs.Passing.{Later, StopsAt, behind_place, passed_now}
 use Rattle.vm_state.proofs.Pushing.{asked_same, push_stays}
-use Rattle.vm_state.specs.Passed.{IsPlaceBehind, LeadsOver, Passed}
+use Rattle.vm_state.specs.Passed.{IsPlaceBehind, LeadsOver, Passed, Unmet}
 use Rattle.vm_state.specs.Waiters.{Asker, HasWaiters, IsAsked, IsLockedFor, IsPlaceOf, Reason, WaitsToPush, is_awaited, is_woken, waiting_in}
 use Rattle.vm_supply.specs.declared.woken.Woken.TheVariants as woken
 use Rattle.vm_waits.proofs.Entries.{puts_cases, puts_elsewhere, puts_here}
@@ -32,14 +32,15 @@ use Rattle.vm_waits.specs.declared.waiting.Want.{Want}
 use Rattle.vm_state.proofs.Waited.{AreTold}
 
 -- where nothing has come to the places that were passed over, and to those that wait for their pager
-pub waits_seen : {copies : CopyTable} {stays unmet stays2 unmet2 : PageKey → Type 0} (maps : Mapped) (chains : ChainTable) (rs : ResidentTable)
-    (os : ObjectTable) (rows : List Waiting) (who : On → Bool) (at : ℕ → Option Access) → HasWaiters maps chains copies rs os rows who at stays unmet
+pub waits_seen : {copies : CopyTable} {stays stays2 : PageKey → Type 0} {unmet unmet2 : PageKey → Unmet} (maps : Mapped) (chains : ChainTable)
+    (rs : ResidentTable) (os : ObjectTable) (rows : List Waiting) (who : On → Bool) (at : ℕ → Option Access)
+    → HasWaiters maps chains copies rs os rows who at stays unmet
     → ((t : ℕ) (w : Waiting) → entry rows t ≡ Some w → who w.on ≡ false → Reason maps chains copies rs os t w.want w.on → (to : PageKey) → StopsAt unmet w.on to
     → (m : ℕ) (from : PageKey) → IsPlaceOf maps chains t w.want from → LeadsOver stays chains (suc m) from to → stays2 from)
     → ((t : ℕ) (w : Waiting) → entry rows t ≡ Some w → who w.on ≡ false → Reason maps chains copies rs os t w.want w.on → (object : ObjectId)
-    → w.on ≡ on.Ready object → (to : PageKey) → to.object ≡ object → IsPlaceOf maps chains t w.want to → unmet to → unmet2 to)
+    → w.on ≡ on.Ready object → (to : PageKey) → to.object ≡ object → IsPlaceOf maps chains t w.want to → Later (unmet to) (unmet2 to))
     → HasWaiters maps chains copies rs os rows who at stays2 unmet2
-waits_seen {stays = stays} {unmet = unmet} {stays2 = stays2} {unmet2 = unmet2} maps chains rs os rows who at has above there =
+waits_seen {stays = stays} {stays2 = stays2} {unmet = unmet} {unmet2 = unmet2} maps chains rs os rows who at has above there =
     record {
       is = has.is;
       allowed = has.allowed;
@@ -155,7 +156,8 @@ abbrev pub IsWokenFor : (On → Bool) → Option PageRow → ℕ → ℕ → Typ
 IsWokenFor who found o p = IsUnawaited found ⊎ WakesAll who o p
 
 -- a page has another row, or none; no word of it is outstanding now, nor was before but for those that are to be woken
-pub waiters_page : {copies : CopyTable} {stays unmet : PageKey → Type 0} (maps : Mapped) (chains : ChainTable) (rs rs2 : ResidentTable) (os : ObjectTable)
+pub waiters_page : {copies : CopyTable} {stays : PageKey → Type 0} {unmet : PageKey → Unmet} (maps : Mapped) (chains : ChainTable) (rs rs2 : ResidentTable)
+    (os : ObjectTable)
     (rows : List Waiting) (who : On → Bool) (at : ℕ → Option Access) (o p : ℕ) (x : Option PageRow)
     → HasWaiters maps chains copies rs os rows who at stays unmet → PutsRow o p x rs rs2 → IsWokenFor who (row_at rs o p) o p → IsUnawaited x
     → HasWaiters maps chains copies rs2 os rows who at stays unmet
@@ -242,7 +244,8 @@ words_put o p x rs rs2 put not =
     }
 
 -- one access is over, or waits for something else, and words that were outstanding are so still
-pub waiters_put : {copies : CopyTable} {stays unmet : PageKey → Type 0} (maps : Mapped) (chains : ChainTable) (rs rs2 : ResidentTable) (os : ObjectTable)
+pub waiters_put : {copies : CopyTable} {stays : PageKey → Type 0} {unmet : PageKey → Unmet} (maps : Mapped) (chains : ChainTable) (rs rs2 : ResidentTable)
+    (os : ObjectTable)
     (rows rows2 : List Waiting) (at at2 : ℕ → Option Access) (t : ℕ) (x : Option Waiting)
     → HasWaiters maps chains copies rs os rows (is_woken woken.Nobody) at stays unmet → PutsEntry t x rows rows2
     → AreTold maps rows2 at2
@@ -289,7 +292,8 @@ over_is maps rows rows2 t at at2 is put ends u here = elim (eqb_tells t u) [
 ]
 
 -- an access is over that waits for no page of which a word is outstanding
-pub waiters_over : {copies : CopyTable} {stays unmet : PageKey → Type 0} (maps : Mapped) (chains : ChainTable) (rs : ResidentTable) (os : ObjectTable)
+pub waiters_over : {copies : CopyTable} {stays : PageKey → Type 0} {unmet : PageKey → Unmet} (maps : Mapped) (chains : ChainTable) (rs : ResidentTable)
+    (os : ObjectTable)
     (rows rows2 : List Waiting) (at at2 : ℕ → Option Access) (t : ℕ) (was : Waiting)
     → HasWaiters maps chains copies rs os rows (is_woken woken.Nobody) at stays unmet → entry rows t ≡ Some was → AsksNone rs was.on
     → PutsEntry t None rows rows2
@@ -314,7 +318,8 @@ turned_is maps rows rows2 t was reason at is there put u here = elim (eqb_tells 
   | inr apart ↦ is u here ∙ sym (ap (waiting_in maps.size) (put.at u ∙ ap (λ b. if b then Some (with_on was reason) else entry rows u) apart.0))
 ]
 
-turned_suits : {copies : CopyTable} {stays unmet : PageKey → Type 0} (maps : Mapped) (chains : ChainTable) (rs : ResidentTable) (os : ObjectTable)
+turned_suits : {copies : CopyTable} {stays : PageKey → Type 0} {unmet : PageKey → Unmet} (maps : Mapped) (chains : ChainTable) (rs : ResidentTable)
+    (os : ObjectTable)
     (rows : List Waiting) (who : On → Bool) (at : ℕ → Option Access) (t : ℕ) (was w : Waiting) (reason : On)
     → HasWaiters maps chains copies rs os rows who at stays unmet → entry rows t ≡ Some was → Some (with_on was reason) ≡ Some w → Suits maps t w
 turned_suits maps chains rs os rows who at t was w reason has there same =
@@ -326,14 +331,15 @@ turned_reason : (maps : Mapped) (chains : ChainTable) (copies : CopyTable) (rs :
 turned_reason maps chains copies rs os t was w reason holds same =
     subst (λ (z : Waiting). Reason maps chains copies rs os t z.want z.on) (some_is (with_on was reason) w same) holds
 
-turned_passed : (stays unmet : PageKey → Type 0) (maps : Mapped) (chains : ChainTable) (t : ℕ) (was w : Waiting) (reason : On)
+turned_passed : (stays : PageKey → Type 0) (unmet : PageKey → Unmet) (maps : Mapped) (chains : ChainTable) (t : ℕ) (was w : Waiting) (reason : On)
     → Passed stays unmet maps chains t was.want reason → Some (with_on was reason) ≡ Some w
     → Passed stays unmet maps chains t w.want w.on
 turned_passed stays unmet maps chains t was w reason holds same =
     subst (λ (z : Waiting). Passed stays unmet maps chains t z.want z.on) (some_is (with_on was reason) w same) holds
 
 -- an access waits for something else; before, for no page of which a word is outstanding
-pub waiters_turned : {copies : CopyTable} {stays unmet : PageKey → Type 0} (maps : Mapped) (chains : ChainTable) (rs : ResidentTable) (os : ObjectTable)
+pub waiters_turned : {copies : CopyTable} {stays : PageKey → Type 0} {unmet : PageKey → Unmet} (maps : Mapped) (chains : ChainTable) (rs : ResidentTable)
+    (os : ObjectTable)
     (rows rows2 : List Waiting) (at : ℕ → Option Access) (t : ℕ) (was : Waiting) (reason : On)
     → HasWaiters maps chains copies rs os rows (is_woken woken.Nobody) at stays unmet → entry rows t ≡ Some was → AsksNone rs was.on
     → PutsEntry t (Some (with_on was reason)) rows rows2 → Reason maps chains copies rs os t was.want reason
@@ -349,7 +355,8 @@ waiters_turned {copies = copies} {stays = stays} {unmet = unmet} maps chains rs 
     has.ready
 
 -- a store waits for a place into which it is to push its page
-pub waiters_pushing : {copies : CopyTable} {stays unmet : PageKey → Type 0} (maps : Mapped) (chains : ChainTable) (rs : ResidentTable) (os : ObjectTable)
+pub waiters_pushing : {copies : CopyTable} {stays : PageKey → Type 0} {unmet : PageKey → Unmet} (maps : Mapped) (chains : ChainTable) (rs : ResidentTable)
+    (os : ObjectTable)
     (rows rows2 : List Waiting) (at : ℕ → Option Access) (t : ℕ) (was : Waiting) (key : PageKey)
     → HasWaiters maps chains copies rs os rows (is_woken woken.Nobody) at stays unmet → entry rows t ≡ Some was → AsksNone rs was.on
     → PutsEntry t (Some (with_on was (on.Push key))) rows rows2 → WaitsToPush maps chains copies rs t was.want key
@@ -369,7 +376,8 @@ its_asker rows rows2 t was key o p put same also =
     }
 
 -- an access waits for a page of which a word was outstanding before
-pub waiters_joined : {copies : CopyTable} {stays unmet : PageKey → Type 0} (maps : Mapped) (chains : ChainTable) (rs : ResidentTable) (os : ObjectTable)
+pub waiters_joined : {copies : CopyTable} {stays : PageKey → Type 0} {unmet : PageKey → Unmet} (maps : Mapped) (chains : ChainTable) (rs : ResidentTable)
+    (os : ObjectTable)
     (rows rows2 : List Waiting) (at : ℕ → Option Access) (t : ℕ) (was : Waiting) (key : PageKey)
     → HasWaiters maps chains copies rs os rows (is_woken woken.Nobody) at stays unmet → entry rows t ≡ Some was → AsksNone rs was.on
     → IsPlaceBehind stays maps chains t was.want key → IsAwaitedBy rs was.want key.object.0 key.page.0
@@ -379,7 +387,8 @@ waiters_joined maps chains rs os rows rows2 at t was key has is none behind awai
     waiters_turned maps chains rs os rows rows2 at t was (on.Page key) has is none put (behind_place behind, awaits) behind
 
 -- a word of a page is asked for of which none was outstanding, for an access that waits for it now
-pub waiters_asked : {copies : CopyTable} {stays unmet : PageKey → Type 0} (maps : Mapped) (chains : ChainTable) (rs rs2 : ResidentTable) (os : ObjectTable)
+pub waiters_asked : {copies : CopyTable} {stays : PageKey → Type 0} {unmet : PageKey → Unmet} (maps : Mapped) (chains : ChainTable) (rs rs2 : ResidentTable)
+    (os : ObjectTable)
     (rows rows2 : List Waiting) (at : ℕ → Option Access) (t : ℕ) (was : Waiting) (key : PageKey) (row : PageRow)
     → HasWaiters maps chains copies rs os rows (is_woken woken.Nobody) at stays unmet → entry rows t ≡ Some was → AsksNone rs was.on
     → IsPlaceBehind stays maps chains t was.want key → IsUnawaited (row_at rs key.object.0 key.page.0)
@@ -424,7 +433,8 @@ put_now o p x rs rs2 put = elim (row_cases o p x rs rs2 put o p) [
 ]
 
 -- whose lock keeps nobody out has no unlock outstanding: for each that is, somebody waits whom the lock keeps out
-pub open_unsent : {copies : CopyTable} {stays unmet : PageKey → Type 0} (maps : Mapped) (chains : ChainTable) (rs : ResidentTable) (os : ObjectTable)
+pub open_unsent : {copies : CopyTable} {stays : PageKey → Type 0} {unmet : PageKey → Unmet} (maps : Mapped) (chains : ChainTable) (rs : ResidentTable)
+    (os : ObjectTable)
     (rows : List Waiting) (at : ℕ → Option Access) (o p : ℕ) (row : PageRow) → HasWaiters maps chains copies rs os rows (is_woken woken.Nobody) at stays unmet
     → row_at rs o p ≡ Some row → row.here ≡ true → keeps_out row.lock true ≡ false → row.unlock_sent ≡ false
 open_unsent {copies = copies} maps chains rs os rows at o p row has found here open_to = by_test row.unlock_sent refl

@@ -11,7 +11,7 @@ use Rattle.vm_resident.specs.Resident.{ResidentTable, page_key, row_at}
 use Rattle.vm_resident.specs.declared.page_row.PageRow.{PageRow}
 use Rattle.vm_shadow.specs.Chains.{ChainTable}
 use Rattle.vm_base.specs.declared.ids.PageKey.{PageKey}
-use Rattle.vm_state.specs.Passed.{Passed}
+use Rattle.vm_state.specs.Passed.{Passed, Unmet}
 use Rattle.vm_state.specs.Waiters.{Asker, HasWaiters, IsPlaceOf, Reason, is_awaited, is_woken, waiting_in}
 use Rattle.vm_supply.specs.declared.woken.Woken.TheVariants as woken
 use Rattle.vm_waits.proofs.Entries.{waked_cases}
@@ -38,7 +38,8 @@ stays_waked test (Some was) new w wakes is asleep =
     wakes ∙ (ap (λ (z : Waiting). Some (waits.woken test z)) (some_is was w is) ∙ ap (λ (b : Bool). Some (if b then with_on w on.Again else w)) asleep)
 
 -- no page is awaited for which somebody is to be woken; so all the others have their reasons
-pub waits_woken : {copies : CopyTable} {stays unmet : PageKey → Type 0} (maps : Mapped) (chains : ChainTable) (rs : ResidentTable) (os : ObjectTable)
+pub waits_woken : {copies : CopyTable} {stays : PageKey → Type 0} {unmet : PageKey → Unmet} (maps : Mapped) (chains : ChainTable) (rs : ResidentTable)
+    (os : ObjectTable)
     (rows rows2 : List Waiting) (who : On → Bool) (at : ℕ → Option Access) → HasWaiters maps chains copies rs os rows who at stays unmet
     → ((t : ℕ) → Waked who (entry rows t) (entry rows2 t))
     → ((o p : ℕ) (row : PageRow) → row_at rs o p ≡ Some row → is_awaited row ≡ true → who (on.Page (page_key o p)) ≡ false)
@@ -79,7 +80,8 @@ waits_woken {copies = copies} {stays = stays} {unmet = unmet} maps chains rs os 
         }
 
 -- some more are to be woken
-pub waits_wider : {copies : CopyTable} {stays unmet : PageKey → Type 0} (maps : Mapped) (chains : ChainTable) (rs : ResidentTable) (os : ObjectTable)
+pub waits_wider : {copies : CopyTable} {stays : PageKey → Type 0} {unmet : PageKey → Unmet} (maps : Mapped) (chains : ChainTable) (rs : ResidentTable)
+    (os : ObjectTable)
     (rows : List Waiting) (who wider : On → Bool) (at : ℕ → Option Access) → HasWaiters maps chains copies rs os rows who at stays unmet
     → ((why : On) → wider why ≡ false → who why ≡ false) → HasWaiters maps chains copies rs os rows wider at stays unmet
 waits_wider maps chains rs os rows who wider at has fewer =
@@ -95,7 +97,8 @@ waits_wider maps chains rs os rows who wider at has fewer =
     }
 
 -- who waits for no page may be woken at any time
-pub waits_roused : {copies : CopyTable} {stays unmet : PageKey → Type 0} (maps : Mapped) (chains : ChainTable) (rs : ResidentTable) (os : ObjectTable)
+pub waits_roused : {copies : CopyTable} {stays : PageKey → Type 0} {unmet : PageKey → Unmet} (maps : Mapped) (chains : ChainTable) (rs : ResidentTable)
+    (os : ObjectTable)
     (rows rows2 : List Waiting) (who : On → Bool) (at : ℕ → Option Access)
     → HasWaiters maps chains copies rs os rows (is_woken woken.Nobody) at stays unmet → ((t : ℕ) → Waked who (entry rows t) (entry rows2 t))
     → ((key : PageKey) → who (on.Page key) ≡ false) → HasWaiters maps chains copies rs os rows2 (is_woken woken.Nobody) at stays unmet

@@ -1,17 +1,20 @@
 -- A walk down a chain, by the rows of a host and as the history has it.
-use Rattle.std.proofs.Common.{List, None, Some, ap, arith, false, inl, inr, refl, subst, suc, sym, true, zero, ℕ, ◌+◌, ◌∙◌, ◌≡◌}
+use Rattle.std.proofs.Common.{List, None, Some, ap, arith, false, inl, inr, refl, subst, suc, sym, true, zero, ℕ, ◌+◌, ◌<◌, ◌∙◌, ◌≡◌, ◌≤◌}
 use Rattle.std.specs.Prelude.{◌≢◌, ◌⊎◌}
 use Rattle.vm_parts.proofs.Rows.{some_is}
 use Rattle.vm_base.specs.declared.ids.PageKey.{PageKey}
 use Rattle.vm_state.proofs.Passing.{one_under}
 use Rattle.vm_fault.specs.Walks.{IsUnder, MayCome, PassesOver, Sinks, WalksTo, top_place}
+use Rattle.vm_legal.proofs.Files.{file_named}
 use Rattle.vm_legal.specs.Accesses.{Comes, HasPlace}
+use Rattle.vm_legal.specs.Outside.{is_file}
 use Rattle.vm_legal.specs.Walks as legal
-use Rattle.vm_legal.specs.Walks.{IsTop, Leads, Sight, Walks, sight}
+use Rattle.vm_legal.specs.Walks.{Below, IsTop, Leads, Sight, Walks, sight}
+use Rattle.vm_model.specs.Named.{named}
 use Rattle.vm_model.specs.Regions.{Backing, Region, backing_of, region_of}
 use Rattle.vm_model.specs.declared.event.Event.{Event}
 use Rattle.vm_model.specs.declared.script.Header.{Header}
-use Rattle.vm_objects.specs.Objects.{absent_at}
+use Rattle.vm_objects.specs.Objects.{ObjectTable, absent_at}
 use Rattle.vm_objects.specs.declared.row.ObjectRow.{ObjectRow}
 use Rattle.vm_objects.specs.declared.row.PagerState.TheVariants as state
 use Rattle.vm_parts.specs.declared.parts.HostParts.{HostParts}
@@ -19,7 +22,10 @@ use Rattle.vm_resident.specs.Resident.{row_at}
 use Rattle.vm_resident.specs.declared.page_row.PageRow.{PageRow}
 use Rattle.vm_shadow.specs.Chains.{ChainTable, region_at, shadow_at}
 use Rattle.vm_shadow.specs.declared.region_row.RegionRow.{RegionRow}
+use Rattle.vm_state.proofs.Files.{file_has_pager}
 use Rattle.vm_state.proofs.Shown.{IsShown, passes_of}
+use Rattle.vm_state.specs.Pagers.{has_pager}
+use Rattle.vm_state.specs.Stands.{HasKinds, IsUnderKind}
 use Rattle.vm_state.specs.Waiters.{LeadsTo}
 use Rattle.vm_terminate.specs.Finishes.{IsReferred}
 
@@ -215,3 +221,74 @@ sunk_never parts chains top b m sinks walks stops =
     go (suc n) (suc m) from walks others =
         let next = one_under chains from walks.1.0 others.1.0 walks.1.1 others.1.1 in
         go n m others.1.0 (subst (λ (z : PageKey). WalksTo parts chains n z sinks.last) next walks.1.2) others.1.2
+
+-- No walk passes over a place of a file to which something refers: it has a pager, and none of its pages is known to be missing.
+pub stops_at_file : {header : Header} {parts : HostParts} {chains : ChainTable} → HasKinds header parts.objects chains → (key : PageKey)
+    → is_file header key.object.0 ≡ true → IsReferred parts.objects key.object.0 → PassesOver parts key → ⊥
+stops_at_file {header = header} kinds key file referred over = elim over.none [
+  | inl without ↦ let bad : true ≡ false = sym told ∙ ap has_pager without in cc
+  | inr lacked ↦ let bad : false ≡ true = sym (kinds.present key.object.0 key.page.0 (file_named header key.object.0 file)) ∙ lacked in cc
+]
+  where
+    told : has_pager over.row.state ≡ true
+    told =
+        file_has_pager kinds key.object.0 over.row file over.known
+        (subst (λ (z : ObjectRow). 0 < z.references) (some_is referred.row over.row (sym referred.known ∙ over.known)) referred.some)
+
+-- under a place stands one of a temporary object, or of a file
+next_kind : {header : Header} {objects : ObjectTable} {chains : ChainTable} → HasKinds header objects chains → (from next : PageKey) → IsUnder chains from next
+    → IsUnderKind header next.object.0
+next_kind {header = header} kinds from next under =
+    subst (λ (z : ℕ). IsUnderKind header z) (sym (ap (λ (z : PageKey). z.object.0) under.is)) (kinds.unders from.object.0 under.row under.found)
+
+-- so does one each step further down
+pub under_kind : {header : Header} {objects : ObjectTable} {chains : ChainTable} → HasKinds header objects chains → (n : ℕ) (from to : PageKey)
+    → LeadsTo chains (suc n) from to → IsUnderKind header to.object.0
+under_kind {header = header} kinds zero from to leads =
+    subst (λ (z : PageKey). IsUnderKind header z.object.0) leads.2 (next_kind kinds from leads.0 leads.1)
+under_kind kinds (suc n) from to leads = under_kind kinds n leads.0 to leads.2
+
+-- a walk that passes over the last place too passes over the first
+first_passed : (parts : HostParts) (chains : ChainTable) (n : ℕ) (from to : PageKey) → WalksTo parts chains n from to → PassesOver parts to
+    → PassesOver parts from
+first_passed parts chains zero from to walks over = subst (λ (z : PageKey). PassesOver parts z) (sym walks) over
+first_passed parts chains (suc n) from to walks over = walks.0
+
+module _ {header : Header} {h : ℕ} {parts : HostParts} {chains : ChainTable} {past : List Event} (s : IsShown header h parts chains past)
+    (kinds : HasKinds header parts.objects chains) where
+  -- the next place is no file's where a walk passes over it
+  next_temporary : (from next : PageKey) → IsUnder chains from next → PassesOver parts next → named header ≤ next.object.0
+  next_temporary from next under over = elim (next_kind kinds from next under) [
+    | inl least ↦ least
+    | inr file ↦ absurd (stops_at_file kinds next file (subst (λ (z : ℕ). IsReferred parts.objects z) (sym (ap (λ (z : PageKey). z.object.0) under.is))
+        (s.under_referred from.object.0 under.row under.found)) over)
+  ]
+
+  -- from a temporary object a walk passes over temporary ones only
+  pub passed_temporary : (n : ℕ) (from to : PageKey) → named header ≤ from.object.0 → WalksTo parts chains n from to → PassesOver parts to
+      → named header ≤ to.object.0
+  passed_temporary zero from to least walks over = subst (λ (z : PageKey). named header ≤ z.object.0) walks least
+  passed_temporary (suc n) from to least walks over =
+      let next = walks.1.0 in
+      passed_temporary n next to (next_temporary from next walks.1.1 (first_passed parts chains n next to walks.1.2 over)) walks.1.2 over
+
+  -- so no file is below one from which a walk finds its page nowhere
+  pub sinks_plain : (top : PageKey) → named header ≤ top.object.0 → IsReferred parts.objects top.object.0 → Sinks parts chains top
+      → (depth below : ℕ) → Below (λ o. backing_of header o past) depth top.object.0 below → named header ≤ below
+  sinks_plain top least referred sinks depth below leads = go sinks.steps top depth least sinks.walks leads
+    where
+      bottom : (backing_of header sinks.last.object.0 past).backed ≡ false
+      bottom =
+          s.bottoms sinks.last.object.0 (referred_down s sinks.steps top sinks.last referred (walks_lead parts chains sinks.steps top sinks.last sinks.walks))
+          sinks.bottom
+
+      go : (n : ℕ) (from : PageKey) (depth : ℕ) → named header ≤ from.object.0 → WalksTo parts chains n from sinks.last
+          → Below (λ o. backing_of header o past) depth from.object.0 below → named header ≤ below
+      go n from zero least walks leads = subst (λ (z : ℕ). named header ≤ z) leads least
+      go zero from (suc depth) least walks leads =
+          absurd (let bad : true ≡ false = sym leads.0 ∙ (ap (λ (z : PageKey). (backing_of header z.object.0 past).backed) walks ∙ bottom) in cc)
+      go (suc n) from (suc depth) least walks leads =
+          let next = walks.1.0 in
+          let down = descends_of s from next walks.1.1 in
+          go n next depth (next_temporary from next walks.1.1 (first_passed parts chains n next sinks.last walks.1.2 sinks.passes)) walks.1.2
+          (subst (λ (z : ℕ). Below (λ o. backing_of header o past) depth z below) (sym down.object) leads.1)

@@ -1,5 +1,6 @@
 -- Which objects of a host can be merged, by its tables, and what that does to the pages that are here.
 use Rattle.std.specs.Prelude.{ℕ, ◌+◌, ◌≡◌, ◌==◌, Option, Some, None, if◌then◌else◌, nat_lt}
+use Rattle.vm_copies.specs.Copies.{CopyTable}
 use Rattle.vm_frames.specs.Frames.{FrameTable, page_in}
 use Rattle.vm_objects.specs.Objects.{ObjectTable, PutsObject, SameMarks}
 pub use Rattle.vm_merge.specs.Merges.{CanMerge, IsThin, IsThinBut}
@@ -24,8 +25,8 @@ pub record KeepsBytes (resident : ResidentTable) (old new : FrameTable) : Type 0
   pub at : (o p : ℕ) (row : PageRow) → row_at resident o p ≡ Some row → page_in new row.frame.0 ≡ page_in old row.frame.0
 
 -- a merge by the tables: the lower's shadow row is the upper's, by the sum of both shifts, nothing refers to the lower any more, and all else is as it was
-pub record MergesObjects (upper lower : ℕ) (chains chains2 : ChainTable) (objects objects2 : ObjectTable) : Type 0 where
-  pub can : CanMerge chains objects upper lower
+pub record MergesObjects (upper lower : ℕ) (chains chains2 : ChainTable) (copies : CopyTable) (objects objects2 : ObjectTable) : Type 0 where
+  pub can : CanMerge copies chains objects upper lower
   pub chain : MergesShadow upper lower can.link chains chains2
   pub object : PutsObject lower (Some (record can.lower_row { references = 0 })) objects objects2
   pub marks : SameMarks objects objects2

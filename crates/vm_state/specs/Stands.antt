@@ -63,20 +63,24 @@ pub record IsOfKind (header : Header) (o : ℕ) (known : ObjectRow) : Type 0 whe
   pub temporary : named header ≤ o → IsTemporary known
   pub declared : o < named header → IsDeclared header o known
 
--- The objects are of their kinds; a page of a declared object is never known to be missing; and what is not declared is over nothing that is, and under no
--- shadow is anything declared.
+-- a place under a shadow: of temporary memory, or of a file
+abbrev pub IsUnderKind : Header → ℕ → Type 0
+IsUnderKind header o = (named header ≤ o) ⊎ (is_file header o ≡ true)
+
+-- The objects are of their kinds; a page of a declared object is never known to be missing; a region that is not declared is over nothing that is, and a
+-- shadow is over temporary objects and files only.
 pub record HasKinds (header : Header) (objects : ObjectTable) (chains : ChainTable) : Type 0 where
   pub kinds : (o : ℕ) (known : ObjectRow) → object_at objects o ≡ Some known → IsOfKind header o known
   pub present : (o p : ℕ) → o < named header → absent_at objects o p ≡ false
   pub tops : (r : ℕ) (row : RegionRow) → named header ≤ r → region_at chains r ≡ Some row → named header ≤ row.top.0
-  pub unders : (o : ℕ) (row : ShadowRow) → shadow_at chains o ≡ Some row → named header ≤ row.under.0
+  pub unders : (o : ℕ) (row : ShadowRow) → shadow_at chains o ≡ Some row → IsUnderKind header row.under.0
 
--- an entry on a declared region is not to be copied by a fork
-abbrev pub IsShared : ℕ → Entry → Type 0
-IsShared declared row = row.region.0 < declared → row.inherit ≢ Copy
+-- an entry on a declared region that is no file's is not to be copied by a fork
+abbrev pub IsShared : Header → Entry → Type 0
+IsShared header row = row.region.0 < named header → is_file header row.region.0 ≡ false → row.inherit ≢ Copy
 
-abbrev pub AreShared : ℕ → Mapped → Type 0
-AreShared declared maps = (task : ℕ) → AllRows (IsShared declared) (rows_in task maps)
+abbrev pub AreShared : Header → Mapped → Type 0
+AreShared header maps = (task : ℕ) → AllRows (IsShared header) (rows_in task maps)
 
 -- The regions, the objects and what stands under them, and the next numbers. What a region or a shadow is over is known, and each chain ends. Of an object to
 -- which something refers and that is no shadow the history says so too. An object has as many references as regions and shadows are over it, and one more

@@ -23,7 +23,8 @@ use Rattle.vm_waits.specs.declared.waiting.Waiting.{Waiting}
 use Rattle.vm_waits.specs.declared.waiting.Want.{Want}
 use Rattle.vm_waits.specs.declared.waiting.Want.TheVariants as want
 use Rattle.vm_maps.specs.Judge.{IsAllowed}
-use Rattle.vm_state.specs.Passed.{Passed}
+pub use Rattle.vm_state.specs.Passed.{IsPlaceOf, LeadsTo}
+use Rattle.vm_state.specs.Passed.{Passed, Unmet}
 use Rattle.vm_state.specs.Pagers.{ready_in}
 
 -- where a slow copy's pages are to be mapped
@@ -40,18 +41,6 @@ access_in size to (want.CopyTo address pages target next) = Copying address (pag
 abbrev pub waiting_in : ℕ → Option Waiting → Option Access
 waiting_in size None = None
 waiting_in size (Some w) = Some (access_in size (copies_to w.destination) w.want)
-
--- so many places further down a chain stands another
-abbrev pub LeadsTo : ChainTable → ℕ → PageKey → PageKey → Type 0
-LeadsTo chains zero from to = from ≡ to
-LeadsTo chains (suc n) from to = (next : PageKey) × IsUnder chains from next × LeadsTo chains n next to
-
--- one of the places of the page that an access of a task is about: its place in the region's top object, or one further down the chain
-pub record IsPlaceOf (maps : Mapped) (chains : ChainTable) (task : ℕ) (what : Want) (key : PageKey) : Type 0 where
-  pub top : PageKey
-  pub at : IsAt maps chains task what top
-  pub steps : ℕ
-  pub leads : LeadsTo chains steps top key
 
 -- the page is asked: it has a row and isn't here
 pub record IsAsked (resident : ResidentTable) (o p : ℕ) : Type 0 where
@@ -120,7 +109,7 @@ is_woken (woken.Fails key) reason = woken_page key reason
 -- is ready, and for each unlock that is outstanding.
 pub record HasWaiters (maps : Mapped) (chains : ChainTable) (copies : CopyTable) (resident : ResidentTable) (objects : ObjectTable) (rows : List Waiting)
     (who : On → Bool)
-    (waiting_at : ℕ → Option Access) (stays unmet : PageKey → Type 0) : Type 0 where
+    (waiting_at : ℕ → Option Access) (stays : PageKey → Type 0) (unmet : PageKey → Unmet) : Type 0 where
   pub is : (t : ℕ) → is_some (entries_in t maps) ≡ true → waiting_at t ≡ waiting_in maps.size (entry rows t)
   pub allowed : (t : ℕ) (w : Waiting) → entry rows t ≡ Some w → IsAllowed maps t (address_in maps.size w.want) (need_in w.want)
   pub sized : (t : ℕ) (w : Waiting) → entry rows t ≡ Some w → IsSizedWant maps.size w.want

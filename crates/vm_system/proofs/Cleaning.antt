@@ -194,7 +194,7 @@ asked_stay header outside object cache line h (Some known) file is =
       back = refl;
       licensed = (
         (
-          paged_sends header outside (command.Cache object cache) known.host object.0 known.control (message.Attributes cache 0 true) (event.Line line ∷ h)
+          paged_sends header outside (command.Cache object cache) known.host object.0 known.control (message.Attributes cache 2 true) (event.Line line ∷ h)
               (file_paged header object.0 file) (file, refl, refl, there.0, (refl, refl), refl),
           tt,
         ),

@@ -62,7 +62,7 @@ greeted host control strategy object events past is =
 pub filed_of : (m : Message) (host : ℕ) (object : ObjectId) (old new : FileTable) (events past : List Event) → old.object ≡ object.0
     → FileAnswer m host old new events → IsFiled object events past
 filed_of (message.Init control size) host object old new events past own a =
-    greeted host control 0 object events past (subst (λ (z : ℕ). events ≡ sent_to host z control (message.Ready false 0) ∷ []) own a.1)
+    greeted host control 2 object events past (subst (λ (z : ℕ). events ≡ sent_to host z control (message.Ready false 2) ∷ []) own a.1)
 filed_of (message.Create control size) host object old new events past own a =
     greeted host control 3 object events past (subst (λ (z : ℕ). events ≡ sent_to host z control (message.Ready false 3) ∷ []) own a.1)
 filed_of (message.Request control page access) host object old new events past own a =

@@ -7,7 +7,7 @@ use Rattle.vm_system.proofs.Common.{AllInner, NoneIsTemporary, AllInTurn, AllSer
 use Rattle.vm_system.proofs.Common.{FollowsSoFarInTurn, FramesSuffice, HasCause, Header, Holds, HostTable, IfNone, IsAtRest, IsConsequence}
 use Rattle.vm_system.proofs.Common.{IsDoneInTurn, IsGroupInTurn, IsPaid, IsRunInTurn, IsWholeInTurn, IsWholeSoFarInTurn, KeepsCanonical, List, MomentsIn, None}
 use Rattle.vm_system.proofs.Common.{Numbered, Option, Outside, OwnBytes, Prompt, Some, Went, [], acting, ap, code_where, copies, copies_from}
-use Rattle.vm_system.proofs.Common.{copy_refusal, each_both, each_whole, entries_of, entry_at, false, has_copy_mark, head, host_of, if◌then◌else◌, inl}
+use Rattle.vm_system.proofs.Common.{copy_refusal, each_both, each_whole, entries_of, entry_at, false, head, host_of, if◌then◌else◌, inl}
 use Rattle.vm_system.proofs.Common.{inner_both, is_copied, is_copy_full, is_elsewhere, is_fork_full, is_full, is_idle, is_none, is_range, is_some, length}
 use Rattle.vm_system.proofs.Common.{licensed_both, marked_below, marked_regions, meets_range, moment_last, moments_both, moments_whole, most_entries, nat_le}
 use Rattle.vm_system.proofs.Common.{new_marks, next_object, next_region, not, of_both, refl, refusal, region_of, reverse, settles, so_far, steps_whole, subst}
@@ -28,6 +28,9 @@ use Rattle.vm_legal.proofs.Turns.{so_far_of as weak_so_far}
 use Rattle.vm_legal.specs.InTurn.{AllRecalled, StepIsInTurn, NoneSleeps}
 use Rattle.vm_legal.specs.Serving.{HostsServed}
 use Rattle.vm_legal.proofs.Serving.{one_served}
+use Rattle.vm_legal.specs.Refusal.{takes_no_mark}
+use Rattle.vm_model.specs.Named.{named}
+use Rattle.vm_model.specs.Tasks.{copies_below}
 use Rattle.vm_system.proofs.Served.{nobodys_own}
 use Rattle.vm_model.specs.Moments.{BeforeSteps}
 use Rattle.vm_system.proofs.Awake.{awake_of}
@@ -39,10 +42,10 @@ marks_line header line zero h = refl
 marks_line header line (suc n) h = ap (λ (z : ℕ). if (region_of header n h).mark then z + 1 else z) (marks_line header line n h)
 
 new_line : (header : Header) (line : ℕ) (h : List Event) (rows : List Entry)
-    → new_marks (has_copy_mark header (event.Line line ∷ h)) rows ≡ new_marks (has_copy_mark header h) rows
+    → new_marks (takes_no_mark header (event.Line line ∷ h)) rows ≡ new_marks (takes_no_mark header h) rows
 new_line header line h [] = refl
 new_line header line h (row ∷ rows) =
-    ap (λ (z : ℕ). if is_copied row.inherit && (not (copies_from row.region.0 rows) && not (region_of header row.region.0 h).mark) then z + 1 else z)
+    ap (λ (z : ℕ). if is_copied row.inherit && (not (copies_from row.region.0 rows) && not (takes_no_mark header h row.region.0)) then z + 1 else z)
     (new_line header line h rows)
 
 all_marks_line : (header : Header) (line : ℕ) (h : List Event) → marked_regions header (event.Line line ∷ h) ≡ marked_regions header h
@@ -56,8 +59,10 @@ full_line header line task h =
 fork_line : (header : Header) (line : ℕ) (h : List Event) (rows : List Entry) → is_fork_full header rows (event.Line line ∷ h) ≡ is_fork_full header rows h
 fork_line header line h rows =
     ap (λ (m : ℕ). nat_lt 8192 (next_region header h + copies rows) || nat_lt 8192
-    (next_object header h + m + copies rows + new_marks (has_copy_mark header (event.Line line ∷ h)) rows)) (all_marks_line header line h)
-    ∙ ap (λ (n : ℕ). nat_lt 8192 (next_region header h + copies rows) || nat_lt 8192 (next_object header h + marked_regions header h + copies rows + n))
+    (next_object header h + m + copies rows + new_marks (takes_no_mark header (event.Line line ∷ h)) rows + copies_below (named header) rows))
+    (all_marks_line header line h)
+    ∙ ap (λ (n : ℕ). nat_lt 8192 (next_region header h + copies rows) || nat_lt 8192
+    (next_object header h + marked_regions header h + copies rows + n + copies_below (named header) rows))
     (new_line header line h rows)
 
 copy_line : (header : Header) (line source : ℕ) (h : List Event) → is_copy_full header source (event.Line line ∷ h) ≡ is_copy_full header source h

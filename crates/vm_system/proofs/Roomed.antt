@@ -158,6 +158,7 @@ module _ (header : Header) (hosts new : HostTable) (line : ℕ) (past : List Eve
           fits = m.core.fits;
           spaces = m.core.spaces;
           objects = m.core.objects;
+          copied = m.core.copied;
           controls = m.core.controls;
           flags = m.core.flags;
           calm = (all.rests h old.0 old.1).matches.core.calm;

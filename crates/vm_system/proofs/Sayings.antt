@@ -494,7 +494,7 @@ filed header host object m past old new events orderly letter own sized unshared
         → FileAnswer m host old new events → AllTold header events (taking host object m past)
     by (message.Init control size) orderly letter is =
         subst (λ (x : List Event). AllTold header x (taking host object (message.Init control size) past)) (sym is.1)
-        (told_one header host host its control (message.Ready false 0) (taking host object (message.Init control size) past) orderly
+        (told_one header host host its control (message.Ready false 2) (taking host object (message.Init control size) past) orderly
         (record { known = letter.0; own = refl; made = letter.1; plain = plain }) tt)
     by (message.Create control size) orderly letter is =
         subst (λ (x : List Event). AllTold header x (taking host object (message.Create control size) past)) (sym is.1)
@@ -544,7 +544,7 @@ orderly_cleaned header host object control page count flush past old known plain
 
 pub orderly_cached : (header : Header) (host : ℕ) (object : ObjectId) (control : ℕ) (cache : Bool) (past : List Event)
     → IsOrderly header past → host < length header.frames.items
-    → is_shared header object.0 ≡ false → IsOrderly header (event.Sent (Down (host_id host) object control) (message.Attributes cache 0 true) ∷ past)
+    → is_shared header object.0 ≡ false → IsOrderly header (event.Sent (Down (host_id host) object control) (message.Attributes cache 2 true) ∷ past)
 orderly_cached header host object control cache past old known plain =
-    sent_down header host object control (message.Attributes cache 0 true) past old known tt
+    sent_down header host object control (message.Attributes cache 2 true) past old known tt
     (λ shared. never_shared header object.0 plain shared) (λ shared. never_shared header object.0 plain shared)

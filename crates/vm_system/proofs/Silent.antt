@@ -168,6 +168,8 @@ awake_line header line h awake host known task sleeper =
       here = sleeper.here;
       let_in = sleeper.let_in;
       free = λ store copy owes. sleeper.free store copy (owes_line header host sleeper.object sleeper.page copy line h owes);
+      told = λ other other_page place. sleeper.told other other_page (place_line header sleeper.waits.at.entry.region.0
+          (page_of header task sleeper.access h sleeper.waits.at.entry) other other_page line h place);
     })
 
 -- a code
@@ -292,6 +294,8 @@ awake_code header why h awake host known task sleeper =
       here = sleeper.here;
       let_in = sleeper.let_in;
       free = λ store copy owes. sleeper.free store copy (owes_code header host sleeper.object sleeper.page copy why h owes);
+      told = λ other other_page place. sleeper.told other other_page (place_code header sleeper.waits.at.entry.region.0
+          (page_of header task sleeper.access h sleeper.waits.at.entry) other other_page why h place);
     })
 
 pub prompt_code : (header : Header) (why : Code) (h : List Event) → Prompt header h → Prompt header (event.Refused why ∷ h)

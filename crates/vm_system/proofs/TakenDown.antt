@@ -5,6 +5,10 @@ use Rattle.vm_system.proofs.Common.{MayTakeFrom, Message, None, ObjectId, Option
 use Rattle.vm_system.proofs.Common.{devices, false, first, length, owed, queue, subst, sym, taken_letter, taken_more, true, up, ℕ, ◌++◌, ◌<◌, ◌∙◌, ◌∷◌, ◌≡◌}
 use Rattle.vm_system.proofs.Served.{served_down}
 use Rattle.vm_kernel.specs.Destroying.{IsDestroyPaid, MayDestroy, is_destroy}
+use Rattle.vm_kernel.specs.Taking.{IsOfPushed}
+use Rattle.vm_model.specs.declared.message.Message.TheVariants as message
+use Rattle.vm_returned.proofs.Pushed.{of_pushed}
+use Rattle.vm_returned.specs.Pushed.{OfPushed}
 use Rattle.vm_system.proofs.WildEnds.{may_destroy}
 use Rattle.vm_model.specs.declared.event.Device.TheVariants.{Files, Paging}
 use Rattle.vm_model.specs.declared.event.Event.TheVariants as event
@@ -39,6 +43,20 @@ pub down_destroys : (given : Step) (line : Option ℕ) (number : ChannelId) (hos
 down_destroys given line number host object control m s may head is =
     let front = front_of given line number (Down host object control) s may in
     may_destroy given.header given.outside host object control m given.past front.lawful.causes head is
+
+-- of a copy object a pager says what was copied up into it
+
+for_kernel : (h object : ℕ) (m : Message) (past : List Event) → OfPushed h object m past → IsOfPushed h object m past
+for_kernel h object (message.Supply page lock precious bytes) past is = is
+for_kernel h object (message.Error page reason) past is = is
+for_kernel h object other past is = tt
+
+pub down_pushed : (given : Step) (line : Option ℕ) (number : ChannelId) (host : HostId) (object : ObjectId) (control : ℕ) (m : Message) (s : State)
+    → MayTakeFrom given line number (Down host object control) s
+    → first (queue (Down host object control) given.past) ≡ Some m → IsOfPushed host.0 object.0 m given.past
+down_pushed given line number host object control m s may head =
+    let front = front_of given line number (Down host object control) s may in
+    for_kernel host.0 object.0 m given.past (of_pushed given.header given.outside host object control m given.past front.lawful.causes head)
 
 pub can_down : (given : Step) (host : HostId) (object : ObjectId) (control : ℕ) (m : Message) (s : State) (hosts : HostTable) (events : List Event)
     → Front given s → first (queue (Down host object control) given.past) ≡ Some m

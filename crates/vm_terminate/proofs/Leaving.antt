@@ -41,12 +41,12 @@ has_gone host key known row old new here (GoesBack declared wanted page objects 
 -- a page of an object leaves, and the others behind it
 pub one_more : (host : HostId) (object : ObjectId) (known : ObjectRow) (from : ℕ) (page : PageNo) (row : PageRow) (old mid end : FinishState)
     → IsNextPage old.parts.resident object.0 from page.0
-    → row_at old.parts.resident object.0 page.0 ≡ Some row → row.here ≡ true → mid.chains ≡ old.chains
+    → row_at old.parts.resident object.0 page.0 ≡ Some row → row.here ≡ true → mid.chains ≡ old.chains → mid.copies ≡ old.copies
     → PageLeaves host (record { object = object; page = page }) known row old mid
     → PagesLeave host object known (page.0 + 1) mid end → PagesLeave host object known from old end
-one_more host object known from page row old mid end next found here chains leaves more =
+one_more host object known from page row old mid end next found here chains copies leaves more =
     let rest = subst (λ (n : ℕ). PagesLeave host object known n mid end) (let e : page.0 + 1 ≡ suc page.0 = omega arith in e) more in
-    Next from page row old mid end next.low next.first found here chains leaves rest
+    Next from page row old mid end next.low next.first found here chains copies leaves rest
 
 -- where a page of an object has gone, each other one is here still
 pub others_here : (o p : ℕ) (old new : ResidentTable) → PutsRow o p None old new → AllHere old o → AllHere new o

@@ -10,7 +10,7 @@ use Rattle.vm_resident.specs.declared.page_row.PageRow.{PageRow}
 use Rattle.vm_shadow.specs.Chains.{ChainTable}
 use Rattle.vm_terminate.proofs.Leaving.{has_gone}
 use Rattle.vm_terminate.proofs.Living.{ending_takes, leaving_keeps, same_below}
-use Rattle.vm_terminate.proofs.Walking.{IsBare, control_has_ended, pages_have_left, still_known}
+use Rattle.vm_terminate.proofs.Walking.{IsBare, both_have_ended, pages_have_left, still_known}
 use Rattle.vm_terminate.specs.Counts.{UsesRoom, is_live_row, live_below}
 use Rattle.vm_terminate.specs.Finishes.{ControlEnds, FinishState, GoesBack, IsDropped, IsTold, Next, NoControl, NoMore, PageLeaves, PagesLeave}
 use Rattle.vm_terminate.specs.Steps.{Ends, LeavesUnder, Nothing, Stays}
@@ -46,9 +46,9 @@ leaving_queues object next old new (Stays row known left none loses some) = ap (
 leaving_queues object next old new (Ends row known goes loses less) = ap (λ z. z.parts.queues) loses.rest
 
 -- the controls that live when the pages of an object have left
-pub leaving_lives : (host : HostId) (object : ObjectId) (known : ObjectRow) (now bare quiet : FinishState) → IsBare host object known now bare quiet → (n : ℕ)
-    → live_below bare.parts.objects n ≡ live_below now.parts.objects n
-leaving_lives host object known now bare quiet ends n =
+pub leaving_lives : (host : HostId) (object : ObjectId) (known : ObjectRow) (now bare quiet silent : FinishState)
+    → IsBare host object known now bare quiet silent → (n : ℕ) → live_below bare.parts.objects n ≡ live_below now.parts.objects n
+leaving_lives host object known now bare quiet silent ends n =
     let left = pages_have_left host object known 0 now bare ends.pages in
     same_below now.parts.objects bare.parts.objects n (λ o less. ap is_live_row (left.objects o))
 
@@ -60,17 +60,17 @@ told_one false room_bare room_quiet told silent = let none = silent refl in omeg
 
 -- what a turn uses, behind what was used before
 pub turn_uses : (host : HostId) (ending : ObjectId) (next : Option ObjectId) (known : ObjectRow) (start : HostParts) (chains : ChainTable)
-    (now bare quiet new : FinishState) (before room room_bare room_quiet n : ℕ) → ending.0 < n
-    → IsBare host ending known now bare quiet → LeavesUnder ending next quiet new → TakesTurn known now bare new room room_bare room_quiet
+    (now bare quiet silent new : FinishState) (before room room_bare room_quiet n : ℕ) → ending.0 < n
+    → IsBare host ending known now bare quiet silent → LeavesUnder ending next silent new → TakesTurn known now bare new room room_bare room_quiet
     → UsesRoom n start now.parts chains now.chains before room
     → UsesRoom n start new.parts chains new.chains before room_quiet
-turn_uses host ending next known start chains now bare quiet new before room room_bare room_quiet n less ends leaves turn uses =
-    let queues : new.parts.queues ≡ bare.parts.queues = leaving_queues ending next quiet new leaves
-    ∙ (control_has_ended host ending known bare quiet ends.control).queues in
+turn_uses host ending next known start chains now bare quiet silent new before room room_bare room_quiet n less ends leaves turn uses =
+    let queues : new.parts.queues ≡ bare.parts.queues = leaving_queues ending next silent new leaves
+    ∙ (both_have_ended host ending known now bare quiet silent ends).queues in
     let pages : listed_pages new.parts.queues ≡ listed_pages bare.parts.queues = ap listed_pages queues in
-    let first = leaving_lives host ending known now bare quiet ends n in
+    let first = leaving_lives host ending known now bare quiet silent ends n in
     let second = ending_takes host ending known bare quiet ends.control (still_known host ending known now bare ends.known_is ends.pages) n less in
-    let third = leaving_keeps ending next quiet new leaves n in
+    let third = leaving_keeps ending next silent new leaves n ∙ ap (λ z. live_below z.parts.objects n) ends.rest in
     let told = told_one known.live room_bare room_quiet turn.told turn.silent in
     record {
       log = omega (arith, pages, first, second, third, told, turn.log, uses.log);
@@ -92,7 +92,7 @@ page_told host key known row old new (GoesBack declared wanted page objects pres
 pages_told : (host : HostId) (object : ObjectId) (known : ObjectRow) (from : ℕ) (old new : FinishState) → PagesLeave host object known from old new
     → length new.events + listed_pages new.parts.queues ≤ length old.events + listed_pages old.parts.queues
 pages_told host object known _ _ _ (NoMore from s none) = omega arith
-pages_told host object known _ _ _ (Next from page row old mid new low first found here chains leaves more) =
+pages_told host object known _ _ _ (Next from page row old mid new low first found here chains copies leaves more) =
     let rest = pages_told host object known (suc page.0) mid new more in
     let gone = has_gone host (record { object = object; page = page }) known row old mid here leaves in
     let lists = gone.lists in
@@ -110,18 +110,18 @@ leaving_told object next old new (Stays row known left none loses some) = ap (λ
 leaving_told object next old new (Ends row known goes loses less) = ap (λ z. z.events) loses.rest
 
 -- what a turn tells: one event for each page that leaves, and for a control that ends
-pub turn_told : (host : HostId) (ending : ObjectId) (next : Option ObjectId) (known : ObjectRow) (now bare quiet new : FinishState) (n : ℕ) → ending.0 < n
-    → IsBare host ending known now bare quiet → LeavesUnder ending next quiet new
+pub turn_told : (host : HostId) (ending : ObjectId) (next : Option ObjectId) (known : ObjectRow) (now bare quiet silent new : FinishState) (n : ℕ)
+    → ending.0 < n → IsBare host ending known now bare quiet silent → LeavesUnder ending next silent new
     → length new.events + (listed_pages new.parts.queues + live_below new.parts.objects n) ≤ length
     now.events + (listed_pages now.parts.queues + live_below now.parts.objects n)
-turn_told host ending next known now bare quiet new n less ends leaves =
-    let queues : new.parts.queues ≡ bare.parts.queues = leaving_queues ending next quiet new leaves
-    ∙ (control_has_ended host ending known bare quiet ends.control).queues in
+turn_told host ending next known now bare quiet silent new n less ends leaves =
+    let queues : new.parts.queues ≡ bare.parts.queues = leaving_queues ending next silent new leaves
+    ∙ (both_have_ended host ending known now bare quiet silent ends).queues in
     let pages : listed_pages new.parts.queues ≡ listed_pages bare.parts.queues = ap listed_pages queues in
-    let first = leaving_lives host ending known now bare quiet ends n in
+    let first = leaving_lives host ending known now bare quiet silent ends n in
     let second = ending_takes host ending known bare quiet ends.control (still_known host ending known now bare ends.known_is ends.pages) n less in
-    let third = leaving_keeps ending next quiet new leaves n in
+    let third = leaving_keeps ending next silent new leaves n ∙ ap (λ z. live_below z.parts.objects n) ends.rest in
     let left = pages_told host ending known 0 now bare ends.pages in
     let control = control_told host ending known bare quiet ends.control in
-    let same : length new.events ≡ length quiet.events = ap length (leaving_told ending next quiet new leaves) in
+    let same : length new.events ≡ length quiet.events = ap length (leaving_told ending next silent new leaves ∙ ap (λ z. z.events) ends.rest) in
     omega (arith, pages, first, second, third, left, control, same)

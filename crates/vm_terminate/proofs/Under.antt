@@ -4,6 +4,7 @@ use Rattle.std.proofs.Common.{◌≡◌, ℕ, ◌+◌, ◌<◌, ◌≤◌, List,
 use Rattle.std.specs.Prelude.{IfSome, IsSome}
 use Rattle.vm_base.specs.declared.ids.FrameNo.{FrameNo}
 use Rattle.vm_base.specs.declared.ids.ObjectId.{ObjectId}
+use Rattle.vm_copies.specs.Copies.{CopyTable}
 use Rattle.vm_model.specs.declared.event.Event.{Event}
 use Rattle.vm_objects.specs.Objects.{ObjectTable, PutsObject, SameMarks, object_at}
 use Rattle.vm_parts.proofs.Fitting.{fit_objects, same_pages}
@@ -32,10 +33,10 @@ referred_some objects o referred = subst (λ z. IfSome z (λ row. 0 < row.refere
 
 loses : (object : ObjectId) (row : ShadowRow) (left : ℕ) (parts : HostParts) (objects : ObjectTable) (old new : ChainTable)
     (unrefers : Unrefers object row left parts objects old new)
-    → (held : List FrameNo) (room : ℕ) (events : List Event)
-    → LosesUnder object row unrefers.referred.row left (finish_state parts old held room events)
-    (finish_state (record parts { objects = objects }) new held room events)
-loses object row left parts objects old new unrefers held room events =
+    → (copies : CopyTable) (held : List FrameNo) (room : ℕ) (events : List Event)
+    → LosesUnder object row unrefers.referred.row left (finish_state parts old copies held room events)
+    (finish_state (record parts { objects = objects }) new copies held room events)
+loses object row left parts objects old new unrefers copies held room events =
     let known = unrefers.referred in
     record {
       found = sym unrefers.found;
@@ -52,22 +53,23 @@ loses object row left parts objects old new unrefers held room events =
 -- something else refers to it
 pub stays : (object : ObjectId) (row : ShadowRow) (left : ℕ) (parts : HostParts) (objects : ObjectTable) (old new : ChainTable)
     → Unrefers object row left parts objects old new → 0 < left
-    → (held : List FrameNo) (room : ℕ) (events : List Event)
-    → LeavesUnder object None (finish_state parts old held room events) (finish_state (record parts { objects = objects }) new held room events)
-stays object row left parts objects old new unrefers some held room events =
-    Stays row unrefers.referred.row left refl (loses object row left parts objects old new unrefers held room events) some
+    → (copies : CopyTable) (held : List FrameNo) (room : ℕ) (events : List Event)
+    → LeavesUnder object None (finish_state parts old copies held room events) (finish_state (record parts { objects = objects }) new copies held room events)
+stays object row left parts objects old new unrefers some copies held room events =
+    Stays row unrefers.referred.row left refl (loses object row left parts objects old new unrefers copies held room events) some
 
 -- that was the last reference
 pub ends : (object : ObjectId) (row : ShadowRow) (left : ℕ) (parts : HostParts) (objects : ObjectTable) (old new : ChainTable)
     → Unrefers object row left parts objects old new → left ≤ 0 → IsRanked old
-    → (held : List FrameNo) (room : ℕ) (events : List Event)
-    → LeavesUnder object (Some row.under) (finish_state parts old held room events) (finish_state (record parts { objects = objects }) new held room events)
-ends object row left parts objects old new unrefers none ranked held room events =
+    → (copies : CopyTable) (held : List FrameNo) (room : ℕ) (events : List Event)
+    → LeavesUnder object (Some row.under) (finish_state parts old copies held room events)
+    (finish_state (record parts { objects = objects }) new copies held room events)
+ends object row left parts objects old new unrefers none ranked copies held room events =
     let zero : left ≡ 0 = omega arith in
-    let old_state = finish_state parts old held room events in
-    let new_state = finish_state (record parts { objects = objects }) new held room events in
+    let old_state = finish_state parts old copies held room events in
+    let new_state = finish_state (record parts { objects = objects }) new copies held room events in
     let lost = subst (λ (n : ℕ). LosesUnder object row unrefers.referred.row n old_state new_state) zero
-    (loses object row left parts objects old new unrefers held room events) in
+    (loses object row left parts objects old new unrefers copies held room events) in
     Ends row unrefers.referred.row refl lost ranked
 
 pub fit_unreferred : (object : ObjectId) (row : ShadowRow) (left : ℕ) (parts : HostParts) (objects : ObjectTable) (old new : ChainTable)

@@ -3,6 +3,7 @@ use Rattle.std.proofs.Common.{◌≡◌, ◌⊎◌, ◌∙◌, ℕ, suc, ◌<◌
 use Rattle.std.specs.Option.{option_map}
 use Rattle.vm_base.specs.declared.ids.HostId.{HostId}
 use Rattle.vm_base.specs.declared.ids.ObjectId.{ObjectId}
+use Rattle.vm_copies.specs.Copies.{LeavesCopies}
 use Rattle.vm_objects.specs.Objects.{object_at}
 use Rattle.vm_objects.specs.declared.row.ObjectRow.{ObjectRow}
 use Rattle.vm_parts.proofs.Rows.{one_case, row_cases}
@@ -39,7 +40,7 @@ left_before o p old mid new gone chains more =
 pub pages_have_left : (host : HostId) (object : ObjectId) (known : ObjectRow) (from : ℕ) (old new : FinishState) → PagesLeave host object known from old new
     → PagesHaveLeft object.0 old new
 pages_have_left host object known _ _ _ (NoMore from s none) = record { others = λ o p apart. refl; objects = λ o. refl; chains = refl; room = λ fits. fits }
-pages_have_left host object known _ _ _ (Next from page row old mid new low first found here chains leaves more) =
+pages_have_left host object known _ _ _ (Next from page row old mid new low first found here chains copies leaves more) =
     left_before object.0 page.0 old mid new (has_gone host (record { object = object; page = page }) known row old mid here leaves) chains
     (pages_have_left host object known (suc page.0) mid new more)
 
@@ -119,11 +120,26 @@ lower_apart start o low less same = let both = ap (height start.chains) same in 
 pub its_pages_here : (object : ℕ) (start now : FinishState) (o : ℕ) → CanFinish start object → HasComeTo object start now o → AllHere now.parts.resident o
 its_pages_here object start now o can come p page is = can.here o p page come.ends (sym (come.pages o p (omega arith)) ∙ is)
 
--- the pages of an object have left, and its control has ended
-pub record IsBare (host : HostId) (object : ObjectId) (known : ObjectRow) (now bare quiet : FinishState) : Type 0 where
+-- the pages of an object have left, its control has ended, and it is a copy object no more
+pub record IsBare (host : HostId) (object : ObjectId) (known : ObjectRow) (now bare quiet silent : FinishState) : Type 0 where
   pub known_is : object_at now.parts.objects object.0 ≡ Some known
   pub pages : PagesLeave host object known 0 now bare
   pub control : ControlEnds host object known bare quiet
+  pub copies : LeavesCopies object.0 quiet.copies silent.copies
+  pub rest : silent ≡ record quiet { copies = silent.copies }
+
+-- what both leave as it was
+pub both_have_ended : (host : HostId) (object : ObjectId) (known : ObjectRow) (now bare quiet silent : FinishState)
+    → IsBare host object known now bare quiet silent → ControlHasEnded object.0 bare silent
+both_have_ended host object known now bare quiet silent ends =
+    let gone = control_has_ended host object known bare quiet ends.control in
+    record {
+      pages = λ o p. ap (λ z. row_at z.parts.resident o p) ends.rest ∙ gone.pages o p;
+      objects = λ o apart. ap (λ z. object_at z.parts.objects o) ends.rest ∙ gone.objects o apart;
+      chains = ap (λ z. z.chains) ends.rest ∙ gone.chains;
+      queues = ap (λ z. z.parts.queues) ends.rest ∙ gone.queues;
+      room = ap (λ z. z.room) ends.rest ∙ gone.room;
+    }
 
 -- what is known of the object is known still when its pages have left
 pub still_known : (host : HostId) (object : ObjectId) (known : ObjectRow) (now bare : FinishState) → object_at now.parts.objects object.0 ≡ Some known
@@ -132,77 +148,77 @@ pub still_known : (host : HostId) (object : ObjectId) (known : ObjectRow) (now b
 still_known host object known now bare is pages = (pages_have_left host object known 0 now bare pages).objects object.0 ∙ is
 
 -- each other is as it was
-other_objects : (host : HostId) (object : ObjectId) (known : ObjectRow) (now bare quiet : FinishState) → IsBare host object known now bare quiet
-    → (other : ℕ) → (object.0 ≡ other → ⊥) → object_at quiet.parts.objects other ≡ object_at now.parts.objects other
-other_objects host object known now bare quiet ends other apart =
-    (control_has_ended host object known bare quiet ends.control).objects other apart
+other_objects : (host : HostId) (object : ObjectId) (known : ObjectRow) (now bare quiet silent : FinishState) → IsBare host object known now bare quiet silent
+    → (other : ℕ) → (object.0 ≡ other → ⊥) → object_at silent.parts.objects other ≡ object_at now.parts.objects other
+other_objects host object known now bare quiet silent ends other apart =
+    (both_have_ended host object known now bare quiet silent ends).objects other apart
     ∙ (pages_have_left host object known 0 now bare ends.pages).objects other
 
 -- what stands under it is referred to
-pub under_referred : (host : HostId) (object : ℕ) (ending : ObjectId) (known : ObjectRow) (start now bare quiet : FinishState) → CanFinish start object
-    → HasComeTo object start now ending.0 → IsBare host ending known now bare quiet
-    → IsRanked now.chains → (row : ShadowRow) → shadow_at now.chains ending.0 ≡ Some row → IsReferred quiet.parts.objects row.under.0
-under_referred host object ending known start now bare quiet can come ends ranked row is =
+pub under_referred : (host : HostId) (object : ℕ) (ending : ObjectId) (known : ObjectRow) (start now bare quiet silent : FinishState) → CanFinish start object
+    → HasComeTo object start now ending.0 → IsBare host ending known now bare quiet silent
+    → IsRanked now.chains → (row : ShadowRow) → shadow_at now.chains ending.0 ≡ Some row → IsReferred silent.parts.objects row.under.0
+under_referred host object ending known start now bare quiet silent can come ends ranked row is =
     let less = under_lower object start now ending.0 row come ranked is in
     let there = can.under ending.0 row come.ends (sym (come.shadows ending.0 (omega arith)) ∙ is) in
     record {
       row = there.row;
       known =
-          other_objects host ending known now bare quiet ends row.under.0 (lower_apart start ending.0 row.under.0 less)
+          other_objects host ending known now bare quiet silent ends row.under.0 (lower_apart start ending.0 row.under.0 less)
           ∙ (come.below row.under.0 less ∙ there.known);
       some = there.some;
     }
 
-chains_are : (host : HostId) (object : ObjectId) (known : ObjectRow) (now bare quiet : FinishState) → IsBare host object known now bare quiet
-    → quiet.chains ≡ now.chains
-chains_are host object known now bare quiet ends =
-    (control_has_ended host object known bare quiet ends.control).chains ∙ (pages_have_left host object known 0 now bare ends.pages).chains
+chains_are : (host : HostId) (object : ObjectId) (known : ObjectRow) (now bare quiet silent : FinishState) → IsBare host object known now bare quiet silent
+    → silent.chains ≡ now.chains
+chains_are host object known now bare quiet silent ends =
+    (both_have_ended host object known now bare quiet silent ends).chains ∙ (pages_have_left host object known 0 now bare ends.pages).chains
 
 -- the lists are those that the object's pages left
-pub queues_are : (host : HostId) (object : ObjectId) (known under : ObjectRow) (row : ShadowRow) (bare quiet next : FinishState)
-    → ControlEnds host object known bare quiet → LosesUnder object row under 0 quiet next
+pub queues_are : (host : HostId) (object : ObjectId) (known under : ObjectRow) (row : ShadowRow) (now bare quiet silent next : FinishState)
+    → IsBare host object known now bare quiet silent → LosesUnder object row under 0 silent next
     → next.parts.queues ≡ bare.parts.queues
-queues_are host object known under row bare quiet next ends loses =
-    ap (λ z. z.parts.queues) loses.rest ∙ (control_has_ended host object known bare quiet ends).queues
+queues_are host object known under row now bare quiet silent next ends loses =
+    ap (λ z. z.parts.queues) loses.rest ∙ (both_have_ended host object known now bare quiet silent ends).queues
 
 -- what stood under the object at the start
-pub shadow_stood : (host : HostId) (object : ℕ) (ending : ObjectId) (known under : ObjectRow) (row : ShadowRow) (start now bare quiet next : FinishState)
-    → HasComeTo object start now ending.0 → IsBare host ending known now bare quiet
-    → LosesUnder ending row under 0 quiet next → shadow_at start.chains ending.0 ≡ Some row
-shadow_stood host object ending known under row start now bare quiet next come ends loses =
-    sym (come.shadows ending.0 (omega arith)) ∙ (sym (ap (λ z. shadow_at z ending.0) (chains_are host ending known now bare quiet ends)) ∙ loses.found)
+pub shadow_stood : (host : HostId) (object : ℕ) (ending : ObjectId) (known under : ObjectRow) (row : ShadowRow) (start now bare quiet silent next : FinishState)
+    → HasComeTo object start now ending.0 → IsBare host ending known now bare quiet silent
+    → LosesUnder ending row under 0 silent next → shadow_at start.chains ending.0 ≡ Some row
+shadow_stood host object ending known under row start now bare quiet silent next come ends loses =
+    sym (come.shadows ending.0 (omega arith)) ∙ (sym (ap (λ z. shadow_at z ending.0) (chains_are host ending known now bare quiet silent ends)) ∙ loses.found)
 
-pub under_stood : (host : HostId) (object : ℕ) (ending : ObjectId) (known under : ObjectRow) (row : ShadowRow) (start now bare quiet next : FinishState)
-    → HasComeTo object start now ending.0 → IsBare host ending known now bare quiet
-    → LosesUnder ending row under 0 quiet next → height start.chains row.under.0 < height start.chains ending.0
+pub under_stood : (host : HostId) (object : ℕ) (ending : ObjectId) (known under : ObjectRow) (row : ShadowRow) (start now bare quiet silent next : FinishState)
+    → HasComeTo object start now ending.0 → IsBare host ending known now bare quiet silent
+    → LosesUnder ending row under 0 silent next → height start.chains row.under.0 < height start.chains ending.0
     → object_at start.parts.objects row.under.0 ≡ Some under
-under_stood host object ending known under row start now bare quiet next come ends loses less =
-    sym (come.below row.under.0 less) ∙ (sym (other_objects host ending known now bare quiet ends row.under.0 (lower_apart start ending.0 row.under.0 less))
-    ∙ loses.under)
+under_stood host object ending known under row start now bare quiet silent next come ends loses less =
+    sym (come.below row.under.0 less)
+    ∙ (sym (other_objects host ending known now bare quiet silent ends row.under.0 (lower_apart start ending.0 row.under.0 less)) ∙ loses.under)
 
 -- the end comes down to what stands under the object
-pub come_down : (host : HostId) (object : ℕ) (ending : ObjectId) (known under : ObjectRow) (row : ShadowRow) (start now bare quiet next : FinishState)
-    → HasComeTo object start now ending.0 → IsBare host ending known now bare quiet
-    → LosesUnder ending row under 0 quiet next → IsRanked quiet.chains → Fit next.parts → HasComeTo object start next row.under.0
-come_down host object ending known under row start now bare quiet next come ends loses rank fit =
-    let chains = chains_are host ending known now bare quiet ends in
+pub come_down : (host : HostId) (object : ℕ) (ending : ObjectId) (known under : ObjectRow) (row : ShadowRow) (start now bare quiet silent next : FinishState)
+    → HasComeTo object start now ending.0 → IsBare host ending known now bare quiet silent
+    → LosesUnder ending row under 0 silent next → IsRanked silent.chains → Fit next.parts → HasComeTo object start next row.under.0
+come_down host object ending known under row start now bare quiet silent next come ends loses rank fit =
+    let chains = chains_are host ending known now bare quiet silent ends in
     let ranked : IsRanked now.chains = subst IsRanked chains rank in
     let less = under_lower object start now ending.0 row come ranked (sym (ap (λ z. shadow_at z ending.0) chains) ∙ loses.found) in
     record {
       fit = fit;
-      ends = Further ending.0 row under come.ends (shadow_stood host object ending known under row start now bare quiet next come ends loses)
-          (under_stood host object ending known under row start now bare quiet next come ends loses less) (sym loses.less);
+      ends = Further ending.0 row under come.ends (shadow_stood host object ending known under row start now bare quiet silent next come ends loses)
+          (under_stood host object ending known under row start now bare quiet silent next come ends loses less) (sym loses.less);
       row = record under { references = 0 };
       known = elim (one_case row.under.0 row.under.0 _ _ _ (loses.objects.at row.under.0)) [ inl same ↦ same.1 | inr apart ↦ absurd (apart.0 refl) ];
       none = refl;
       stood = under;
-      was = under_stood host object ending known under row start now bare quiet next come ends loses less;
+      was = under_stood host object ending known under row start now bare quiet silent next come ends loses less;
       kind = refl;
       ranked = inr (start_ranked object start now ending.0 come ranked);
       below = λ other lower. elim (one_case row.under.0 other _ _ _ (loses.objects.at other)) [
         | inl same ↦ absurd (lower_apart start row.under.0 other lower same.0)
         | inr apart ↦ apart.1
-            ∙ (other_objects host ending known now bare quiet ends other (lower_apart start ending.0 other (omega (arith, lower, less)))
+            ∙ (other_objects host ending known now bare quiet silent ends other (lower_apart start ending.0 other (omega (arith, lower, less)))
             ∙ come.below other (omega (arith, lower, less)))
       ];
       shadows = λ other lower. elim (one_case ending.0 other _ _ _ (loses.chains.at other)) [
@@ -211,32 +227,34 @@ come_down host object ending known under row start now bare quiet next come ends
       ];
       pages = λ other p lower.
           ap (λ z. row_at z.parts.resident other p) loses.rest
-          ∙ ((control_has_ended host ending known bare quiet ends.control).pages other p
+          ∙ ((both_have_ended host ending known now bare quiet silent ends).pages other p
           ∙ ((pages_have_left host ending known 0 now bare ends.pages).others other p
           (lower_apart start ending.0 other (omega (arith, lower, less))) ∙ come.pages other p (omega (arith, lower, less))));
       room =
-          let gone = control_has_ended host ending known bare quiet ends.control in
-          let queues = queues_are host ending known under row bare quiet next ends.control loses in
+          let gone = both_have_ended host ending known now bare quiet silent ends in
+          let queues = queues_are host ending known under row now bare quiet silent next ends loses in
           let rooms : next.room ≡ bare.room = ap (λ z. z.room) loses.rest ∙ gone.room in
           rw (queues, rooms) ((pages_have_left host ending known 0 now bare ends.pages).room come.room);
     }
 
 -- the end stops at an object: what it stands on has references left, if there is something
-pub ends_there : (host : HostId) (object : ObjectId) (known : ObjectRow) (next left : Option ObjectId) (now bare quiet new : FinishState)
-    → IsBare host object known now bare quiet → LeavesUnder object next quiet new → next ≡ None
+pub ends_there : (host : HostId) (object : ObjectId) (known : ObjectRow) (next left : Option ObjectId) (now bare quiet silent new : FinishState)
+    → IsBare host object known now bare quiet silent → LeavesUnder object next silent new → next ≡ None
     → left ≡ option_map (λ (row : ShadowRow). row.under) (shadow_at now.chains object.0) → (f : Finishes host object now new) × (left ≡ left_of f)
-ends_there host object known next left now bare quiet new ends (Nothing none no_shadow same) stops is =
-    let before = sym (ap (λ z. shadow_at z object.0) (chains_are host object known now bare quiet ends)) ∙ no_shadow in (
-      Alone object known now bare new ends.known_is ends.pages (subst (λ (z : FinishState). ControlEnds host object known bare z) (sym same) ends.control)
+ends_there host object known next left now bare quiet silent new ends (Nothing none no_shadow same) stops is =
+    let before = sym (ap (λ z. shadow_at z object.0) (chains_are host object known now bare quiet silent ends)) ∙ no_shadow in (
+      Alone object known now bare quiet new ends.known_is ends.pages ends.control
+          (subst (λ (z : FinishState). LeavesCopies object.0 quiet.copies z.copies) (sym same) ends.copies)
+          (subst (λ (z : FinishState). z ≡ record quiet { copies = z.copies }) (sym same) ends.rest)
           (ap (λ z. shadow_at z.chains object.0) same ∙ no_shadow),
       is ∙ ap (option_map (λ (row : ShadowRow). row.under)) before,
     )
-ends_there host object known next left now bare quiet new ends (Stays row under count none loses some) stops is =
-    let before = sym (ap (λ z. shadow_at z object.0) (chains_are host object known now bare quiet ends)) ∙ loses.found in (
-      OverOne object known under row count now bare quiet new ends.known_is ends.pages ends.control loses some,
+ends_there host object known next left now bare quiet silent new ends (Stays row under count none loses some) stops is =
+    let before = sym (ap (λ z. shadow_at z object.0) (chains_are host object known now bare quiet silent ends)) ∙ loses.found in (
+      OverOne object known under row count now bare quiet silent new ends.known_is ends.pages ends.control ends.copies ends.rest loses some,
       is ∙ ap (option_map (λ (row : ShadowRow). row.under)) before,
     )
-ends_there host object known next left now bare quiet new ends (Ends row under goes loses ranked) stops is =
+ends_there host object known next left now bare quiet silent new ends (Ends row under goes loses ranked) stops is =
     absurd (let bad : None ≡ Some row.under = sym stops ∙ goes in cc)
 
 -- the end goes on with what stood under the object
@@ -255,22 +273,23 @@ goes_on object next under old new (Ends row known is loses ranked) goes =
     record { row = row; known = known; is = (let both : Some under ≡ Some row.under = sym goes ∙ is in cc); loses = loses; ranked = ranked }
 
 -- which is further down
-pub goes_lower : (host : HostId) (object : ℕ) (ending next : ObjectId) (known : ObjectRow) (start now bare quiet new : FinishState)
-    → HasComeTo object start now ending.0 → IsBare host ending known now bare quiet → (on : GoesOn ending next quiet new)
+pub goes_lower : (host : HostId) (object : ℕ) (ending next : ObjectId) (known : ObjectRow) (start now bare quiet silent new : FinishState)
+    → HasComeTo object start now ending.0 → IsBare host ending known now bare quiet silent → (on : GoesOn ending next silent new)
     → height start.chains on.row.under.0 < height start.chains ending.0
-goes_lower host object ending next known start now bare quiet new come ends on =
-    let chains = chains_are host ending known now bare quiet ends in
+goes_lower host object ending next known start now bare quiet silent new come ends on =
+    let chains = chains_are host ending known now bare quiet silent ends in
     under_lower object start now ending.0 on.row come (subst IsRanked chains on.ranked) (sym (ap (λ z. shadow_at z ending.0) chains) ∙ on.loses.found)
 
-pub come_on : (host : HostId) (object : ℕ) (ending next : ObjectId) (known : ObjectRow) (start now bare quiet new : FinishState)
-    → HasComeTo object start now ending.0 → IsBare host ending known now bare quiet → GoesOn ending next quiet new → Fit new.parts
+pub come_on : (host : HostId) (object : ℕ) (ending next : ObjectId) (known : ObjectRow) (start now bare quiet silent new : FinishState)
+    → HasComeTo object start now ending.0 → IsBare host ending known now bare quiet silent → GoesOn ending next silent new → Fit new.parts
     → HasComeTo object start new next.0
-come_on host object ending next known start now bare quiet new come ends on fit =
-    subst (λ (z : ObjectId). HasComeTo object start new z.0) (sym on.is) (come_down host object ending known on.known on.row start now bare quiet new come ends
-    on.loses on.ranked fit)
+come_on host object ending next known start now bare quiet silent new come ends on fit =
+    subst (λ (z : ObjectId). HasComeTo object start new z.0) (sym on.is)
+    (come_down host object ending known on.known on.row start now bare quiet silent new come ends on.loses on.ranked fit)
 
-pub ends_further : (host : HostId) (ending next : ObjectId) (known : ObjectRow) (now bare quiet new end : FinishState) → IsBare host ending known now bare quiet
-    → GoesOn ending next quiet new → (more : Finishes host next new end) → (f : Finishes host ending now end) × (left_of f ≡ left_of more)
-ends_further host ending next known now bare quiet new end ends on more =
+pub ends_further : (host : HostId) (ending next : ObjectId) (known : ObjectRow) (now bare quiet silent new end : FinishState)
+    → IsBare host ending known now bare quiet silent → GoesOn ending next silent new → (more : Finishes host next new end)
+    → (f : Finishes host ending now end) × (left_of f ≡ left_of more)
+ends_further host ending next known now bare quiet silent new end ends on more =
     let moved = subst (λ (z : ObjectId). (f : Finishes host z new end) × (left_of f ≡ left_of more)) on.is (more, refl) in
-    (Downward ending known on.known on.row now bare quiet new end ends.known_is ends.pages ends.control on.loses moved.0, moved.1)
+    (Downward ending known on.known on.row now bare quiet silent new end ends.known_is ends.pages ends.control ends.copies ends.rest on.loses moved.0, moved.1)

@@ -6,6 +6,7 @@ use Rattle.vm_base.specs.declared.ids.ObjectId.{ObjectId}
 use Rattle.vm_base.specs.declared.ids.ObjectKind.TheVariants.{Temp}
 use Rattle.vm_base.specs.declared.ids.PageKey.{PageKey}
 use Rattle.vm_base.specs.declared.ids.PageNo.{PageNo}
+use Rattle.vm_copies.specs.Copies.{CopyTable, LeavesCopies}
 use Rattle.vm_frames.specs.Frames.{page_in}
 use Rattle.vm_model.specs.declared.event.Event.{Event}
 use Rattle.vm_model.specs.declared.event.Event.TheVariants as event
@@ -22,10 +23,12 @@ use Rattle.vm_resident.specs.declared.page_row.PageRow.{PageRow}
 use Rattle.vm_shadow.specs.Chains.{ChainTable, DropsShadow, shadow_at}
 use Rattle.vm_shadow.specs.declared.shadow_row.ShadowRow.{ShadowRow}
 
--- what an object's end may change: the parts of the host, its chains, the frames that are held for returns and the room for more, and the events so far
+-- what an object's end may change: the parts of the host, its chains, its copy objects, the frames that are held for returns and the room for more, and the
+-- events so far
 pub record FinishState : Type 0 where
   pub parts : HostParts
   pub chains : ChainTable
+  pub copies : CopyTable
   pub held : List FrameNo
   pub room : ℕ
   pub events : List Event
@@ -71,7 +74,7 @@ pub data PagesLeave (host : HostId) (object : ObjectId) (known : ObjectRow) : �
   NoMore : (from : ℕ) → (s : FinishState) → ((p : ℕ) → from ≤ p → row_at s.parts.resident object.0 p ≡ None) → PagesLeave host object known from s s
   Next : (from : ℕ) → (page : PageNo) → (row : PageRow) → (old mid new : FinishState) → from ≤ page.0
       → ((p : ℕ) → from ≤ p → p < page.0 → row_at old.parts.resident object.0 p ≡ None)
-      → row_at old.parts.resident object.0 page.0 ≡ Some row → row.here ≡ true → mid.chains ≡ old.chains
+      → row_at old.parts.resident object.0 page.0 ≡ Some row → row.here ≡ true → mid.chains ≡ old.chains → mid.copies ≡ old.copies
       → PageLeaves host (record { object = object; page = page }) known row old mid
       → PagesLeave host object known (suc page.0) mid new → PagesLeave host object known from old new
 
@@ -97,22 +100,27 @@ pub record LosesUnder (object : ObjectId) (row : ShadowRow) (known : ObjectRow) 
   pub marks : SameMarks old.parts.objects new.parts.objects
   pub rest : new ≡ record old { parts = record old.parts { objects = new.parts.objects }; chains = new.chains }
 
--- an object ends, and with it each one under it that loses its last reference by that
+-- an object ends, and with it each one under it that loses its last reference by that; a copy object is one no more
 pub data Finishes (host : HostId) : ObjectId → FinishState → FinishState → Type 0 where
-  Alone : (object : ObjectId) → (known : ObjectRow) → (old bare new : FinishState) → object_at old.parts.objects object.0 ≡ Some known
+  Alone : (object : ObjectId) → (known : ObjectRow) → (old bare quiet new : FinishState) → object_at old.parts.objects object.0 ≡ Some known
       → PagesLeave host object known 0 old bare
-      → ControlEnds host object known bare new → shadow_at new.chains object.0 ≡ None → Finishes host object old new
-  OverOne : (object : ObjectId) → (known under : ObjectRow) → (row : ShadowRow) → (left : ℕ) → (old bare quiet new : FinishState)
+      → ControlEnds host object known bare quiet → LeavesCopies object.0 quiet.copies new.copies → new ≡ record quiet { copies = new.copies }
+      → shadow_at new.chains object.0 ≡ None → Finishes host object old new
+  OverOne : (object : ObjectId) → (known under : ObjectRow) → (row : ShadowRow) → (left : ℕ) → (old bare quiet silent new : FinishState)
       → object_at old.parts.objects object.0 ≡ Some known
-      → PagesLeave host object known 0 old bare → ControlEnds host object known bare quiet → LosesUnder object row under left quiet new → 0 < left
+      → PagesLeave host object known 0 old bare
+      → ControlEnds host object known bare quiet → LeavesCopies object.0 quiet.copies silent.copies → silent ≡ record quiet { copies = silent.copies }
+      → LosesUnder object row under left silent new → 0 < left
       → Finishes host object old new
-  Downward : (object : ObjectId) → (known under : ObjectRow) → (row : ShadowRow) → (old bare quiet next new : FinishState)
+  Downward : (object : ObjectId) → (known under : ObjectRow) → (row : ShadowRow) → (old bare quiet silent next new : FinishState)
       → object_at old.parts.objects object.0 ≡ Some known
-      → PagesLeave host object known 0 old bare → ControlEnds host object known bare quiet → LosesUnder object row under 0 quiet next
+      → PagesLeave host object known 0 old bare
+      → ControlEnds host object known bare quiet → LeavesCopies object.0 quiet.copies silent.copies → silent ≡ record quiet { copies = silent.copies }
+      → LosesUnder object row under 0 silent next
       → Finishes host row.under next new → Finishes host object old new
 
 -- the object that lost a reference by these ends and has some left; None where they came to the bottom
 abbrev pub left_of : {host : HostId} → {object : ObjectId} → {old new : FinishState} → Finishes host object old new → Option ObjectId
-left_of (Alone object known old bare new found pages control bottom) = None
-left_of (OverOne object known under row left old bare quiet new found pages control loses some) = Some row.under
-left_of (Downward object known under row old bare quiet next new found pages control loses rest) = left_of rest
+left_of (Alone object known old bare quiet new found pages control copies rest bottom) = None
+left_of (OverOne object known under row left old bare quiet silent new found pages control copies rest loses some) = Some row.under
+left_of (Downward object known under row old bare quiet silent next new found pages control copies rest loses more) = left_of more

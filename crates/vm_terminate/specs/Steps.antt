@@ -2,6 +2,7 @@
 use Rattle.std.specs.Prelude.{ℕ, ◌<◌, ◌≤◌, ◌≡◌, true, List, Option, Some, None}
 use Rattle.vm_base.specs.declared.ids.FrameNo.{FrameNo}
 use Rattle.vm_base.specs.declared.ids.ObjectId.{ObjectId}
+use Rattle.vm_copies.specs.Copies.{CopyTable}
 use Rattle.vm_model.specs.declared.event.Event.{Event}
 use Rattle.vm_objects.specs.declared.row.ObjectRow.{ObjectRow}
 use Rattle.vm_parts.specs.Changes.{is_here}
@@ -12,8 +13,9 @@ use Rattle.vm_shadow.specs.Chains.{ChainTable, IsRanked, shadow_at}
 use Rattle.vm_shadow.specs.declared.shadow_row.ShadowRow.{ShadowRow}
 use Rattle.vm_terminate.specs.Finishes.{FinishState, LosesUnder}
 
-abbrev pub finish_state : HostParts → ChainTable → List FrameNo → ℕ → List Event → FinishState
-finish_state parts chains held room events = record { parts = parts; chains = chains; held = held; room = room; events = events }
+abbrev pub finish_state : HostParts → ChainTable → CopyTable → List FrameNo → ℕ → List Event → FinishState
+finish_state parts chains copies held room events =
+    record { parts = parts; chains = chains; copies = copies; held = held; room = room; events = events }
 
 -- no page of an object is asked
 abbrev pub AllHere : ResidentTable → ℕ → Type 0

@@ -1,6 +1,7 @@
 // An object ends since its pager says so.
 ghost use Rattle.std.specs.Prelude.{ℕ, ◌≡◌, ◌+◌, ◌≤◌, false, true, List, length, IfSome, IsOk, IsSomeAnd, OnOk};
 ghost use Rattle.vm_base.specs.declared.ids.FrameNo.{FrameNo};
+ghost use Rattle.vm_copies.specs.Copies.{CopyTable};
 ghost use Rattle.vm_model.specs.declared.event.Event.{Event};
 ghost use Rattle.vm_objects.specs.Objects.{object_at};
 ghost use Rattle.vm_parts.specs.Changes.{is_here};
@@ -31,8 +32,9 @@ pub fn destroy(
 ) -> Result<(), NoMemory>
     requires fit { Fit parts.old }
     requires live { IsSomeAnd (object_at parts.old.objects object.0) (λ known. known.live ≡ true) }
-    ensures destroys { OnOk result (IfSome (object_at parts.old.objects object.0) (λ known. (chains : ChainTable) (held : List FrameNo) (room : ℕ)
-        → Destroys host object known (finish_state parts.old chains held room log.old.items) (finish_state parts.new chains held room log.new.items))) }
+    ensures destroys { OnOk result (IfSome (object_at parts.old.objects object.0)
+        (λ known. (chains : ChainTable) (copies : CopyTable) (held : List FrameNo) (room : ℕ) → Destroys host object known
+        (finish_state parts.old chains copies held room log.old.items) (finish_state parts.new chains copies held room log.new.items))) }
     ensures fit { OnOk result (Fit parts.new) }
     ensures buffers { OnOk result (parts.new.buffers ≡ parts.old.buffers) }
     ensures spare { OnOk result (parts.old.resident.spare ≤ parts.new.resident.spare) }
@@ -62,8 +64,8 @@ fn drop_pages(
 ) -> Result<(), NoMemory>
     requires fit { Fit parts.old }
     requires pages { pages ≡ object_pages parts.old.objects object.0 }
-    ensures drops { OnOk result ((chains : ChainTable) (held : List FrameNo) (room : ℕ) → PagesDrop host object 0
-        (finish_state parts.old chains held room log.old.items) (finish_state parts.new chains held room log.new.items)) }
+    ensures drops { OnOk result ((chains : ChainTable) (copies : CopyTable) (held : List FrameNo) (room : ℕ) → PagesDrop host object 0
+        (finish_state parts.old chains copies held room log.old.items) (finish_state parts.new chains copies held room log.new.items)) }
     ensures none { OnOk result ((p : ℕ) → is_here (row_at parts.new.resident object.0 p) ≡ false) }
     ensures fit { OnOk result (Fit parts.new) }
     ensures objects { OnOk result (parts.new.objects ≡ parts.old.objects) }
@@ -101,8 +103,9 @@ fn cancel_pages(object: ObjectId, pages: u32, parts: &mut HostParts)
     requires fit { Fit parts.old }
     requires pages { pages ≡ object_pages parts.old.objects object.0 }
     requires none { (p : ℕ) → is_here (row_at parts.old.resident object.0 p) ≡ false }
-    ensures cancels { (chains : ChainTable) (held : List FrameNo) (room : ℕ) (events : List Event) → (asked : List ℕ) × PagesCancel object 0 asked
-        (finish_state parts.old chains held room events) (finish_state parts.new chains held room events) }
+    ensures cancels { (chains : ChainTable) (copies : CopyTable) (held : List FrameNo) (room : ℕ) (events : List Event)
+        → (asked : List ℕ) × PagesCancel object 0 asked
+        (finish_state parts.old chains copies held room events) (finish_state parts.new chains copies held room events) }
     ensures fit { Fit parts.new }
     ensures objects { parts.new.objects ≡ parts.old.objects }
     ensures buffers { parts.new.buffers ≡ parts.old.buffers }

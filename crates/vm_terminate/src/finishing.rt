@@ -3,6 +3,7 @@ ghost use Rattle.std.specs.Option.{option_map};
 ghost use Rattle.std.specs.Prelude.{ℕ, ◌≡◌, ◌+◌, ◌<◌, ◌≤◌, false, List, length, Some, IfOk, IsOk, OnOk};
 ghost use Rattle.vm_base.specs.declared.ids.FrameNo.{FrameNo};
 ghost use Rattle.vm_base.specs.declared.ids.ObjectKind.TheVariants.{Temp};
+ghost use Rattle.vm_copies.specs.Copies.{CopyTable, LeavesCopies};
 ghost use Rattle.vm_model.specs.declared.event.Event.{Event};
 ghost use Rattle.vm_objects.specs.Objects.{object_at};
 ghost use Rattle.vm_parts.specs.Fits.{Fit};
@@ -15,6 +16,7 @@ ghost use Rattle.vm_terminate.specs.Steps.{LeavesUnder, finish_state};
 
 use crate::pages::end_pages;
 use vm_base::{HostId, NoMemory, ObjectId};
+use vm_copies::Copies;
 use vm_model::{Channel, Event, Events, Message};
 use vm_objects::{Holder, ObjectRow};
 use vm_parts::HostParts;
@@ -23,22 +25,44 @@ use vm_shadow::Chains;
 /// Ends a memory object to which nothing refers, of any kind.
 ///
 /// Its pages leave the host first, by rising number; then its control ends, where one lives, and its
-/// pager is told by memory_object_terminate. What stands under it loses a reference, and ends in the
-/// same way if that was the last. It gives the object at which this stops, which has references left;
-/// None at the bottom. It fails for want of memory alone; what was done by then was told.
+/// pager is told by memory_object_terminate; where it is a copy object, it is one no more. What stands
+/// under it loses a reference, and ends in the same way if that was the last. It gives the object at
+/// which this stops, which has references left; None at the bottom. It fails for want of memory alone;
+/// what was done by then was told.
 pub fn finish<L: Holder>(
     host: HostId,
     object: ObjectId,
     parts: &mut HostParts,
     chains: &mut Chains,
+    copies: &mut Copies,
     laundry: &mut L,
     log: &mut Events,
 ) -> Result<Option<ObjectId>, NoMemory>
-    requires { CanFinish (record { parts = parts.old; chains = chains.old; held = L.held laundry.old; room = L.room laundry.old; events = log.old.items })
-        object.0 }
+    requires { CanFinish (record {
+      parts = parts.old;
+      chains = chains.old;
+      copies = copies.old;
+      held = L.held laundry.old;
+      room = L.room laundry.old;
+      events = log.old.items;
+    }) object.0 }
     ensures finished { IfOk result (λ left. (f : Finishes host object
-        (record { parts = parts.old; chains = chains.old; held = L.held laundry.old; room = L.room laundry.old; events = log.old.items })
-        (record { parts = parts.new; chains = chains.new; held = L.held laundry.new; room = L.room laundry.new; events = log.new.items }))
+        (record {
+          parts = parts.old;
+          chains = chains.old;
+          copies = copies.old;
+          held = L.held laundry.old;
+          room = L.room laundry.old;
+          events = log.old.items;
+        })
+        (record {
+          parts = parts.new;
+          chains = chains.new;
+          copies = copies.new;
+          held = L.held laundry.new;
+          room = L.room laundry.new;
+          events = log.new.items;
+        }))
         × (left ≡ left_of f)) }
     ensures fit { OnOk result (Fit parts.new) }
     ensures size { OnOk result (parts.new.buffers.size ≡ parts.old.buffers.size) }
@@ -47,6 +71,7 @@ pub fn finish<L: Holder>(
     ensures succeeds { (n : ℕ) → EndBelow n chains.old parts.old.objects object.0
         → listed_pages parts.old.queues + live_below parts.old.objects n ≤ log.old.room
         → HasBuffers chains.old parts.old object.0 → IsOk result }
+    ensures room { OnOk result (copies.old.room ≤ copies.new.room) }
     ensures saved { ((o : ℕ) (row : ObjectRow) → EndsWith chains.old parts.old.objects object.0 o → object_at parts.old.objects o ≡ Some row → row.kind ≡ Temp)
         → OnOk result (parts.old.buffers.count ≤ parts.new.buffers.count) }
     ensures told { (n : ℕ) → EndBelow n chains.old parts.old.objects object.0
@@ -60,6 +85,7 @@ pub fn finish<L: Holder>(
         };
         end_pages(host, ending, known, parts, laundry, log)?;
         end_control(host, ending, known, parts, log)?;
+        leave_copies(ending, copies);
         let below = stands_on(ending, chains);
         let Some(under) = leave_under(ending, parts, chains) else {
             return Ok(below);
@@ -78,8 +104,8 @@ pub fn end_control(
 ) -> Result<(), NoMemory>
     requires fit { Fit parts.old }
     requires known { object_at parts.old.objects object.0 ≡ Some known }
-    ensures ends { OnOk result ((chains : ChainTable) (held : List FrameNo) (room : ℕ) → ControlEnds host object known
-        (finish_state parts.old chains held room log.old.items) (finish_state parts.new chains held room log.new.items)) }
+    ensures ends { OnOk result ((chains : ChainTable) (copies : CopyTable) (held : List FrameNo) (room : ℕ) → ControlEnds host object known
+        (finish_state parts.old chains copies held room log.old.items) (finish_state parts.new chains copies held room log.new.items)) }
     ensures fit { OnOk result (Fit parts.new) }
     ensures buffers { OnOk result (parts.new.buffers ≡ parts.old.buffers) }
     ensures queues { parts.new.queues ≡ parts.old.queues }
@@ -104,6 +130,16 @@ pub fn end_control(
     })
 }
 
+// Where an object that has ended is a copy object, its row goes.
+fn leave_copies(object: ObjectId, copies: &mut Copies)
+    ensures leaves { LeavesCopies object.0 copies.old copies.new }
+    ensures room { copies.old.room ≤ copies.new.room }
+{
+    if copies.is_copy(object) {
+        copies.end(object);
+    }
+}
+
 // What an object stands on, where it is a shadow.
 fn stands_on(object: ObjectId, chains: &Chains) -> Option<ObjectId>
     ensures { result ≡ option_map (λ row. row.under) (shadow_at chains.now object.0) }
@@ -117,8 +153,8 @@ fn stands_on(object: ObjectId, chains: &Chains) -> Option<ObjectId>
 fn leave_under(object: ObjectId, parts: &mut HostParts, chains: &mut Chains) -> Option<ObjectId>
     requires fit { Fit parts.old }
     requires referred { IsRanked chains.old → (row : ShadowRow) → shadow_at chains.old object.0 ≡ Some row → IsReferred parts.old.objects row.under.0 }
-    ensures under { (held : List FrameNo) (room : ℕ) (events : List Event) → LeavesUnder object result
-        (finish_state parts.old chains.old held room events) (finish_state parts.new chains.new held room events) }
+    ensures under { (copies : CopyTable) (held : List FrameNo) (room : ℕ) (events : List Event) → LeavesUnder object result
+        (finish_state parts.old chains.old copies held room events) (finish_state parts.new chains.new copies held room events) }
     ensures fit { Fit parts.new }
     ensures buffers { parts.new.buffers ≡ parts.old.buffers }
     ensures spare { parts.new.resident.spare ≡ parts.old.resident.spare }

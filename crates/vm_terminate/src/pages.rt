@@ -1,6 +1,7 @@
 // The pages of an object that ends.
 ghost use Rattle.std.specs.Prelude.{◌≡◌, ◌+◌, ◌<◌, ◌≤◌, true, false, Some, [], ◌∷◌, ◌++◌, IfSome, IsOk, IsSome, IsSomeAnd, OnOk};
 ghost use Rattle.vm_base.specs.declared.ids.ObjectKind.TheVariants as kind;
+ghost use Rattle.vm_copies.specs.Copies.{CopyTable};
 ghost use Rattle.vm_frames.specs.Frames.{page_in};
 ghost use Rattle.vm_model.specs.declared.event.Event.TheVariants as event;
 ghost use Rattle.vm_model.specs.declared.message.Channel.TheVariants as channel;
@@ -33,9 +34,9 @@ pub fn end_pages<L: Holder>(
     requires known { object_at parts.old.objects object.0 ≡ Some known }
     requires here { AllHere parts.old.resident object.0 }
     requires room { listed_pages parts.old.queues ≤ L.room laundry.old }
-    ensures leave { OnOk result ((chains : ChainTable) → PagesLeave host object known 0
-        (finish_state parts.old chains (L.held laundry.old) (L.room laundry.old) log.old.items)
-        (finish_state parts.new chains (L.held laundry.new) (L.room laundry.new) log.new.items)) }
+    ensures leave { OnOk result ((chains : ChainTable) (copies : CopyTable) → PagesLeave host object known 0
+        (finish_state parts.old chains copies (L.held laundry.old) (L.room laundry.old) log.old.items)
+        (finish_state parts.new chains copies (L.held laundry.new) (L.room laundry.new) log.new.items)) }
     ensures fit { OnOk result (Fit parts.new) }
     ensures size { OnOk result (parts.new.buffers.size ≡ parts.old.buffers.size) }
     ensures log { OnOk result (log.old.room + listed_pages parts.new.queues ≤ log.new.room + listed_pages parts.old.queues) }
@@ -69,9 +70,10 @@ fn end_page<L: Holder>(
     requires known { object_at parts.old.objects key.object.0 ≡ Some known }
     requires here { IsSomeAnd (row_at parts.old.resident key.object.0 key.page.0) (λ row. row.here ≡ true) }
     requires room { 0 < L.room laundry.old }
-    ensures leaves { OnOk result (IfSome (row_at parts.old.resident key.object.0 key.page.0) (λ row. (chains : ChainTable) → PageLeaves host key known row
-        (finish_state parts.old chains (L.held laundry.old) (L.room laundry.old) log.old.items)
-        (finish_state parts.new chains (L.held laundry.new) (L.room laundry.new) log.new.items))) }
+    ensures leaves { OnOk result (IfSome (row_at parts.old.resident key.object.0 key.page.0)
+        (λ row. (chains : ChainTable) (copies : CopyTable) → PageLeaves host key known row
+        (finish_state parts.old chains copies (L.held laundry.old) (L.room laundry.old) log.old.items)
+        (finish_state parts.new chains copies (L.held laundry.new) (L.room laundry.new) log.new.items))) }
     ensures fit { OnOk result (Fit parts.new) }
     ensures size { OnOk result (parts.new.buffers.size ≡ parts.old.buffers.size) }
     ensures log { log.old.room ≤ log.new.room + 1 }

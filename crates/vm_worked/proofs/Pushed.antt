@@ -1,16 +1,15 @@
 -- A store on a page of a file that was copied waits until the copy has the page.
-use Rattle.std.proofs.Common.{Bool, List, None, Some, false, refl, subst, sym, true, ℕ, ◌∷◌, ◌≡◌}
+use Rattle.std.proofs.Common.{Some, false, refl, subst, sym, true, ℕ, ◌∷◌, ◌≡◌}
 use Rattle.vm_base.specs.declared.entry.Entry.{Entry}
 use Rattle.vm_base.specs.declared.ids.Inherit.TheVariants.{Share}
 use Rattle.vm_model.specs.declared.command.Command.{Command}
-use Rattle.vm_model.specs.declared.event.Event.{Event}
 use Rattle.vm_model.specs.Waiting.{Storing}
 use Rattle.vm_legal.specs.Accesses.{At, Waits}
 use Rattle.vm_legal.specs.Licences.{Caused, Pushing, Stores}
 use Rattle.vm_legal.specs.Outside.{Outside}
 use Rattle.vm_legal.specs.Pushes.{OwesPush, is_pushed}
-use Rattle.vm_worked.specs.Beside.{both, header, region}
-use Rattle.vm_worked.specs.Pushed.{history, push, store}
+use Rattle.vm_worked.specs.Beside.{both, region}
+use Rattle.vm_worked.specs.Pushed.{header, history, push, store}
 
 abbrev entry : Entry
 entry = record { address = 0; bytes = 16; region = region 0; offset = 0; prot = both; inherit = Share }

@@ -40,6 +40,7 @@ comes =
       here = refl;
       let_in = refl;
       free = λ store. absurd (let bad : false ≡ true = store in cc);
+      told = λ other other_page place copy. absurd (let bad : false ≡ true = copy in cc);
     }
 
 pub free : frames_free header 0 history ≡ 6

@@ -1,5 +1,5 @@
 -- The whole history with the slow copy is canonical.
-use Rattle.std.proofs.Common.{ℕ, ◌≡◌, ◌<◌, ◌≤◌, Bool, Option, List, [], ◌∷◌, true, false, refl, subst, ap, sym, arith, Some, None, inl, inr, ◌∙◌}
+use Rattle.std.proofs.Common.{Bool, List, None, Option, Some, [], ap, arith, false, inl, inr, refl, subst, suc, sym, true, zero, ℕ, ◌<◌, ◌∙◌, ◌∷◌, ◌≡◌, ◌≤◌}
 use Rattle.std.proofs.lemmas.Bool.Decides.{nat_tests}
 use Rattle.std.specs.Prelude.{◌==◌, ◌&&◌, ◌||◌, if◌then◌else◌}
 use Rattle.vm_base.specs.declared.entry.Entry.{Entry}
@@ -14,6 +14,10 @@ use Rattle.vm_model.specs.declared.message.Message.TheVariants as message
 use Rattle.vm_model.specs.Controls.{live_control}
 use Rattle.vm_model.specs.Local.{CanRead, Elsewhere, Local, Raises, local_after}
 use Rattle.vm_model.specs.Moments.{BeforeSteps, EachEvent, EachMoment}
+use Rattle.vm_model.specs.PagePart.{page_part}
+use Rattle.vm_model.specs.Server.{Wanting, first, line, trimmed_line}
+use Rattle.vm_model.specs.Side.{side}
+use Rattle.vm_model.specs.Words.{Act, Asking, Copies, EndsCopy, Nothing, OtherDown, OtherUp, SentDown, Supplying, TakenUp}
 use Rattle.vm_model.specs.Waiting.{Access, Copying, waiting}
 use Rattle.vm_model.specs.Regions.{backing_of}
 use Rattle.vm_legal.specs.Accesses.{Waits}
@@ -24,19 +28,24 @@ use Rattle.vm_legal.specs.InTurn.{NoneSleeps, AllInTurn, AllRecalled, FollowsInT
 use Rattle.vm_legal.specs.Serving.{HostsServed}
 use Rattle.vm_legal.proofs.Serving.{one_served}
 use Rattle.vm_legal.specs.Legal.{CanonicalFor}
+use Rattle.vm_legal.specs.Licences.{HasCause}
+use Rattle.vm_legal.proofs.Groups.{whole}
+use Rattle.vm_legal.proofs.Turns.{follows_of}
 use Rattle.vm_legal.specs.Outside.{is_shared}
 use Rattle.vm_legal.specs.Prompt.{AllServed, AnAnswer, AtPlace, Prompt, PromptAt, WaitsForPager}
 use Rattle.vm_legal.specs.Swept.{IsSwept, IsUnheld}
 use Rattle.vm_legal.specs.Steps.{Letter, answers, error_taken, readies, since}
 use Rattle.vm_legal.specs.Walks.{Reach, page_on}
 use Rattle.vm_legal.proofs.Locks.{no_change, no_request}
-use Rattle.vm_legal.proofs.Unshared.{NoneIsShared, none_shared}
+use Rattle.vm_legal.proofs.Unshared.{temporary_unshared}
 use Rattle.vm_quiet.proofs.Letters.{never}
-use Rattle.vm_quiet.specs.Unended.{copied, down, file, filled, host, mapped, page, task, up, zero_page}
+use Rattle.vm_quiet.proofs.Unended.{nobody_awaited, others_hold}
+use Rattle.vm_shared.proofs.Pages.{legal, writers}
+use Rattle.vm_quiet.specs.Unended.{copied, down, filled, host, mapped, page, shared, task, up, zero_page}
 use Rattle.vm_quiet.specs.Unended as unended
 use Rattle.vm_worked.specs.Worked.{both, commands, header, history, outside}
-use Rattle.vm_worked.proofs.Steps.{awake_bare, awake_idle, bare_thin, clash, each_step, ends_nobody, neither, nobody, not_shared, number_is, one_host}
-use Rattle.vm_worked.proofs.Steps.{one_suffices, one_writer, owes_nothing, recalls, served, suffice}
+use Rattle.vm_worked.proofs.Steps.{awake_bare, awake_idle, bare_thin, clash, ends_nobody, neither, nobody, number_is, one_host, one_suffices, owes_nothing}
+use Rattle.vm_worked.proofs.Steps.{suffice}
 
 -- the moments at which a step has ended
 
@@ -62,20 +71,17 @@ abbrev settles_again : List Event
 settles_again = event.Line 8 ∷ asked
 
 abbrev supplied : List Event
-supplied = event.Sent down (message.Supply page 0 false zero_page) ∷ event.Taken up (message.Request 1 page 1) ∷ settles_again
-
-unshared : NoneIsShared header
-unshared = none_shared header (λ o below. let first : 0 ≡ o = omega (arith, below) in subst (λ (z : ℕ). is_shared header z ≡ false) first refl)
+supplied = event.Sent down (message.Supply page 2 false zero_page) ∷ event.Taken up (message.Request 1 page 1) ∷ settles_again
 
 -- bytes and frames
 
 own_bytes : EachEvent (OwnBytes header) history
 own_bytes = (tt, (tt, (copies, (tt, (tt, (tt, (tt, (tt, (tt, (tt, (tt, (tt, (tt, (tt, (tt, (tt, (tt, (tt, (tt, (tt, tt))))))))))))))))))))
   where
-    copies : OwnBytes header (event.CopiedPage task page file page copied) (event.Taken down (message.Supply page 0 false zero_page) ∷ supplied)
+    copies : OwnBytes header (event.CopiedPage task page shared page copied) (event.Taken down (message.Supply page 2 false zero_page) ∷ supplied)
     copies h lives =
-        subst (λ (k : ℕ). CanRead (page_on header k 0 0 (event.Taken down (message.Supply page 0 false zero_page) ∷ supplied))) (number_is 0 h lives)
-        (record { here = refl; unlocked = inl refl })
+        subst (λ (k : ℕ). CanRead (page_on header k 0 0 (event.Taken down (message.Supply page 2 false zero_page) ∷ supplied))) (number_is 0 h lives)
+        (record { here = refl; unlocked = inr refl })
 
 flat_bytes : EachEvent (FlatBytes header outside) history
 flat_bytes = (tt, (tt, (tt, (tt, (tt, (tt, (tt, (tt, (tt, (tt, (tt, (tt, (tt, (tt, (tt, (tt, (tt, (tt, (tt, (tt, tt))))))))))))))))))))
@@ -94,7 +100,7 @@ bare past pages controls =
       declared_controls = λ o below unheld. controls o;
     }
 
--- the task holds the file, and beside it there is nothing on the host to which no region leads
+-- the task holds the shared object, and beside it there is nothing on the host to which no region leads
 held : (past : List Event) → (IsUnheld header 0 0 past → ⊥)
     → ((o p : ℕ) → (0 == o) ≡ false → (Reach header 0 o past → ⊥) → (page_on header 0 o p past).here ≡ false)
     → ((o : ℕ) → (0 == o) ≡ false → live_control 0 o past ≡ None)
@@ -103,15 +109,15 @@ held past holds pages controls =
     record {
       pages = λ o p ours unreached. pages o p (other o ours) unreached;
       controls = λ o ours unreached. controls o (other o ours);
-      declared_pages = λ o p below unheld. absurd (holds (of_file o below unheld));
-      declared_controls = λ o below unheld. absurd (holds (of_file o below unheld));
+      declared_pages = λ o p below unheld. absurd (holds (of_shared o below unheld));
+      declared_controls = λ o below unheld. absurd (holds (of_shared o below unheld));
     }
   where
     other : (o : ℕ) → 1 ≤ o → (0 == o) ≡ false
     other o ours = grind (arith, nat_tests)
 
-    of_file : (o : ℕ) → o < 1 → IsUnheld header 0 o past → IsUnheld header 0 0 past
-    of_file o below unheld = let first : o ≡ 0 = omega (arith, below) in subst (λ (k : ℕ). IsUnheld header 0 k past) first unheld
+    of_shared : (o : ℕ) → o < 1 → IsUnheld header 0 o past → IsUnheld header 0 0 past
+    of_shared o below unheld = let first : o ≡ 0 = omega (arith, below) in subst (λ (k : ℕ). IsUnheld header 0 k past) first unheld
 
 nothing_opened : IsSwept header 0 opened
 nothing_opened = held opened (λ unheld. clash (unheld.unmapped 0 refl)) (λ o p other unreached. rw other refl) (λ o other. rw other refl)
@@ -134,12 +140,12 @@ nothing_settles_again = held settles_again (λ unheld. clash (unheld.unmapped 0 
 nothing_supplied : IsSwept header 0 supplied
 nothing_supplied = held supplied (λ unheld. clash (unheld.unmapped 0 refl)) (λ o p other unreached. rw other refl) (λ o other. rw other refl)
 
--- of other objects than the file and that of the filled region nothing is here
+-- of other objects than the shared one and that of the filled region nothing is here
 elsewhere : (o p : ℕ) → (0 == o) ≡ false → (1 == o) ≡ false → (page_on header 0 o p unended.history).here ≡ false
 elsewhere o p other also =
-    passes (1 == o) also (page_on header 0 o p (event.Taken down (message.Supply page 0 false zero_page) ∷ supplied)) zero_page (taken o p other)
+    passes (1 == o) also (page_on header 0 o p (event.Taken down (message.Supply page 2 false zero_page) ∷ supplied)) zero_page (taken o p other)
   where
-    taken : (q r : ℕ) → (0 == q) ≡ false → (page_on header 0 q r (event.Taken down (message.Supply page 0 false zero_page) ∷ supplied)).here ≡ false
+    taken : (q r : ℕ) → (0 == q) ≡ false → (page_on header 0 q r (event.Taken down (message.Supply page 2 false zero_page) ∷ supplied)).here ≡ false
     taken q r apart = rw apart refl
 
     passes : (b : Bool) → b ≡ false → (seen : Local) (bytes : List ℕ) → seen.here ≡ false
@@ -158,6 +164,70 @@ nothing_left = held history (λ unheld. clash (unheld.unmapped 0 refl)) pages (�
         by true is = absurd (unreached (subst (λ (k : ℕ). Reach header 0 k history) (number_is 1 o is) (1, 0, refl, refl)))
         by false is = elsewhere o p other is
 
+-- nobody stands in line at the server whenever a step has ended
+
+abbrev IsLineless : List Event → Type 0
+IsLineless past = (p : ℕ) → line (page_part 16 0 p past) ≡ []
+
+first_object : (o : ℕ) → is_shared header o ≡ true → 0 ≡ o
+first_object zero is = refl
+first_object (suc o) is = never (sym (temporary_unshared header (suc o) (omega arith)) ∙ is)
+
+served : (past : List Event) → IsLineless past → AllServed header past
+served past none o p is waits =
+    absurd (waits (subst (λ (k : ℕ). line (page_part 16 k p past) ≡ []) (first_object o is) (none p)))
+
+no_first : (wanting : List Wanting) (w : Wanting) → wanting ≡ [] → first wanting ≡ Some w → ⊥
+no_first [] w none is = absurd (cc)
+no_first (v ∷ more) w none is = absurd (cc)
+
+recalls : (past : List Event) → IsLineless past → AllRecalled header past
+recalls past none o p _ w is front way =
+    absurd (no_first (line (page_part 16 o p past)) w (subst (λ (k : ℕ). line (page_part 16 k p past) ≡ []) (first_object o is) (none p)) front)
+
+-- the page is asked and given in one step, if it is this one
+abbrev answering : Bool → List Act → List Act
+answering this past =
+    record { host = 0; effect = SentDown 1 (if this then Supplying 2 false zero_page else OtherDown) }
+    ∷ record { host = 0; effect = TakenUp (if this then Asking 1 1 else OtherUp) } ∷ past
+
+answered : (this : Bool) (past : List Act) → line past ≡ [] → line (answering this past) ≡ []
+answered true past none = rw none refl
+answered false past none = rw none refl
+
+-- and it is copied
+copied_over : (this : Bool) (past : List Act) → line past ≡ [] → line (record { host = 0; effect = if this then Copies 0 else Nothing } ∷ past) ≡ []
+copied_over true past none = rw none refl
+copied_over false past none = rw none refl
+
+-- and the copy ends
+ended_over : (past : List Act) → line past ≡ [] → line (record { host = 0; effect = Nothing } ∷ record { host = 0; effect = EndsCopy 0 } ∷ past) ≡ []
+ended_over past none = rw none refl
+
+lineless_supplied : IsLineless supplied
+lineless_supplied p = answered (0 == p) (page_part 16 0 p settles_again) refl
+
+lineless_taken : IsLineless (event.Taken down (message.Supply page 2 false zero_page) ∷ supplied)
+lineless_taken p = ap (trimmed_line 0 (side 0 (page_part 16 0 p (event.Taken down (message.Supply page 2 false zero_page) ∷ supplied))).holds)
+    (lineless_supplied p)
+
+lineless_now : IsLineless history
+lineless_now p =
+    ended_over (page_part 16 0 p unended.history)
+    (copied_over (0 == p) (page_part 16 0 p (event.Taken down (message.Supply page 2 false zero_page) ∷ supplied)) (lineless_taken p))
+
+lineless : BeforeSteps IsLineless history
+lineless = (
+  lineless_supplied,
+  (λ p. refl, (λ p. refl, (λ p. refl, (λ p. refl, (λ p. refl, (λ p. refl, (λ p. refl, (λ p. refl, tt)))))))),
+)
+
+each_of : (P Q : List Event → Type 0) → ((past : List Event) → P past → Q past) → (history : List Event) → BeforeSteps P history → BeforeSteps Q history
+each_of P Q of [] steps = tt
+each_of P Q of (event.Line line ∷ past) steps = (of past steps.0, each_of P Q of past steps.1)
+each_of P Q of (event.Taken channel m ∷ past) steps = (of past steps.0, each_of P Q of past steps.1)
+each_of P Q of (e ∷ past) steps = each_of P Q of past steps
+
 -- nobody waits in vain
 
 ended : (b : Bool) → ◌≡◌ {A = Option Access} (if b then None else (if b then Some (Copying 0 16 32) else (if b then None else None))) None
@@ -173,7 +243,7 @@ only t access is = by (0 == t) refl is
     by true first e = (number_is 0 t first, let same : Copying 0 16 32 ≡ access = cc in same)
     by false other e = absurd (let bad : ◌≡◌ {A = Option Access} None (Some access) = e in cc)
 
--- it waits for the page of the file, which is asked
+-- it waits for the page of the shared object, which is asked
 copying : (past : List Event) → ((t : ℕ) (access : Access) → waiting t past ≡ Some access → (0 ≡ t) × (Copying 0 16 32 ≡ access))
     → Waits header 0 (Copying 0 16 32) past → WaitsForPager header 0 0 (Copying 0 16 32) past
     → IsSwept header 0 past → ((o : ℕ) → (backing_of header o past).backed ≡ false) → PromptAt header 0 past
@@ -407,7 +477,7 @@ idle past none is = awake_idle header past (λ task. is task ∙ none (0 == task
 
 turn_supplied : StepIsInTurn header supplied
 turn_supplied =
-    in_turn supplied refl (one_served header 1 (event.Sent down (message.Supply page 0 false zero_page) ∷ [])
+    in_turn supplied refl (one_served header 1 (event.Sent down (message.Supply page 2 false zero_page) ∷ [])
     (event.Taken up (message.Request 1 page 1) ∷ settles_again) tt refl (tt, tt) (nobodys, tt))
     (awake_bare header refl supplied away_supplied)
 
@@ -430,8 +500,8 @@ turn_opened = in_turn opened refl (one_served header 0 map_group (event.Line 5 �
 turn_now : StepIsInTurn header history
 turn_now =
     in_turn history refl
-    (one_served header 0 (event.Entered task 32 16 filled 0 both Copy ∷ event.CopyEnded task ∷ event.CopiedPage task page file page copied ∷ [])
-    (event.Taken down (message.Supply page 0 false zero_page) ∷ supplied) tt refl (tt, (tt, (tt, tt)))
+    (one_served header 0 (event.Entered task 32 16 filled 0 both Copy ∷ event.CopyEnded task ∷ event.CopiedPage task page shared page copied ∷ [])
+    (event.Taken down (message.Supply page 2 false zero_page) ∷ supplied) tt refl (tt, (tt, (tt, tt)))
     (own, (own, (own, tt))))
     (awake_idle header history (λ task. ended (0 == task)))
 
@@ -465,7 +535,7 @@ all_in_turn = (
 
 -- each command has its group
 
-map_in_turn : AllInTurn header outside (command.Map task 0 16 file 0) map_group (event.Line 5 ∷ made)
+map_in_turn : AllInTurn header outside (command.Map task 0 16 shared 0) map_group (event.Line 5 ∷ made)
 map_in_turn = (
   (
     record {
@@ -490,8 +560,8 @@ map_in_turn = (
         whole = refl;
         inside = omega arith;
         made = omega arith;
-        used = λ above. refl;
-        file = λ is. refl;
+        used = λ above. absurd (omega (arith, above));
+        file = λ is. never is;
         unfilled = refl;
       },
       tt,
@@ -504,7 +574,7 @@ abbrev ready_group : List Event
 ready_group = event.Taken down (message.Ready false 0) ∷ event.Sent down (message.Ready false 0) ∷ event.Taken up (message.Init 1 16) ∷ []
 
 ready_in_turn : AllInTurn header outside (command.Settle 100) ready_group settles
-ready_in_turn = (((refl, (refl, omega arith)), tt), (((16, refl, refl, inr (refl, refl)), tt), (((refl, (refl, omega arith)), tt), tt)))
+ready_in_turn = (((refl, (refl, omega arith)), tt), (((16, refl, refl, refl, refl), tt), (((refl, (refl, omega arith)), tt), tt)))
 
 abbrev copy_group : List Event
 copy_group = event.Sent up (message.Request 1 page 1) ∷ event.RegionMade filled copied 1 ∷ event.BegunCopy task 0 16 32 ∷ []
@@ -540,9 +610,9 @@ abbrev page_group : List Event
 page_group =
     event.Entered task 32 16 filled 0 both Copy ∷
     event.CopyEnded task ∷
-    event.CopiedPage task page file page copied ∷
-    event.Taken down (message.Supply page 0 false zero_page) ∷
-    event.Sent down (message.Supply page 0 false zero_page) ∷
+    event.CopiedPage task page shared page copied ∷
+    event.Taken down (message.Supply page 2 false zero_page) ∷
+    event.Sent down (message.Supply page 2 false zero_page) ∷
     event.Taken up (message.Request 1 page 1) ∷
     []
 
@@ -557,7 +627,7 @@ page_in_turn = (
       inside = omega arith;
       made = omega arith;
       used = λ above. refl;
-      file = λ is. refl;
+      file = λ is. never is;
       unfilled = refl;
     },
     refl,
@@ -591,17 +661,7 @@ page_in_turn = (
       (
         ((refl, (refl, omega arith)), tt),
         (
-          (
-            (
-              record { access = 1; taken = refl; unanswered = refl },
-              record { kept = refl; read = refl },
-              refl,
-              refl,
-              λ temporary. never (sym temporary),
-              λ told. never told,
-            ),
-            tt,
-          ),
+          ((refl, refl, nobody_awaited, refl, (refl, refl, refl, others_hold)), tt),
           (((refl, (refl, omega arith)), tt), tt),
         ),
       ),
@@ -640,6 +700,9 @@ follows = (
   ),
 )
 
+causes : EachEvent (HasCause header outside) history
+causes = whole header outside commands history (follows_of header outside commands history follows)
+
 pub canonical : CanonicalFor header outside commands history
 canonical =
     record {
@@ -651,13 +714,13 @@ canonical =
             frames = frames;
             prompt = prompts;
             paid = all_paid;
-            served = each_step (AllServed header) (served header unshared) history;
-            one_writer = one_writer header unshared history;
-            pages = λ o p shared. not_shared header unshared o shared;
+            served = each_of IsLineless (AllServed header) served history lineless;
+            one_writer = writers header outside history causes own_bytes;
+            pages = legal header outside history causes own_bytes;
           };
-      rests = record { prompt = prompt_now; paid = paid_now; served = served header unshared history };
+      rests = record { prompt = prompt_now; paid = paid_now; served = served history lineless_now };
       ended = all_in_turn;
       last = turn_now;
-      recalled = each_step (AllRecalled header) (recalls header unshared) history;
-      recalls = recalls header unshared history;
+      recalled = each_of IsLineless (AllRecalled header) recalls history lineless;
+      recalls = recalls history lineless_now;
     }

@@ -1,4 +1,4 @@
--- What worked histories have in common: one host, and no shared object; steps that owe nothing, and moments at which nobody waits.
+-- What worked histories have in common: one host; what holds where no object is shared; steps that owe nothing, and moments at which nobody waits.
 use Rattle.std.proofs.Common.{ℕ, zero, suc, ◌≡◌, ◌∙◌, ◌≤◌, Bool, Option, List, [], ◌∷◌, true, false, refl, ap, sym, arith, Some, None, length}
 use Rattle.std.proofs.lemmas.Bool.Decides.{nat_tests}
 use Rattle.std.specs.Prelude.{◌==◌, ◌&&◌, nat_lt, if◌then◌else◌}

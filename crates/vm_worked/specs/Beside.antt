@@ -3,7 +3,7 @@ use Rattle.std.specs.Prelude.{ℕ, ◌∷◌, [], List, true, false}
 use Rattle.vm_base.specs.declared.ids.HostId.{HostId}
 use Rattle.vm_base.specs.declared.ids.Inherit.TheVariants.{Copy, Share}
 use Rattle.vm_base.specs.declared.ids.ObjectId.{ObjectId}
-use Rattle.vm_base.specs.declared.ids.ObjectKind.TheVariants.{File}
+use Rattle.vm_base.specs.declared.ids.ObjectKind.TheVariants.{Shared}
 use Rattle.vm_base.specs.declared.ids.PageNo.{PageNo}
 use Rattle.vm_base.specs.declared.ids.Prot.{Prot}
 use Rattle.vm_base.specs.declared.ids.RegionId.{RegionId}
@@ -15,14 +15,14 @@ use Rattle.vm_model.specs.declared.message.Channel.TheVariants.{Down, Up}
 use Rattle.vm_model.specs.declared.message.Message.TheVariants as message
 use Rattle.vm_model.specs.declared.script.Header.{Header}
 
--- pages of 16 bytes, one host of 4 frames, a file of one page
+-- pages of 16 bytes, one host of 4 frames, a shared object of one page
 abbrev pub header : Header
 header =
     record {
       size = 16;
       slots = 1024;
       frames = record { items = 4 ∷ []; room = 0 };
-      objects = record { items = record { name = 102 ∷ []; kind = File; pages = 1 } ∷ []; room = 0 };
+      objects = record { items = record { name = 115 ∷ []; kind = Shared; pages = 1 } ∷ []; room = 0 };
     }
 
 abbrev pub host : HostId
@@ -31,7 +31,7 @@ host = record { 0 = 0 }
 abbrev pub task : TaskId
 task = record { 0 = 0 }
 
--- the file's object, that of the fresh memory, and the one that the copy fills
+-- the shared object, that of the fresh memory, and the one that the copy fills
 abbrev pub object : ℕ → ObjectId
 object o = record { 0 = o }
 
@@ -57,8 +57,8 @@ zero_page = 0 ∷ 0 ∷ 0 ∷ 0 ∷ 0 ∷ 0 ∷ 0 ∷ 0 ∷ 0 ∷ 0 ∷ 0 ∷ 0 
 abbrev pub history : List Event
 history =
     event.CopiedPage task page (object 0) page (object 2) ∷
-    event.Taken down (message.Supply page 0 false zero_page) ∷
-    event.Sent down (message.Supply page 0 false zero_page) ∷
+    event.Taken down (message.Supply page 2 false zero_page) ∷
+    event.Sent down (message.Supply page 2 false zero_page) ∷
     event.Taken up (message.Request 1 page 1) ∷
     event.Line 9 ∷
     event.Sent up (message.Request 1 page 1) ∷

@@ -1,10 +1,22 @@
 -- A history in which a task copies a page of a file that is here, and begins a store on the file.
-use Rattle.std.specs.Prelude.{◌∷◌, [], List, false, ℕ}
+use Rattle.std.specs.Prelude.{◌∷◌, [], List, false}
 use Rattle.vm_base.specs.declared.ids.Inherit.TheVariants.{Copy, Share}
+use Rattle.vm_base.specs.declared.ids.ObjectKind.TheVariants.{File}
 use Rattle.vm_model.specs.declared.event.Event.{Event}
 use Rattle.vm_model.specs.declared.event.Event.TheVariants as event
 use Rattle.vm_model.specs.declared.message.Message.TheVariants as message
+use Rattle.vm_model.specs.declared.script.Header.{Header}
 use Rattle.vm_worked.specs.Beside.{both, down, host, object, page, region, task, up, zero_page}
+
+-- pages of 16 bytes, one host of 4 frames, a file of one page
+abbrev pub header : Header
+header =
+    record {
+      size = 16;
+      slots = 1024;
+      frames = record { items = 4 ∷ []; room = 0 };
+      objects = record { items = record { name = 102 ∷ []; kind = File; pages = 1 } ∷ []; room = 0 };
+    }
 
 -- the event that copies the file's page up into its copy, and the one that ends the store
 abbrev pub push : Event
@@ -26,8 +38,8 @@ history =
     event.Sent down (message.Supply page 0 false zero_page) ∷
     event.Taken up (message.Request 1 page 1) ∷
     event.Sent up (message.Request 1 page 1) ∷
-    event.Taken down (message.Ready false 0) ∷
-    event.Sent down (message.Ready false 0) ∷
+    event.Taken down (message.Ready false 2) ∷
+    event.Sent down (message.Ready false 2) ∷
     event.Taken up (message.Init 1 16) ∷
     event.Line 7 ∷
     event.BegunLoad task 0 1 ∷

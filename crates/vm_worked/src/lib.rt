@@ -22,9 +22,9 @@ ghost use Rattle.vm_worked.specs.Sleeping as sleeping;
 ghost use Rattle.vm_worked.specs.Swapped as swapped;
 ghost use Rattle.vm_worked.specs.Worked as worked;
 
-/// A whole history that is as the rules give it for its commands: a task maps a file of one page, and copies the page to an address
-/// of its own. The copy is a slow one, which waits for the file's pager; when the page has come it is copied, the copy ends, and its
-/// task gets the entry. So it is legal too.
+/// A whole history that is as the rules give it for its commands: a task maps a shared object of one page, and copies the page to an
+/// address of its own. The copy is a slow one, which waits for the server of shared memory; when the page has come it is copied, the
+/// copy ends, and its task gets the entry. So it is legal too.
 pub fn a_run_with_a_slow_copy_is_canonical()
     ensures canonical { CanonicalFor worked.header worked.outside worked.commands worked.history }
     ensures legal { LegalFor worked.header worked.outside worked.commands worked.history }
@@ -63,7 +63,7 @@ pub fn zeros_for_nobody_have_no_cause()
 /// A task has copied a page of a file that is here, and begins a store on the file. What the copy still shares comes to its own place
 /// first: that has its cause, and the store has one behind it, and none without it.
 pub fn a_store_on_a_copied_file_pushes_first()
-    ensures pushed { (outside : Outside) (doing : Command) → Caused beside.header outside doing pushed.push pushed.history }
-    ensures paid { (outside : Outside) (doing : Command) → Caused beside.header outside doing pushed.store (pushed.push ∷ pushed.history) }
-    ensures unpaid { (outside : Outside) (doing : Command) → Caused beside.header outside doing pushed.store pushed.history → ⊥ }
+    ensures pushed { (outside : Outside) (doing : Command) → Caused pushed.header outside doing pushed.push pushed.history }
+    ensures paid { (outside : Outside) (doing : Command) → Caused pushed.header outside doing pushed.store (pushed.push ∷ pushed.history) }
+    ensures unpaid { (outside : Outside) (doing : Command) → Caused pushed.header outside doing pushed.store pushed.history → ⊥ }
 {}

@@ -1,6 +1,7 @@
 -- A kernel matches its history with other lists of pages, buffers and waiting accesses, of which that says nothing but what they fill.
 use Rattle.vm_kernel.proofs.memory.CoreChanges.{spaces_refilled}
-use Rattle.vm_kernel.proofs.Common.{Entry, Event, Fit, Header, Ids, List, Matches, Parts, Queues, WaitTable, ℕ, ◌∙◌, ◌≡◌}
+use Rattle.vm_kernel.proofs.memory.CopiesKept.{copied_same}
+use Rattle.vm_kernel.proofs.Common.{Entry, Event, Fit, Header, Ids, List, Matches, Parts, Queues, WaitTable, refl, ℕ, ◌∙◌, ◌≡◌}
 use Rattle.vm_base.specs.Buffers.{BufferStore}
 use Rattle.vm_state.proofs.Filling.{SameFills}
 
@@ -16,6 +17,7 @@ matches_with {k = k} queues buffers waits same fit size m =
         fits = record { parts = fit; plain = m.core.fits.plain; buffers = size ∙ m.core.fits.buffers };
         spaces = spaces_refilled same m.core.spaces;
         objects = m.core.objects;
+        copied = copied_same (record { at = λ o. refl }) refl m.core.copied;
         controls = m.core.controls;
         flags = m.core.flags;
         pages = m.core.pages;

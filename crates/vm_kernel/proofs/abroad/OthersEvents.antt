@@ -17,16 +17,16 @@ use Rattle.vm_state.proofs.Filling.{used_told}
 use Rattle.vm_model.specs.declared.message.Message.TheVariants as message
 use Rattle.vm_model.specs.declared.event.Event.TheVariants as event
 use Rattle.std.specs.Prelude.{◌&&◌, ◌+◌, ◌==◌, ◌||◌}
-use Rattle.vm_model.specs.Homes.{object_home}
+use Rattle.vm_model.specs.Homes.{home_in, object_home}
 use Rattle.vm_model.specs.Local.{is_on, Local, is_known_absent}
 use Rattle.vm_model.specs.Waiting.{waiting}
 use Rattle.vm_state.specs.Places.{known_local}
 use Rattle.vm_state.specs.Waiters.{waiting_in}
-use Rattle.vm_abroad.proofs.Home.{homes_abroad, named_objects, objects_stay, on_own}
+use Rattle.vm_abroad.proofs.Home.{copied_low, copy_temporary, homes_abroad, named_objects, objects_stay, on_own}
 use Rattle.vm_abroad.specs.Sound.{IsObjectOf}
 use Rattle.vm_objects.specs.Objects.{object_at}
 use Rattle.vm_objects.specs.declared.row.ObjectRow.{ObjectRow}
-use Rattle.vm_model.specs.Regions.{made}
+use Rattle.vm_model.specs.Regions.{is_copy, made, newest_copy}
 use Rattle.vm_abroad.proofs.Thin.{thin_now}
 use Rattle.vm_legal.specs.Homes.{is_open, starts_copy}
 use Rattle.vm_parts.specs.Changes.{one}
@@ -49,11 +49,14 @@ use Rattle.vm_legal.specs.Returned.{OnlyReturned, was_returned}
 use Rattle.vm_legal.specs.Walks.{page_on}
 use Rattle.vm_model.specs.declared.message.Message.TheVariants as message
 use Rattle.vm_state.proofs.Bypassing.{waits_beyond}
-use Rattle.vm_state.proofs.Passing.{only_before}
+use Rattle.vm_state.proofs.Passing.{Later, not_yet, only_before}
 use Rattle.vm_state.specs.Passed.{IsAway, IsUnmet, StaysAway}
 use Rattle.vm_state.specs.Counts.{marks_of}
 use Rattle.vm_legal.specs.Destroyed.{destroy_taken, is_destroyed}
-use Rattle.vm_kernel.specs.Matches.{IsCalm}
+use Rattle.vm_kernel.specs.Matches.{Copied, IsCalm, object_facts}
+use Rattle.vm_legal.specs.Pushes.{is_pushed}
+use Rattle.vm_state.proofs.CopyFits.{newest_row}
+use Rattle.vm_state.proofs.CopyObjects.{copies_elsewhere, is_known}
 use Rattle.vm_abroad.proofs.Pages.{live_abroad}
 
 -- what a kernel says of all hosts
@@ -179,9 +182,9 @@ references_more chains regions objects more_regions more_objects o few less unma
     omega (arith, one_more, others_more)
 
 -- what was returned on a host is the same, and its pagers gave no more
-pub record SameReturns (least h : ℕ) (old new : List Event) : Type 0 where
+pub record SameReturns (header : Header) (h : ℕ) (old new : List Event) : Type 0 where
   pub returned : (o p : ℕ) → was_returned h o p new ≡ was_returned h o p old
-  pub only : OnlyReturned least h new → OnlyReturned least h old
+  pub only : OnlyReturned header h new → OnlyReturned header h old
 
 returned_abroad : (header : Header) (h o p : ℕ) (e : Event) (past : List Event) → is_home header h e past ≡ false
     → was_returned h o p (e ∷ past) ≡ was_returned h o p past
@@ -190,13 +193,13 @@ returned_abroad header h o p (event.Sent (Up host object) (message.Return contro
 returned_abroad header h o p e past foreign = refl
 
 returns_abroad : (header : Header) (outside : Outside) (h : ℕ) (events past : List Event) → EachIn (IsAbroad header outside h) events past
-    → SameReturns (named header) h past (events ++ past)
+    → SameReturns header h past (events ++ past)
 returns_abroad header outside h [] past abroad = record { returned = λ o p. refl; only = λ only. only }
 returns_abroad header outside h (e ∷ events) past abroad =
     let before = returns_abroad header outside h events past abroad.1 in
     record {
       returned = λ o p. returned_abroad header h o p e (events ++ past) abroad.0.foreign ∙ before.returned o p;
-      only = λ only. before.only (only_before (named header) h e (events ++ past) only);
+      only = λ only. before.only (only_before header h e (events ++ past) only);
     }
 
 -- nor has it destroyed an object of this host
@@ -310,7 +313,7 @@ module _ (header : Header) (h : ℕ) (k : Parts) (ids next : Ids) (past new : Li
         home = λ o row least found. home o (has.home o row least found);
       }
 
-  stays_same : SameReturns (named header) h past new → (key : PageKey) → StaysAway header h past key → StaysAway header h new key
+  stays_same : SameReturns header h past new → (key : PageKey) → StaysAway header h past key → StaysAway header h new key
   stays_same returns key stays = (
     stays.0,
     λ only. subst (λ (z : Bool). IsAway (page_on header h key.object.0 key.page.0 new) z) (sym (returns.returned key.object.0 key.page.0))
@@ -318,16 +321,22 @@ module _ (header : Header) (h : ℕ) (k : Parts) (ids next : Ids) (past new : Li
         (stays.1 (returns.only only))),
   )
 
-  unmet_same : (key : PageKey) → IsUnmet header h past key → IsUnmet header h new key
-  unmet_same key unmet =
+  unmet_same : (key : PageKey) → Later (IsUnmet header h past key) (IsUnmet header h new key)
+  unmet_same key =
       let as_before = same.pages.local (place_of key.object.0 key.page.0) in
       record {
-        away = ap (λ (z : Local). z.here) as_before ∙ unmet.away;
-        unasked = ap (λ (z : Local). z.asked) as_before ∙ unmet.unasked;
-        unknown = ap (is_known_absent header (place_of key.object.0 key.page.0)) as_before ∙ unmet.unknown;
+        before = λ none. not_yet (is_copy key.object.0 past) (is_copy key.object.0 new) (is_pushed h key.object.0 key.page.0 past)
+            (is_pushed h key.object.0 key.page.0 new)
+            (λ copy. same.copies key.object.0 (copied_low header key.object.0 past rests.matches.core.spaces.homes.1 copy) ∙ copy)
+            (λ pushed. same.pages.pushed key.object.0 key.page.0 ∙ pushed) none;
+        still = λ none was. record {
+          away = ap (λ (z : Local). z.here) as_before ∙ was.away;
+          unasked = ap (λ (z : Local). z.asked) as_before ∙ was.unasked;
+          unknown = ap (is_known_absent header (place_of key.object.0 key.page.0)) as_before ∙ was.unknown;
+        };
       }
 
-  waits_same : SameReturns (named header) h past new → HasWaits header h k woken.Nobody new
+  waits_same : SameReturns header h past new → HasWaits header h k woken.Nobody new
   waits_same returns =
       let has = rests.waits in
       record {
@@ -367,8 +376,40 @@ module _ (header : Header) (h : ℕ) (k : Parts) (ids next : Ids) (past new : Li
         fits = has.fits;
       }
 
+  -- an object that its tables know is a copy where it was one
+  copy_known : (o : ℕ) (row : ObjectRow) → object_at k.memory.objects o ≡ Some row → is_copy o new ≡ is_copy o past
+  copy_known o row found = same.copies o (small_object rests.matches.core.objects.regions o row found)
+
+  -- and where it is a file's newest, that file is the host's
+  file_here : (file copy : ℕ) (row : ObjectRow) (at : List Event) → HaveHomes header at → newest_copy file at ≡ Some copy
+      → object_at k.memory.objects copy ≡ Some row → (object_home copy past ≡ Some h → object_home copy at ≡ Some h)
+      → is_on h (home_of file at) ≡ true
+  file_here file copy row at homes newest found kept =
+      let home = kept (rests.matches.core.controls.home copy row (copy_temporary header file copy at homes newest) found) in
+      ap (is_on h) (sym (ap (home_in (λ r. home_of r at)) (homes.copies file copy newest).made) ∙ home) ∙ on_own h
+
+  -- so its copy objects are as they were
+  copied_same : ((r : ℕ) → is_on h (home_of r new) ≡ is_on h (home_of r past)) → ((o : ℕ) → object_home o past ≡ Some h → object_home o new ≡ Some h)
+      → Copied k.copies k.memory k.chains (object_facts header new) (λ c p. is_pushed h c p new)
+  copied_same known objects =
+      let was = rests.matches.core.copied in
+      record {
+        known = copies_elsewhere (record {
+          are = λ o referred. copy_known o referred.row referred.known;
+          copy = λ c row found. let its = is_known (object_at k.memory.objects c) (was.fits.fits c row found).known in copy_known c its.0 its.1;
+          newest = λ f c is referred.
+              sym (same.newest f (sym (known f) ∙ file_here f c referred.row new common.homes is referred.known (objects c))) ∙ is;
+          last = λ f c is.
+              let row = newest_row was.fits.living f c is in
+              let its = is_known (object_at k.memory.objects c.0) (was.fits.fits c.0 row.0 row.1).known in
+              same.newest f (file_here f c.0 its.0 past rests.matches.core.spaces.homes.1 (was.known.last f c is) its.1 (λ home. home));
+          pushed = same.pages.pushed;
+        }) was.known;
+        fits = was.fits;
+      }
+
   -- tasks elsewhere hold none of its regions, and its regions and objects stay on their host
-  pub rests_same : IsCalm (named header) (λ o. live_control h o new) (λ o. is_destroyed h o (destroy_taken new)) → SameReturns (named header) h past new
+  pub rests_same : IsCalm (named header) (λ o. live_control h o new) (λ o. is_destroyed h o (destroy_taken new)) → SameReturns header h past new
       → ApartElsewhere header h new → ((r : ℕ) → home_of r past ≡ Some h → home_of r new ≡ Some h)
       → ((r : ℕ) → is_on h (home_of r new) ≡ is_on h (home_of r past)) → ((o : ℕ) → object_home o past ≡ Some h → object_home o new ≡ Some h)
       → Rests header h k next new
@@ -396,11 +437,12 @@ module _ (header : Header) (h : ℕ) (k : Parts) (ids next : Ids) (past new : Li
                     ∙ sym (same.sizes o (small_object rests.matches.core.objects.regions o row found));
                 few = rests.matches.core.objects.sizes.few;
               };
-              plain = λ o row found. same.copies o (small_object rests.matches.core.objects.regions o row found)
-                  ∙ rests.matches.core.objects.plain o row found;
-              undelayed = λ o less. same.copies o (let more = named_objects header past in omega (arith, less, more))
-                  ∙ rests.matches.core.objects.undelayed o less;
+              undelayed = λ o less.
+                  let was = rests.matches.core.objects.undelayed o less in
+                  let small : o < next_object header past = let more = named_objects header past in omega (arith, less, more) in
+                  record { copy = same.copies o small ∙ was.copy; pages = same.sizes o small ∙ was.pages };
             };
+            copied = copied_same known objects;
             controls = controls_same objects;
             flags = λ o less. same.pages.cached o ∙ rests.matches.core.flags o less;
             pages = record {

@@ -26,15 +26,14 @@ use Rattle.vm_maps.specs.Judge.{judged}
 use Rattle.vm_model.specs.Named.{declared, declared_pages, pages_kept}
 use Rattle.vm_model.specs.declared.script.Declared.{Declared}
 use Rattle.vm_objects.specs.declared.row.PagerState.{PagerState}
-use Rattle.vm_parts.specs.Changes.{one}
 use Rattle.vm_state.proofs.Declared.{IsWhole, whole_row}
 use Rattle.vm_state.proofs.Knowing.{known_put}
 use Rattle.vm_state.proofs.Referring.{refers_region}
 use Rattle.vm_state.specs.Places.{known_local}
-use Rattle.vm_state.specs.References.{is_over}
 use Rattle.vm_kernel.specs.Mapping.{Again, Begins as BeginsControl, First, Holds, IsOpen, Opens, declared_region, referred, shared_entry}
+use Rattle.vm_kernel.proofs.controls.DeclaredReferences.{declared_refer}
 use Rattle.vm_kernel.proofs.controls.DeclaredRegion.{BecomesKnown, BeginsAnew, LivesStill, MayMap, OpensDeclared, controls_opened, core_declared}
-use Rattle.vm_kernel.proofs.controls.DeclaredRegion.{declared_references, map_enters, map_home, rests_declared, used_mapped, waits_mapped, with_declared}
+use Rattle.vm_kernel.proofs.controls.DeclaredRegion.{map_enters, map_home, rests_declared, used_mapped, waits_mapped, with_declared}
 use Rattle.vm_kernel.proofs.steps.EventsGrow.{licensed, suffices}
 use Rattle.vm_kernel.proofs.steps.HeadAlone.{heads_one, ran_head}
 use Rattle.vm_legal.proofs.Heads.{passed}
@@ -252,18 +251,6 @@ declared_there header o less = by (slice_get_cases (reverse header.objects.items
     by (inl found) = (found.0, found.2)
     by (inr past) = absurd (let count = length-reverse header.objects.items in let high = past.0 in omega (arith, count, high, less))
 
--- nothing refers to a declared object without a region, but that it stays
-referred_row : (header : Header) (h : ℕ) (past : List Event) (k : Parts) (ids : Ids) (o : ℕ) (row : ObjectRow) → Rests header h k ids past → o < named header
-    → region_at k.chains o ≡ None → object_at k.memory.objects o ≡ Some row → row.references ≡ one row.cache
-referred_row header h past k ids o row rests less free found =
-    let m = rests.matches in
-    let more = named_regions header past in
-    let count = m.core.objects.regions.counts o row found in
-    let all = declared_references header past k.chains k.memory.objects ids (next_region header past) (next_object header past) (marks_of header past) o
-    m.core.objects.regions m.core.objects.kinds m.core.spaces.homes.1 less (omega (arith, less, more)) in
-    let none : one (is_over o (region_at k.chains o)) ≡ 0 = ap (λ z. one (is_over o z)) free in
-    omega (arith, count, all, none)
-
 becomes_known : (header : Header) (h : ℕ) (past : List Event) (k : Parts) (ids : Ids) (o : ℕ) (d : Declared) (control : ℕ) (pager : PagerState)
     → Rests header h k ids past → o < named header → declared header o ≡ Some d → region_at k.chains o ≡ None → has_pager pager ≡ true → 0 < control
     → ((row : ObjectRow) → object_at k.memory.objects o ≡ Some row → has_pager row.state ≡ true → pager ≡ row.state)
@@ -289,7 +276,6 @@ becomes_known header h past k ids o d control pager rests less is free paged num
         }
     by (Some row) found told =
         let kept = (rests.matches.core.objects.kinds.kinds o row found).declared less in
-        let count = referred_row header h past k ids o row rests less free found in
         record {
           sized = λ other is. subst (λ (z : ObjectRow). z.pages ≡ declared_pages header o) (some_is row other is) kept.pages;
           told = told;
@@ -297,7 +283,7 @@ becomes_known header h past k ids o d control pager rests less is free paged num
           pages = kept.pages;
           pager = paged;
           live = refl;
-          references = omega (arith, count);
+          references = refl;
           number = number;
         }
 
@@ -636,7 +622,7 @@ may_share header h task address bytes object offset past k ids rests may inside 
       free = may.judged;
       pages = may.pages;
       inside = inside;
-      shared = λ less same. let bad : inherit.Share ≡ inherit.Copy = same in cc;
+      shared = λ less other same. let bad : inherit.Share ≡ inherit.Copy = same in cc;
     }
 
 pub ran_map : (header : Header) (h : ℕ) (outside : Outside) (task : TaskId) (address bytes : ℕ) (object : ObjectId) (offset : ℕ) (past : List Event)
@@ -722,21 +708,13 @@ pub few_refer : (header : Header) (h : ℕ) (past : List Event) (k : Parts) (ids
     → IfSome (object_at k.memory.objects o) (λ row. row.references < 2 ^ 32 - 1)
 few_refer header h past k ids o rests less = by (object_at k.memory.objects o) refl
   where
-    most : (b : Bool) → one b ≤ 1
-    most true = omega arith
-    most false = omega arith
-
     by : (x : Option ObjectRow) → object_at k.memory.objects o ≡ x → IfSome x (λ row. row.references < 2 ^ 32 - 1)
     by None is = tt
     by (Some row) is =
         let m = rests.matches in
         let more = named_regions header past in
-        let count = m.core.objects.regions.counts o row is in
-        let all = declared_references header past k.chains k.memory.objects ids (next_region header past) (next_object header past) (marks_of header past)
-        o m.core.objects.regions m.core.objects.kinds m.core.spaces.homes.1 less (omega (arith, less, more)) in
-        let single = most (is_over o (region_at k.chains o)) in
-        let stays = most row.cache in
-        omega (arith, count, all, single, stays)
+        declared_refer header past k.chains k.memory.objects ids (next_region header past) (next_object header past) (marks_of header past) o row
+        m.core.objects.regions m.core.objects.kinds m.core.spaces.homes.1 less (omega (arith, less, more)) is
 
 -- the maps are as they were
 pub maps_held : {object : ObjectId} {d : Declared} {k k2 : Parts} → Holds object d k k2 → k2.maps ≡ k.maps

@@ -16,21 +16,23 @@ use Rattle.vm_model.specs.Waiting.{Access}
 use Rattle.vm_parts.specs.Changes.{one}
 use Rattle.vm_parts.specs.Fits.{object_pages}
 use Rattle.vm_shadow.proofs.Ranks.{ranked_same}
-use Rattle.vm_shadow.specs.declared.shadow_row.ShadowRow.{ShadowRow}
-use Rattle.vm_state.proofs.Declared.{kinds_put, kinds_region, over_declared}
+use Rattle.vm_state.proofs.Declared.{kinds_put, kinds_region}
 use Rattle.vm_state.proofs.Fresh.{other_test, pages_put, seen}
 use Rattle.vm_state.proofs.Going.{one_other, one_own}
 use Rattle.vm_state.proofs.Knowing.{counts_still, known_cases, known_put, known_still, put_else, put_here, referred_other, unknown_still}
-use Rattle.vm_state.proofs.Tallies.{tally_none, tally_put, tally_same}
+use Rattle.vm_state.proofs.Tallies.{tally_put, tally_same}
 use Rattle.vm_state.proofs.Told.{told_all, waits_told}
-use Rattle.vm_state.specs.References.{is_backing, is_over, is_temporary_in, is_temporary_kind, references_to, tally}
+use Rattle.vm_state.specs.References.{is_backing, is_over, is_temporary_in, is_temporary_kind, references_to}
 use Rattle.vm_kernel.specs.Mapping.{Again, Holds, referred, shared_entry}
 use Rattle.vm_kernel.proofs.space.EntriesCounted.{by_none, most_is, none_on, on_entered, one_on}
 use Rattle.vm_kernel.proofs.space.RegionRows.{apart_there, none_leads}
 use Rattle.vm_kernel.proofs.space.RegionCases.{region_cases}
 use Rattle.vm_kernel.proofs.space.TaskTables.{Keeps, entries_changed, inside_kept, tasks_entered}
 use Rattle.vm_base.specs.declared.ids.PageKey.{PageKey}
+use Rattle.vm_kernel.proofs.controls.CopiesAnswered.{copied_declared}
 use Rattle.vm_kernel.proofs.controls.DeclaredKinds.{declared_few}
+use Rattle.vm_kernel.proofs.controls.DeclaredReferences.{counts_known, references_of}
+use Rattle.vm_state.specs.Pagers.{cached_in}
 use Rattle.vm_state.proofs.KnownPages.{sizes_new}
 use Rattle.vm_kernel.specs.Changes.{CanEnter}
 use Rattle.vm_kernel.proofs.space.RegionsFilled.{declared_unfilled, put_filled, same_waiting}
@@ -54,35 +56,16 @@ use Rattle.vm_kernel.proofs.space.RegionHomes.{homes_caused, homes_put}
 use Rattle.vm_state.specs.Stands.{HasFlags}
 use Rattle.vm_kernel.specs.Matches.{ControlFacts, Core, HasOrder, HasWaits, IsCalm, UsesAll, memory_facts, space_facts}
 use Rattle.vm_model.specs.Local.{Local}
-use Rattle.vm_model.specs.Regions.{is_copy, object_pages as pages_told}
-use Rattle.vm_state.proofs.PlainObjects.{plain_new}
+use Rattle.vm_model.specs.Regions.{object_pages as pages_told}
 use Rattle.vm_objects.specs.declared.row.PagerState.TheVariants as state
 use Rattle.vm_base.specs.declared.ids.Inherit.TheVariants as inherit
 use Rattle.vm_supply.specs.declared.woken.Woken.TheVariants as woken
 use Rattle.vm_copies.specs.Copies.{CopyTable}
+use Rattle.vm_state.specs.Passed.{Unmet}
 
 -- the region of a declared object, with its first entry
 abbrev pub own_region : ObjectId → ℕ → RegionRow
 own_region object pages = record { top = object; shift = 0; pages = pages; marked = false; entries = 1 }
-
--- over a declared object stands its own region at most, and nothing else
-pub declared_references : (header : Header) (past : List Event) (cs : ChainTable) (os : ObjectTable) (ids : Ids) (rm om marked o : ℕ)
-    → HasRegions cs os ids (λ r. region_of header r past) (λ q. backing_of header q past) rm om marked → HasKinds header os cs → HaveHomes header past
-    → o < named header → o < rm → references_to cs rm om o ≡ one (is_over o (region_at cs o))
-declared_references header past cs os ids rm om marked o has kinds homes declared less =
-    let tops : tally (λ r. is_over o (region_at cs r)) rm + 0 ≡ tally (λ r. false) rm + one (is_over o (region_at cs o)) = tally_put (λ r. false)
-    (λ r. is_over o (region_at cs r)) rm o less (λ r apart. not_over r (region_at cs r) refl apart) in
-    let none = tally_none (λ r. false) rm (λ r small. refl) in
-    let unders = tally_none (λ s. is_backing o (shadow_at cs s)) om (λ s small. not_under s (shadow_at cs s) refl) in
-    omega (arith, tops, none, unders)
-  where
-    not_over : (r : ℕ) (row : Option RegionRow) → region_at cs r ≡ row → (o ≡ r → ⊥) → is_over o row ≡ false
-    not_over r None is apart = refl
-    not_over r (Some row) is apart = other_test row.top.0 o (λ e. apart (sym e ∙ sym (over_declared has kinds homes r row is (omega (arith, e, declared)))))
-
-    not_under : (s : ℕ) (row : Option ShadowRow) → shadow_at cs s ≡ row → is_backing o row ≡ false
-    not_under s None is = refl
-    not_under s (Some row) is = other_test row.under.0 o (λ e. let least = kinds.unders s row is in omega (arith, e, least, declared))
 
 -- what a host knows of a declared object once its region is there, which refers to it: a control of it lives, and its pager is as ready as it was
 pub record BecomesKnown (header : Header) (o : ℕ) (was : Option ObjectRow) (new : ObjectRow) : Type 0 where
@@ -92,7 +75,7 @@ pub record BecomesKnown (header : Header) (o : ℕ) (was : Option ObjectRow) (ne
   pub pages : new.pages ≡ declared_pages header o
   pub pager : has_pager new.state ≡ true
   pub live : new.live ≡ true
-  pub references : new.references ≡ 1 + one new.cache
+  pub references : new.references + one (cached_in was) ≡ references_of was + 1 + one new.cache
   pub number : 0 < new.control
 
 -- that control lived before
@@ -212,11 +195,10 @@ regions_declared header past o new pages cs cs2 os os2 ids rm om marked has kind
     its_own : new.references ≡ references_to cs2 rm om o.0 + one new.cache
     its_own =
         let count = more o.0 in
-        let was = declared_references header past cs os ids rm om marked o.0 has kinds homes declared (omega (arith, declared, regions)) in
-        let none : one (is_over o.0 (region_at cs o.0)) ≡ 0 = ap (λ z. one (is_over o.0 z)) free in
+        let was = counts_known o.0 has in
         let own = one_own o.0 in
         let single = known.references in
-        omega (arith, count, was, none, own, single)
+        omega (arith, count, was, own, single)
 
     others : (x : ℕ) → (o.0 ≡ x → ⊥) → references_to cs2 rm om x ≡ references_to cs rm om x
     others x apart = let count = more x in let none = one_other o.0 x apart in omega (arith, count, none)
@@ -362,7 +344,8 @@ ready_paged state.Sent is = refl
 ready_paged state.Ready is = refl
 
 -- whoever waits for its pager does so still
-pub waits_declared : {copies : CopyTable} {stays unmet : PageKey → Type 0} (header : Header) (maps : Mapped) (cs : ChainTable) (rs : ResidentTable)
+pub waits_declared : {copies : CopyTable} {stays : PageKey → Type 0} {unmet : PageKey → Unmet} (header : Header) (maps : Mapped) (cs : ChainTable)
+    (rs : ResidentTable)
     (os os2 : ObjectTable)
     (rows : List Waiting) (who : On → Bool) (waiting_at : ℕ → Option Access) (o : ℕ) (new : ObjectRow)
     → HasWaiters maps cs copies rs os rows who waiting_at stays unmet → BecomesKnown header o (object_at os o) new → PutsObject o (Some new) os os2
@@ -489,6 +472,8 @@ core_declared header h outside doing task address bytes object offset pages new 
     let regions = named_regions header past in
     let known_objects = named_objects header past in
     let used = λ (paged : is_paged header object.0 ≡ true). may.used (file_of header object.0 may.declared paged) in
+    let copied = copied_declared past object.0 new objects may.declared m.core.spaces.homes.1 m.core.objects
+    (λ known is. o.known.pages ∙ sym (o.known.sized known is)) o.put o.region.shadows m.core.copied in
     record {
       setting = m.core.setting;
       calm = calm;
@@ -503,7 +488,7 @@ core_declared header h outside doing task address bytes object offset pages new 
             entries_declared size k.maps maps k.chains chains task.0 object pages row m.core.spaces.entries o.free o.region o.changes refl below may.whole
             may.some may.end (let inside = may.inside in let all = o.sized in omega (arith, inside, all)) may.room;
         shared =
-            shared_entered (named header) task.0 k.maps maps row o.changes (λ less same. let bad : inherit.Share ≡ inherit.Copy = same in cc)
+            shared_entered header task.0 k.maps maps row o.changes (λ less other same. let bad : inherit.Share ≡ inherit.Copy = same in cc)
             m.core.spaces.shared;
         uses =
             uses_entered header k.maps maps (λ r. in_use header h r past) (tasks past) (λ t r. holds size t r now) (next_region header past) task.0 row
@@ -535,10 +520,9 @@ core_declared header h outside doing task address bytes object offset pages new 
         sizes = sizes_new (named header) object.0 new k.memory.objects objects (λ x. pages_told header x past) (λ x. pages_told header x past) o.put
             (let pages = o.known.pages in let most = declared_few header object.0 m.core.setting.ranged may.declared in omega (arith, pages, most))
             (λ least. let declared = may.declared in absurd (omega (arith, least, declared))) (λ x apart. refl) m.core.objects.sizes;
-        plain = plain_new object.0 new k.memory.objects objects (λ x. is_copy x past) o.put (m.core.objects.undelayed object.0 may.declared)
-            m.core.objects.plain;
         undelayed = m.core.objects.undelayed;
       };
+      copied = record { known = copied.known; fits = copied.fits };
       controls = controls_stay (λ x at_home. object_stays x h enters past at_home) controls;
       flags = flags;
       pages = record {
@@ -609,7 +593,8 @@ rests_declared {object = object} {pages = pages} {new = new} {k = k} {objects = 
       used = used;
       referred =
           referred_put object.0 new object.0 (Some (own_region object pages)) k.chains chains k.memory.objects objects k.memory.resident o.region o.put
-          (let some = o.known.references in omega (arith, some)) (serves_declared declared o.known rests.matches.core.objects.kinds) rests.referred;
+          (let some = o.known.references in let was = counts_known object.0 rests.matches.core.objects.regions in omega (arith, some, was))
+          (serves_declared declared o.known rests.matches.core.objects.kinds) rests.referred;
       thin =
           thin_paged object.0 new k.chains chains k.memory.objects objects (keeps_same k.chains chains (λ x. ap (λ f. f x) o.region.shadows))
           (λ never. let number = o.known.number in omega (arith, number, never)) o.put rests.thin;

@@ -333,6 +333,7 @@ woken_on_spends k new object log same rows =
       rows = omega (arith, one, two);
       shadows = omega arith;
       objects = omega arith;
+      copies = omega arith;
     })
 
 -- what was paid stays paid

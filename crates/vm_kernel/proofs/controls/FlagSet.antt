@@ -1,8 +1,9 @@
 -- A declared object stays on its host without an entry from now on, or no more: its row has another flag, which counts as a reference.
 use Rattle.vm_kernel.proofs.Common.{Bool, EndsObject, Event, HasWaits, Header, Ids, IsPagerTold, IsWhole, List, Matches, ObjectId, ObjectRow, ObjectTable}
 use Rattle.vm_kernel.proofs.Common.{Option, Parts, PutsObject, SameMarks, ShadowRow, Some, Temp, Woken, Works, [], ap, arith, eqb_tells, false, inl, inr}
-use Rattle.vm_kernel.proofs.Common.{is_woken, marks_of, named, next_object, next_region, not, object_at, one_case, ready_in, refl, region_at, shadow_at}
+use Rattle.vm_kernel.proofs.Common.{is_woken, marks_of, named, next_object, next_region, not, object_at, one_case, ready_in, refl, shadow_at}
 use Rattle.vm_kernel.proofs.Common.{some_is, subst, sym, true, waiting, ℕ, ◌+◌, ◌-◌, ◌<◌, ◌^◌, ◌∙◌, ◌≡◌, ◌⊎◌}
+use Rattle.vm_kernel.proofs.controls.CopiesAnswered.{copied_put_declared}
 use Rattle.vm_kernel.proofs.controls.DeclaredKinds.{declared_kind}
 use Rattle.vm_kernel.proofs.controls.WordTaken.{works_flagged}
 use Rattle.vm_kernel.proofs.memory.CoreChanges.{pages_known_so}
@@ -15,11 +16,10 @@ use Rattle.vm_parts.specs.Changes.{one}
 use Rattle.vm_state.proofs.Files.{files_put}
 use Rattle.vm_state.proofs.Flagging.{but_flagged, kinds_flagged, referred_flagged, regions_flagged}
 use Rattle.vm_state.proofs.KnownPages.{sizes_put}
-use Rattle.vm_state.proofs.PlainObjects.{plain_put}
 use Rattle.vm_state.proofs.Told.{told_all, waits_told}
 use Rattle.vm_state.specs.Pagers.{cached_in}
 use Rattle.vm_state.specs.Stands.{HasFlags}
-use Rattle.vm_state.specs.References.{references_to, is_over}
+use Rattle.vm_state.specs.References.{references_to}
 use Rattle.vm_state.proofs.Knowing.{known_put}
 use Rattle.vm_kernel.specs.Sweeping.{LeavesLoser}
 use mathlib.Core.Bool.{beq}
@@ -29,9 +29,8 @@ use Rattle.vm_abroad.proofs.Regions.{kind_cases}
 use Rattle.vm_kernel.specs.Rooms.{Spends, leaving}
 use Rattle.vm_terminate.proofs.Living.{same_put}
 use Rattle.vm_legal.proofs.Numbering.{named_regions}
-use Rattle.vm_kernel.proofs.controls.DeclaredRegion.{declared_references}
+use Rattle.vm_kernel.proofs.controls.DeclaredReferences.{declared_refer}
 use Rattle.vm_kernel.proofs.space.LosersMerge.{leaves_none}
-use Rattle.vm_kernel.proofs.controls.FlagsKept.{flag_few}
 
 -- a row with this flag, and so many references
 abbrev pub flagged : ObjectRow → Bool → ℕ → ObjectRow
@@ -128,9 +127,9 @@ module _ {header : Header} {h : ℕ} {k : Parts} {ids : Ids} {who : Woken} {obje
                 (λ tame some. to.live) core.objects.kinds;
             files = files_put header h object.0 to.known now k.memory.objects objects _ to.found is.put core.objects.files;
             sizes = sizes_put (named header) object.0 to.known now k.memory.objects objects _ to.found refl is.put core.objects.sizes;
-            plain = plain_put object.0 to.known now k.memory.objects objects _ to.found is.put core.objects.plain;
             undelayed = core.objects.undelayed;
           };
+          copied = copied_put_declared past object.0 to.known now objects is.declared core.spaces.homes.1 core.objects to.found refl is.put core.copied;
           controls = controls_put object.0 to.known now k.memory.objects objects _ _ _ to.found is.put refl refl refl core.controls;
           flags = flags;
           pages = pages_known_so is.marks core.pages;
@@ -222,7 +221,7 @@ module _ {header : Header} {h : ℕ} {k : Parts} {ids : Ids} {who : Woken} {obje
   between : object_at mid object.0 ≡ Some (record to.known { cache = cache })
   between = known_put object.0 (record to.known { cache = cache }) k.memory.objects mid m.set
 
-  -- its own region, and the flag, are all that refers to a declared object
+  -- a declared object counts what is over it, and its flag
   counted : to.known.references
       ≡ references_to k.chains (next_region header past) (next_object header past) object.0 + one to.known.cache
   counted = to.works.core.objects.regions.counts object.0 to.known to.found
@@ -231,12 +230,8 @@ module _ {header : Header} {h : ℕ} {k : Parts} {ids : Ids} {who : Woken} {obje
   few =
       let more = named_regions header past in
       let declared = m.declared in
-      let own = declared_references header past k.chains k.memory.objects ids (next_region header past) (next_object header past) (marks_of header past)
-      object.0
-      to.works.core.objects.regions to.works.core.objects.kinds to.works.core.spaces.homes.1 declared (omega (arith, declared, more)) in
-      let single = flag_few (is_over object.0 (region_at k.chains object.0)) in
-      let flag = flag_few to.known.cache in
-      omega (arith, counted, own, single, flag)
+      declared_refer header past k.chains k.memory.objects ids (next_region header past) (next_object header past) (marks_of header past) object.0 to.known
+      to.works.core.objects.regions to.works.core.objects.kinds to.works.core.spaces.homes.1 declared (omega (arith, declared, more)) to.found
 
   pub may_refer : IsSome (object_at mid object.0) × IfSome (object_at mid object.0) (λ row. row.references < 2 ^ 32 - 1)
   may_refer = subst (λ (z : Option ObjectRow). IsSome z × IfSome z (λ row. row.references < 2 ^ 32 - 1)) (sym between) (refl, few)
@@ -294,6 +289,7 @@ flag_spends {k = k} {object = object} {known = known} {cache = cache} {left = le
       rows = omega (arith, live);
       shadows = omega (arith, live);
       objects = omega (arith, live, rows);
+      copies = omega arith;
     }
 
 -- the object that nothing holds has ended

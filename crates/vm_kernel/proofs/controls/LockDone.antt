@@ -149,12 +149,13 @@ completed_rests : (r : Request) (k : Parts) (past : List Event) → Mid r.header
 completed_rests r k past rests =
     let c = rests.runs.core in
     record {
-      runs = amidst_moved rests.runs (record { space = refl; accesses = refl; controls = refl })
+      runs = amidst_moved rests.runs (record { space = refl; accesses = refl; controls = refl; pushed = λ o p. refl })
           (record {
             fits = c.fits;
             away = λ o p none. none;
             objects = record { at = λ o. refl };
             kinds = c.objects.kinds;
+            copied = λ fits. fits;
             pages = record {
               shown = record {
                 shown = λ o p. ap (known_local r.header o p) (rw (own_host r.host)

@@ -1,5 +1,7 @@
 -- A lock request is taken: what the kernel stands for, once its rows are as they will be, and those are to be run again that wait for unlocks under it.
+use Rattle.vm_kernel.proofs.memory.CopiesKept.{copied_pages}
 use Rattle.vm_kernel.proofs.memory.CoreChanges.{spaces_refilled}
+use Rattle.vm_state.proofs.CopyFits.{MayBeHere, WasHere, fits_pages}
 use Rattle.vm_kernel.proofs.Common.{Bool, Elsewhere, Event, Fit, FrameTable, HasLaundry, HasPages, HasWaiters, Header, Ids, LaundryList, List, Local}
 use Rattle.vm_kernel.proofs.Common.{LocalEffect, Mapped, None, ObjectId, ObjectRow, On, Option, PageKey, PageNo, PageRow, Parts, Reason, ResidentTable, Rests}
 use Rattle.vm_kernel.proofs.Common.{Some, TakesLock, WaitTable, Waiting, Want, absent_at, ap, entry, eqb_tells, false, if◌then◌else◌, inl, inr, is_control}
@@ -33,6 +35,7 @@ use Rattle.vm_waits.specs.declared.waiting.On.TheVariants as on
 use Rattle.vm_model.specs.declared.message.Message.TheVariants as message
 use Rattle.vm_state.proofs.Pushing.{asked_same, push_stays}
 use Rattle.vm_state.specs.Waiters.{IsAsked}
+use Rattle.vm_state.specs.Passed.{Unmet}
 
 -- the rows of a kernel's pages stand in another table
 
@@ -66,6 +69,7 @@ mid_rows header h k ids rs2 past m same =
             away = λ o p none. same.rows o p ∙ none;
             objects = record { at = λ o. refl };
             kinds = core.objects.kinds;
+            copied = fits_pages (record { at = λ o. refl }) (λ o p page found here. WasHere page (was o p page found) here);
             pages = record {
               shown = record {
                 shown = λ o p. core.pages.shown.shown o p
@@ -166,7 +170,8 @@ here_away : (x : Option PageRow) (row : PageRow) → x ≡ Some row → row.here
 here_away x row is here = ap is_away is ∙ ap not here
 
 -- the rows as they will be, and the accesses that wait
-waits_waked : {stays unmet : PageKey → Type 0} (maps : Mapped) (k : Parts) (object : ObjectId) (page : PageNo) (count lock : ℕ) (flush : Bool)
+waits_waked : {stays : PageKey → Type 0} {unmet : PageKey → Unmet} (maps : Mapped) (k : Parts) (object : ObjectId) (page : PageNo) (count lock : ℕ)
+    (flush : Bool)
     (rows2 : List Waiting) (past : List Event) → HasWaiters k.maps k.chains k.copies k.memory.resident k.memory.objects k.waits.rows (is_woken woken.Nobody)
     (λ t. waiting t past) stays unmet
     → rows2 ≡ map (waits.woken (is_unlocked k.memory.resident object.0 page.0 count)) k.waits.rows
@@ -356,6 +361,7 @@ mid_taken header h k ids past object control page count returns lock flush reply
           };
           spaces = spaces_refilled (fills_waked waker k.waits.rows waits2.rows waked_rows) core.spaces;
           objects = core.objects;
+          copied = copied_pages (record { at = λ o. refl }) was_here core.copied;
           controls = core.controls;
           flags = core.flags;
           pages = record {
@@ -393,6 +399,13 @@ mid_taken header h k ids past object control page count returns lock flush reply
     waked_rows t =
         subst (λ (z : List Waiting). Waked (is_unlocked k.memory.resident object.0 page.0 count) (entry k.waits.rows t) (entry z t)) (sym woke)
         (waked (is_unlocked k.memory.resident object.0 page.0 count) k.waits.rows t)
+
+    -- a page that is here was
+    was_here : (o p : ℕ) (row : PageRow) → row_at (retabled (pended its) k.memory.resident) o p ≡ Some row → row.here ≡ true
+        → MayBeHere k.copies k.memory.resident o p
+    was_here o p row found here =
+        let back = row_back (pended its) k.memory.resident o p row found in
+        WasHere back.0 back.1 (sym (ap (λ (z : PageRow). z.here) back.2 ∙ pended_here its o p back.0) ∙ here)
 
     plain : (o p : ℕ) (row : PageRow) → ((was : PageRow) × (row_at k.memory.resident o p ≡ Some was) × (row ≡ pended its o p was)) → row.here ≡ false
         → IsPlainRow row

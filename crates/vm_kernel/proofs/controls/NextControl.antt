@@ -9,6 +9,7 @@ use Rattle.vm_kernel.proofs.abroad.OwnHost.{own_host}
 use Rattle.vm_kernel.proofs.controls.FlagsKept.{flags_set, uncached_dead}
 use Rattle.vm_kernel.proofs.controls.LockReplied.{replied_behind}
 use Rattle.vm_kernel.proofs.controls.WordTaken.{calm_none}
+use Rattle.vm_kernel.proofs.memory.CopiesKept.{copied_put}
 use Rattle.vm_kernel.proofs.memory.PageChanges.{fits_known, objects_known}
 use Rattle.vm_kernel.proofs.memory.PageReturned.{pages_created, unasked}
 use Rattle.vm_kernel.proofs.memory.PagesShown.{pages_marked}
@@ -150,6 +151,7 @@ rests_begun header h object known past k k2 ids rests less some next kept =
               fits = fits_known next.found next.put refl core.fits;
               spaces = core.spaces;
               objects = objects_known next.found next.put next.marks refl refl refl kind core.objects;
+              copied = copied_put o known new os next.found next.put refl (λ has. record { row = known; known = next.found; some = has }) core.copied;
               controls = controls;
               flags = flags;
               pages = record {

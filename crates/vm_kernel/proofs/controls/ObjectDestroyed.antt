@@ -8,6 +8,7 @@ use Rattle.vm_kernel.proofs.Common.{refl, reverse, row_at, shadow_at, slice_get,
 use Rattle.vm_kernel.proofs.Common.{◌∷◌, ◌≡◌}
 use Rattle.vm_kernel.proofs.abroad.OwnEvents.{own_named}
 use Rattle.vm_kernel.proofs.abroad.OwnHost.{own_host}
+use Rattle.vm_kernel.proofs.controls.CopiesAnswered.{copied_put_declared}
 use Rattle.vm_kernel.proofs.controls.FlagsKept.{flags_set}
 use Rattle.vm_kernel.proofs.controls.PagesCancelled.{Clears}
 use Rattle.vm_kernel.proofs.controls.PagesDropped.{alive_facts}
@@ -32,7 +33,6 @@ use Rattle.vm_state.proofs.Changing.{regions_known}
 use Rattle.vm_state.proofs.Files.{files_put}
 use Rattle.vm_state.proofs.Knowing.{known_put}
 use Rattle.vm_state.proofs.KnownPages.{sizes_put}
-use Rattle.vm_state.proofs.PlainObjects.{plain_put}
 use Rattle.vm_state.proofs.Referred.{all_but, all_ended, but_known}
 use Rattle.vm_state.specs.Places.{known_local}
 use Rattle.vm_state.specs.References.{references_to}
@@ -203,9 +203,11 @@ module _ {header : Header} {h : ℕ} {object : ObjectId} {k : Parts} {ids : Ids}
           }) core.objects.kinds;
           files = files_put header h object.0 known (gone_row known left) k.memory.objects os2 _ is.found gone.put core.objects.files;
           sizes = sizes_put (named header) object.0 known (gone_row known left) k.memory.objects os2 _ is.found refl gone.put core.objects.sizes;
-          plain = plain_put object.0 known (gone_row known left) k.memory.objects os2 _ is.found gone.put core.objects.plain;
           undelayed = core.objects.undelayed;
         };
+        copied =
+            copied_put_declared moment object.0 known (gone_row known left) os2 (declared is) core.spaces.homes.1 core.objects is.found refl gone.put
+            core.copied;
         controls = controls;
         flags = rw (own_host h) (flags_set object.0 (gone_row known left) false gone.put refl core.flags);
         pages = record { shown = shown; washed = core.pages.washed; counted = counted is };
@@ -219,7 +221,7 @@ module _ {header : Header} {h : ℕ} {object : ObjectId} {k : Parts} {ids : Ids}
       (λ row found. ap (λ z. z.live) (some_is row (gone_row known left) (sym found ∙ known_put object.0 (gone_row known left) k.memory.objects os2 gone.put)))
       is.none (unshadowed is)
 
-  pub thin_gone : IsThin k.chains k.memory.objects → IsThin k.chains os2
+  pub thin_gone : IsThin k.copies k.chains k.memory.objects → IsThin k.copies k.chains os2
   thin_gone thin =
       thin_paged object.0 (gone_row known left) k.chains k.chains k.memory.objects os2 (keeps_same k.chains k.chains (λ x. refl))
       (let numbered = ((is.clears.core.objects.kinds.kinds object.0 known is.found).declared (declared is)).number in λ none. omega (arith, numbered, none))

@@ -5,6 +5,7 @@ use Rattle.vm_kernel.proofs.Common.{PutsObject, Rests, SameMarks, Some, Up, Uses
 use Rattle.vm_kernel.proofs.Common.{host_id, if◌then◌else◌, inl, is_control, is_some, length, live_control, live_in, local_of_row, not, object_at, page_on}
 use Rattle.vm_kernel.proofs.Common.{paging, refl, row_at, some_is, subst, sym, true, ℕ, ◌&&◌, ◌*◌, ◌++◌, ◌+◌, ◌-◌, ◌<◌, ◌==◌, ◌∙◌, ◌∷◌, ◌≡◌, ◌≤◌}
 use Rattle.vm_base.specs.Listing.{Listed}
+use Rattle.vm_copies.specs.Copies.{CopyTable}
 use Rattle.vm_kernel.proofs.abroad.OwnHost.{named_host, own_host}
 use Rattle.vm_kernel.proofs.controls.FlagSet.{marks_both, puts_both}
 use Rattle.vm_kernel.proofs.controls.ObjectDestroyed.{IsCleared, IsLetGo, core_gone, ending_follows, gone_row, referred_gone, thin_gone}
@@ -41,10 +42,10 @@ use Rattle.vm_waits.specs.Waits.{count_copies}
 
 -- the state from which an object ends
 abbrev pub begins : Parts → FinishState
-begins k = record { parts = k.memory; chains = k.chains; held = k.laundry.held; room = k.laundry.room; events = [] }
+begins k = record { parts = k.memory; chains = k.chains; copies = k.copies; held = k.laundry.held; room = k.laundry.room; events = [] }
 
 abbrev pub becomes : Parts → HostParts → List Event → FinishState
-becomes k parts events = record { parts = parts; chains = k.chains; held = k.laundry.held; room = k.laundry.room; events = events }
+becomes k parts events = record { parts = parts; chains = k.chains; copies = k.copies; held = k.laundry.held; room = k.laundry.room; events = events }
 
 -- the kernel with other objects, once the parts have changed
 abbrev pub knowing : Parts → ObjectTable → FinishState → Parts
@@ -98,6 +99,9 @@ module _ {header : Header} {h : ℕ} {outside : Outside} {doing : Command} {k : 
 
   chains : clear.chains ≡ k.chains
   chains = ap (λ (z : FinishState). z.chains) has.cancels.rest ∙ ap (λ (z : FinishState). z.chains) has.drops.rest
+
+  copies : clear.copies ≡ k.copies
+  copies = ap (λ (z : FinishState). z.copies) has.cancels.rest ∙ ap (λ (z : FinishState). z.copies) has.drops.rest
 
   -- the pages that have a row once those here have gone are those that are asked
   asked_bare : (p : ℕ) → is_some (row_at bare.parts.resident o p) ≡ (page_on header h o p past).asked
@@ -195,10 +199,11 @@ module _ {header : Header} {h : ℕ} {outside : Outside} {doing : Command} {k : 
       (subst (λ (z : ObjectTable). AllReferred bare.chains z clear.parts.resident) (sym has.cancels.objects)
       (referred_less bare.chains bare.parts.objects bare.parts.resident clear.parts.resident has.cancels.pages has.drops.now.referred))
 
-  thin_clear : IsThin clear.chains clear.parts.objects
+  thin_clear : IsThin clear.copies clear.chains clear.parts.objects
   thin_clear =
-      subst (λ (z : ChainTable). IsThin z clear.parts.objects) (sym (chains has))
-      (subst (λ (z : ObjectTable). IsThin k.chains z) (sym (objects has)) has.rests.thin)
+      subst (λ (z : CopyTable). IsThin z clear.chains clear.parts.objects) (sym (copies has))
+      (subst (λ (z : ChainTable). IsThin k.copies z clear.parts.objects) (sym (chains has))
+      (subst (λ (z : ObjectTable). IsThin k.copies k.chains z) (sym (objects has)) has.rests.thin))
 
   pub undone : {os2 : ObjectTable} {left : ℕ} → PutsObject object.0 (Some (gone_row known left)) parts.objects os2 → SameMarks parts.objects os2
       → left + one known.cache ≡ known.references → (waits : WaitTable) → WakesOn k.maps object.0 k.waits waits
@@ -212,6 +217,7 @@ module _ {header : Header} {h : ℕ} {outside : Outside} {doing : Command} {k : 
           fits = core.fits;
           spaces = spaces_refilled fills core.spaces;
           objects = core.objects;
+          copied = core.copied;
           controls = core.controls;
           flags = core.flags;
           calm = core.calm;
@@ -220,7 +226,7 @@ module _ {header : Header} {h : ℕ} {outside : Outside} {doing : Command} {k : 
         settled = record { none_owed = refl; shut = λ region. refl };
         used = used;
         referred = subst (λ (z : Parts). AllReferred z.chains z.memory.objects z.memory.resident) (sym same) (referred_gone is gone referred_clear);
-        thin = subst (λ (z : Parts). IsThin z.chains z.memory.objects) (sym same) (thin_gone is gone thin_clear);
+        thin = subst (λ (z : Parts). IsThin z.copies z.chains z.memory.objects) (sym same) (thin_gone is gone thin_clear);
         waits = who_waits;
         order = subst (λ (z : List Waiting). BeganInOrder (λ task. begun_at task now) 0 z) (sym wakes.rows)
             (order_emptied k.maps object.0 (λ task. begun_at task now) k.waits.rows has.drops.now.order);
@@ -321,8 +327,8 @@ lives_row control known false is holds = absurd (let bad : false ≡ true = hold
 pub empties : {header : Header} {h : ℕ} {k : Parts} {ids : Ids} {past front old_events events : List Event} {parts : HostParts} (outside : Outside)
     (doing : Command) (object : ObjectId) (control : ℕ) → Rests header h k ids past → TakesDestroy h object control front → MayDestroy header h object.0 past
     → is_control control (live_in (object_at k.memory.objects object.0)) ≡ true → old_events ≡ []
-    → IfSome (object_at k.memory.objects object.0) (λ known. (chains : ChainTable) (held : List FrameNo) (room : ℕ)
-    → Destroys k.host object known (finish_state k.memory chains held room old_events) (finish_state parts chains held room events))
+    → IfSome (object_at k.memory.objects object.0) (λ known. (chains : ChainTable) (copies : CopyTable) (held : List FrameNo) (room : ℕ)
+    → Destroys k.host object known (finish_state k.memory chains copies held room old_events) (finish_state parts chains copies held room events))
     → parts.buffers ≡ k.memory.buffers → Empties header h outside doing k ids object past front parts events
 empties {header = header} {h = h} {k = k} {ids = ids} {past = past} {front = front} {old_events = old_events} {events = events} {parts = parts} outside doing
     object control rests takes may live nothing all buffers =
@@ -354,9 +360,10 @@ empties {header = header} {h = h} {k = k} {ids = ids} {past = past} {front = fro
 
         its : Destroys k.host object known (begins k) (becomes k parts events)
         its = subst (λ (z : List Event). Destroys k.host object known (record (begins k) { events = z }) (becomes k parts events)) nothing
-            ((subst (λ (z : Option ObjectRow). IfSome z (λ row. (chains : ChainTable) (held : List FrameNo) (room : ℕ)
-            → Destroys k.host object row (finish_state k.memory chains held room old_events) (finish_state parts chains held room events))) is all)
-            k.chains k.laundry.held k.laundry.room)
+            ((subst (λ (z : Option ObjectRow). IfSome z (λ row. (chains : ChainTable) (copies : CopyTable) (held : List FrameNo) (room : ℕ)
+            → Destroys k.host object row (finish_state k.memory chains copies held room old_events) (finish_state parts chains copies held room events))) is
+            all)
+            k.chains k.copies k.laundry.held k.laundry.room)
 
         own : Destroys (host_id h) object known (begins k) (becomes k parts events)
         own = subst (λ (z : HostId). Destroys z object known (begins k) (becomes k parts events)) (named_host k.host h rests.matches.core.setting.numbered) its
@@ -385,6 +392,7 @@ empty_spends k parts os2 log log2 frames room told spare rows =
       rows = omega (arith, dues, spare);
       shadows = omega (arith, dues);
       objects = omega (arith, rows);
+      copies = omega arith;
     }
 
 -- what held the object here without an entry does so no more

@@ -1,7 +1,8 @@
 -- A page that is asked is answered: its bytes come, or it is asked no more, or zeros come where the pager of a declared object has none.
 use Rattle.vm_state.proofs.KnownPages.{sizes_same}
 use Rattle.vm_model.specs.Regions.{is_copy, object_pages as pages_made}
-use Rattle.vm_state.proofs.PlainObjects.{plain_same}
+use Rattle.vm_kernel.proofs.controls.CopiesAnswered.{copied_came, copied_gone, may_come}
+use Rattle.vm_legal.specs.Pushes.{is_pushed}
 use Rattle.vm_kernel.proofs.Common.{Access, Bool, Cancels, ChainTable, Changes, Command, Elsewhere, EndsNobody, Event, FailsNow, FailsPage, FillsPage}
 use Rattle.vm_kernel.proofs.Common.{FrameTable, HasAsker, HasFrames, HasKinds, HasPages, HasWaiters, Header, HostId, HostParts, Ids, IsAnswered, IsPagerTold}
 use Rattle.vm_kernel.proofs.Common.{Lacks, List, Local, LocalEffect, Mapped, Message, None, ObjectId, ObjectTable, On, Option, Outside, PageNo, PageRow, Parts}
@@ -58,7 +59,7 @@ waits_blank header h chains os past object page declared ready has =
     (λ key apart. quiet_place (h == h) (object.0 == key.object.0) (page.0 == key.page.0) Zeroes
     (λ o p. apart (same_of object.0 key.object.0 o) (same_of page.0 key.page.0 p)))
     (λ t what why reason to stop n place leads only. let least = leads.0.0 in omega (arith, least, declared))
-    (λ t what other told its place unmet. ready (subst (λ (z : ObjectId). IsPagerTold os z.0) (sym its) told))
+    (λ t what other told its place vacant none. ready (subst (λ (z : ObjectId). IsPagerTold os z.0) (sym its) told))
     (λ past2 only. only) has
 
 -- a page that is asked
@@ -147,9 +148,9 @@ waits_page header h k ids past o p x who new rests test put here same =
 pub changed_supplied : (header : Header) (h : ℕ) (k : Parts) (ids : Ids) (events after past : List Event) (object : ObjectId) (control : ℕ) (page : PageNo)
     (lock : ℕ) (precious : Bool) (bytes : List ℕ) (who : Woken) (new : HostParts)
     → Rests header h k ids past → Supplies (key_of object page) lock precious bytes who k.memory new events after → lives h object control past ≡ true
-    → lock < 4
+    → lock < 4 → (is_copy object.0 past ≡ true → is_pushed h object.0 page.0 past ≡ true)
     → Changed header h k ids who new past (hears h object control (message.Supply page lock precious bytes) ∷ past)
-changed_supplied header h k ids events after past object control page lock precious bytes who new rests supplies lives_now few =
+changed_supplied header h k ids events after past object control page lock precious bytes who new rests supplies lives_now few pushed =
     let was = rests.matches in
     let key = key_of object page in
     let row = supplies.was in
@@ -185,7 +186,9 @@ changed_supplied header h k ids events after past object control page lock preci
       kinds = kinds_same header k.memory.objects new.objects k.chains same (same_marks k.memory.objects new.objects supplies.objects) was.core.objects.kinds;
       files = files_same header h k.memory.objects new.objects (λ o. home_of o past) same was.core.objects.files;
       sizes = sizes_same (named header) k.memory.objects new.objects (λ o. pages_made header o past) same was.core.objects.sizes;
-      plain_known = plain_same k.memory.objects new.objects (λ o. is_copy o past) same was.core.objects.plain;
+      copied =
+          copied_came was.core.copied object.0 page.0 (Some now) same comes.row
+          (may_come was.core.copied k.memory.resident object.0 page.0 pushed);
       pages =
           pages_eq new.frames new.resident new.objects (λ o p. known_local header o p (effect_on header.size key (TakesPage lock precious bytes) local_at o p))
           (λ o p. known_local header o p (local header h (place_of o p) (hears h object control (message.Supply page lock precious bytes) ∷ past)))
@@ -259,7 +262,7 @@ changed_ended header h k ids past object control page m effect who row new rests
       kinds = kinds;
       files = files_same header h k.memory.objects new.objects (λ o. home_of o past) same was.core.objects.files;
       sizes = sizes_same (named header) k.memory.objects new.objects (λ o. pages_made header o past) same was.core.objects.sizes;
-      plain_known = plain_same k.memory.objects new.objects (λ o. is_copy o past) same was.core.objects.plain;
+      copied = copied_gone was.core.copied object.0 page.0 same ends.row;
       pages = pages_eq new.frames new.resident new.objects (λ o p. known_local header o p (effect_on header.size key effect local_at o p))
           (λ o p. known_local header o p (local header h (place_of o p) (hears h object control m ∷ past))) pages
           (λ o p. ap (known_local header o p)
@@ -426,7 +429,10 @@ changed_zeroed header h k ids host after past object control page who new rests 
       kinds = kinds_same header k.memory.objects new.objects k.chains same (same_marks k.memory.objects new.objects zeroes.objects) was.core.objects.kinds;
       files = files_same header h k.memory.objects new.objects (λ o. home_of o past) same was.core.objects.files;
       sizes = sizes_same (named header) k.memory.objects new.objects (λ o. pages_made header o past) same was.core.objects.sizes;
-      plain_known = plain_same k.memory.objects new.objects (λ o. is_copy o past) same was.core.objects.plain;
+      copied =
+          copied_came was.core.copied object.0 page.0 (Some now) same comes.row
+          (may_come was.core.copied k.memory.resident object.0 page.0
+          (λ copy. absurd (let bad : false ≡ true = sym (was.core.objects.undelayed object.0 declared).copy ∙ copy in cc)));
       pages = subst (λ (z : ObjectTable). HasPages new.frames new.resident z local_now) (sym zeroes.objects) pages;
       controls =
           controls_of k.memory.objects new.objects (λ o. last_control h o past) (λ o. live_control h o past) (λ o. is_ready h o past) (λ o. is_ready h o past)

@@ -1,4 +1,5 @@
 -- What a request for a page leaves of the kernel, and an access that waits for something else.
+use Rattle.vm_kernel.proofs.controls.CopiesAnswered.{copied_away}
 use Rattle.vm_kernel.proofs.memory.CoreChanges.{core_rerowed}
 use Rattle.vm_kernel.proofs.Common.{Asks, AsksPage, Bool, Event, FrameNo, HasWaiters, Header, HostParts, Ids, List, Matches, ObjectRow, ObjectTable, On}
 use Rattle.vm_kernel.proofs.Common.{PageKey, Parts, Reason, Some, Up, WaitTable, Waiting, Works, [], ap, arith, begun_at, entry, false, has_pager, host_id, inr}
@@ -59,7 +60,8 @@ matches_asked header h k ids past key control access frame memory m live c plan 
     (λ o p apart. (ap (λ z. local_after header.size z (moment o p)) (asking_other _ _ (is_control control (live_control h o past)) apart), refl))) in
     record {
       core = core_rerowed key frame m.core c plan (λ away. record { lock = refl; precious = refl; unlock_sent = refl }) (rw (own_host h) pages2)
-          (rw (own_host h) (λ held. let more = c.claims in omega arith));
+          (rw (own_host h) (λ held. let more = c.claims in omega arith))
+          (copied_away m.core.copied key.object.0 key.page.0 _ (record { at = λ o. ap (λ z. object_at z o) plan.objects }) c.row refl);
       settled = record { none_owed = refl; shut = λ region. refl };
       replied = replied_behind tt m.replied;
     }

@@ -34,7 +34,7 @@ pub record Mid (header : Header) (h : ℕ) (k : Parts) (ids : Ids) (past : List 
   pub runs : Amidst header h k ids [] woken.Nobody past
   pub settled : IsSettled past
   pub referred : AllReferred k.chains k.memory.objects k.memory.resident
-  pub thin : IsThin k.chains k.memory.objects
+  pub thin : IsThin k.copies k.chains k.memory.objects
 
 -- with the reply it is as it was
 pub works_mid : {header : Header} {h : ℕ} {k : Parts} {ids : Ids} {past : List Event} → Mid header h k ids past → IsReplied header past

@@ -5,6 +5,7 @@ use Rattle.vm_kernel.proofs.Common.{ObjectTable, OnlyLoses, PageKey, PageRow, Pa
 use Rattle.vm_kernel.proofs.Common.{eqb_tells, false, frame_here, if◌then◌else◌, inl, inr, is_some, length, local_after, nat_lt, nat_tests, refl, row_at}
 use Rattle.vm_kernel.proofs.Common.{row_put, subst, suc, sym, true, ℕ, ◌&&◌, ◌+◌, ◌-◌, ◌<◌, ◌==◌, ◌∙◌, ◌∷◌, ◌≡◌}
 use Rattle.vm_kernel.proofs.controls.AnswerEffects.{asked_shows}
+use Rattle.vm_kernel.proofs.controls.CopiesAnswered.{copied_gone}
 use Rattle.vm_kernel.proofs.lists.ListsAsTold.{frames_kept}
 use Rattle.vm_kernel.proofs.memory.CoreChanges.{core_rerowed}
 use Rattle.vm_kernel.proofs.memory.PageChanges.{fit_rerowed, same_objects}
@@ -61,7 +62,7 @@ clears_one {header = header} {k = k} {m = m} {row = row} {memory = memory} key c
         fit = fit_rerowed core.fits.parts cancels (λ some. absurd (let bad : false ≡ true = some in cc)) refl (same_objects objects) buffers;
         objects = objects;
         buffers = buffers;
-      }) tt shown (λ was. omega (arith, was, less));
+      }) tt shown (λ was. omega (arith, was, less)) (copied_gone core.copied o p (same_objects objects) cancels.row);
       same = λ x q. forgets header.size (o == x) (p == q) (m.seen x q);
       counts = omega (arith, held, less);
     }

@@ -7,6 +7,7 @@ use Rattle.vm_kernel.proofs.Common.{live_in, local, local_after, local_of_row, n
 use Rattle.vm_kernel.proofs.Common.{row_put, subst, suc, sym, true, ℕ, ◌&&◌, ◌++◌, ◌<◌, ◌==◌, ◌||◌, ◌∙◌, ◌∷◌, ◌≡◌, ◌⊎◌}
 use Rattle.vm_kernel.proofs.abroad.OwnEvents.{own_named}
 use Rattle.vm_kernel.proofs.abroad.OwnHost.{own_host}
+use Rattle.vm_kernel.proofs.controls.CopiesAnswered.{copied_gone}
 use Rattle.vm_kernel.proofs.lists.ListsAsTold.{frames_put, here_is, plays_told, same_paging}
 use Rattle.vm_kernel.proofs.memory.CoreChanges.{core_rerowed}
 use Rattle.vm_kernel.proofs.memory.PageChanges.{drops, fit_lost, same_objects}
@@ -68,6 +69,7 @@ emptying_taken {header = header} {h = h} {k = k} {past = past} object control re
         fits = was.fits;
         spaces = was.spaces;
         objects = was.objects;
+        copied = was.copied;
         controls = was.controls;
         flags = was.flags;
         pages = record {
@@ -133,7 +135,7 @@ module _ {header : Header} {h : ℕ} {start k : Parts} {ids : Ids} {row : PageRo
       core_rerowed {seen = λ x q. known_local header x q (local header h (place_of x q) (drops h key ∷ past))}
       {held_now = frames_held header h (drops h key ∷ past)} key row.frame e.core c
       (record { fit = fit_lost e.core.fits.parts c (same_objects objects) buffers; objects = objects; buffers = buffers }) tt shown
-      (rw (own_host h) (λ held. let less = c.claims in omega arith))
+      (rw (own_host h) (λ held. let less = c.claims in omega arith)) (copied_gone e.core.copied o p (same_objects objects) c.row)
 
   pub emptying_dropped : Emptying header h o start new ids (drops h key ∷ past)
   emptying_dropped = record {

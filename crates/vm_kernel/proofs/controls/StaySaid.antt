@@ -250,6 +250,7 @@ works_told {header = header} {h = h} {k = k} {past = past} object control cache 
         fits = c.fits;
         spaces = c.spaces;
         objects = c.objects;
+        copied = c.copied;
         controls = c.controls;
         flags = c.flags;
         pages = record {
@@ -588,7 +589,7 @@ ready_heard header h outside doing k ids before after past front object control 
     works : WorksBut header h (record k { memory = new }) ids who (λ o. is_cached h o past) now
     works = subst (λ (z : List Event). WorksBut header h (record k { memory = new }) ids who (λ o. is_cached h o past) (z ++ now)) (it.1.0 ∙ none)
         (hears_done header h outside doing k ids before after past (hears h object control (message.Ready cache strategy) ∷ []) object control
-        (message.Ready cache strategy) who new rests refl tt none fit same effects).works
+        (message.Ready cache strategy) who new rests refl tt tt none fit same effects).works
 
     keep : (other : ObjectId) → who ≡ woken.ReadyOf other → ReadySaid h object control cache strategy past k who new
         → IsToKeep header h (record k { memory = new }) ids (woken.ReadyOf object) object cache now
@@ -621,6 +622,7 @@ ready_spends {k = k} {new = new} ids before after keeps told room spare =
       rows = omega (arith, frames, spare);
       shadows = omega arith;
       objects = omega (arith, rows);
+      copies = omega arith;
     }
 
 -- whoever waits for a pager waits for the one that said so

@@ -1,5 +1,7 @@
 -- What an unlock that is asked for leaves of the kernel, and its cause.
+use Rattle.vm_kernel.proofs.controls.CopiesAnswered.{copied_came}
 use Rattle.vm_kernel.proofs.memory.CoreChanges.{core_rerowed}
+use Rattle.vm_state.proofs.CopyFits.{WasHere}
 use Rattle.vm_kernel.proofs.Common.{Bool, Command, Elsewhere, Event, HasWaiters, Header, HostParts, Ids, IsAt, List, LocalEffect, Matches, None, ObjectRow}
 use Rattle.vm_kernel.proofs.Common.{ObjectTable, Option, Outside, PageKey, PageRow, Parts, Some, Suffice, Unlocks, Up, WaitTable, Waiting, Want, Works, []}
 use Rattle.vm_kernel.proofs.Common.{absent_at, access_in, ap, arith, begun_at, entry, false, host_id, if◌then◌else◌, inl, inr, live_control, live_in, local}
@@ -68,7 +70,9 @@ matches_unlocked header h k ids past key row control access memory m here c plan
     }) in
     record {
       core = core_rerowed key row.frame m.core c plan (plain_here row2 here) (rw (own_host h) pages2)
-          (λ held. let same = c.claims in omega arith);
+          (λ held. let same = c.claims in omega arith)
+          (copied_came m.core.copied key.object.0 key.page.0 (Some row2) (record { at = λ o. ap (λ z. object_at z o) plan.objects }) c.row
+          (WasHere row c.found here));
       settled = record { none_owed = refl; shut = λ region. refl };
       replied = replied_behind tt m.replied;
     }

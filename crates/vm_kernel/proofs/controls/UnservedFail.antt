@@ -119,4 +119,4 @@ fails_more old new after task key only told =
 -- what is in hand and left is so much less
 pub spends_level : (n : ℕ) (old new : Parts) (before after : Listed Event) → Spends n 0 n old before new after → Spends 0 0 0 old before new after
 spends_level n old new before after is =
-    record { told = omega (arith, is.told); room = omega (arith, is.room); rows = is.rows; shadows = is.shadows; objects = is.objects }
+    record { told = omega (arith, is.told); room = omega (arith, is.room); rows = is.rows; shadows = is.shadows; objects = is.objects; copies = is.copies }

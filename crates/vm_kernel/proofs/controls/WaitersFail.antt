@@ -250,6 +250,7 @@ stands_failed header h outside doing past key k ids who w waits core has slow or
           homes = homes_caused header outside h k.chains e past (doing, cause.0) core.spaces.homes;
         };
         objects = core.objects;
+        copied = core.copied;
         controls = core.controls;
         flags = core.flags;
         pages = core.pages;
@@ -284,7 +285,7 @@ pub record FailedOne (header : Header) (h : ℕ) (outside : Outside) (doing : Co
   pub runs : IsAmid header h (who.Fails key) k ids [] (events ++ past)
   pub copies : HasSlow header k (events ++ past)
   pub referred : AllReferred k.chains k.memory.objects k.memory.resident
-  pub thin : IsThin k.chains k.memory.objects
+  pub thin : IsThin k.copies k.chains k.memory.objects
   pub fails : FailsNow header h (who.Fails key) (events ++ past)
   pub answered : IsAnswered (who.Fails key) k.memory.resident
   pub before : EndsBefore key k.waits.rows (events ++ past)
@@ -490,7 +491,7 @@ pub failed_ended : (header : Header) (h : ℕ) (outside : Outside) (doing : Comm
     (ids : Ids)
     → FailedOne header h outside doing past old events key k ids → IsWhole header h (who.Fails key) k2 ids [] (after ++ past)
     → LegalEvents header h outside doing past events after → k2.waits ≡ k.waits → OnlyLoses k.memory.resident k2.memory.resident → EndsOnly events after
-    → IsThin k2.chains k2.memory.objects → Failing header h outside doing past old after key k2 ids
+    → IsThin k2.copies k2.chains k2.memory.objects → Failing header h outside doing past old after key k2 ids
 failed_ended header h outside doing past old events after key k k2 ids one whole goes same pages only thin =
     record {
       works =

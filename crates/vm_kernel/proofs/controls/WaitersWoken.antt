@@ -7,6 +7,8 @@ use Rattle.vm_kernel.proofs.Common.{Mapped, None, ObjectRow, ObjectTable, On, Op
 use Rattle.vm_kernel.proofs.Common.{Target, Waiting, Want, [], ap, arith, entry, eqb_tells, false, if◌then◌else◌, inl, inr, is_woken, map, named, object_at}
 use Rattle.vm_kernel.proofs.Common.{one_case, page_key, ready_in, refl, row_at, shadow_at, some_is, subst, suc, sym, true, zero, ℕ, ◌<◌, ◌==◌, ◌∙◌, ◌≡◌}
 use Rattle.std.specs.Option.{option_map}
+use Rattle.vm_base.specs.declared.ids.ObjectId.{ObjectId}
+use Rattle.vm_copies.specs.Copies.{newest_at}
 use Rattle.vm_fault.specs.Walks.{IsAt, IsUnder}
 use Rattle.vm_kernel.proofs.memory.PagesShown.{KeepsOthers, itself}
 use Rattle.vm_kernel.proofs.space.ObjectsEnd.{last_step}
@@ -15,11 +17,15 @@ use Rattle.vm_kernel.specs.Destroying.{is_on, is_place_on, place_led, woken_on}
 use Rattle.vm_kernel.specs.Matches.{ControlFacts, Core, MemoryFacts, SpaceFacts}
 use Rattle.vm_legal.specs.Outside.{is_wild}
 use Rattle.vm_maps.specs.Judge.{place_at}
+use Rattle.vm_state.proofs.Files.{under_tame}
+use Rattle.vm_state.proofs.CopyFits.{newest_row}
+use Rattle.vm_state.proofs.CopyObjects.{owed_some}
 use Rattle.vm_state.proofs.Declared.{over_declared, shadow_undeclared, whole_row}
 use Rattle.vm_state.proofs.Filling.{SameFills, regions_filled}
 use Rattle.vm_state.proofs.Passing.{same_of}
+use Rattle.vm_state.proofs.Pushing.{asked_same, push_stays}
 use Rattle.vm_state.specs.Filling.{FitsCopy, fills_in}
-use Rattle.vm_state.specs.Passed.{Passed}
+use Rattle.vm_state.specs.Passed.{Passed, Unmet}
 use Rattle.vm_state.specs.Waiters.{IsPlaceOf, waiting_in}
 use Rattle.vm_supply.specs.declared.woken.Woken.TheVariants as woken
 use Rattle.vm_waits.specs.Waits.{is_again, with_on}
@@ -27,7 +33,6 @@ use Rattle.vm_waits.specs.Wants.{IsSizedWant}
 use Rattle.vm_waits.specs.declared.waiting.Destination.{Destination}
 use Rattle.vm_waits.specs.declared.waiting.On.TheVariants as on
 use Rattle.vm_waits.specs.declared.waiting.Want.TheVariants as want
-use Rattle.vm_kernel.proofs.controls.NothingCopied.{nobody_pushes}
 
 woken_task : (maps : Mapped) (o : ℕ) (w : Waiting) → (woken_on maps o w).task ≡ w.task
 woken_task maps o w = by (is_on maps o w)
@@ -98,9 +103,9 @@ module _ {header : Header} {h : ℕ} {k : Parts} {ids : Ids} {s : SpaceFacts} {c
 
   no_under : (x : ℕ) (row : ShadowRow) → shadow_at k.chains x ≡ Some row → row.under.0 ≡ o → ⊥
   no_under x row found same =
-      let least = core.objects.kinds.unders x row found in
-      let low = declared in
-      omega (arith, least, low, same)
+      let tame = under_tame header row.under.0 (core.objects.kinds.unders x row found) in
+      let bad : true ≡ false = sym wild ∙ (ap (λ z. is_wild header z) (sym same) ∙ tame) in
+      cc
 
   -- where an access on the object leads
   on_entry : (task : ℕ) (what : Want) (top : PageKey) (at : IsAt k.maps k.chains task what top) → is_place_on o (place_led k.maps task what) ≡ true
@@ -167,8 +172,16 @@ module _ {header : Header} {h : ℕ} {k : Parts} {ids : Ids} {s : SpaceFacts} {c
           let link : IsUnder k.chains last.0 key = last.2 in
           absurd (no_under last.0.object.0 link.row link.found (sym (ap (λ (z : PageKey). z.object.0) link.is) ∙ same))
 
+  -- a file's newest copy is another object
+  pushes_elsewhere : (source : ℕ) (copy : ObjectId) → newest_at k.copies source ≡ Some copy → o ≡ copy.0 → ⊥
+  pushes_elsewhere source copy newest same =
+      let its = newest_row core.copied.fits.living source copy newest in
+      let plain : s.objects.copy copy.0 ≡ false = subst (λ (z : ℕ). s.objects.copy z ≡ false) same (core.objects.undelayed o declared).copy in
+      let bad : false ≡ true = sym plain ∙ core.copied.known.copy copy.0 its.0 its.1 in
+      cc
+
   -- who waits, once the object has no page any more, and no control
-  module _ {stays unmet : PageKey → Type 0} {rs2 : ResidentTable} {os2 : ObjectTable} {waiting_at : ℕ → Option Access} {next_at : ℕ → ℕ}
+  module _ {stays : PageKey → Type 0} {unmet : PageKey → Unmet} {rs2 : ResidentTable} {os2 : ObjectTable} {waiting_at : ℕ → Option Access} {next_at : ℕ → ℕ}
       {target_at : ℕ → Option Target} {now : ObjectRow}
       (has : HasWaiters k.maps k.chains k.copies k.memory.resident k.memory.objects k.waits.rows (is_woken woken.Nobody) waiting_at stays unmet)
       (copies : HasCopies header k.maps k.chains k.memory.resident k.waits.rows next_at target_at)
@@ -204,7 +217,9 @@ module _ {header : Header} {h : ℕ} {k : Parts} {ids : Ids} {s : SpaceFacts} {c
             | inr locked ↦ inr (record { row = locked.row; found = same ∙ locked.found; here = locked.here; locked = locked.locked; sent = locked.sent })
           ],
         )
-    reason_beside t w (on.Push key) found off why = absurd (nobody_pushes core.setting.uncopied why)
+    reason_beside t w (on.Push key) found off why =
+        push_stays why why.at why.owed (asked_same k.memory.resident rs2 key.object.0 key.page.0
+        (emptied.others key.object.0 key.page.0 (pushes_elsewhere why.top.object.0 key.object (owed_some k.copies why.top key why.owed).0)) why.asked)
     reason_beside t w on.Frame found off why = tt
 
     reason_now : (t : ℕ) (v w : Waiting) → entry k.waits.rows t ≡ Some v → Wakened k.maps o v w → Reason k.maps k.chains k.copies rs2 os2 t w.want w.on

@@ -20,6 +20,7 @@ use Rattle.vm_supply.specs.Answers as supply
 use Rattle.vm_kernel.proofs.controls.WordTaken.{Changed, TakesNoOrder, changed_none, changed_ready, heard, stays_heard, stays_zeroed, works_of, zeros}
 use Rattle.vm_kernel.proofs.controls.PageAnswered.{changed_failed, changed_lacked, changed_supplied, changed_zeroed, filled_follows, lacking}
 use Rattle.vm_kernel.specs.Matches.{WorksBut}
+use Rattle.vm_kernel.specs.Taking.{IsOfPushed}
 use Rattle.vm_legal.specs.Cached.{is_cached}
 use Rattle.vm_legal.specs.Steps.{is_ready_message}
 
@@ -156,10 +157,11 @@ answer_unlocked h object control size other past is = absurd is
 
 hears_it : (header : Header) (h : ℕ) (outside : Outside) (doing : Command) (k : Parts) (ids : Ids) (after past : List Event) (object : ObjectId) (control : ℕ)
     (m : Message) (who : Woken) (new : HostParts)
-    → Hearing header h k ids new past → IsAnswer k.size m
+    → Hearing header h k ids new past → IsAnswer k.size m → IsOfPushed h object.0 m past
     → AnswerEffects k.host object (outcome_of (object_at k.memory.objects object.0) control (row_at k.memory.resident object.0) m) who k.memory new [] after
     → Heard header h outside doing k ids who new (λ o. is_cached h o past) after (hears h object control m ∷ past)
-hears_it header h outside doing k ids after past object control m who new was temp answered = by_known (object_at k.memory.objects object.0) refl answered
+hears_it header h outside doing k ids after past object control m who new was temp pushed answered =
+    by_known (object_at k.memory.objects object.0) refl answered
   where
     rests : Rests header h k ids past
     rests = was.rests
@@ -242,35 +244,36 @@ hears_it header h outside doing k ids after past object control m who new was te
     by_kind known page kinds.Wild is found lives_now done =
         zeroed_now known page kinds.Wild is (λ bad. (let clash : kinds.Wild ≡ kinds.Temp = bad in cc)) found lives_now done
 
-    by_message : (known : ObjectRow) (said : Message) → IsAnswer k.size said → object_at k.memory.objects object.0 ≡ Some known → known.live ≡ true
+    by_message : (known : ObjectRow) (said : Message) → IsAnswer k.size said → IsOfPushed h object.0 said past
+        → object_at k.memory.objects object.0 ≡ Some known → known.live ≡ true
         → lives h object control past ≡ true → live_control h object.0 past ≡ Some known.control
         → Answers (live_outcome known (row_at k.memory.resident object.0) said) → Hear said
-    by_message known (message.Ready cache strategy) said_is found live lives_now number done =
+    by_message known (message.Ready cache strategy) said_is before found live lives_now number done =
         by_state known cache strategy known.state refl found live lives_now number done
-    by_message known (message.Supply page lock precious bytes) said_is found live lives_now number done =
+    by_message known (message.Supply page lock precious bytes) said_is before found live lives_now number done =
         by_asked page (Supplied page lock precious bytes) (message.Supply page lock precious bytes) (asked_row (row_at k.memory.resident object.0 page.0))
         (refl, refl) refl (unsupplied header h object control page lock precious bytes past)
         (λ row asked supplies. still (message.Supply page lock precious bytes) (refl, refl) supplies.events
-        (changed_supplied header h k ids [] after past object control page lock precious bytes who new rests supplies lives_now said_is.0)
+        (changed_supplied header h k ids [] after past object control page lock precious bytes who new rests supplies lives_now said_is.0 before)
         (no_absence header (hears h object control (message.Supply page lock precious bytes) ∷ past) refl)) done
-    by_message known (message.Unavailable page) said_is found live lives_now number done =
+    by_message known (message.Unavailable page) said_is before found live lives_now number done =
         by_asked page (unavailable_outcome known.kind page) (message.Unavailable page) (asked_row (row_at k.memory.resident object.0 page.0)) (refl, refl) refl
         (unlacked header h object control page past)
         (λ row asked none. by_kind known page known.kind refl found lives_now none) done
-    by_message known (message.Error page reason) said_is found live lives_now number done =
+    by_message known (message.Error page reason) said_is before found live lives_now number done =
         by_asked page (Failed page) (message.Error page reason) (asked_row (row_at k.memory.resident object.0 page.0)) (refl, refl) refl
         (unfailed header h object control page reason past)
         (λ row asked fails. still (message.Error page reason) (refl, refl) fails.events
         (changed_failed header h k ids [] after past object control page reason who new
         rests fails lives_now)
         (no_absence header (hears h object control (message.Error page reason) ∷ past) refl)) done
-    by_message known other said_is found live lives_now number done = absurd said_is
+    by_message known other said_is before found live lives_now number done = absurd said_is
 
     by_test : (known : ObjectRow) (b : Bool) → (known.live && known.control == control) ≡ b → object_at k.memory.objects object.0 ≡ Some known
         → Answers (if b then live_outcome known (row_at k.memory.resident object.0) m else Discarded) → Hear m
     by_test known true is found done =
         let live = (and_parts known.live (known.control == control) is).0 in
-        by_message known m temp found live (lives_is rests object control known found ∙ is) (rests.matches.core.controls.live object.0
+        by_message known m temp pushed found live (lives_is rests object control known found ∙ is) (rests.matches.core.controls.live object.0
         ∙ (ap live_in found ∙ ap (λ b. if b then Some known.control else None) live)) done
     by_test known false is found done =
         discards m (answer_unlocked h object control k.size m past temp)
@@ -284,12 +287,13 @@ hears_it header h outside doing k ids after past object control m who new was te
 
 pub hears_done : (header : Header) (h : ℕ) (outside : Outside) (doing : Command) (k : Parts) (ids : Ids) (before after past front : List Event)
     (object : ObjectId) (control : ℕ) (m : Message) (who : Woken) (new : HostParts)
-    → Rests header h k ids past → front ≡ hears h object control m ∷ [] → IsAnswer k.size m → before ≡ [] → Fit new → new.buffers ≡ k.memory.buffers
+    → Rests header h k ids past → front ≡ hears h object control m ∷ [] → IsAnswer k.size m → IsOfPushed h object.0 m past → before ≡ [] → Fit new
+    → new.buffers ≡ k.memory.buffers
     → AnswerEffects k.host object (outcome_of (object_at k.memory.objects object.0) control (row_at k.memory.resident object.0) m) who k.memory new before after
     → Heard header h outside doing k ids who new (λ o. is_cached h o past) after (front ++ past)
-hears_done header h outside doing k ids before after past front object control m who new rests is temp none fit same answered =
+hears_done header h outside doing k ids before after past front object control m who new rests is temp pushed none fit same answered =
     subst (λ (z : List Event). Heard header h outside doing k ids who new (λ o. is_cached h o past) after (z ++ past)) (sym is)
-    (hears_it header h outside doing k ids after past object control m who new (record { rests = rests; fit = fit; buffers = same }) temp
+    (hears_it header h outside doing k ids after past object control m who new (record { rests = rests; fit = fit; buffers = same }) temp pushed
     (subst (λ (z : List Event). AnswerEffects k.host object (outcome_of (object_at k.memory.objects object.0) control (row_at k.memory.resident object.0) m) who
     k.memory new z after) none answered))
 

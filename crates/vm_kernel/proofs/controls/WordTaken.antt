@@ -1,7 +1,7 @@
 -- A message of a pager is taken: what the kernel stands for behind it, where it changes nothing, and where the pager is ready now.
 use Rattle.vm_state.proofs.KnownPages.{sizes_put}
-use Rattle.vm_model.specs.Regions.{is_copy, object_pages as pages_made}
-use Rattle.vm_state.proofs.PlainObjects.{AreNoCopies, plain_put}
+use Rattle.vm_model.specs.Regions.{is_copy, newest_copy, object_pages as pages_made}
+use Rattle.vm_state.proofs.CopyObjects.{copies_silent}
 use Rattle.vm_kernel.proofs.Common.{Access, AllReferred, ArePlain, Backing, Bool, ChainTable, EndsNobody, Event, FailsNow, Fit, FrameTable, HasAsker}
 use Rattle.vm_kernel.proofs.Common.{HasControls, HasFrames, HasKinds, HasLaundry, HasOrder, HasPages, HasRegions, HasTasks, HasUse, HasWaiters, Header}
 use Rattle.vm_kernel.proofs.Common.{HostParts, Ids, IsAnswered, IsOfKind, IsPagerTold, IsReferred, IsSettled, KnowsHomes, List, Local, Mapped, Message, None}
@@ -25,7 +25,9 @@ use Rattle.vm_state.proofs.Referred.{referred_controlled}
 use Rattle.vm_kernel.proofs.space.StillThin.{references_put, thin_objects}
 use Rattle.vm_merge.specs.Merges.{IsThin}
 use Rattle.vm_kernel.proofs.controls.LockReplied.{replied_behind, replied_none}
-use Rattle.vm_kernel.specs.Matches.{IsCalm, IsReplied, WorksBut}
+use Rattle.vm_kernel.specs.Matches.{Copied, IsCalm, IsReplied, WorksBut, object_facts}
+use Rattle.vm_kernel.proofs.memory.CopiesKept.{copied_put}
+use Rattle.vm_legal.specs.Pushes.{is_pushed}
 use Rattle.vm_kernel.proofs.controls.FlagsKept.{flags_put}
 use Rattle.vm_legal.specs.Cached.{is_cached}
 use Rattle.vm_state.specs.Pagers.{cached_in, is_ready_state}
@@ -40,7 +42,7 @@ use Rattle.vm_state.specs.Places.{known_local}
 use Rattle.vm_legal.specs.Living.{tasks as made_tasks}
 use Rattle.vm_state.proofs.Filling.{KeepsAway, used_away, used_told}
 use Rattle.vm_state.specs.References.{MayLock, is_live_in, is_temporary_in}
-use Rattle.vm_state.specs.Passed.{IsUnmet, StaysAway}
+use Rattle.vm_state.specs.Passed.{IsUnmet, StaysAway, Unmet}
 use Rattle.vm_base.specs.declared.ids.PageKey.{PageKey}
 use Rattle.vm_kernel.proofs.memory.PlacesPassed.{waits_retold}
 use Rattle.vm_state.proofs.Bypassing.{waits_taken}
@@ -51,7 +53,8 @@ use Rattle.vm_state.specs.Waiters.{IsAsked}
 
 -- who waits, where rows of pages and objects are others
 
-pub waits_heard : {copies : CopyTable} {stays unmet : PageKey → Type 0} (maps : Mapped) (cs : ChainTable) (rs rs2 : ResidentTable) (os os2 : ObjectTable)
+pub waits_heard : {copies : CopyTable} {stays : PageKey → Type 0} {unmet : PageKey → Unmet} (maps : Mapped) (cs : ChainTable) (rs rs2 : ResidentTable)
+    (os os2 : ObjectTable)
     (rows : List Waiting)
     (who : Woken) (waiting_at : ℕ → Option Access)
     → HasWaiters maps cs copies rs os rows (is_woken woken.Nobody) waiting_at stays unmet
@@ -98,7 +101,7 @@ pub record Changed (header : Header) (h : ℕ) (k : Parts) (ids : Ids) (who : Wo
   pub kinds : HasKinds header new.objects k.chains
   pub files : KnowsFiles header h new.objects (λ o. home_of o past)
   pub sizes : KnowsPages (named header) new.objects (λ o. pages_made header o past)
-  pub plain_known : AreNoCopies new.objects (λ o. is_copy o past)
+  pub copied : Copied k.copies new k.chains (object_facts header past) (λ c p. is_pushed h c p past)
   pub pages : HasPages new.frames new.resident new.objects (λ o p. known_local header o p (local header h (place_of o p) now))
   pub controls : HasControls (named header) h new.objects (λ o. last_control h o past) (λ o. live_control h o past) (λ o. is_ready h o now)
       (λ o. object_home o past)
@@ -106,7 +109,7 @@ pub record Changed (header : Header) (h : ℕ) (k : Parts) (ids : Ids) (who : Wo
   pub laundry : HasLaundry new.frames new.resident k.laundry (returns_out h past)
   pub frames : HasFrames (slice_get (reverse header.frames.items) h) new.frames (frames_held header h now) (frames_wired h past)
   pub referred : AllReferred k.chains new.objects new.resident
-  pub thin : IsThin k.chains new.objects
+  pub thin : IsThin k.copies k.chains new.objects
   pub waits : HasWaiters k.maps k.chains k.copies new.resident new.objects k.waits.rows (is_woken who) (λ t. waiting t past) (StaysAway header h now)
       (IsUnmet header h now)
   pub fails : FailsNow header h who now
@@ -123,6 +126,8 @@ pub record Stays (header : Header) (h : ℕ) (k : Parts) (past now : List Event)
   pub home : (r : ℕ) → home_of r now ≡ home_of r past
   pub sizes : (o : ℕ) → pages_made header o now ≡ pages_made header o past
   pub copy : (o : ℕ) → is_copy o now ≡ is_copy o past
+  pub newest : (file : ℕ) → newest_copy file now ≡ newest_copy file past
+  pub pushed : (c p : ℕ) → is_pushed h c p now ≡ is_pushed h c p past
   pub target : (task : ℕ) → copy_target task now ≡ copy_target task past
   pub next : (task : ℕ) → next_page task now ≡ next_page task past
   pub tasks : HasTasks h header.size k.maps (λ task. host_of task now) (λ task. entries_of header.size task now)
@@ -160,6 +165,8 @@ stays_heard header h k ids past object control m rests none =
       home = λ r. refl;
       sizes = λ o. refl;
       copy = λ o. refl;
+      newest = λ file. refl;
+      pushed = λ c p. refl;
       target = λ task. refl;
       next = λ task. refl;
       tasks = was.core.spaces.tasks;
@@ -184,6 +191,8 @@ stays_zeroed header h k past now object page stays =
       home = stays.home;
       sizes = stays.sizes;
       copy = stays.copy;
+      newest = stays.newest;
+      pushed = stays.pushed;
       target = stays.target;
       next = stays.next;
       tasks = stays.tasks;
@@ -222,8 +231,13 @@ works_of header h k ids who new past now rests stays fit same c =
           kinds = c.kinds;
           files = λ o file. ap (is_on h) (stays.home o) ∙ c.files o file;
           sizes = record { at = λ o known least is. c.sizes.at o known least is ∙ sym (stays.sizes o); few = c.sizes.few };
-          plain = λ o known is. stays.copy o ∙ c.plain_known o known is;
-          undelayed = λ o less. stays.copy o ∙ was.core.objects.undelayed o less;
+          undelayed = λ o less.
+              let before = was.core.objects.undelayed o less in
+              record { copy = stays.copy o ∙ before.copy; pages = stays.sizes o ∙ before.pages };
+        };
+        copied = record {
+          known = copies_silent c.copied.known stays.copy stays.newest stays.pushed;
+          fits = c.copied.fits;
         };
         controls = stays.controls c.controls;
         flags = c.flags;
@@ -254,6 +268,7 @@ works_flagged but same = record {
       fits = but.core.fits;
       spaces = but.core.spaces;
       objects = but.core.objects;
+      copied = but.core.copied;
       controls = but.core.controls;
       flags = λ o less. same o less ∙ but.core.flags o less;
       pages = but.core.pages;
@@ -366,7 +381,7 @@ changed_none header h k ids past object control m rests nothing =
       kinds = was.core.objects.kinds;
       files = was.core.objects.files;
       sizes = was.core.objects.sizes;
-      plain_known = was.core.objects.plain;
+      copied = was.core.copied;
       pages =
           pages_eq k.memory.frames k.memory.resident k.memory.objects (λ o p. known_local header o p (local header h (place_of o p) past))
           (λ o p. known_local header o p (local header h (place_of o p) (hears h object control m ∷ past)))
@@ -502,9 +517,9 @@ changed_ready header h k ids events after past object control cache strategy who
       sizes =
           sizes_put (named header) object.0 known (record known { state = state.Ready }) k.memory.objects new.objects (λ o. pages_made header o past)
           readies.found refl readies.ready was.core.objects.sizes;
-      plain_known =
-          plain_put object.0 known (record known { state = state.Ready }) k.memory.objects new.objects (λ o. is_copy o past) readies.found readies.ready
-          was.core.objects.plain;
+      copied =
+          copied_put object.0 known (record known { state = state.Ready }) new.objects readies.found readies.ready refl
+          (λ some. record { row = known; known = readies.found; some = some }) was.core.copied;
       pages =
           pages_marked k.memory.frames k.memory.resident k.memory.objects new.objects
           (λ o p. known_local header o p (local header h (place_of o p) (hears h object control (message.Ready cache strategy) ∷ past)))

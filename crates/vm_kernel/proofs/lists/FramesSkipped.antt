@@ -8,6 +8,7 @@ use Rattle.vm_kernel.proofs.room.RunPays.{loose_moves}
 use Rattle.vm_kernel.specs.Rooms.{IsRoomy, IsSkipRoom, LeavesRoom, Spends, frames_for_copies, if_copies, is_kept, loose_frames}
 use Rattle.vm_kernel.specs.Serving.{FreesBut}
 use Rattle.vm_base.specs.Listing.{Listed}
+use Rattle.vm_copies.specs.Copies.{CopyTable}
 use Rattle.std.specs.Prelude.{min}
 use Rattle.vm_pageout.specs.Reclaims.{IsFreed, creation_events}
 use Rattle.vm_pageout.specs.declared.answer.Reclaim.TheVariants as reclaim
@@ -45,6 +46,7 @@ leaves_skip {answer} {k} {k1} {k2} {before} {after} is room leaves =
       rows = r.rows;
       objects = r.objects;
       chains = r.chains;
+      copies = r.copies;
       skip = omega (arith, room, more);
       none = r.none;
       fewer = r.fewer;
@@ -132,10 +134,10 @@ pub leaves_of : (answer : Reclaim) (host : HostId) (skip : List FrameNo) (k k2 :
     → ReclaimEffects answer host skip k.memory k2.memory was now before after
     → room ≤ left + 2 → k.memory.buffers.count ≤ k2.memory.buffers.count + 1 → k.memory.resident.spare ≤ k2.memory.resident.spare
     → (answer ≡ reclaim.Freed → room ≤ left + 1) → (answer ≡ reclaim.Freed → k.memory.buffers.count ≤ k2.memory.buffers.count) → k2.chains ≡ k.chains
-    → k2.skip ≡ k.skip
+    → k2.copies ≡ k.copies → k2.skip ≡ k.skip
     → (answer ≡ reclaim.Nothing → listed_pages k2.memory.queues ≡ listed_pages k.memory.queues)
     × ((answer ≡ reclaim.Nothing → ⊥) → listed_pages k2.memory.queues + 1 ≡ listed_pages k.memory.queues) → LeavesRoom answer k k2 room left
-leaves_of reclaim.Freed host skip k k2 was now before after room left is log buffers rows single whole chains list listed =
+leaves_of reclaim.Freed host skip k k2 was now before after room left is log buffers rows single whole chains copies list listed =
     let all = freed_loose is in
     record {
       log = log;
@@ -144,6 +146,7 @@ leaves_of reclaim.Freed host skip k k2 was now before after room left is log buf
       rows = rows;
       objects = by (ap (λ z. z.rows) is.objects);
       chains = chains;
+      copies = copies;
       skip = by (ap (λ z. vec_capacity z) list);
       none = listed.0;
       fewer = listed.1;
@@ -151,7 +154,7 @@ leaves_of reclaim.Freed host skip k k2 was now before after room left is log buf
   where
     by : {a b : ℕ} → b ≡ a → a ≤ b
     by e = omega (arith, e)
-leaves_of reclaim.Returned host skip k k2 was now before after room left is log buffers rows single whole chains list listed =
+leaves_of reclaim.Returned host skip k k2 was now before after room left is log buffers rows single whole chains copies list listed =
     record {
       log = log;
       buffers = buffers;
@@ -159,6 +162,7 @@ leaves_of reclaim.Returned host skip k k2 was now before after room left is log 
       rows = rows;
       objects = by is.rooms.rows;
       chains = chains;
+      copies = copies;
       skip = by (ap (λ z. vec_capacity z) list);
       none = listed.0;
       fewer = listed.1;
@@ -166,7 +170,7 @@ leaves_of reclaim.Returned host skip k k2 was now before after room left is log 
   where
     by : {a b : ℕ} → b ≡ a → a ≤ b
     by e = omega (arith, e)
-leaves_of reclaim.Nothing host skip k k2 was now before after room left is log buffers rows single whole chains list listed =
+leaves_of reclaim.Nothing host skip k k2 was now before after room left is log buffers rows single whole chains copies list listed =
     record {
       log = log;
       buffers = buffers;
@@ -174,6 +178,7 @@ leaves_of reclaim.Nothing host skip k k2 was now before after room left is log b
       rows = rows;
       objects = by (ap (λ z. z.rows) is.objects);
       chains = chains;
+      copies = copies;
       skip = by (ap (λ z. vec_capacity z) list);
       none = listed.0;
       fewer = listed.1;
@@ -193,6 +198,7 @@ leaves_looked answer k k2 queues before after same r =
       rows = r.rows;
       objects = r.objects;
       chains = r.chains;
+      copies = r.copies;
       skip = r.skip;
       none = λ nothing. r.none nothing ∙ same;
       fewer = λ apart. r.fewer apart ∙ same;
@@ -208,6 +214,7 @@ pub record Reclaimed (done : ℕ) (old new : Parts) (before after : Listed Event
   pub objects : old.memory.objects.rows ≤ new.memory.objects.rows
   pub shadows : new.chains.spare ≡ old.chains.spare
   pub marked : new.chains.marked ≡ old.chains.marked
+  pub copies : new.copies.room ≡ old.copies.room
   pub skip : vec_capacity old.skip ≤ vec_capacity new.skip
   pub each : old.memory.buffers.count ≤ new.memory.buffers.count + done
   pub listed : old.memory.buffers.count + listed_pages new.memory.queues ≤ new.memory.buffers.count + listed_pages old.memory.queues
@@ -223,6 +230,7 @@ none_reclaimed k log =
       objects = omega arith;
       shadows = refl;
       marked = refl;
+      copies = refl;
       skip = omega arith;
       each = omega arith;
       listed = omega arith;
@@ -267,6 +275,7 @@ one_reclaimed answer done first k k2 begun log log2 was leaves some waits frames
       objects = omega (arith, objects, objects0);
       shadows = chains ∙ was.shadows;
       marked = ap (λ (z : ChainTable). z.marked) leaves.chains ∙ was.marked;
+      copies = ap (λ (z : CopyTable). z.room) leaves.copies ∙ was.copies;
       skip = omega (arith, skip, skip0);
       each = omega (arith, each, buffers);
       listed = omega (arith, listed, buffers, fewer);
@@ -305,6 +314,7 @@ all_reclaimed answer done first k k2 begun log log2 was leaves nothing waits fra
       objects = omega (arith, objects, objects0);
       shadows = chains ∙ was.shadows;
       marked = ap (λ (z : ChainTable). z.marked) leaves.chains ∙ was.marked;
+      copies = ap (λ (z : CopyTable). z.room) leaves.copies ∙ was.copies;
       skip = omega (arith, skip, skip0);
       each = omega (arith, each, count);
       listed = omega (arith, listed, count, none);
@@ -322,12 +332,14 @@ reclaimed_spends done k k2 before after was =
     let objects = was.objects in
     let shadows = was.shadows in
     let marked = was.marked in
+    let copies = was.copies in
     record {
       told = omega (arith, accesses, frames, told, marked);
       room = omega (arith, accesses, frames, room, marked);
       rows = omega (arith, accesses, frames, rows, marked);
       shadows = omega (arith, shadows, marked);
       objects = omega (arith, objects, marked);
+      copies = omega (arith, copies);
     }
 
 -- a buffer is left for the frame queue

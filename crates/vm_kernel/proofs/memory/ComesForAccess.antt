@@ -11,6 +11,7 @@ use Rattle.vm_state.proofs.Filling.{IsUnfilled, away_put, fills_over, number_fil
 use Rattle.vm_fault.specs.Faults.{KeepsPlan, References, WritesPage}
 use Rattle.vm_fault.specs.Walks.{IsUnder, Sinks, WalksTo, keeps_out}
 use Rattle.vm_model.specs.declared.event.Event.TheVariants as event
+use Rattle.vm_parts.proofs.Rows.{row_put}
 use Rattle.vm_parts.specs.Changes.{RaisesPage}
 use Rattle.vm_state.proofs.Referred.{referred_row}
 use Rattle.vm_state.proofs.Waiting.{AsksNone, IsUnawaited, asks_none_again, asks_none_frame, here_unawaited, none_unawaited, open_unsent, waiters_over}
@@ -31,10 +32,19 @@ use Rattle.vm_kernel.proofs.controls.DeclaredKinds.{temporary_free}
 use Rattle.vm_kernel.proofs.controls.LockReplied.{replied_behind}
 use Rattle.vm_state.specs.References.{MayLock}
 use Rattle.vm_waits.specs.Wants.{IsOfNumber}
-use Rattle.vm_kernel.proofs.memory.PlacesPassed.{waits_raised, waits_zeroed}
+use Rattle.vm_kernel.proofs.memory.PlacesPassed.{waits_pushed, waits_raised, waits_zeroed}
+use Rattle.vm_copies.specs.Copies.{CopyTable, copy_at}
+use Rattle.vm_fault.specs.Pushes.{Notes, owed_at}
+use Rattle.vm_kernel.proofs.memory.PageChanges.{same_objects}
+use Rattle.vm_kernel.proofs.memory.PagesPushed.{copied_beside, copied_came, copied_changed, known_within, place_under, shadow_unfilled, stands_there}
+use Rattle.vm_kernel.proofs.memory.PagesPushed.{thin_noted}
+use Rattle.vm_state.proofs.CopyObjects.{owed_some, pushed_raised}
+use Rattle.vm_state.proofs.PlainObjects.{newest_is_copy}
+use Rattle.vm_state.proofs.Owing.{waits_noted}
 use Rattle.vm_model.specs.Local.{Elsewhere, is_on}
 use Rattle.vm_state.proofs.Bypassing.{waits_quiet}
 use Rattle.vm_state.proofs.Passing.{quiet_if}
+use Rattle.vm_state.specs.Passed.{Unmet}
 
 -- who is run waits for no page of which a word is outstanding
 pub asks_none_now : (k : Parts) (reason : On) → runs_now reason ≡ true → AsksNone k.memory.resident reason
@@ -54,7 +64,8 @@ page_referred key frame was now held bytes lists k memory c plan is may all =
     (referred_row key.object.0 key.page.0 now k.chains k.memory.objects k.memory.resident memory.resident c.row (λ row found. (is, may row found)) all)
 
 -- who waits does so still, once a page has changed of which no word was outstanding, and none is
-pub page_waits : {stays unmet : PageKey → Type 0} (key : PageKey) (frame : FrameNo) (was now : Option PageRow) (held : Bool) (bytes : List ℕ) (lists : Queues)
+pub page_waits : {stays : PageKey → Type 0} {unmet : PageKey → Unmet} (key : PageKey) (frame : FrameNo) (was now : Option PageRow) (held : Bool)
+    (bytes : List ℕ) (lists : Queues)
     (k : Parts) (memory : HostParts) (who : On → Bool) (at : ℕ → Option Access) → Changes key frame was now held bytes lists k.memory memory
     → KeepsPlan k.memory memory → IsUnawaited was → IsUnawaited now
     → HasWaiters k.maps k.chains k.copies k.memory.resident k.memory.objects k.waits.rows who at stays unmet
@@ -73,9 +84,9 @@ same_lock os o was now row same is may =
 -- a page of zeros comes
 
 pub matches_zeroed : (header : Header) (h : ℕ) (k : Parts) (ids : Ids) (past : List Event) (key : PageKey) (frame : FrameNo) (memory : HostParts)
-    → Matches header h k ids [] past → Brings key frame k.memory memory → KeepsPlan k.memory memory
+    → Matches header h k ids [] past → Brings key frame k.memory memory → KeepsPlan k.memory memory → copy_at k.copies key.object.0 ≡ None
     → Matches header h (record k { memory = memory }) ids [] (event.Zeroed (host_id h) key.object key.page ∷ past)
-matches_zeroed header h k ids past key frame memory m c plan =
+matches_zeroed header h k ids past key frame memory m c plan none =
     let sized : k.memory.buffers.size ≡ header.size = m.core.fits.buffers ∙ m.core.setting.sized in
     let zeros = bytes_now key frame _ _ _ _ _ k.memory memory c ∙ ap (λ z. replicate z 0) sized in
     let pages2 = known_on header header.size key Zeroes (λ o p. local header h (place_of o p) past) tt
@@ -84,7 +95,8 @@ matches_zeroed header h k ids past key frame memory m c plan =
     (ap (λ z. shown_as (clean_row frame unlocked false) true true z (absent_at k.memory.objects key.object.0 key.page.0)) (sym zeros)) (λ o p apart. refl)) in
     record {
       core = core_rerowed key frame m.core c plan (λ away. record { lock = refl; precious = refl; unlock_sent = refl }) (rw (own_host h) pages2)
-          (rw (own_host h) (λ held. let more = c.claims in omega arith));
+          (rw (own_host h) (λ held. let more = c.claims in omega arith))
+          (copied_beside key _ (same_objects plan.objects) c.row none m.core.copied);
       settled = record { none_owed = refl; shut = λ region. refl };
       replied = replied_behind tt m.replied;
     }
@@ -92,11 +104,11 @@ matches_zeroed header h k ids past key frame memory m c plan =
 pub works_zeroed : (header : Header) (h : ℕ) (past : List Event) (k : Parts) (ids : Ids) (key : PageKey) (frame : FrameNo) (memory : HostParts)
     → Works header h k ids woken.Nobody past → Sinks k.memory k.chains key → named header ≤ key.object.0 → IsUnfilled k.chains key.object.0
     → IsReferred k.memory.objects key.object.0
-    → Brings key frame k.memory memory → KeepsPlan k.memory memory
+    → Brings key frame k.memory memory → KeepsPlan k.memory memory → copy_at k.copies key.object.0 ≡ None
     → Works header h (record k { memory = memory }) ids woken.Nobody (event.Zeroed (host_id h) key.object key.page ∷ past)
-works_zeroed header h past k ids key frame memory works sinks temporary apart is c plan =
+works_zeroed header h past k ids key frame memory works sinks temporary apart is c plan none =
     record {
-      matches = matches_zeroed header h k ids past key frame memory works.matches c plan;
+      matches = matches_zeroed header h k ids past key frame memory works.matches c plan none;
       used = used_page key.object.0 key.page.0 _ k.memory.resident memory.resident works.used apart c.row;
       referred =
           page_referred key frame _ _ _ _ _ k memory c plan is
@@ -112,11 +124,11 @@ works_zeroed header h past k ids key frame memory works sinks temporary apart is
 -- a copy of a page that is here comes to the place above it
 
 pub matches_raised : (header : Header) (h : ℕ) (k : Parts) (ids : Ids) (past : List Event) (low top : PageKey) (row : PageRow) (frame : FrameNo)
-    (memory : HostParts) → Matches header h k ids [] past
+    (memory : HostParts) (copies : CopyTable) → Matches header h k ids [] past
     → row_at k.memory.resident low.object.0 low.page.0 ≡ Some row → row.here ≡ true → RaisesPage top frame (page_in k.memory.frames row.frame.0) k.memory memory
-    → KeepsPlan k.memory memory
-    → Matches header h (record k { memory = memory }) ids [] (event.Raised (host_id h) low.object low.page top.object top.page ∷ past)
-matches_raised header h k ids past low top row frame memory m found here c plan =
+    → KeepsPlan k.memory memory → Notes top k.copies copies
+    → Matches header h (record k { memory = memory; copies = copies }) ids [] (event.Raised (host_id h) low.object low.page top.object top.page ∷ past)
+matches_raised header h k ids past low top row frame memory copies m found here c plan notes =
     let lower : Local = local header h (place_of low.object.0 low.page.0) past in
     let lacked = absent_at k.memory.objects low.object.0 low.page.0 in
     let now : PageRow = record (clean_row frame unlocked false) { dirty = true } in
@@ -129,31 +141,68 @@ matches_raised header h k ids past low top row frame memory m found here c plan 
     (ap (λ z. shown_as now true true z (absent_at k.memory.objects top.object.0 top.page.0)) same) (λ o p apart. refl)) in
     record {
       core = core_rerowed top frame m.core c plan (λ away. record { lock = refl; precious = refl; unlock_sent = refl }) (rw (own_host h) pages2)
-          (rw (own_host h) (λ held. let more = c.claims in omega arith));
+          (rw (own_host h) (λ held. let more = c.claims in omega arith))
+          (copied_came top _ (same_objects plan.objects) c.row
+          (known_within memory.objects top.object.0 top.page.0 (plan.fit.inside top.object.0 top.page.0 now
+          (row_put k.memory.resident memory.resident top.object.0 top.page.0 (Some now) c.row)))
+          notes (pushed_raised (host_id h) low.object low.page top.object top.page past) m.core.copied);
       settled = record { none_owed = refl; shut = λ region. refl };
       replied = replied_behind tt m.replied;
     }
 
 pub works_raised : (header : Header) (h : ℕ) (past : List Event) (k : Parts) (ids : Ids) (steps : ℕ) (low top : PageKey) (row : PageRow) (frame : FrameNo)
-    (memory : HostParts) → Works header h k ids woken.Nobody past → WalksTo k.memory k.chains (suc steps) top low → IsUnfilled k.chains top.object.0
-    → IsReferred k.memory.objects top.object.0
+    (memory : HostParts) (copies : CopyTable) → Works header h k ids woken.Nobody past → WalksTo k.memory k.chains (suc steps) top low
+    → IsUnfilled k.chains top.object.0 → IsReferred k.memory.objects top.object.0
     → row_at k.memory.resident low.object.0 low.page.0 ≡ Some row → row.here ≡ true → RaisesPage top frame (page_in k.memory.frames row.frame.0) k.memory memory
-    → KeepsPlan k.memory memory
-    → Works header h (record k { memory = memory }) ids woken.Nobody (event.Raised (host_id h) low.object low.page top.object top.page ∷ past)
-works_raised header h past k ids steps low top row frame memory works walks apart is found here c plan =
+    → KeepsPlan k.memory memory → Notes top k.copies copies
+    → Works header h (record k { memory = memory; copies = copies }) ids woken.Nobody
+    (event.Raised (host_id h) low.object low.page top.object top.page ∷ past)
+works_raised header h past k ids steps low top row frame memory copies works walks apart is found here c plan notes =
     let above : IsUnder k.chains top walks.1.0 = walks.1.1 in
     let temporary = shadow_temporary works.matches.core.objects.regions works.matches.core.spaces.homes.1 top.object.0 above.row above.found in
     record {
-      matches = matches_raised header h k ids past low top row frame memory works.matches found here c plan;
+      matches = matches_raised header h k ids past low top row frame memory copies works.matches found here c plan notes;
       used = used_page top.object.0 top.page.0 _ k.memory.resident memory.resident works.used apart c.row;
       referred =
           page_referred top frame _ _ _ _ _ k memory c plan is
           (λ row same. temporary_free top.object.0 _ row works.matches.core.objects.kinds temporary is refl same) works.referred;
-      thin = rw plan.objects works.thin;
+      thin = rw plan.objects (thin_noted top notes works.thin);
       waits =
-          page_waits top frame _ _ _ _ _ k memory (is_woken woken.Nobody) (λ u. waiting u past) c plan (none_unawaited None refl)
+          page_waits top frame _ _ _ _ _ (record k { copies = copies }) memory (is_woken woken.Nobody) (λ u. waiting u past) c plan (none_unawaited None refl)
           (here_unawaited _ _ refl refl refl)
-          (waits_raised header h k ids past steps top low row works.matches walks found here works.waits);
+          (waits_noted k.maps k.chains k.memory.resident k.memory.objects k.waits.rows (is_woken woken.Nobody) (λ u. waiting u past) top
+          (waits_raised header h k ids past steps top low row works.matches walks found here works.waits) notes
+          (inl (none_unawaited (row_at k.memory.resident top.object.0 top.page.0) c.found)));
+      order = works.order;
+    }
+
+-- a page that a store is about to change comes to the place to which it owes it
+pub works_pushed : (header : Header) (h : ℕ) (past : List Event) (k : Parts) (ids : Ids) (top place : PageKey) (row : PageRow) (frame : FrameNo)
+    (memory : HostParts) (copies : CopyTable) → Works header h k ids woken.Nobody past → owed_at k.copies top ≡ Some place
+    → row_at k.memory.resident top.object.0 top.page.0 ≡ Some row → row.here ≡ true → keeps_out row.lock true ≡ false
+    → RaisesPage place frame (page_in k.memory.frames row.frame.0) k.memory memory → KeepsPlan k.memory memory → Notes place k.copies copies
+    → Works header h (record k { memory = memory; copies = copies }) ids woken.Nobody
+    (event.Raised (host_id h) top.object top.page place.object place.page ∷ past)
+works_pushed header h past k ids top place row frame memory copies works owed found here out c plan notes =
+    let m = works.matches in
+    let on = stands_there top place m.core.copied.fits owed in
+    let temporary = shadow_temporary m.core.objects.regions m.core.spaces.homes.1 place.object.0 on.row on.found in
+    let is = works.referred.shadows place.object.0 on.row on.found in
+    let copy = newest_is_copy top.object.0 place.object.0 past (m.core.copied.known.last top.object.0 place.object (owed_some k.copies top place owed).0) in
+    record {
+      matches = matches_raised header h k ids past top place row frame memory copies m found here c plan notes;
+      used = used_page place.object.0 place.page.0 _ k.memory.resident memory.resident works.used
+          (shadow_unfilled k past place.object.0 on.row works.used m.core.objects.regions m.core.spaces.homes.1 on.found) c.row;
+      referred =
+          page_referred place frame _ _ _ _ _ k memory c plan is
+          (λ row same. temporary_free place.object.0 _ row m.core.objects.kinds temporary is refl same) works.referred;
+      thin = rw plan.objects (thin_noted place notes works.thin);
+      waits =
+          page_waits place frame _ _ _ _ _ (record k { copies = copies }) memory (is_woken woken.Nobody) (λ u. waiting u past) c plan
+          (none_unawaited None refl) (here_unawaited _ _ refl refl refl)
+          (waits_noted k.maps k.chains k.memory.resident k.memory.objects k.waits.rows (is_woken woken.Nobody) (λ u. waiting u past) place
+          (waits_pushed header h k ids past top place row m (place_under top place m.core.copied.fits owed) copy found here out works.waits) notes
+          (inl (none_unawaited (row_at k.memory.resident place.object.0 place.page.0) c.found)));
       order = works.order;
     }
 
@@ -261,7 +310,8 @@ works_stored header h past k ids w key frame at size value row memory waits2 num
     (Stores at bytes) Elsewhere tt tt) works.waits) in
     record {
       matches = record {
-        core = core_holds (core_rerowed key was.frame m.core c plan (plain_here row2 its) pages3 (λ held. let same = c.claims in omega arith))
+        core = core_holds (core_rerowed key was.frame m.core c plan (plain_here row2 its) pages3 (λ held. let same = c.claims in omega arith)
+            (copied_changed key was.frame _ _ _ _ _ (same_objects plan.objects) c (λ now_here. its) m.core.copied))
             (uses_refilled k.waits.rows waits2.rows (fills_over w.task.0 w k.waits.rows waits2.rows is none_filled put.entry)
             (uses_still header k.maps _ _ _ _ _ m.core.spaces.uses (λ t r none. holds_waits header.size w.task.0 t r k.maps (rows_in w.task.0 k.maps) past None
             there

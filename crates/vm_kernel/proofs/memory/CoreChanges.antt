@@ -3,11 +3,12 @@ use Rattle.vm_kernel.proofs.Common.{Bool, ChainTable, Changes, Entry, Event, Fra
 use Rattle.vm_kernel.proofs.Common.{ObjectTable, Option, PageKey, PageRow, Parts, Queues, Rests, SameMarks, WaitTable, Waiting, claimed, reverse, slice_get, ℕ}
 use Rattle.vm_kernel.proofs.Common.{◌≡◌}
 use Rattle.vm_state.proofs.Filling.{SameFills, uses_refilled}
+use Rattle.vm_copies.specs.Copies.{CopyTable}
 use Rattle.vm_fault.specs.Faults.{KeepsPlan}
 use Rattle.vm_frames.specs.Frames.{FrameTable}
 use Rattle.vm_kernel.proofs.memory.PagesShown.{frames_changed, laundry_changed, pages_marked}
 use Rattle.vm_kernel.proofs.memory.PartsStillFit.{IsPlainAway, fits_changed}
-use Rattle.vm_kernel.specs.Matches.{ControlFacts, Core, MemoryFacts, Pages, SpaceFacts, Spaces}
+use Rattle.vm_kernel.specs.Matches.{ControlFacts, Copied, Core, MemoryFacts, Pages, SpaceFacts, Spaces}
 use Rattle.vm_pageout.specs.Laundry.{LaundryList}
 use Rattle.vm_resident.specs.Resident.{ResidentTable}
 
@@ -36,6 +37,7 @@ core_within other core =
       fits = core.fits;
       spaces = core.spaces;
       objects = core.objects;
+      copied = core.copied;
       controls = core.controls;
       flags = core.flags;
       pages = core.pages;
@@ -56,18 +58,21 @@ rests_within other rests =
 
 -- the row of a page changes, and no object does
 pub core_rerowed : {header : Header} {h : ℕ} {k : Parts} {ids : Ids} {gone : List Entry} {s : SpaceFacts} {c : ControlFacts} {m : MemoryFacts}
-    {seen : ℕ → ℕ → Local} {held_now : ℕ} {was now : Option PageRow} {held : Bool} {bytes : List ℕ} {lists : Queues} {memory : HostParts} (key : PageKey)
-    (frame : FrameNo) → Core header h k ids gone s c m → Changes key frame was now held bytes lists k.memory memory → KeepsPlan k.memory memory
+    {seen : ℕ → ℕ → Local} {pushed_now : ℕ → ℕ → Bool} {held_now : ℕ} {was now : Option PageRow} {held : Bool} {bytes : List ℕ} {lists : Queues}
+    {memory : HostParts} {copies : CopyTable} (key : PageKey) (frame : FrameNo) → Core header h k ids gone s c m
+    → Changes key frame was now held bytes lists k.memory memory → KeepsPlan k.memory memory
     → IfSome now IsPlainAway → HasPages memory.frames memory.resident k.memory.objects seen
     → (m.held ≡ claimed k.memory.frames → held_now ≡ claimed memory.frames)
-    → Core header h (record k { memory = memory }) ids gone s c (record m { seen = seen; held = held_now })
-core_rerowed {header = header} {h = h} {k = k} {m = m} {held_now = held_now} {memory = memory} key frame core changes plan plain pages claims =
+    → Copied copies memory k.chains s.objects pushed_now
+    → Core header h (record k { memory = memory; copies = copies }) ids gone s c (record m { seen = seen; pushed = pushed_now; held = held_now })
+core_rerowed {header = header} {h = h} {k = k} {m = m} {held_now = held_now} {memory = memory} key frame core changes plan plain pages claims copied =
     record {
       setting = core.setting;
       calm = core.calm;
       fits = fits_changed key frame _ _ _ _ _ k memory core.fits plan.fit plan.buffers changes plain;
       spaces = core.spaces;
       objects = rw plan.objects core.objects;
+      copied = copied;
       controls = rw plan.objects core.controls;
       flags = rw plan.objects core.flags;
       pages = record {
@@ -109,6 +114,7 @@ core_holds core uses =
         homes = core.spaces.homes;
       };
       objects = core.objects;
+      copied = core.copied;
       controls = core.controls;
       flags = core.flags;
       pages = core.pages;

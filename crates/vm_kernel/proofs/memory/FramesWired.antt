@@ -12,6 +12,7 @@ use Rattle.vm_state.specs.Places.{known_local}
 use Rattle.vm_kernel.proofs.steps.EventsGrow.{free_is, suffices}
 use Rattle.vm_kernel.proofs.steps.HeadAlone.{heads_one, ran_head}
 use Rattle.vm_legal.proofs.Heads.{passed}
+use Rattle.vm_kernel.proofs.memory.CopiesKept.{copied_same}
 use Rattle.vm_kernel.proofs.abroad.OwnHost.{named_host, own_host}
 use Rattle.vm_kernel.proofs.abroad.OwnEvents.{own_named}
 use Rattle.vm_kernel.proofs.controls.LockReplied.{replied_behind}
@@ -84,6 +85,7 @@ ran_wired header h outside doing past k ids wired rests few first done =
               fits = record { parts = fit_wired k.memory wired m.core.fits.parts; plain = m.core.fits.plain; buffers = m.core.fits.buffers };
               spaces = m.core.spaces;
               objects = m.core.objects;
+              copied = copied_same (record { at = λ o. refl }) refl m.core.copied;
               controls = m.core.controls;
               flags = m.core.flags;
               pages = record {

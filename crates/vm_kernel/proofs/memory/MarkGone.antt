@@ -13,6 +13,7 @@ use Rattle.vm_fault.specs.Faults.{FaultState, LosesMark}
 use Rattle.vm_fault.specs.Walks.{ChainsFit}
 use Rattle.vm_model.specs.declared.event.Event.TheVariants as event
 use Rattle.vm_shadow.specs.Chains.{PutsRegion}
+use Rattle.vm_state.proofs.CopyFits.{fits_region}
 use Rattle.vm_state.proofs.Filling.{copies_kept, rows_unmade}
 use Rattle.vm_state.proofs.Marks.{marked_unmarked}
 use Rattle.vm_state.proofs.Referring.{small_region}
@@ -54,9 +55,9 @@ unmarked_with header h outside doing past k ids region row chains works there co
             kinds = kinds_unmarked header region.0 row k.memory.objects k.chains chains put there m.core.objects.kinds;
             files = m.core.objects.files;
             sizes = m.core.objects.sizes;
-            plain = m.core.objects.plain;
             undelayed = m.core.objects.undelayed;
           };
+          copied = record { known = m.core.copied.known; fits = fits_region region.0 _ put m.core.copied.fits };
           controls = m.core.controls;
           flags = m.core.flags;
           pages = m.core.pages;

@@ -1,6 +1,9 @@
 -- What a kernel stands for once one of its pages has changed, whatever the reason: a page goes, goes back to its pager, or stays with another row.
 use Rattle.vm_state.proofs.KnownPages.{sizes_put, sizes_same}
-use Rattle.vm_state.proofs.PlainObjects.{plain_put, plain_same}
+use Rattle.vm_fault.specs.Pushes.{CopiesFit}
+use Rattle.vm_legal.specs.Pushes.{is_pushed}
+use Rattle.vm_state.proofs.CopyFits.{fits_changed}
+use Rattle.vm_state.proofs.CopyObjects.{copies_same, copies_silent}
 use Rattle.vm_kernel.specs.Matches.{AccessFacts, Amidst, ControlFacts, Core, IsReplied, ObjectFacts, Objects, Pages, SpaceFacts, access_facts, control_facts}
 use Rattle.vm_kernel.specs.Matches.{memory_facts, space_facts}
 use Rattle.vm_kernel.proofs.memory.CoreChanges.{core_within, with_tables}
@@ -56,16 +59,17 @@ pub record Leaves (header : Header) (h : ℕ) (past now : List Event) : Type 0 w
   pub space : space_facts header now ≡ space_facts header past
   pub accesses : access_facts now ≡ access_facts past
   pub controls : control_facts h now ≡ control_facts h past
+  pub pushed : (c p : ℕ) → is_pushed h c p now ≡ is_pushed h c p past
 
 pub leaves_all : {header : Header} {h : ℕ} {past : List Event} → Leaves header h past past
-leaves_all = record { space = refl; accesses = refl; controls = refl }
+leaves_all = record { space = refl; accesses = refl; controls = refl; pushed = λ c p. refl }
 
 -- a page is dropped
 abbrev pub drops : ℕ → PageKey → Event
 drops h key = event.Dropped (host_id h) key.object key.page
 
 leaves_dropped : {header : Header} {h : ℕ} {key : PageKey} {past : List Event} → Leaves header h past (drops h key ∷ past)
-leaves_dropped = record { space = refl; accesses = refl; controls = refl }
+leaves_dropped = record { space = refl; accesses = refl; controls = refl; pushed = λ c p. refl }
 
 -- or is returned, and a copy stays or not
 abbrev pub gives : ℕ → PageKey → ℕ → Bool → Bool → List ℕ → Event
@@ -73,7 +77,7 @@ gives h key control dirty keep bytes = event.Sent (Up (host_id h) key.object) (m
 
 leaves_given : {header : Header} {h : ℕ} {key : PageKey} {control : ℕ} {dirty keep : Bool} {bytes : List ℕ} {past : List Event}
     → Leaves header h past (gives h key control dirty keep bytes ∷ past)
-leaves_given = record { space = refl; accesses = refl; controls = refl }
+leaves_given = record { space = refl; accesses = refl; controls = refl; pushed = λ c p. refl }
 
 -- what is of pages, where each object is known as before
 pub record Moved (header : Header) (h : ℕ) (k : Parts) (memory : HostParts) (laundry : LaundryList) (who : Woken) (now : List Event) : Type 0 where
@@ -81,6 +85,7 @@ pub record Moved (header : Header) (h : ℕ) (k : Parts) (memory : HostParts) (l
   pub away : KeepsAway k.memory.resident memory.resident
   pub objects : SameObjects k.memory.objects memory.objects
   pub kinds : HasKinds header memory.objects k.chains
+  pub copied : CopiesFit k.copies k.memory k.chains → CopiesFit k.copies memory k.chains
   pub pages : Pages header h memory.frames memory.resident memory.objects laundry (memory_facts header h now)
   pub waits : HasWaits header h (record k { memory = memory }) who now
 
@@ -115,8 +120,11 @@ amidst_moved {header = header} {h = h} {k = k} {ids = ids} {gone = gone} {who = 
         kinds = moved.kinds;
         files = files_same header h k.memory.objects memory.objects _ moved.objects a.core.objects.files;
         sizes = sizes_same (named header) k.memory.objects memory.objects _ moved.objects a.core.objects.sizes;
-        plain = plain_same k.memory.objects memory.objects _ moved.objects a.core.objects.plain;
         undelayed = a.core.objects.undelayed;
+      };
+      copied = record {
+        known = copies_silent (copies_same moved.objects a.core.copied.known) (λ o. refl) (λ f. refl) leaves.pushed;
+        fits = moved.copied a.core.copied.fits;
       };
       controls = controls_same k.memory.objects memory.objects _ _ _ a.core.controls moved.objects.at;
       flags = flags_same moved.objects a.core.flags;
@@ -198,6 +206,7 @@ moved_of {k = k} {memory = memory} {who = who} {key = key} {row = row} {now = no
       away = away_put o p now row k.memory.resident memory.resident c.found c.row;
       objects = r.objects;
       kinds = r.kinds;
+      copied = fits_changed key row.frame _ now _ _ _ r.objects c (λ is. r.here);
       pages = pages;
       waits = waits_told k.maps k.chains memory.resident k.memory.objects memory.objects k.waits.rows (is_woken who) _
           (waiters_page k.maps k.chains k.memory.resident memory.resident k.memory.objects k.waits.rows (is_woken who) _ o p now waits c.row
@@ -247,7 +256,6 @@ objects_known {header = header} {h = h} {o = o} {row = row} {new = new} {chains 
       kinds = kinds_put header o new os os2 chains put marks is has.kinds;
       files = files_put header h o row new os os2 _ found put has.files;
       sizes = sizes_put (named header) o row new os os2 _ found pages put has.sizes;
-      plain = plain_put o row new os os2 _ found put has.plain;
       undelayed = has.undelayed;
     }
 

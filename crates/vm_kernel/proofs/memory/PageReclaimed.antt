@@ -36,6 +36,8 @@ use Rattle.vm_state.proofs.Passing.{quiet_if}
 use Rattle.vm_kernel.proofs.memory.PageChanges.{amidst_gone, amidst_moved, amidst_of, amidst_returned, changes_among, drop_follows, drops, fits_known, gives}
 use Rattle.vm_kernel.proofs.memory.PageChanges.{leaves_all, live_at, matches_of, objects_known, return_follows, same_objects, seen_of}
 use Rattle.vm_kernel.proofs.memory.CoreChanges.{with_tables}
+use Rattle.vm_kernel.proofs.memory.CopiesKept.{copied_put}
+use Rattle.vm_state.proofs.CopyFits.{fits_same}
 use Rattle.vm_state.proofs.Told.{told_all, waits_told}
 use Rattle.vm_state.proofs.Knowing.{known_put}
 use Rattle.vm_kernel.proofs.memory.PagesShown.{pages_marked}
@@ -92,14 +94,14 @@ inside : {header : Header} {h : ℕ} {k : Parts} {ids : Ids} {past : List Event}
 inside rests = amidst_of rests.matches rests.used rests.waits rests.order
 
 rests_of : {header : Header} {h : ℕ} {k : Parts} {ids : Ids} {past : List Event} (other : Parts) → Amidst header h k ids [] woken.Nobody past
-    → IsSettled past → IsReplied header past → AllReferred k.chains k.memory.objects k.memory.resident → IsThin k.chains k.memory.objects
+    → IsSettled past → IsReplied header past → AllReferred k.chains k.memory.objects k.memory.resident → IsThin k.copies k.chains k.memory.objects
     → count_again k.waits.rows ≡ 0 → Rests header h (with_tables k other) ids past
 rests_of other a settled replied referred thin idle =
     record { matches = matches_of other a settled replied; used = a.used; referred = referred; thin = thin; waits = a.waits; order = a.order; idle = idle }
 
 rests_beside : {header : Header} {h : ℕ} {k k2 : Parts} {ids : Ids} {past : List Event} → Beside k k2
     → Amidst header h (record k { memory = k2.memory; laundry = k2.laundry }) ids [] woken.Nobody past → IsSettled past → IsReplied header past
-    → AllReferred k.chains k2.memory.objects k2.memory.resident → IsThin k.chains k2.memory.objects → count_again k.waits.rows ≡ 0
+    → AllReferred k.chains k2.memory.objects k2.memory.resident → IsThin k.copies k.chains k2.memory.objects → count_again k.waits.rows ≡ 0
     → Rests header h k2 ids past
 rests_beside {header = header} {h = h} {k = k} {k2 = k2} {ids = ids} {past = past} beside a settled replied referred thin idle =
     subst (λ (z : Parts). Rests header h z ids past) (sym same) (rests_of k2 a settled replied referred thin idle)
@@ -124,6 +126,7 @@ inside_touched {k = k} queues a keeps count = amidst_moved a leaves_all (record 
   away = λ o p none. none;
   objects = same_objects refl;
   kinds = a.core.objects.kinds;
+  copied = fits_same (same_objects refl) refl;
   pages = a.core.pages;
   waits = a.waits;
 })
@@ -155,6 +158,7 @@ took_nothing header h outside doing past ids skip k k2 before after rests beside
             away = λ o p none. ap (λ z. row_at z o p) is.resident ∙ none;
             objects = same_objects is.objects;
             kinds = rw is.objects core.objects.kinds;
+            copied = fits_same (same_objects is.objects) is.resident;
             pages = rw (is.objects, is.frames, is.resident, is.laundry) core.pages;
             waits = rw (is.objects, is.resident) rests.waits;
           }))
@@ -280,6 +284,7 @@ inside_created {header = header} {h = h} {k = k} {past = past} {row = row} key o
         objects =
             objects_known found put marks refl refl refl (kind_controlled header o state.Without row without (core.objects.kinds.kinds o row found))
             core.objects;
+        copied = copied_put o row (row_with_control state.Without row) os found put refl (λ some. record { row = row; known = found; some = some }) core.copied;
         controls = controls;
         flags = rw (own_host h) (flags_set o (row_with_control state.Without row) false put uncached core.flags);
         pages = record {
@@ -317,8 +322,8 @@ referred_returned {o = o} {p = p} {object = object} k k2 all known put live is r
     (λ lives. some) (λ lives. live) counts.kind all)
 
 -- so nothing can be merged still
-thin_returned : {o : ℕ} {object : ObjectRow} (k k2 : Parts) → IsThin k.chains k.memory.objects → object_at k.memory.objects o ≡ Some object
-    → PutsObject o (Some (controlled object)) k.memory.objects k2.memory.objects → IsThin k.chains k2.memory.objects
+thin_returned : {o : ℕ} {object : ObjectRow} (k k2 : Parts) → IsThin k.copies k.chains k.memory.objects → object_at k.memory.objects o ≡ Some object
+    → PutsObject o (Some (controlled object)) k.memory.objects k2.memory.objects → IsThin k.copies k.chains k2.memory.objects
 thin_returned {o = o} {object = object} k k2 thin known put =
     let counts = counts_controlled object.state object in
     thin_objects k.chains k.memory.objects k2.memory.objects

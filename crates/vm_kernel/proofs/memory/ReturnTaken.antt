@@ -7,6 +7,7 @@ use Rattle.vm_kernel.proofs.Common.{slice_get, subst, suc, sym, true, zero, ℕ,
 use Rattle.vm_model.specs.declared.event.Event.TheVariants as event
 use Rattle.vm_model.specs.declared.message.Message.TheVariants as message
 use Rattle.vm_state.specs.Places.{known_local}
+use Rattle.vm_kernel.proofs.memory.CopiesKept.{copied_same}
 use Rattle.vm_kernel.proofs.abroad.OwnHost.{own_host}
 use Rattle.vm_kernel.proofs.controls.LockReplied.{replied_none}
 
@@ -99,6 +100,7 @@ rests_taken header h k ids past object control page dirty bytes f fs laundry res
               };
               spaces = was.core.spaces;
               objects = was.core.objects;
+              copied = copied_same (record { at = λ o. refl }) refl was.core.copied;
               controls = was.core.controls;
               flags = was.core.flags;
               pages = record {

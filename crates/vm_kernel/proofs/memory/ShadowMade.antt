@@ -2,12 +2,13 @@
 use Rattle.vm_kernel.proofs.memory.CoreChanges.{pages_known_so}
 use Rattle.vm_state.proofs.KnownPages.{object_few, sizes_shadowed}
 use Rattle.vm_model.specs.Regions.{is_copy}
-use Rattle.vm_state.proofs.PlainObjects.{plain_new, unmade_plain}
+use Rattle.vm_state.proofs.PlainObjects.{unmade_plain}
 use Rattle.vm_kernel.proofs.Common.{ChainTable, Command, Event, HasEntries, Header, HostParts, Ids, Inside, IsInside, List, Matches, None, ObjectId}
 use Rattle.vm_kernel.proofs.Common.{ObjectTable, Outside, Parts, PutsObject, Region, RegionRow, SameMarks, Some, Works, [], ap, arith, false, has_region}
 use Rattle.vm_kernel.proofs.Common.{home_of, if◌then◌else◌, inl, inr, is_some, is_woken, marks_of, next_object, next_region, object_at, one_case, pages_in}
 use Rattle.vm_kernel.proofs.Common.{refl, region_at, region_pages, rows_in, rows_map, some_is, subst, sym, true, waiting, ℕ, ◌+◌, ◌-◌, ◌<◌, ◌==◌, ◌∙◌, ◌∷◌, ◌≡◌}
 use Rattle.vm_kernel.proofs.Common.{◌≤◌, ◌⊎◌}
+use Rattle.vm_kernel.proofs.space.DeclaredPages.{declared_shadowed}
 use Rattle.vm_kernel.proofs.space.RegionsFilled.{shadowed_filled, unknown_unfilled}
 use Rattle.vm_kernel.proofs.space.StillThin.{thin_shadowed}
 use Rattle.vm_state.proofs.Filling.{copies_kept, rows_unmade}
@@ -36,7 +37,9 @@ use Rattle.vm_kernel.proofs.memory.PlacesPassed.{fresh_away}
 use Rattle.vm_kernel.proofs.space.RegionHomes.{homes_caused, homes_put}
 use Rattle.vm_legal.specs.Licences.{Shadows}
 use Rattle.vm_kernel.proofs.controls.FlagsKept.{flags_temporary}
-use Rattle.vm_kernel.proofs.controls.NothingCopied.{newest_nowhere}
+use Rattle.vm_abroad.proofs.Home.{copy_made}
+use Rattle.vm_state.proofs.CopyFits.{fits_new, fits_shadowed, plain_no_newest, unknown_plain}
+use Rattle.vm_state.proofs.CopyObjects.{copies_new, temporary_uncopied}
 
 -- each region is as it was, but for its top and its mark
 pub record KeepsRegions (old new : ChainTable) : Type 0 where
@@ -131,9 +134,15 @@ shadowed_with header h outside doing past k ids region object row chains objects
                 (let within = m.core.objects.regions.fits.tops region.0 row there in let most = object_few m.core.objects.sizes row.top.0 in omega
                 (arith, within, most))
                 (sym (ap (λ (z : Region). z.pages) (m.core.objects.regions.rows region.0 row there))) m.core.objects.sizes;
-            plain = plain_new object.0 (new_object row.pages) k.memory.objects objects (λ o. is_copy o past) put
-                (unmade_plain object.0 past (m.core.spaces.homes.1.objects object.0 at_least)) m.core.objects.plain;
-            undelayed = m.core.objects.undelayed;
+            undelayed = declared_shadowed header past region object row.top new m.core.objects.undelayed;
+          };
+          copied = record {
+            known = copies_new object.0 (new_object row.pages) k.memory.objects objects put plain
+                (λ f is. (let less = copy_made header f object.0 past m.core.spaces.homes.1 is in omega (arith, less, at_least))) m.core.copied.known;
+            fits = fits_shadowed region.0 object row made
+                (plain_no_newest object.0 m.core.copied.fits.living (unknown_plain object.0 m.core.copied.fits unknown))
+                (fits_new object.0 (new_object row.pages) unknown
+                (temporary_uncopied header h past object.0 m.core.copied.known m.core.spaces.homes.1 new) put refl m.core.copied.fits);
           };
           controls = controls_made k.memory.objects objects _ _ _ object.0 row.pages m.core.controls unknown put (λ o home. object_stays o h e past home)
               (home_shadowed h region object row.top past (m.core.spaces.homes.1.objects object.0 at_least)
@@ -166,7 +175,8 @@ shadowed_with header h outside doing past k ids region object row chains objects
           below
           (fresh_away header h k ids past m works.referred object new unknown)
           (knows_made k.memory.objects objects object.0 (new_object row.pages) unknown put)
-          (newest_nowhere m.core.setting.uncopied row.top.0);
+          (temporary_uncopied header h past row.top.0 m.core.copied.known m.core.spaces.homes.1
+          (m.core.objects.kinds.tops region.0 row temporary there));
       order = works.order;
     }
   where
@@ -190,6 +200,9 @@ shadowed_with header h outside doing past k ids region object row chains objects
 
     unknown : object_at k.memory.objects object.0 ≡ None
     unknown = m.core.objects.regions.unknown object.0 at_least
+
+    plain : is_copy object.0 past ≡ false
+    plain = unmade_plain object.0 past (m.core.spaces.homes.1.objects object.0 at_least)
 
     below : ObjectsBelow object.0 k.chains
     below = subst (λ (z : ℕ). ObjectsBelow z k.chains) (sym number) (objects_below m.core.objects.regions)

@@ -3,12 +3,12 @@ use Rattle.vm_kernel.proofs.Common.{Bool, Entry, Event, HasSlow, HasWaits, Heade
 use Rattle.vm_kernel.proofs.Common.{PageKey, PageRow, Parts, Some, TaskId, Waiting, Want, Woken, [], access_in, address_in, ap, arith, copies_to, entries_of}
 use Rattle.vm_kernel.proofs.Common.{entry, entry_at, false, found_row, is_some, need_in, next_page, page_at, page_of, pages_in, refl, region_pages, rows_in}
 use Rattle.vm_kernel.proofs.Common.{subst, suc, sym, true, waiting_in, zero, if◌then◌else◌, nat_lt, ℕ, ◌&&◌, ◌||◌, ◌*◌, ◌<◌, ◌∙◌, ◌≡◌}
-use Rattle.vm_fault.specs.Sources.{CanWalk, Reads, source_at}
+use Rattle.vm_fault.specs.Sources.{CanWalk, Reads, is_due, source_at}
 use Rattle.vm_fault.specs.Stops.{Stops}
 use Rattle.vm_fault.specs.Walks.{Finds, WalksTo, is_copying, is_storing, top_place}
 use Rattle.vm_fault.specs.declared.walking.Stop.{Stop}
 use Rattle.vm_fault.specs.declared.walking.Stop.TheVariants as stop
-use Rattle.vm_legal.specs.Accesses.{Comes, Copies, Raises, WantsFrame}
+use Rattle.vm_legal.specs.Accesses.{Comes, Copies, Pushes, Raises, WantsFrame}
 use Rattle.vm_legal.specs.Walks.{IsTop, Walks, page_on, sight}
 use Rattle.vm_model.specs.Regions.{backing_of, region_of}
 use Rattle.vm_waits.specs.declared.waiting.Want.TheVariants as want
@@ -21,7 +21,11 @@ use Rattle.vm_state.proofs.Walks.{comes_of}
 use Rattle.vm_kernel.proofs.memory.WalksShown.{page_left, page_of_want, shown_at, want_address}
 use Rattle.vm_kernel.proofs.space.RegionRows.{region_row}
 use Rattle.vm_base.specs.Pages.{page_positive}
-use Rattle.vm_kernel.proofs.controls.NothingCopied.{sources_unowed}
+use Rattle.vm_fault.specs.Pushes.{owed_at}
+use Rattle.vm_kernel.proofs.Common.{AllReferred, UsesAll, row_at}
+use Rattle.vm_kernel.proofs.memory.PagesPushed.{due_to, owes_here, same_page}
+use Rattle.vm_legal.specs.Pushes.{OwesPush}
+use Rattle.vm_state.proofs.Shown.{misses}
 
 -- an access that an entry allows can be followed down its chain
 pub walks_down : (header : Header) (h : ℕ) (k : Parts) (ids : Ids) (past : List Event) (lost : List Entry) (task : ℕ) (what : Want)
@@ -47,27 +51,42 @@ walks_down header h k ids past lost task what m allowed sized_want =
       fits = m.core.objects.regions.fits;
     }
 
--- a store whose walk finds its page below its top place wants a frame for a copy, and a slow copy for its next page
-pub wants_copy : (header : Header) (h size task to region page : ℕ) (past : List Event) (what : Want) (steps top top_page object object_page : ℕ)
-    → ((is_storing what && nat_lt 0 steps) || is_copying what) ≡ true → IsTop (region_of header region past) page top top_page
+-- the history has a page owed to a copy for which it isn't asked
+pub record PushesNow (header : Header) (h object page : ℕ) (past : List Event) : Type 0 where
+  pub copy : ℕ
+  pub owes : OwesPush header h object page copy past
+  pub unasked : (page_on header h copy page past).asked ≡ false
+
+-- an access copies what its walk finds so far down: a store below its top place, or what is due, a slow copy anywhere
+abbrev pub copies_now : Want → Bool → ℕ → Bool
+copies_now what due steps = (is_storing what && (nat_lt 0 steps || due)) || is_copying what
+
+-- a store whose walk finds its page below its top place, or that is to push it, wants a frame for a copy, and a slow copy for its next page
+pub wants_copy : (header : Header) (h size task to region page : ℕ) (past : List Event) (what : Want) (due : Bool)
+    (steps top top_page object object_page : ℕ)
+    → copies_now what due steps ≡ true → (due ≡ true → PushesNow header h object object_page past) → IsTop (region_of header region past) page top top_page
     → Walks (λ k q. sight header h k q past) (λ k. backing_of header k past) steps top top_page object object_page
     → (page_on header h object object_page past).here ≡ true → WantsFrame header h task (access_in size to what) region page past
-wants_copy header h size task to region page past (want.Load address n) steps top top_page object object_page is is_top walks here =
+wants_copy header h size task to region page past (want.Load address n) due steps top top_page object object_page is push is_top walks here =
     absurd (let bad : false ≡ true = is in cc)
-wants_copy header h size task to region page past (want.Store address n value) zero top top_page object object_page is is_top walks here =
+wants_copy header h size task to region page past (want.Store address n value) true zero top top_page object object_page is push is_top walks here =
+    let its = push refl in
+    Pushes object object_page its.copy (record { object = is_top.object ∙ walks.0; page = is_top.page ∙ walks.1 }) here refl its.owes its.unasked
+wants_copy header h size task to region page past (want.Store address n value) false zero top top_page object object_page is push is_top walks here =
     absurd (let bad : false ≡ true = is in cc)
-wants_copy header h size task to region page past (want.Store address n value) (suc steps) top top_page object object_page is is_top walks here =
+wants_copy header h size task to region page past (want.Store address n value) due (suc steps) top top_page object object_page is push is_top walks here =
     Raises top top_page steps object object_page is_top walks here refl
-wants_copy header h size task to region page past (want.CopyTo address pages target next) steps top top_page object object_page is is_top walks here =
+wants_copy header h size task to region page past (want.CopyTo address pages target next) due steps top top_page object object_page is push is_top walks here =
     Copies object object_page (record { top = top; top_page = top_page; steps = steps; is_top = is_top; walks = walks }) here address (pages * size) to refl
 
 -- so the page is one that an access is to copy
 source_is : (header : Header) (h : ℕ) (k : Parts) (ids : Ids) (past : List Event) (who : Woken) (w : Waiting) (source : Option PageKey) (key : PageKey)
-    (row : PageRow) (steps : ℕ) → Matches header h k ids [] past → HasWaits header h k who past → HasSlow header k past
+    (row : PageRow) (due : Bool) (steps : ℕ) → Matches header h k ids [] past → HasWaits header h k who past → HasSlow header k past
     → entry k.waits.rows w.task.0 ≡ Some w → (reads : Reads k.maps k.memory k.chains k.copies w.task.0 w.want source)
     → Finds k.memory k.chains steps reads.top key row
-    → ((is_storing w.want && nat_lt 0 steps) || is_copying w.want) ≡ true → IsToCopyPage header h w.task key.object.0 key.page.0 past
-source_is header h k ids past who w source key row steps m waits copies found reads finds copied =
+    → copies_now w.want due steps ≡ true → (due ≡ true → PushesNow header h key.object.0 key.page.0 past)
+    → IsToCopyPage header h w.task key.object.0 key.page.0 past
+source_is header h k ids past who w source key row due steps m waits copies found reads finds copied push =
     let s = shown_at m in
     let task = w.task.0 in
     let what = w.want in
@@ -106,35 +125,53 @@ source_is header h k ids past who w source key row steps m waits copies found re
         on_host = refl;
         comes = comes;
         wants =
-            wants_copy header h size task to e.region.0 index past what steps comes.top comes.top_page key.object.0 key.page.0 copied comes.is_top comes.walks
-            here;
+            wants_copy header h size task to e.region.0 index past what due steps comes.top comes.top_page key.object.0 key.page.0 copied push comes.is_top
+            comes.walks here;
       };
       of = refl;
       here = here;
     }
 
+-- a page that is due by the tables is to be pushed
+pub pushes_now : {header : Header} {h : ℕ} {k : Parts} {ids : Ids} {past : List Event} → Matches header h k ids [] past → UsesAll header k past
+    → AllReferred k.chains k.memory.objects k.memory.resident → (key place : PageKey) → owed_at k.copies key ≡ Some place
+    → row_at k.memory.resident place.object.0 place.page.0 ≡ None → PushesNow header h key.object.0 key.page.0 past
+pushes_now {header = header} {h = h} {k = k} {past = past} m used referred key place owed none =
+    record {
+      copy = place.object.0;
+      owes = owes_here m used referred key place owed;
+      unasked = subst (λ (p : ℕ). (page_on header h place.object.0 p past).asked ≡ false) (same_page k.copies key place owed)
+          (misses (shown_at m) place.object.0 place.page.0 none).unasked;
+    }
+
 -- what an access would copy that waits
 pub to_copy : (header : Header) (h : ℕ) (k : Parts) (ids : Ids) (past : List Event) (who : Woken) (w : Waiting) (source : Option PageKey)
-    → Matches header h k ids [] past → HasWaits header h k who past → HasSlow header k past → entry k.waits.rows w.task.0 ≡ Some w
-    → Reads k.maps k.memory k.chains k.copies w.task.0 w.want source
+    → Matches header h k ids [] past → UsesAll header k past → AllReferred k.chains k.memory.objects k.memory.resident → HasWaits header h k who past
+    → entry k.waits.rows w.task.0 ≡ Some w → Reads k.maps k.memory k.chains k.copies w.task.0 w.want source
     → IfSome source (λ key. IsToCopyPage header h w.task key.object.0 key.page.0 past × IsHere k key)
-to_copy header h k ids past who w source m waits copies found reads =
+to_copy header h k ids past who w source m used referred waits found reads =
     subst (λ (z : Option PageKey). IfSome z (λ key. IsToCopyPage header h w.task key.object.0 key.page.0 past × IsHere k key)) (sym reads.is)
     (go reads.stop reads.stops)
   where
-    below : (b : Bool) (steps : ℕ) (key : PageKey) (row : PageRow) → ((is_storing w.want && nat_lt 0 steps) || is_copying w.want) ≡ b
+    push : (key : PageKey) → is_due k.memory.resident (owed_at k.copies key) ≡ true → PushesNow header h key.object.0 key.page.0 past
+    push key due =
+        let to = due_to k.memory.resident k.copies key due in
+        pushes_now m used referred key to.place to.owed to.none
+
+    below : (b : Bool) (steps : ℕ) (key : PageKey) (row : PageRow) → copies_now w.want (is_due k.memory.resident (owed_at k.copies key)) steps ≡ b
         → Finds k.memory k.chains steps reads.top key row
         → IfSome (if b then Some key else None) (λ key. IsToCopyPage header h w.task key.object.0 key.page.0 past × IsHere k key)
     below false steps key row is finds = tt
-    below true steps key row is finds =
-        (source_is header h k ids past who w source key row steps m waits copies found reads finds is, (row, finds.found, finds.here))
+    below true steps key row is finds = (
+      source_is header h k ids past who w source key row (is_due k.memory.resident (owed_at k.copies key)) steps m waits used.copies found reads finds is
+          (push key),
+      (row, finds.found, finds.here),
+    )
 
     go : (s : Stop) → Stops k.memory k.chains reads.top s
-        → IfSome (source_at k.copies w.want s) (λ key. IsToCopyPage header h w.task key.object.0 key.page.0 past × IsHere k key)
+        → IfSome (source_at k.memory.resident k.copies w.want s) (λ key. IsToCopyPage header h w.task key.object.0 key.page.0 past × IsHere k key)
     go (stop.Found key row steps) finds =
-        subst (λ (b : Bool). IfSome (if b then Some key else None) (λ z. IsToCopyPage header h w.task z.object.0 z.page.0 past × IsHere k z))
-        (sym (sources_unowed m.core.setting.uncopied w.want key steps))
-        (below ((is_storing w.want && nat_lt 0 steps) || is_copying w.want) steps key row refl finds)
+        below (copies_now w.want (is_due k.memory.resident (owed_at k.copies key)) steps) steps key row refl finds
     go (stop.Asked key) stops = tt
     go (stop.MayCome key object steps) stops = tt
     go stop.Nowhere stops = tt

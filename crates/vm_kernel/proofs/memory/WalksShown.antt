@@ -1,7 +1,7 @@
 -- What a kernel's tables show of its history's walks, and of the places of an access.
 use Rattle.vm_kernel.proofs.Common.{Entry, Event, HasPlace, Header, Ids, IsPlaceOf, LeadsTo, List, Matches, PageKey, Parts, Some, Waits, Want, access_in}
 use Rattle.vm_kernel.proofs.Common.{address_in, address_of, ap, entries_in, entries_of, entry_at, is_some, next_page, page_at, page_of, refl, rows_in, some_is}
-use Rattle.vm_kernel.proofs.Common.{subst, sym, true, ℕ, ◌*◌, ◌+◌, ◌∙◌, ◌≡◌}
+use Rattle.vm_kernel.proofs.Common.{[], subst, sym, true, ℕ, ◌*◌, ◌+◌, ◌∙◌, ◌≡◌}
 use Rattle.std.proofs.Common.{arith}
 use Rattle.std.proofs.Math.Nat.{mul-div_cancel}
 use Rattle.std.specs.Prelude.{◌/◌, ◌<◌}
@@ -11,7 +11,10 @@ use Rattle.vm_waits.specs.declared.waiting.Want.TheVariants as want
 use Rattle.vm_state.proofs.Filling.{AgreesNext}
 use Rattle.vm_state.proofs.Referring.{refers_region, refers_shadow}
 use Rattle.vm_state.proofs.Shown.{IsShown}
-use Rattle.vm_state.proofs.Walks.{place_of_page}
+use Rattle.vm_fault.specs.Walks.{IsAt}
+use Rattle.vm_legal.specs.Walks.{IsTop}
+use Rattle.vm_model.specs.Regions.{region_of}
+use Rattle.vm_state.proofs.Walks.{place_of_page, top_of}
 
 pub shown_at : {header : Header} {h : ℕ} {k : Parts} {ids : Ids} {lost : List Entry} {past : List Event} → Matches header h k ids lost past
     → IsShown header h k.memory k.chains past
@@ -77,3 +80,29 @@ waiting_place {header = header} {k = k} {past = past} {task = task} {what = what
     ∙ waits.at.found) in
     subst (λ (z : Entry). HasPlace header z.region.0 (page_of header task (access_in size to what) past z) key.object.0 key.page.0 past)
     (some_is place.at.entry waits.at.entry (sym place.at.found ∙ found)) (place_at m to agrees place)
+
+-- the top place that its tables give a waiting access is that of the page that the history has it about
+pub top_met : {header : Header} {h : ℕ} {k : Parts} {ids : Ids} {past : List Event} {task : ℕ} {what : Want} {top : PageKey} (to : ℕ)
+    → Matches header h k ids [] past → AgreesNext what (next_page task past) → IsAt k.maps k.chains task what top
+    → is_some (entries_in task k.maps) ≡ true → (waits : Waits header task (access_in k.maps.size to what) past)
+    → IsTop (region_of header waits.at.entry.region.0 past) (page_of header task (access_in k.maps.size to what) past waits.at.entry) top.object.0 top.page.0
+top_met {header = header} {k = k} {past = past} {task = task} {what = what} {top = top} to m agrees at here waits =
+    subst (λ (z : Entry). IsTop (region_of header z.region.0 past) (page_of header task (access_in size to what) past z) top.object.0 top.page.0)
+    (some_is at.entry waits.at.entry (sym at.found ∙ found))
+    (subst (λ (z : ℕ). IsTop (region_of header at.entry.region.0 past) z top.object.0 top.page.0) (page_of_want task to what at.entry m agrees) its)
+  where
+    size : ℕ
+    size = k.maps.size
+
+    found : entry_at (address_in size what) (rows_in task k.maps) ≡ Some waits.at.entry
+    found =
+        ap (entry_at (address_in size what)) (sym (m.core.spaces.tasks.rows task here))
+        ∙ (ap (λ z. entry_at z (entries_of header.size task past)) (sym (want_address size header.size (next_page task past) to what m.core.spaces.tasks.sized
+        agrees))
+        ∙ waits.at.found)
+
+    its : IsTop (region_of header at.entry.region.0 past) (page_at size (address_in size what) at.entry) top.object.0 top.page.0
+    its =
+        subst (λ (z : PageKey). IsTop (region_of header at.entry.region.0 past) (page_at size (address_in size what) at.entry) z.object.0 z.page.0)
+        (sym at.is)
+        (top_of (shown_at m) at.entry.region.0 at.row at.region (page_at size (address_in size what) at.entry))

@@ -8,10 +8,10 @@ use Rattle.vm_shadow.specs.declared.ids.Ids.{Ids}
 
 module _ (old : Parts) (before : Listed Event) where
   pub spends_none : (n : ℕ) → Spends n 0 n old before old before
-  spends_none n = record { told = omega arith; room = omega arith; rows = omega arith; shadows = omega arith; objects = omega arith }
+  spends_none n = record { told = omega arith; room = omega arith; rows = omega arith; shadows = omega arith; objects = omega arith; copies = omega arith }
 
   pub spends_nothing : (n m : ℕ) → Spends n m 0 old before old before
-  spends_nothing n m = record { told = omega arith; room = omega arith; rows = omega arith; shadows = omega arith; objects = omega arith }
+  spends_nothing n m = record { told = omega arith; room = omega arith; rows = omega arith; shadows = omega arith; objects = omega arith; copies = omega arith }
 
 module _ (old mid new : Parts) (before between after : Listed Event) where
   -- two calls that make nothing
@@ -22,6 +22,7 @@ module _ (old mid new : Parts) (before between after : Listed Event) where
     rows = omega (arith, first.rows, next.rows);
     shadows = omega (arith, first.shadows, next.shadows);
     objects = omega (arith, first.objects, next.objects);
+    copies = omega (arith, first.copies, next.copies);
   }
 
   -- one entry more of a fork
@@ -33,6 +34,7 @@ module _ (old mid new : Parts) (before between after : Listed Event) where
     rows = omega (arith, first.rows, next.rows);
     shadows = omega (arith, first.shadows, next.shadows);
     objects = omega (arith, first.objects, next.objects);
+    copies = omega (arith, first.copies, next.copies);
   }
 
 module _ (old new : Parts) (before after : Listed Event) where
@@ -44,6 +46,7 @@ module _ (old new : Parts) (before after : Listed Event) where
     rows = is.rows;
     shadows = is.shadows;
     objects = is.objects;
+    copies = is.copies;
   }
 
   -- less may be spent than was in hand
@@ -54,6 +57,7 @@ module _ (old new : Parts) (before after : Listed Event) where
     rows = omega (arith, is.rows);
     shadows = omega (arith, is.shadows);
     objects = omega (arith, is.objects);
+    copies = omega (arith, is.copies);
   }
 
   -- no more entries than there are
@@ -64,6 +68,7 @@ module _ (old new : Parts) (before after : Listed Event) where
     rows = omega (arith, is.rows);
     shadows = omega (arith, is.shadows);
     objects = omega (arith, is.objects);
+    copies = omega (arith, is.copies);
   }
 
   pub roomy_next : (i n : ℕ) → i < n → Spends (1 + 4 * i) (1 + 4 * i) 0 old before new after → IsRoomy (1 + 4 * n) (1 + 4 * n) old before.room
@@ -73,6 +78,7 @@ module _ (old new : Parts) (before after : Listed Event) where
     rows = omega (arith, is.rows, had.rows);
     shadows = omega (arith, is.shadows, had.shadows);
     objects = omega (arith, is.objects, had.objects);
+    copies = omega (arith, is.copies, had.copies);
   }
 
 -- what follows where a call that succeeds failed
@@ -109,4 +115,5 @@ removed_spends k ids maps chains before after e same told room =
       rows = omega (arith, marked);
       shadows = omega (arith, spare, marked);
       objects = omega (arith, marked);
+      copies = omega arith;
     }

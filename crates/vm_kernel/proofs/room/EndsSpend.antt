@@ -5,6 +5,7 @@ use Rattle.vm_kernel.proofs.Common.{frame_count, inl, inr, length, named, object
 use Rattle.vm_kernel.proofs.Common.{◌∙◌, ◌∷◌, ◌≡◌, ◌≤◌}
 use Rattle.std.proofs.lemmas.Bool.Decides.{eqb_tells}
 use Rattle.vm_base.specs.Listing.{Listed}
+use Rattle.vm_copies.specs.Copies.{CopyTable}
 use Rattle.std.proofs.lemmas.List.{length-map}
 use Rattle.std.specs.Prelude.{IfSome, if◌then◌else◌, map}
 use Rattle.vm_kernel.proofs.room.RunPays.{copies_fewer}
@@ -27,7 +28,14 @@ module _ (old new : Parts) (before after : Listed Event) where
   -- what is left is less
   pub spends_less : (a b n : ℕ) → Spends a 0 b old before new after → n ≤ b → Spends a 0 n old before new after
   spends_less a b n is less =
-      record { told = omega (arith, is.told, less); room = omega (arith, is.room, less); rows = is.rows; shadows = is.shadows; objects = is.objects }
+      record {
+        told = omega (arith, is.told, less);
+        room = omega (arith, is.room, less);
+        rows = is.rows;
+        shadows = is.shadows;
+        objects = is.objects;
+        copies = is.copies;
+      }
 
   -- there is room behind a call for what is left
   pub roomy_on : (a b : ℕ) → Spends a 0 b old before new after → IsRoomy a 0 old before.room → IsRoomy b 0 new after.room
@@ -36,12 +44,20 @@ module _ (old new : Parts) (before after : Listed Event) where
     rows = omega (arith, is.rows, had.rows);
     shadows = omega (arith, is.shadows, had.shadows);
     objects = omega (arith, is.objects, had.objects);
+    copies = omega (arith, is.copies, had.copies);
   }
 
   -- or with more in hand
   pub spends_hand : (a b n : ℕ) → Spends a 0 b old before new after → a ≤ n → Spends n 0 b old before new after
   spends_hand a b n is more =
-      record { told = omega (arith, is.told, more); room = omega (arith, is.room, more); rows = is.rows; shadows = is.shadows; objects = is.objects }
+      record {
+        told = omega (arith, is.told, more);
+        room = omega (arith, is.room, more);
+        rows = is.rows;
+        shadows = is.shadows;
+        objects = is.objects;
+        copies = is.copies;
+      }
 
 -- room for some is room for fewer
 pub roomy_fewer : (a i n j : ℕ) (k : Parts) (room : ℕ) → IsRoomy a i k room → n ≤ a → j ≤ i → IsRoomy n j k room
@@ -51,6 +67,7 @@ roomy_fewer a i n j k room had fewer less =
       rows = omega (arith, had.rows, less);
       shadows = omega (arith, had.shadows, less);
       objects = omega (arith, had.objects, less);
+      copies = omega (arith, had.copies, less);
     }
 
 -- each object that ends is one of those made
@@ -95,12 +112,12 @@ enough_buffers header h k ids gone past object m has o row ends found other = el
 
 -- and as many are left as may be wanted
 pub buffers_left : (header : Header) (h : ℕ) (k : Parts) (ids : Ids) (gone : List Entry) (past : List Event) (object n : ℕ) (memory : HostParts)
-    (chains : ChainTable) (laundry : LaundryList) (before after : ℕ) → Matches header h k ids gone past
+    (chains : ChainTable) (copies : CopyTable) (laundry : LaundryList) (before after : ℕ) → Matches header h k ids gone past
     → UsesRoom n k.memory memory k.chains chains before after
     → (((o : ℕ) (row : ObjectRow) → EndsWith k.chains k.memory.objects object o → object_at k.memory.objects o ≡ Some row → row.kind ≡ Temp)
     → k.memory.buffers.count ≤ memory.buffers.count)
-    → HasBuffers k → HasBuffers (record k { memory = memory; chains = chains; laundry = laundry })
-buffers_left header h k ids gone past object n memory chains laundry before after m uses saved has = elim (eqb_tells (length k.declared.items) 0) [
+    → HasBuffers k → HasBuffers (record k { memory = memory; chains = chains; copies = copies; laundry = laundry })
+buffers_left header h k ids gone past object n memory chains copies laundry before after m uses saved has = elim (eqb_tells (length k.declared.items) 0) [
   | inl none ↦
       let kept = saved (λ o row ends found. all_temporary header h k ids gone past m none.1 o row found) in
       rw none.0 (let had : 0 + 1 ≤ k.memory.buffers.count = rw none.0 at has in omega (arith, had, kept))
@@ -110,16 +127,18 @@ buffers_left header h k ids gone past object n memory chains laundry before afte
 
 -- the end of an object spends what left
 pub ended_spends : (header : Header) (h : ℕ) (past : List Event) (who : Woken) (k : Parts) (ids : Ids) (rest : List Entry) (memory : HostParts)
-    (chains : ChainTable) (laundry : LaundryList) (before after : Listed Event)
+    (chains : ChainTable) (copies : CopyTable) (laundry : LaundryList) (before after : Listed Event)
     → Matches header h k ids rest (before.items ++ past)
-    → IsWhole header h who (record k { memory = memory; chains = chains; laundry = laundry }) ids rest (after.items ++ past)
+    → IsWhole header h who (record k { memory = memory; chains = chains; copies = copies; laundry = laundry }) ids rest (after.items ++ past)
     → UsesRoom ids.next_object k.memory memory k.chains chains before.room after.room
     → length after.items + (listed_pages memory.queues + live_below memory.objects ids.next_object) ≤ length
     before.items + (listed_pages k.memory.queues + live_below k.memory.objects ids.next_object)
-    → Spends (leaving k ids) 0 (leaving (record k { memory = memory; chains = chains; laundry = laundry }) ids) k before
-    (record k { memory = memory; chains = chains; laundry = laundry }) after
-ended_spends header h past who k ids rest memory chains laundry before after m whole uses told =
-    let frames = framed k (frames_kept header h k (record k { memory = memory; chains = chains; laundry = laundry }) ids ids rest rest (before.items ++ past)
+    → k.copies.room ≤ copies.room
+    → Spends (leaving k ids) 0 (leaving (record k { memory = memory; chains = chains; copies = copies; laundry = laundry }) ids) k before
+    (record k { memory = memory; chains = chains; copies = copies; laundry = laundry }) after
+ended_spends header h past who k ids rest memory chains copies laundry before after m whole uses told room =
+    let frames = framed k (frames_kept header h k (record k { memory = memory; chains = chains; copies = copies; laundry = laundry }) ids ids rest rest
+    (before.items ++ past)
     (after.items ++ past) m whole.runs.matches) in
     record {
       told = omega (arith, frames, told, uses.marked);
@@ -127,6 +146,7 @@ ended_spends header h past who k ids rest memory chains laundry before after m w
       rows = omega (arith, frames, uses.rows, uses.fewer, uses.live, uses.marked);
       shadows = omega (arith, uses.shadows, uses.fewer, uses.live, uses.marked);
       objects = omega (arith, uses.objects, uses.fewer, uses.live, uses.marked);
+      copies = omega (arith, room);
     }
 
 -- what follows from one fact, and from another that has a premise
@@ -151,6 +171,7 @@ region_spends k ids r left object chains objects log loses spare marks rooms =
       rows = omega (arith, live, fewer);
       shadows = omega (arith, live, spare, fewer);
       objects = omega (arith, live, rows, fewer);
+      copies = omega arith;
     }
 
 -- a region's count of entries costs nothing
@@ -165,6 +186,7 @@ count_spends k ids chains log same =
       rows = omega (arith, marked);
       shadows = omega (arith, spare, marked);
       objects = omega (arith, marked);
+      copies = omega arith;
     }
 
 -- the end of a task takes its event
@@ -172,7 +194,7 @@ pub exit_spends : (k : Parts) (ids : Ids) (maps : Mapped) (before after : Listed
     → before.room ≤ after.room + 1 → Spends (1 + leaving k ids) 0 (leaving k ids) k before (record k { maps = maps }) after
 exit_spends k ids maps before after e told room =
     let one : length after.items ≡ length before.items + 1 = rw told (omega arith) in
-    record { told = omega (arith, one); room = omega (arith, room); rows = omega arith; shadows = omega arith; objects = omega arith }
+    record { told = omega (arith, one); room = omega (arith, room); rows = omega arith; shadows = omega arith; objects = omega arith; copies = omega arith }
 
 -- with a row no slow copy comes
 pub copies_dropped : (t : ℕ) (old new : List Waiting) → new ≡ rows_without t old → count_copies new ≤ count_copies old
@@ -191,6 +213,7 @@ failed_spends k ids waits before after e less copies told room =
       rows = omega (arith, less, fewer);
       shadows = omega arith;
       objects = omega arith;
+      copies = omega arith;
     }
 
 -- those that are woken wait in as many rows, and are as many slow copies
@@ -211,6 +234,7 @@ woken_spends n k waits log test rows =
       rows = omega (arith, same, copies);
       shadows = omega arith;
       objects = omega arith;
+      copies = omega arith;
     }
 
 -- a lock request that is obeyed takes an event for each page that is here, and one for the reply
@@ -229,6 +253,7 @@ obeyed_spends header h past past2 k ids memory laundry waits before after m n le
       rows = omega (arith, frames, leaves.rows, same);
       shadows = omega arith;
       objects = omega (arith, leaves.objects);
+      copies = omega arith;
     }
 
 -- an answer brings one event at most
@@ -253,4 +278,5 @@ heard_spends header h past past2 k ids memory before after m n brought room rows
       rows = omega (arith, frames, rows);
       shadows = omega arith;
       objects = omega (arith, objects);
+      copies = omega arith;
     }

@@ -54,6 +54,7 @@ module _ (breadth : Breadth) (k new : Parts) (is : new ≡ record k { memory = r
       let shadows = ap (λ (z : Parts). z.chains.spare) is in
       let marked = ap (λ (z : Parts). z.chains.marked) is in
       let objects = ap (λ (z : Parts). z.memory.objects.rows) is in
+      let copies = ap (λ (z : Parts). z.copies.room) is in
       let marks = ap (λ (z : Parts). z.memory.objects.marks) is in
       let room = ap (λ (z : Parts). z.waits.room) is in
       let count = ap (λ (z : Parts). z.memory.buffers.count) is in
@@ -66,6 +67,7 @@ module _ (breadth : Breadth) (k new : Parts) (is : new ≡ record k { memory = r
         rows = omega (arith, was.rows, rows, copied, marked, made, spare);
         shadows = omega (arith, was.shadows, marked, made, shadows);
         objects = omega (arith, was.objects, marked, made, objects);
+        copies = omega (arith, was.copies, made, copies);
         mark = omega (arith, was.mark, marks);
         access = omega (arith, was.access, room);
         buffers = omega (arith, was.buffers, here, count);
@@ -104,6 +106,7 @@ module _ (k : Parts) (count : ℕ) where
         rows = omega (arith, was.rows, made);
         shadows = omega (arith, was.shadows, made);
         objects = omega (arith, was.objects, made);
+        copies = omega (arith, was.copies, made);
         mark = was.mark;
         access = was.access;
         buffers = omega (arith, was.buffers, more);
@@ -119,6 +122,7 @@ ready_more breadth k room more ready log = record {
     rows = ready.rows;
     shadows = ready.shadows;
     objects = ready.objects;
+    copies = ready.copies;
   };
   log = omega (arith, log);
 }

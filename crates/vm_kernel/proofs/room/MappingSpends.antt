@@ -14,6 +14,7 @@ pub record SameHeld (old new : Parts) : Type 0 where
   pub waits : length new.waits.rows ≡ length old.waits.rows
   pub frames : frames_for_copies new ≡ frames_for_copies old
   pub rows : new.memory.resident.spare ≡ old.memory.resident.spare
+  pub copies : new.copies.room ≡ old.copies.room
   pub buffers : new.memory.buffers ≡ old.memory.buffers
   pub skip : new.skip ≡ old.skip
 
@@ -23,6 +24,7 @@ held_same (Again region found put is) =
       waits = ap (λ (z : Parts). length z.waits.rows) is;
       frames = ap frames_for_copies is;
       rows = ap (λ (z : Parts). z.memory.resident.spare) is;
+      copies = ap (λ (z : Parts). z.copies.room) is;
       buffers = ap (λ (z : Parts). z.memory.buffers) is;
       skip = ap (λ (z : Parts). z.skip) is;
     }
@@ -31,6 +33,7 @@ held_same (First free put known marks is) =
       waits = ap (λ (z : Parts). length z.waits.rows) is;
       frames = ap frames_for_copies is;
       rows = ap (λ (z : Parts). z.memory.resident.spare) is;
+      copies = ap (λ (z : Parts). z.copies.room) is;
       buffers = ap (λ (z : Parts). z.memory.buffers) is;
       skip = ap (λ (z : Parts). z.skip) is;
     }
@@ -74,6 +77,7 @@ opens_little object (Some known) old new before after there opens = by opens
             waits = ap (λ (z : Parts). length z.waits.rows) is;
             frames = ap frames_for_copies is;
             rows = ap (λ (z : Parts). z.memory.resident.spare) is;
+            copies = ap (λ (z : Parts). z.copies.room) is;
             buffers = ap (λ (z : Parts). z.memory.buffers) is;
             skip = ap (λ (z : Parts). z.skip) is;
           };
@@ -87,6 +91,7 @@ opens_little object (Some known) old new before after there opens = by opens
             waits = ap (λ (z : Parts). length z.waits.rows) is;
             frames = ap frames_for_copies is;
             rows = ap (λ (z : Parts). z.memory.resident.spare) is;
+            copies = ap (λ (z : Parts). z.copies.room) is;
             buffers = ap (λ (z : Parts). z.memory.buffers) is;
             skip = ap (λ (z : Parts). z.skip) is;
           };

@@ -94,6 +94,7 @@ merges_spend n losers k parts chains before mid after has same kept told log spa
       rows = by (losers * most_pages) has spare;
       shadows = omega (arith, shadows, marked);
       objects = omega (arith, objects, marked);
+      copies = omega arith;
     }
   where
     by : (m : ℕ) → n + m ≤ k.memory.resident.spare → k.memory.resident.spare ≤ parts.resident.spare + m
@@ -118,6 +119,7 @@ module _ (old mid new : Parts) (before between after : Listed Event) where
         rows = by (losers * most_pages) (gone * most_pages) (rows_fewer losers gone few) has rows first.rows last.rows;
         shadows = omega (arith, first.shadows, last.shadows);
         objects = omega (arith, first.objects, last.objects);
+        copies = omega (arith, first.copies, last.copies);
       }
     where
       by : (less more : ℕ) → less ≤ more → n + more ≤ old.memory.resident.spare → less ≤ mid.memory.resident.spare
@@ -148,7 +150,7 @@ rows_small gone losers small few = omega (arith, small, few)
 -- room for the sweep is where there is room for that and for merges
 pub sweep_roomy : (a n gone : ℕ) (k : Parts) (room : ℕ) → HasRowsFor gone n k → IsRoomy (a + gone) 0 (with_rows n k) room → IsRoomy a 0 k room
 sweep_roomy a n gone k room has had =
-    record { log = omega (arith, had.log); rows = by (gone * most_pages) has had.rows; shadows = had.shadows; objects = had.objects }
+    record { log = omega (arith, had.log); rows = by (gone * most_pages) has had.rows; shadows = had.shadows; objects = had.objects; copies = had.copies }
   where
     by : (more : ℕ) → n + more ≤ k.memory.resident.spare → full_dues k + 0 ≤ n → full_dues k + 0 ≤ k.memory.resident.spare
     by more has rows = omega (arith, has, rows)
@@ -170,6 +172,7 @@ module _ (k mid new : Parts) (ids : Ids) (before between after : Listed Event) w
     rows = omega (arith, first.rows, last.rows);
     shadows = omega (arith, first.shadows, last.shadows);
     objects = omega (arith, first.objects, last.objects);
+    copies = omega (arith, first.copies, last.copies);
   }
 
   pub ends_roomy : (n gone left : ℕ) → Spends (1 + leaving k ids) 0 (leaving k ids) k before mid between → left ≡ leaving k ids → gone ≤ n
@@ -179,6 +182,7 @@ module _ (k mid new : Parts) (ids : Ids) (before between after : Listed Event) w
     rows = omega (arith, first.rows, had.rows);
     shadows = omega (arith, first.shadows, had.shadows);
     objects = omega (arith, first.objects, had.objects);
+    copies = omega (arith, first.copies, had.copies);
   }
 
 -- a kernel with room for further rows stands as it did

@@ -3,8 +3,11 @@ use Rattle.vm_kernel.proofs.Common.{refl, All, Bool, Entry, Event, FrameTable, H
 use Rattle.vm_kernel.proofs.space.StillThin.{references_same, thin_kept}
 use Rattle.vm_merge.specs.Merges.{IsThin}
 use Rattle.vm_base.specs.declared.ids.FrameNo.{FrameNo}
+use Rattle.vm_copies.specs.Copies.{CopyTable}
+use Rattle.vm_fault.specs.Pushes.{CopiesFit}
 use Rattle.vm_fault.specs.Walks.{ChainsFit, IsAt, IsUnder}
-use Rattle.vm_kernel.specs.Matches.{HasWaits, Matches, Rests, UsesAll}
+use Rattle.vm_kernel.proofs.memory.CopiesKept.{copied_pages}
+use Rattle.vm_kernel.specs.Matches.{Copied, HasWaits, Matches, ObjectFacts, Rests, UsesAll}
 use Rattle.vm_kernel.specs.Rooms.{Rooms, memory_with, with_rooms}
 use Rattle.vm_maps.specs.Maps.{Mapped}
 use Rattle.vm_model.specs.Waiting.{Target}
@@ -15,8 +18,9 @@ use Rattle.vm_resident.specs.Resident.{ResidentTable}
 use Rattle.vm_shadow.proofs.Ranks.{ranked_same}
 use Rattle.vm_shadow.specs.Chains.{ChainTable}
 use Rattle.vm_shadow.specs.declared.ids.Ids.{Ids}
+use Rattle.vm_state.proofs.CopyFits.{WasHere, fits_regions}
 use Rattle.vm_state.specs.Filling.{AllUsed, FitsCopy, HasCopies, IsAlone}
-use Rattle.vm_state.specs.Passed.{IsPlaceBehind, LeadsOver, Passed}
+use Rattle.vm_state.specs.Passed.{IsPlaceBehind, LeadsOver, Passed, Unmet}
 use Rattle.vm_state.specs.References.{AllReferred}
 use Rattle.vm_state.specs.Stands.{HasControls, HasEntries, HasKinds, HasLaundry, HasPages, HasRegions, IsInside, IsWashed}
 use Rattle.vm_state.specs.Waiters.{IsPlaceOf, LeadsTo, Reason}
@@ -58,10 +62,15 @@ module _ (chains : ChainTable) (spare : ℕ) where
   behind_roomier stays maps task what key was =
       record { top = was.top; at = at_roomier maps task what was.top was.at; steps = was.steps; leads = over_roomier stays was.steps was.top key was.leads }
 
-  passed_roomier : (stays unmet : PageKey → Type 0) (maps : Mapped) (task : ℕ) (what : Want) (why : On) → Passed stays unmet maps chains task what why
-      → Passed stays unmet maps (record chains { spare = spare }) task what why
+  passed_roomier : (stays : PageKey → Type 0) (unmet : PageKey → Unmet) (maps : Mapped) (task : ℕ) (what : Want) (why : On)
+      → Passed stays unmet maps chains task what why → Passed stays unmet maps (record chains { spare = spare }) task what why
   passed_roomier stays unmet maps task what on.Again was = tt
-  passed_roomier stays unmet maps task what (on.Ready object) was = (was.0, behind_roomier stays maps task what was.0 was.1, was.2, was.3)
+  passed_roomier stays unmet maps task what (on.Ready object) was = (
+    was.0,
+    place_roomier maps task what was.0 was.1,
+    was.2,
+    λ none. (let now = was.3 none in (behind_roomier stays maps task what was.0 now.0, now.1)),
+  )
   passed_roomier stays unmet maps task what (on.Page key) was = behind_roomier stays maps task what key was
   passed_roomier stays unmet maps task what (on.Push key) was = tt
   passed_roomier stays unmet maps task what on.Frame was = tt
@@ -157,9 +166,24 @@ module _ (objects : ObjectTable) (n m : ℕ) where
     shadows = λ o row there. referred_roomier o (was.shadows o row there);
   }
 
-  thin_roomier : (chains : ChainTable) (spare : ℕ) → IsThin chains objects → IsThin (record chains { spare = spare }) more_objects
-  thin_roomier chains spare was =
-      thin_kept chains (record chains { spare = spare }) objects more_objects (λ o row is. is) (references_same objects more_objects (λ o. refl)) was
+  thin_roomier : {copies : CopyTable} (chains : ChainTable) (spare more : ℕ) → IsThin copies chains objects
+      → IsThin (record copies { room = more }) (record chains { spare = spare }) more_objects
+  thin_roomier {copies = copies} chains spare more was upper lower can =
+      thin_kept {copies = copies} chains (record chains { spare = spare }) objects more_objects (λ o row is. is)
+      (references_same objects more_objects (λ o. refl)) was upper lower
+      (record {
+        link = can.link;
+        over = can.over;
+        under = can.under;
+        upper_row = can.upper_row;
+        upper_known = can.upper_known;
+        lower_row = can.lower_row;
+        lower_known = can.lower_known;
+        sole = can.sole;
+        upper_never = can.upper_never;
+        lower_never = can.lower_never;
+        plain = can.plain;
+      })
 
   regions_roomier : (chains : ChainTable) (spare : ℕ) (ids : Ids) (region_from : ℕ → _) (backing_from : ℕ → _) (regions_made objects_made marked : ℕ)
       → HasRegions chains objects ids region_from backing_from regions_made objects_made marked
@@ -206,7 +230,7 @@ fit_roomier rooms memory was = record {
 
 reason_roomier : (rooms : Rooms) (k : Parts) (task : ℕ) (what : Want) (why : On)
     → Reason k.maps k.chains k.copies k.memory.resident k.memory.objects task what why
-    → Reason k.maps (record k.chains { spare = rooms.shadows }) k.copies (record k.memory.resident { spare = rooms.rows })
+    → Reason k.maps (record k.chains { spare = rooms.shadows }) (record k.copies { room = rooms.copies }) (record k.memory.resident { spare = rooms.rows })
     (record k.memory.objects { rows = rooms.objects; marks = rooms.marks }) task what why
 reason_roomier rooms k task what on.Again was = tt
 reason_roomier rooms k task what (on.Ready object) was =
@@ -240,6 +264,22 @@ waiters_roomier header h rooms k who past was = record {
   ready = was.ready;
 }
 
+copied_roomier : {s : ObjectFacts} {pushed : ℕ → ℕ → Bool} (rooms : Rooms) (copies : CopyTable) (memory : HostParts) (chains : ChainTable)
+    → Copied copies memory chains s pushed
+    → Copied (record copies { room = rooms.copies }) (memory_with rooms memory) (record chains { spare = rooms.shadows }) s pushed
+copied_roomier rooms copies memory chains was =
+    let pages = copied_pages (record { at = λ o. refl }) (λ o p page found here. WasHere page found here) was in
+    let known = pages.known in
+    let fits : CopiesFit copies (memory_with rooms memory) (record chains { spare = rooms.shadows }) = fits_regions refl pages.fits in
+    record {
+      known = record { are = known.are; copy = known.copy; newest = known.newest; last = known.last; had = known.had; unpushed = known.unpushed };
+      fits = record {
+        living = record { at = fits.living.at };
+        fits = λ c row is. let fit = fits.fits c row is in record { known = fit.known; pages = fit.pages; had = fit.had };
+        stands = fits.stands;
+      };
+    }
+
 matches_roomier : (header : Header) (h : ℕ) (rooms : Rooms) (k : Parts) (ids : Ids) (gone : List Entry) (past : List Event) → Matches header h k ids gone past
     → Matches header h (with_rooms rooms k) ids gone past
 matches_roomier header h rooms k ids gone past was = record {
@@ -259,9 +299,9 @@ matches_roomier header h rooms k ids gone past was = record {
       kinds = kinds_roomier k.memory.objects rooms.objects rooms.marks header k.chains rooms.shadows was.core.objects.kinds;
       files = was.core.objects.files;
       sizes = record { at = was.core.objects.sizes.at; few = was.core.objects.sizes.few };
-      plain = was.core.objects.plain;
       undelayed = was.core.objects.undelayed;
     };
+    copied = copied_roomier rooms k.copies k.memory k.chains was.core.copied;
     controls = controls_roomier k.memory.objects rooms.objects rooms.marks _ h _ _ _ _ was.core.controls;
     flags = was.core.flags;
     pages = record {
@@ -283,7 +323,7 @@ rests_roomier header h rooms k ids past was = record {
   matches = matches_roomier header h rooms k ids [] past was.matches;
   used = uses_roomier header rooms k past was.used;
   referred = all_referred_roomier k.memory.objects rooms.objects rooms.marks k.chains k.memory.resident rooms.shadows rooms.rows was.referred;
-  thin = thin_roomier k.memory.objects rooms.objects rooms.marks k.chains rooms.shadows was.thin;
+  thin = thin_roomier k.memory.objects rooms.objects rooms.marks k.chains rooms.shadows rooms.copies was.thin;
   waits = waiters_roomier header h rooms k woken.Nobody past was.waits;
   order = was.order;
   idle = was.idle;

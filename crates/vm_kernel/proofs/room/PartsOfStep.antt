@@ -205,6 +205,7 @@ begun_spends {mid = mid} w k waits before after is same none told room =
       rows = omega (arith, more, framed);
       shadows = omega arith;
       objects = omega arith;
+      copies = omega arith;
     }
 
 pub few_behind : {a b c : ℕ} → a ≤ b → b ≤ c → a ≤ c
@@ -245,6 +246,16 @@ pub begun_leaves : {A B : Type 0} (r : Result A B) (more : ℕ) (old new : Parts
     → OnOk r (Leaves more new room)
 begun_leaves (Ok x) more old new room left keeps has skip = (left, (omega (arith, keeps.0, has), omega (arith, keeps.1.0, keeps.1.1, skip)))
 begun_leaves (Err e) more old new room left keeps has skip = tt
+
+-- what the accesses that are run leave behind what keeps its buffers
+pub leaves_behind : {A B : Type 0} (r : Result A B) (more : ℕ) (old mid new : Parts) (room : ℕ) → HasRoom more new room → KeepsSpare old mid
+    → OnOk r (KeepsSpare mid new) → HasBuffers old → length old.waits.rows + 1 < vec_capacity old.skip → OnOk r (Leaves more new room)
+leaves_behind (Ok x) more old mid new room left first next has skip =
+    let keeps = spare_both old mid new first next in
+    let buffers = ap (λ z. z.count) keeps.buffers in
+    let list = ap vec_capacity keeps.skip in
+    (left, (omega (arith, buffers, has), omega (arith, list, keeps.fewer, skip)))
+leaves_behind (Err e) more old mid new room left first next has skip = tt
 
 -- a list with room for one access more has room
 pub skip_fewer : (k : Parts) → length k.waits.rows + 1 < vec_capacity k.skip → IsSkipRoom k

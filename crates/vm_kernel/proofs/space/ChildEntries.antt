@@ -2,7 +2,8 @@
 use Rattle.vm_kernel.proofs.Common.{AllRows, Bool, Entry, Event, InOrder, List, Some, TaskId, [], ap, append_assoc, arith}
 use Rattle.vm_kernel.proofs.Common.{entry_at, false, if◌then◌else◌, meets_range, nat_le, nat_lt, nat_tests, Option, refl, reverse, reverse-append, slice_get}
 use Rattle.vm_kernel.proofs.Common.{slice_get_within, subst, suc, sym, true, zero, ℕ, ◌&&◌, ◌++◌, ◌+◌, ◌||◌, ◌∙◌, ◌∷◌, ◌≡◌, ◌≤◌}
-use Rattle.vm_legal.specs.Follows.{inherits, inherits_all, next_behind}
+use Rattle.vm_kernel.proofs.Common.{Header}
+use Rattle.vm_legal.specs.Follows.{inherits, inherits_all, next_behind, object_behind}
 use Rattle.vm_parts.proofs.Rows.{some_is}
 
 -- entries that end in front of another
@@ -43,14 +44,17 @@ found_first from to (first ∷ rows) (suc i) row order found =
     passes false rest is = is
 
 -- what is left to tell, where what is told of one entry was added
-pub told_next : (size : ℕ) (child : TaskId) (next next2 : ℕ) (row : Entry) (rest : List Entry) (first mine events after : List Event)
-    → inherits row.inherit size child next row ≡ mine → next_behind row.inherit next ≡ next2
-    → reverse first ≡ reverse (inherits_all size child next (row ∷ rest)) ++ events → after ≡ reverse mine ++ events
-    → reverse first ≡ reverse (inherits_all size child next2 rest) ++ after
-told_next size child next next2 row rest first mine events after own behind told more =
+pub told_next : (header : Header) (child : TaskId) (next next2 object object2 : ℕ) (row : Entry) (rest : List Entry) (first mine events after : List Event)
+    → inherits row.inherit header child next object row ≡ mine → next_behind row.inherit next ≡ next2
+    → object_behind row.inherit header row.region object ≡ object2
+    → reverse first ≡ reverse (inherits_all header child next object (row ∷ rest)) ++ events → after ≡ reverse mine ++ events
+    → reverse first ≡ reverse (inherits_all header child next2 object2 rest) ++ after
+told_next header child next next2 object object2 row rest first mine events after own behind over told more =
     told
-    ∙ (ap (λ (z : List Event). reverse (z ++ inherits_all size child (next_behind row.inherit next) rest) ++ events) own
-    ∙ (ap (λ (z : ℕ). reverse (mine ++ inherits_all size child z rest) ++ events) behind
-    ∙ (ap (λ (z : List Event). z ++ events) (reverse-append mine (inherits_all size child next2 rest))
-    ∙ (append_assoc (reverse (inherits_all size child next2 rest)) (reverse mine) events
-    ∙ ap (λ (z : List Event). reverse (inherits_all size child next2 rest) ++ z) (sym more)))))
+    ∙ (ap (λ (z : List Event). reverse (z ++ inherits_all header child (next_behind row.inherit next) (object_behind row.inherit header row.region object) rest)
+    ++ events) own
+    ∙ (ap (λ (z : ℕ). reverse (mine ++ inherits_all header child z (object_behind row.inherit header row.region object) rest) ++ events) behind
+    ∙ (ap (λ (z : ℕ). reverse (mine ++ inherits_all header child next2 z rest) ++ events) over
+    ∙ (ap (λ (z : List Event). z ++ events) (reverse-append mine (inherits_all header child next2 object2 rest))
+    ∙ (append_assoc (reverse (inherits_all header child next2 object2 rest)) (reverse mine) events
+    ∙ ap (λ (z : List Event). reverse (inherits_all header child next2 object2 rest) ++ z) (sym more))))))

@@ -4,7 +4,7 @@ use Rattle.vm_kernel.proofs.Common.{Ids, Inherit, IsInside, IsShared, KnowsHomes
 use Rattle.vm_kernel.proofs.Common.{RegionRow, Rests, Some, Starts, TaskId, Waiting, [], acting, all_tasks, ap, arith, code_where, copy_target, count_by}
 use Rattle.vm_kernel.proofs.Common.{count_on, cut_at_ends, entries_in, entries_in_row, entries_of, entry, eqb_tells, false, fills, has_entry, has_region, holds}
 use Rattle.vm_kernel.proofs.Common.{host_of, if◌then◌else◌, in_use, inheritance, inherited, inl, inr, is_copied, is_none, is_range, is_some, is_woken}
-use Rattle.vm_kernel.proofs.Common.{meets_declared, most_entries, named, next_page, next_region, not-false, protected, protection, refl, region_at}
+use Rattle.vm_kernel.proofs.Common.{meets_uncopied, most_entries, next_page, next_region, not-false, protected, protection, refl, region_at}
 use Rattle.vm_kernel.proofs.Common.{region_entries, removed, rows_in, rows_map, subst, suc, sym, tasks, true, unwrap_or, waiting, waiting_in, zero, ℕ, ◌&&◌}
 use Rattle.vm_kernel.proofs.Common.{◌*◌, ◌+◌, ◌-◌, ◌<◌, ◌==◌, ◌^◌, ◌||◌, ◌∙◌, ◌∷◌, ◌≡◌, ◌≤◌}
 use Rattle.vm_kernel.proofs.space.RegionsFilled.{recount_filled, same_waiting}
@@ -33,7 +33,8 @@ use Rattle.vm_kernel.proofs.abroad.OwnHost.{lives_in, rows_here}
 use Rattle.vm_kernel.proofs.space.SharedEntries.{shared_changed, shared_inherited, shared_protected}
 use Rattle.vm_kernel.proofs.controls.LockReplied.{replied_behind}
 use Rattle.vm_state.specs.Passed.{IsUnmet, StaysAway}
-use Rattle.vm_kernel.specs.Matches.{Core, Objects, control_facts, memory_facts, object_facts, space_facts}
+use Rattle.vm_kernel.proofs.space.CopiesEnd.{copied_chains}
+use Rattle.vm_kernel.specs.Matches.{Copied, Core, Objects, control_facts, memory_facts, object_facts, space_facts}
 use Rattle.vm_kernel.proofs.space.StillThin.{thin_chains}
 use Rattle.vm_merge.specs.Merges.{IsThin}
 
@@ -101,11 +102,12 @@ none_among r rows made own none = by (count_on r made) refl
 pub record Changed (header : Header) (h : ℕ) (past : List Event) (k : Parts) (ids : Ids) (maps : Mapped) (chains : ChainTable) (lost : List Entry) : Type 0
   where
     pub objects : Objects header h chains k.memory.objects ids (object_facts header past)
+    pub copied : Copied k.copies k.memory chains (object_facts header past) (memory_facts header h past).pushed
     pub entries : HasEntries header.size maps chains lost
     pub homes : KnowsHomes header h chains past
     pub used : AllUsed header maps chains k.memory.resident k.waits.rows (λ t. next_page t past) (λ t. copy_target t past)
     pub referred : AllReferred chains k.memory.objects k.memory.resident
-    pub thin : IsThin chains k.memory.objects
+    pub thin : IsThin k.copies chains k.memory.objects
     pub waits : HasWaiters maps chains k.copies k.memory.resident k.memory.objects k.waits.rows (is_woken woken.Nobody) (λ t. waiting t past)
         (StaysAway header h past)
         (IsUnmet header h past)
@@ -121,6 +123,7 @@ changed_by header h past k ids maps chains task rows lost more rests idle change
     let is = raised_recounts more k.chains chains up in
     record {
       objects = objects_recounted count is m.core.objects;
+      copied = copied_chains up.shadows m.core.copied;
       entries =
           entries_changed header.size task k.maps maps k.chains chains count rows lost m.core.spaces.entries changes lives is
           (λ r there. let sum = cuts.sums r in omega arith) cuts.inside cuts.known cuts.few;
@@ -189,7 +192,7 @@ uses_kept header h past k ids maps task two more rests changes lives cuts own =
 core_rewritten : {header : Header} {h : ℕ} {past : List Event} {k : Parts} {ids : Ids} {maps : Mapped} {chains : ChainTable} {more : List Entry} (task : ℕ)
     (f : List Entry → List Entry) → Rests header h k ids past → Changed header h past k ids maps chains []
     → ChangesOnly k.maps maps task (Some (f (rows_in task k.maps))) → entries_in task k.maps ≡ Some (rows_in task k.maps)
-    → Cuts header.size k.chains (rows_in task k.maps) (f (rows_in task k.maps)) [] more → AllRows (IsShared (named header)) (f (rows_in task k.maps))
+    → Cuts header.size k.chains (rows_in task k.maps) (f (rows_in task k.maps)) [] more → AllRows (IsShared header) (f (rows_in task k.maps))
     → Core header h (record k { maps = maps; chains = chains }) ids []
     (record (space_facts header past) {
       entries = λ t. if task == t then f (entries_of header.size t past) else entries_of header.size t past;
@@ -206,11 +209,12 @@ core_rewritten {header = header} {h = h} {past = past} {k = k} {ids = ids} {maps
       spaces = record {
         tasks = tasks_changed h header.size task k.maps maps (λ t. host_of t past) (λ t. entries_of header.size t past) f core.spaces.tasks changes lives;
         entries = c.entries;
-        shared = shared_changed (named header) task k.maps maps (Some made) changes shared core.spaces.shared;
+        shared = shared_changed header task k.maps maps (Some made) changes shared core.spaces.shared;
         uses = uses_kept header h past k ids maps task made more rests changes lives cuts (λ t. f (entries_of header.size t past));
         homes = c.homes;
       };
       objects = c.objects;
+      copied = c.copied;
       controls = core.controls;
       flags = core.flags;
       pages = core.pages;
@@ -287,7 +291,7 @@ ran_protect header h outside task address bytes prot past events k ids maps chai
       matches =
           record {
             core = core_rewritten task.0 (protected header.size address bytes prot) s.rests c same lives cuts
-                (shared_protected (named header) header.size address bytes prot rows (m.core.spaces.shared task.0));
+                (shared_protected header header.size address bytes prot rows (m.core.spaces.shared task.0));
             settled = record { none_owed = refl; shut = λ region. refl };
             replied = replied_behind tt m.replied;
           };
@@ -315,11 +319,11 @@ ran_protect header h outside task address bytes prot past events k ids maps chai
       done = tt;
     }
 
--- here no entry on a declared object is in a range that a fork is to copy, too
+-- here no entry on a shared or wild object is in a range that a fork is to copy, too
 pub may_inherit : {header : Header} {h : ℕ} {task : TaskId} {address bytes : ℕ} {inherit : Inherit} {past events : List Event} {k : Parts} {ids : Ids}
     → Starts header h (command.Inherit task address bytes inherit) past k ids events
     → MayCut address bytes (inherited header.size address bytes inherit (rows_in task.0 k.maps))
-    × ((is_copied inherit && meets_declared (named header) address bytes (rows_in task.0 k.maps)) ≡ false)
+    × ((is_copied inherit && meets_uncopied header address bytes (rows_in task.0 k.maps)) ≡ false)
 may_inherit {header = header} {task = task} {address = address} {bytes = bytes} {inherit = inherit} {past = past} {k = k} s =
     let m = s.rests.matches in
     let rows = entries_of header.size task.0 past in
@@ -327,7 +331,7 @@ may_inherit {header = header} {task = task} {address = address} {bytes = bytes} 
     let full = are_too_many (inherited header.size address bytes inherit rows) in
     let last = code_where full code.TableFull None in
     let next = code_where (not (is_mapped header.size address bytes rows)) code.InvalidAddress last in
-    let met = is_copied inherit && meets_declared (named header) address bytes rows in
+    let met = is_copied inherit && meets_uncopied header address bytes rows in
     let first = passed (not (is_range header.size address bytes) || met) code.InvalidArgument next (acted task.0 past _ s.accepted) in
     let both = or_parts (not (is_range header.size address bytes)) met first.0 in
     let second = passed (not (is_mapped header.size address bytes rows)) code.InvalidAddress last first.1 in
@@ -335,7 +339,7 @@ may_inherit {header = header} {task = task} {address = address} {bytes = bytes} 
       may_cut header.size address bytes (inherited header.size address bytes inherit (rows_in task.0 k.maps))
           (not-false (is_range header.size address bytes) both.0)
           (ap (λ z. are_too_many (inherited header.size address bytes inherit z)) own ∙ third.0),
-      ap (λ (z : List Entry). is_copied inherit && meets_declared (named header) address bytes z) own ∙ both.1,
+      ap (λ (z : List Entry). is_copied inherit && meets_uncopied header address bytes z) own ∙ both.1,
     )
 
 pub ran_inherit : (header : Header) (h : ℕ) (outside : Outside) (task : TaskId) (address bytes : ℕ) (inherit : Inherit) (past events : List Event) (k : Parts)
@@ -368,7 +372,7 @@ ran_inherit header h outside task address bytes inherit past events k ids maps c
       matches =
           record {
             core = core_rewritten task.0 (inherited header.size address bytes inherit) s.rests c same lives cuts
-                (shared_inherited (named header) header.size address bytes inherit rows (m.core.spaces.shared task.0) may.1);
+                (shared_inherited header header.size address bytes inherit rows (m.core.spaces.shared task.0) may.1);
             settled = record { none_owed = refl; shut = λ region. refl };
             replied = replied_behind tt m.replied;
           };

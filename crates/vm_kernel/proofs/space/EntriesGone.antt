@@ -16,6 +16,7 @@ use Rattle.vm_kernel.proofs.memory.PagesShown.{itself}
 use Rattle.vm_state.proofs.Changing.{Recounts, row_before}
 use Rattle.vm_kernel.proofs.space.CountsChanged.{entries_are, has_same, next_row, recounts_put}
 use Rattle.vm_kernel.proofs.space.RegionRows.{region_row, tops_recounted}
+use Rattle.vm_kernel.proofs.space.CopiesEnd.{copied_regions}
 use Rattle.vm_kernel.proofs.space.RegionCases.{region_cases}
 use Rattle.vm_state.proofs.Waited.{waits_kept}
 
@@ -82,6 +83,7 @@ runs_less header h outside doing past k ids entry rest events chains s put =
             homes = recount_homes count header h k.chains chains moment is m.core.spaces.homes;
           };
           objects = objects_recounted count is m.core.objects;
+          copied = copied_regions put.shadows m.core.copied;
           controls = m.core.controls;
           flags = m.core.flags;
           pages = m.core.pages;

@@ -32,7 +32,6 @@ objects_recounted {header = header} {cs = cs} {cs2 = cs2} {os = os} {ids = ids} 
       kinds = kinds_recounted header count os cs cs2 is objects.kinds;
       files = objects.files;
       sizes = objects.sizes;
-      plain = objects.plain;
       undelayed = objects.undelayed;
     }
 

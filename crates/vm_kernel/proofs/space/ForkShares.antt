@@ -2,7 +2,7 @@
 use Rattle.vm_kernel.specs.Changes.{CanEnter}
 use Rattle.vm_kernel.proofs.Common.{Access, AllRows, AreEntries, CanShare, ChainTable, ChangesOnly, Command, Enters, Entry, Event, HasEntries, HasWaiters}
 use Rattle.vm_kernel.proofs.Common.{HasWholePages, HaveHomes, Header, Ids, InOrder, IsFilledIn, IsInside, IsShared, IsSome, List, Mapped, None, Option, Outside}
-use Rattle.vm_kernel.proofs.Common.{Parts, PutsEntries, Ran, RegionRow, Rests, Shares, Some, Starts, Target, TaskId, Waiting, [], all_tasks, ap, arith}
+use Rattle.vm_kernel.proofs.Common.{Parts, PutsEntries, RegionRow, Rests, Shares, Some, Starts, Target, TaskId, Waiting, Works, [], all_tasks, ap, arith}
 use Rattle.vm_kernel.proofs.Common.{code_where, copies, copy_target, count_again, count_by, drop, entered, entries_in, entries_in_row, entries_of, entry}
 use Rattle.vm_kernel.proofs.Common.{entry_at, eqb_tells, false, got, has_entry, has_region, head, holds, host_id, host_of, if◌then◌else◌, in_use, inl, inr}
 use Rattle.vm_kernel.proofs.Common.{is_copied, is_filled, is_fork_full, is_none, is_range, is_some, is_woken, length, length_entered, lives_on, most_entries}
@@ -20,7 +20,8 @@ use Rattle.vm_abroad.proofs.Home.{object_stays}
 use Rattle.vm_base.specs.declared.code.Code.TheVariants as code
 use Rattle.vm_base.specs.declared.ids.Inherit.TheVariants as inherit
 use Rattle.vm_base.specs.declared.ids.RegionId.{RegionId}
-use Rattle.vm_legal.specs.Follows.{inherits, inherits_all, next_behind}
+use Rattle.vm_legal.specs.Follows.{copied_late, inherits, inherits_all, next_behind, object_behind}
+use Rattle.vm_model.specs.Regions.{next_object}
 use Rattle.vm_model.specs.declared.event.Event.TheVariants as event
 use Rattle.vm_model.specs.declared.command.Command.TheVariants as command
 use Rattle.vm_state.proofs.Changing.{SameButEntries, regions_recounted}
@@ -33,17 +34,19 @@ use Rattle.vm_state.proofs.Referring.{small_region}
 use Rattle.vm_state.proofs.Waited.{told_changed, waits_changed}
 use Rattle.vm_state.specs.Places.{with_entries}
 use Rattle.vm_supply.specs.declared.woken.Woken.TheVariants as woken
+use Rattle.vm_kernel.specs.Begun.{HasBegun}
 use Rattle.vm_kernel.specs.Forking.{EntersCopy, entry_on}
 use Rattle.vm_kernel.proofs.space.CopiesCounted.{drop_past}
-use Rattle.vm_kernel.proofs.space.RegionCopied.{MayCopy, copied, free_of, heads_copied, heads_more, keeps_recounted, no_row, rests_copied, same_put}
+use Rattle.vm_kernel.proofs.space.RegionCopied.{IsFrom, MayCopy, copied, free_of, heads_copied, heads_more, keeps_recounted, no_row, same_put, works_copied}
 use Rattle.vm_kernel.proofs.space.RegionCopied.{told_copied, used_there}
 use Rattle.vm_kernel.proofs.space.EntriesCounted.{by_few, most_is, none_on, on_entered, one_on}
 use Rattle.vm_kernel.proofs.space.ChildEntries.{found_first, free_behind, told_next}
 use Rattle.vm_maps.proofs.Pages.{whole_at}
 use Rattle.vm_kernel.proofs.steps.EventsGrow.{suffices}
-use Rattle.vm_kernel.proofs.steps.HeadAlone.{Heads, ran_head}
+use Rattle.vm_kernel.proofs.steps.HeadAlone.{Heads, grows_head}
+use Rattle.vm_kernel.proofs.steps.QueueServed.{rests_of, works_at_rest}
 use Rattle.vm_legal.proofs.Heads.{passed}
-use Rattle.vm_kernel.proofs.space.TaskMade.{rests_made}
+use Rattle.vm_kernel.proofs.space.TaskMade.{works_made}
 use Rattle.vm_kernel.proofs.abroad.OwnEvents.{own_new, own_task}
 use Rattle.vm_kernel.proofs.abroad.OwnHost.{free_in, lives_here, lives_in, named_host, rows_here}
 use Rattle.vm_kernel.proofs.space.CountsChanged.{has_same, next_row, pages_same, recounts_put, row_among}
@@ -53,6 +56,7 @@ use Rattle.vm_kernel.proofs.space.TaskTables.{Keeps, entries_changed, inside_kep
 use Rattle.vm_kernel.proofs.space.SharedEntries.{kinds_recounted, shared_entered}
 use Rattle.vm_kernel.proofs.space.EntriesRewritten.{lives_below, recount_homes}
 use Rattle.vm_kernel.proofs.controls.LockReplied.{replied_behind}
+use Rattle.vm_kernel.proofs.space.CopiesEnd.{copied_regions}
 use Rattle.vm_state.specs.Passed.{IsUnmet, StaysAway}
 use Rattle.vm_kernel.proofs.memory.PageReturned.{controls_stay}
 use Rattle.vm_kernel.proofs.space.RegionHomes.{homes_caused}
@@ -68,7 +72,7 @@ pub record MayShare (header : Header) (task : ℕ) (row : Entry) (past : List Ev
   pub free : CanEnter task row k
   pub pages : row.offset + row.bytes / k.maps.size < 2 ^ 32
   pub inside : IsInside header.size k.chains row
-  pub shared : IsShared (named header) row
+  pub shared : IsShared header row
 
 pub lives_some : (o : Option (List Entry)) (rows : List Entry) → o ≡ Some rows → IsSome o
 lives_some None rows is = absurd (let bad : None ≡ Some rows = is in cc)
@@ -87,15 +91,15 @@ few_entries size maps chains r has there =
     (by_few all_tasks r most_entries maps has.few) in
     omega (arith, same, has.counts r row.0 row.1, most)
 
-pub can_share : (header : Header) (h task : ℕ) (row : Entry) (past : List Event) (k : Parts) (ids : Ids) → Rests header h k ids past
-    → MayShare header task row past k → CanShare task row k
-can_share header h task row past k ids rests may =
+pub can_share : (header : Header) (h task : ℕ) (row : Entry) (past : List Event) (k : Parts) (ids : Ids)
+    → Works header h k ids woken.Nobody past → MayShare header task row past k → CanShare task row k
+can_share header h task row past k ids works may =
     record {
       lives = lives_some (entries_in task k.maps) (rows_in task k.maps) may.lives;
       free = may.free;
       pages = may.pages;
       region = may.inside.region;
-      few = few_entries header.size k.maps k.chains row.region.0 rests.matches.core.spaces.entries may.inside.region;
+      few = few_entries header.size k.maps k.chains row.region.0 works.matches.core.spaces.entries may.inside.region;
     }
 
 -- the counts of the regions, where one has an entry more
@@ -152,13 +156,13 @@ unfilled_declared header r (task ∷ others) past declared homes =
     (unfilled_declared header r others past declared homes)
 
 -- the entry has its cause
-pub share_enters : (header : Header) (h : ℕ) (task : TaskId) (row : Entry) (past : List Event) (k : Parts) (ids : Ids) → Rests header h k ids past
-    → MayShare header task.0 row past k → Enters header task.0 row.bytes row.region.0 row.offset past
-share_enters header h task row past k ids rests may =
-    let m = rests.matches in
+pub share_enters : (header : Header) (h : ℕ) (task : TaskId) (row : Entry) (past : List Event) (k : Parts) (ids : Ids)
+    → Works header h k ids woken.Nobody past → MayShare header task.0 row past k → Enters header task.0 row.bytes row.region.0 row.offset past
+share_enters header h task row past k ids works may =
+    let m = works.matches in
     let r = row.region.0 in
     let there = region_row k.chains r may.inside.region in
-    let used = used_there header h k ids past r there.0 rests there.1 in
+    let used = used_there header h k ids past r there.0 works there.1 in
     let pages : (region_of header r past).pages ≡ region_pages k.chains r = ap (λ z. z.pages) (m.core.objects.regions.rows r there.0 there.1)
     ∙ sym (ap pages_in there.1) in
     let inside = may.inside.inside.whole in
@@ -173,18 +177,18 @@ share_enters header h task row past k ids rests may =
       file = λ is. used (file_paged header r is);
       unfilled = elim (kind_cases header r) [
         | inl declared ↦ unfilled_declared header r (tasks past) past declared m.core.spaces.homes.1
-        | inr temporary ↦ unfilled header.size r (tasks past) k.maps k.waits.rows past (fills_here {past = past} rests.waits rests.used.copies)
-            (counted_unfilled r there.0 rests.used.copies there.1 (subst (λ (z : ℕ). 0 < z) (ap entries_in_row there.1) may.counted))
+        | inr temporary ↦ unfilled header.size r (tasks past) k.maps k.waits.rows past (fills_here {past = past} works.waits works.used.copies)
+            (counted_unfilled r there.0 works.used.copies there.1 (subst (λ (z : ℕ). 0 < z) (ap entries_in_row there.1) may.counted))
             (λ t none. m.core.spaces.uses.apart t r none (inl (used (paged_temporary header r temporary))))
       ];
     }
 
 -- the kernel behind the entry
-pub rests_shared : (header : Header) (h : ℕ) (outside : Outside) (doing : Command) (task : TaskId) (row : Entry) (past : List Event) (k k2 : Parts) (ids : Ids)
-    (before after : List Event) → Rests header h k ids past → MayShare header task.0 row past k
-    → Shares task row k k2 before after → Rests header h k2 ids (got task row ∷ past)
-rests_shared header h outside doing task row past k k2 ids before after rests may s =
-    let m = rests.matches in
+pub works_shared : (header : Header) (h : ℕ) (outside : Outside) (doing : Command) (task : TaskId) (row : Entry) (past : List Event) (k k2 : Parts) (ids : Ids)
+    (before after : List Event) → Works header h k ids woken.Nobody past → MayShare header task.0 row past k
+    → Shares task row k k2 before after → Works header h k2 ids woken.Nobody (got task row ∷ past)
+works_shared header h outside doing task row past k k2 ids before after works may s =
+    let m = works.matches in
     let size = header.size in
     let r = row.region.0 in
     let e = got task row in
@@ -194,33 +198,34 @@ rests_shared header h outside doing task row past k k2 ids before after rests ma
     let below = lives_below size task.0 k.maps k.chains [] m.core.spaces.entries lives in
     let free = free_of k.maps.size row (rows_in task.0 k.maps) may.free in
     let waits_at = λ (t : ℕ). waiting t past in
-    let none = no_row k.maps.size (entry k.waits.rows task.0) (waiting task.0 past) (rests.waits.is task.0 (ap is_some lives)) may.idle in
+    let none = no_row k.maps.size (entry k.waits.rows task.0) (waiting task.0 past) (works.waits.is task.0 (ap is_some lives)) may.idle in
+    let copied_now = copied_regions s.counts.shadows m.core.copied in
     let now_waits : HasWaiters k2.maps k2.chains k.copies k.memory.resident k.memory.objects k.waits.rows (is_woken woken.Nobody) waits_at
     (StaysAway header h past)
     (IsUnmet header h past) =
     waits_changed k.maps k2.maps k.chains k2.chains k.memory.resident k.memory.objects k.waits.rows (is_woken woken.Nobody) waits_at task.0
-    (Some (entered row (rows_in task.0 k.maps))) rests.waits s.maps none (keeps_recounted k.chains k2.chains recount)
-    (told_changed k.maps k2.maps k.waits.rows waits_at task.0 (rows_in task.0 k.maps) (Some (entered row (rows_in task.0 k.maps))) rests.waits.is s.maps
+    (Some (entered row (rows_in task.0 k.maps))) works.waits s.maps none (keeps_recounted k.chains k2.chains recount)
+    (told_changed k.maps k2.maps k.waits.rows waits_at task.0 (rows_in task.0 k.maps) (Some (entered row (rows_in task.0 k.maps))) works.waits.is s.maps
     lives) in
     record {
       matches =
           record {
             core = record {
-              setting = rw (s.size, s.host, s.declared, s.copied) m.core.setting;
+              setting = rw (s.size, s.host, s.declared) m.core.setting;
               calm = m.core.calm;
               fits = rw (s.memory, s.size) m.core.fits;
               spaces = record {
                 tasks = tasks_entered h size k.maps k2.maps past task row m.core.spaces.tasks s.maps lives;
                 entries = entries_share size k.maps k2.maps k.chains k2.chains task.0 row m.core.spaces.entries may.inside s.counts s.maps below free.room;
-                shared = shared_entered (named header) task.0 k.maps k2.maps row s.maps may.shared m.core.spaces.shared;
+                shared = shared_entered header task.0 k.maps k2.maps row s.maps may.shared m.core.spaces.shared;
                 uses = rw s.waits (uses_entered header k.maps k2.maps (λ q. in_use header h q past) (tasks past) (λ t q. holds header.size t q (e ∷ past))
                     (next_region header past) task.0 row (lives_on h task.0 past) (λ q temporary apart. m.core.spaces.uses.used q temporary)
-                    (λ q file apart some. m.core.spaces.uses.files q file some) (used_there header h k ids past r there.0 rests there.1)
+                    (λ q file apart some. m.core.spaces.uses.files q file some) (used_there header h k ids past r there.0 works there.1)
                     m.core.spaces.uses.among s.maps lives below
                     (m.core.spaces.tasks.hosts task.0 ∙ ap is_some lives)
                     (λ t q away why. holds_rows header.size task.0 t q k.maps (rows_in task.0 k.maps) _ past lives away
                     ∙ m.core.spaces.uses.apart t q away why));
-                homes = homes_caused header outside h k2.chains e past (doing, share_enters header h task row past k ids rests may)
+                homes = homes_caused header outside h k2.chains e past (doing, share_enters header h task row past k ids works may)
                     (recount_homes _ header h k.chains k2.chains past (recounts_put r (region_entries k.chains r + 1) k.chains k2.chains s.counts)
                     m.core.spaces.homes);
               };
@@ -232,9 +237,9 @@ rests_shared header h outside doing task row past k k2 ids before after rests ma
                     files_entered header h task row k.memory.objects past (λ file. m.core.spaces.homes.0 r there.0 (file_paged header r file) there.1)
                     m.core.objects.files;
                 sizes = m.core.objects.sizes;
-                plain = m.core.objects.plain;
                 undelayed = m.core.objects.undelayed;
               });
+              copied = rw (s.memory, s.copied) (record { known = copied_now.known; fits = copied_now.fits });
               controls = rw s.memory (controls_stay (λ o at_home. object_stays o h e past at_home) m.core.controls);
               flags = rw s.memory m.core.flags;
               pages = rw (s.memory, s.laundry) m.core.pages;
@@ -243,18 +248,17 @@ rests_shared header h outside doing task row past k k2 ids before after rests ma
             replied = replied_behind tt m.replied;
           };
       used = rw (s.memory, s.waits) (record {
-        regions = used_share r (region_entries k.chains r) there.0 k.chains k2.chains k.waits.rows there.1 s.counts rests.used.regions;
+        regions = used_share r (region_entries k.chains r) there.0 k.chains k2.chains k.waits.rows there.1 s.counts works.used.regions;
         copies =
-            copies_kept k.maps k2.maps k.chains k2.chains k.memory.resident k.memory.resident rests.used.copies
+            copies_kept k.maps k2.maps k.chains k2.chains k.memory.resident k.memory.resident works.used.copies
             (same_waiting k.maps k2.maps task.0 (Some (entered row (rows_in task.0 k.maps))) k.waits.rows s.maps none)
             (recount_filled _ k.chains k2.chains (recounts_put r (region_entries k.chains r + 1) k.chains k2.chains s.counts) none_counted)
             (rows_unmade k.chains k.memory.resident);
       });
-      referred = rw s.memory (referred_recounted k.chains k2.chains k.memory.objects k.memory.resident recount rests.referred);
-      thin = rw s.memory (thin_chains k.chains k2.chains k.memory.objects recount.recounts.shadows rests.thin);
+      referred = rw s.memory (referred_recounted k.chains k2.chains k.memory.objects k.memory.resident recount works.referred);
+      thin = rw (s.memory, s.copied) (thin_chains k.chains k2.chains k.memory.objects recount.recounts.shadows works.thin);
       waits = rw (s.memory, s.waits, s.copied) now_waits;
-      order = rw s.waits rests.order;
-      idle = ap (λ z. count_again z.rows) s.waits ∙ rests.idle;
+      order = rw s.waits works.order;
     }
   where
     none_counted : (q : ℕ) → has_region k.chains q ≡ true → region_entries k.chains q ≡ 0
@@ -263,6 +267,15 @@ rests_shared header h outside doing task row past k k2 ids before after rests ma
       | inl same ↦ let some = may.counted in let that = ap (region_entries k.chains) same.1 in absurd (omega (arith, some, that, none_q))
       | inr apart ↦ ap (λ b. if b then region_entries k.chains row.region.0 + 1 else region_entries k.chains q) apart.0 ∙ none_q
     ]
+
+-- at the end of a step
+pub rests_shared : (header : Header) (h : ℕ) (outside : Outside) (doing : Command) (task : TaskId) (row : Entry) (past : List Event) (k k2 : Parts) (ids : Ids)
+    (before after : List Event) → Rests header h k ids past → MayShare header task.0 row past k
+    → Shares task row k k2 before after → Rests header h k2 ids (got task row ∷ past)
+rests_shared header h outside doing task row past k k2 ids before after rests may s =
+    rests_of header h k2 ids (got task row ∷ past)
+    (works_shared header h outside doing task row past k k2 ids before after (works_at_rest rests) may s)
+    (ap (λ z. count_again z.rows) s.waits ∙ rests.idle)
 
 -- The fork.
 
@@ -294,14 +307,14 @@ may_fork header h task child past k ids events s =
 
 -- what a fork tells
 abbrev pub forked : Header → ℕ → TaskId → List Entry → List Event → List Event
-forked header h child rows past = event.TaskMade child (host_id h) ∷ inherits_all header.size child (next_region header past) rows
+forked header h child rows past = event.TaskMade child (host_id h) ∷ inherits_all header child (next_region header past) (next_object header past) rows
 
 -- So many entries of the forked task were given to its child, or weren't to be: the child's end in front of the others, which fit, and
 -- what is left to tell is told of the others.
 pub record HasForked (header : Header) (h : ℕ) (outside : Outside) (task child : TaskId) (rows : List Entry) (i : ℕ) (past : List Event) (k : Parts) (ids : Ids)
     (events : List Event) : Type 0 where
   pub apart : task.0 ≢ child.0
-  pub rests : Rests header h k ids (events ++ past)
+  pub works : Works header h k ids woken.Nobody (events ++ past)
   pub heads : Heads header h outside (command.Fork task child) past events
   pub others : entries_in task.0 k.maps ≡ Some rows
   pub lives : entries_in child.0 k.maps ≡ Some (rows_in child.0 k.maps)
@@ -311,7 +324,7 @@ pub record HasForked (header : Header) (h : ℕ) (outside : Outside) (task child
   pub few : length (rows_in child.0 k.maps) ≤ i
   pub idle : waiting child.0 (events ++ past) ≡ None
   pub room : HasRoom header (drop i rows) (events ++ past)
-  pub told : reverse (forked header h child rows past) ≡ reverse (inherits_all header.size child ids.next_region (drop i rows)) ++ events
+  pub told : reverse (forked header h child rows past) ≡ reverse (inherits_all header child ids.next_region ids.next_object (drop i rows)) ++ events
 
 -- nothing has been given yet
 pub fork_start : (header : Header) (h : ℕ) (outside : Outside) (task child : TaskId) (past : List Event) (k : Parts) (ids : Ids) (before after : List Event)
@@ -330,7 +343,7 @@ fork_start header h outside task child past k ids before after maps s changes li
     subst (λ (z : List Event). HasForked header h outside task child rows 0 past (record k { maps = maps }) ids z) (sym log)
     (record {
       apart = apart;
-      rests = rests_made header h child past k ids maps s.rests changes may.free s.range.1;
+      works = works_made header h child past k ids maps (works_at_rest s.rests) changes may.free s.range.1;
       heads =
           heads_more header h outside (command.Fork task child) past [] e (record
           { licensed = tt; own_bytes = tt; frames = tt; inner = tt; said = tt; mine = tt })
@@ -353,24 +366,25 @@ fork_start header h outside task child past k ids before after maps s changes li
       idle = not_begun child.0 (waiting child.0 past);
       room = room_more header rows past (e ∷ past) refl refl (λ r. refl) may.room;
       told =
-          reverse-append (e ∷ []) (inherits_all header.size child (next_region header past) rows)
-          ∙ ap (λ (z : ℕ). reverse (inherits_all header.size child z rows) ++ e ∷ []) (sym m.core.objects.regions.region);
+          reverse-append (e ∷ []) (inherits_all header child (next_region header past) (next_object header past) rows)
+          ∙ (ap (λ (z : ℕ). reverse (inherits_all header child z (next_object header past) rows) ++ e ∷ []) (sym m.core.objects.regions.region)
+          ∙ ap (λ (z : ℕ). reverse (inherits_all header child ids.next_region z rows) ++ e ∷ []) (sym m.core.objects.regions.object));
     })
   where
     not_begun : (n : ℕ) (other : Option Access) → ◌≡◌ {A = Option Access} (if n == n then None else other) None
     not_begun n other = elim (eqb_tells n n) [ inl same ↦ ap (λ b. if b then None else other) same.0 | inr apart ↦ absurd (apart.1 refl) ]
 
 -- the next entry, as far as its place goes
-record IsNext (header : Header) (child : ℕ) (rows : List Entry) (i : ℕ) (row : Entry) (k : Parts) : Type 0 where
-  leads : has_entry row.region.0 rows ≡ true
-  inside : IsInside header.size k.chains row
-  shared : IsShared (named header) row
-  whole : HasWholePages k.maps.size row
-  free : CanEnter child row k
-  own : AllRows (λ mine. mine.address + mine.bytes ≤ row.address + row.bytes) (rows_in child k.maps)
-  order : InOrder (row.address + row.bytes) (2 ^ 32) (drop (i + 1) rows)
+pub record IsNext (header : Header) (child : ℕ) (rows : List Entry) (i : ℕ) (row : Entry) (k : Parts) : Type 0 where
+  pub leads : has_entry row.region.0 rows ≡ true
+  pub inside : IsInside header.size k.chains row
+  pub shared : IsShared header row
+  pub whole : HasWholePages k.maps.size row
+  pub free : CanEnter child row k
+  pub own : AllRows (λ mine. mine.address + mine.bytes ≤ row.address + row.bytes) (rows_in child k.maps)
+  pub order : InOrder (row.address + row.bytes) (2 ^ 32) (drop (i + 1) rows)
 
-is_next : (header : Header) (h : ℕ) (outside : Outside) (task child : TaskId) (rows : List Entry) (i : ℕ) (row : Entry) (past : List Event) (k : Parts)
+pub is_next : (header : Header) (h : ℕ) (outside : Outside) (task child : TaskId) (rows : List Entry) (i : ℕ) (row : Entry) (past : List Event) (k : Parts)
     (ids : Ids) (events : List Event) → HasForked header h outside task child rows i past k ids events
     → AreEntries k.maps.size rows → slice_get rows i ≡ Some row → IsNext header child.0 rows i row k
 is_next header h outside task child rows i row past k ids events f sound found =
@@ -380,7 +394,7 @@ is_next header h outside task child rows i row past k ids events f sound found =
     let whole = whole_at size i rows row sound.whole found in
     let here : rows_in task.0 k.maps ≡ rows = ap (λ z. unwrap_or z []) f.others in
     let inside = row_among (IsInside header.size k.chains) rows i row (subst (AllRows (IsInside header.size k.chains)) here
-    (f.rests.matches.core.spaces.entries.inside task.0)) found in
+    (f.works.matches.core.spaces.entries.inside task.0)) found in
     let low = inside.below in
     let some = inside.some in
     let even = whole.address in
@@ -397,11 +411,11 @@ is_next header h outside task child rows i row past k ids events f sound found =
       leads =
           (row_among (λ mine. IsInside header.size k.chains mine × (has_entry mine.region.0 rows ≡ true)) rows i row
           (rows_known (IsInside header.size k.chains) rows (subst (AllRows (IsInside header.size k.chains)) here
-          (f.rests.matches.core.spaces.entries.inside task.0)))
+          (f.works.matches.core.spaces.entries.inside task.0)))
           found).1;
       inside = inside;
       shared =
-          row_among (IsShared (named header)) rows i row (subst (AllRows (IsShared (named header))) here (f.rests.matches.core.spaces.shared task.0)) found;
+          row_among (IsShared header) rows i row (subst (AllRows (IsShared header)) here (f.works.matches.core.spaces.shared task.0)) found;
       whole = whole;
       free = rw (range, free, fits) refl;
       own =
@@ -417,7 +431,7 @@ pub may_share : (header : Header) (h : ℕ) (outside : Outside) (task child : Ta
 may_share header h outside task child rows i row past k ids events f sound found =
     let next = is_next header h outside task child rows i row past k ids events f sound found in
     let there = region_row k.chains row.region.0 next.inside.region in
-    let some = entry_some header.size row.region.0 task.0 k.maps k.chains [] there.0 f.rests.matches.core.spaces.entries there.1
+    let some = entry_some header.size row.region.0 task.0 k.maps k.chains [] there.0 f.works.matches.core.spaces.entries there.1
     (ap (has_entry row.region.0) (ap (λ z. unwrap_or z []) f.others) ∙ next.leads) in
     record {
       counted = subst (λ (z : ℕ). 0 < z) (sym (ap entries_in_row there.1)) some;
@@ -429,44 +443,35 @@ may_share header h outside task child rows i row past k ids events f sound found
       shared = next.shared;
     }
 
--- the next entry may be copied
-pub may_copy : (header : Header) (h : ℕ) (outside : Outside) (task child : TaskId) (rows : List Entry) (i : ℕ) (row : Entry) (past : List Event) (k : Parts)
+-- its region has entries, and the pages of this one
+pub record LeadsNext (header : Header) (row : Entry) (past : List Event) (k : Parts) : Type 0 where
+  pub pages : row.bytes / header.size < 2 ^ 32
+  pub region : RegionRow
+  pub there : region_at k.chains row.region.0 ≡ Some region
+  pub counted : 0 < region.entries
+  pub inside : row.offset + row.bytes / header.size ≤ region.pages
+  pub from : IsFrom header row.region.0 row.offset (row.bytes / header.size) past
+
+pub leads_next : (header : Header) (h : ℕ) (outside : Outside) (task child : TaskId) (rows : List Entry) (i : ℕ) (row : Entry) (past : List Event) (k : Parts)
     (ids : Ids) (events : List Event) → HasForked header h outside task child rows i past k ids events
-    → AreEntries k.maps.size rows → slice_get rows i ≡ Some row → row.inherit ≡ inherit.Copy
-    → MayCopy header child.0 row.region row.offset row (events ++ past) k
-may_copy header h outside task child rows i row past k ids events f sound found is =
-    let m = f.rests.matches in
+    → AreEntries k.maps.size rows → slice_get rows i ≡ Some row → LeadsNext header row (events ++ past) k
+leads_next header h outside task child rows i row past k ids events f sound found =
+    let m = f.works.matches in
     let size = header.size in
-    let before = events ++ past in
-    let rest = drop (i + 1) rows in
     let next = is_next header h outside task child rows i row past k ids events f sound found in
     let region = region_row k.chains row.region.0 next.inside.region in
     let pages : region_pages k.chains row.region.0 ≡ region.0.pages = ap pages_in region.1 in
     let inside = next.inside.inside.whole in
     let whole = next.whole.pages in
     let sized : row.bytes / k.maps.size ≡ row.bytes / size = ap (λ (z : ℕ). row.bytes / z) m.core.spaces.tasks.sized in
-    let room : HasRoom header (row ∷ rest) before = subst (λ (z : List Entry). HasRoom header z before) (next_row rows i row found) f.room in
-    let count : copies (row ∷ rest) ≡ copies rest + 1 = rw (ap is_copied is) refl in
-    let copy : RegionId = record { 0 = next_region header before } in
-    let small = small_region m.core.objects.regions row.region.0 region.0 region.1 in
-    let later = room_copied header row rest before copy (row.bytes / size) (ap is_copied is) refl small room in
-    let marks = marked_copied header before copy row.region row.offset (row.bytes / size) refl small in
-    let regions = room.regions in
-    let objects = later.objects in
     record {
-      lives = f.lives;
-      idle = f.idle;
-      free = next.free;
       pages = omega (arith, whole, sized);
       counted =
-          entry_some header.size row.region.0 task.0 k.maps k.chains [] region.0 m.core.spaces.entries region.1
+          entry_some size row.region.0 task.0 k.maps k.chains [] region.0 m.core.spaces.entries region.1
           (ap (has_entry row.region.0) (ap (λ z. unwrap_or z []) f.others) ∙ next.leads);
       region = region.0;
       there = region.1;
-      temporary = elim (kind_cases header row.region.0) [ inl declared ↦ absurd (next.shared declared is) | inr least ↦ least ];
       inside = omega (arith, inside, pages);
-      regions = omega (arith, regions, count);
-      objects = omega (arith, objects, marks);
       from =
           record {
             task = task.0;
@@ -485,63 +490,123 @@ may_copy header h outside task child rows i row past k ids events f sound found 
           };
     }
 
+-- the next entry stands first among those that are left, for which there is room, and of which is still to be told
+
+pub room_next : {header : Header} {h : ℕ} {outside : Outside} {task child : TaskId} {rows : List Entry} {i : ℕ} {row : Entry} {past events : List Event}
+    {k : Parts} {ids : Ids} → HasForked header h outside task child rows i past k ids events → slice_get rows i ≡ Some row
+    → HasRoom header (row ∷ drop (i + 1) rows) (events ++ past)
+room_next {header = header} {rows = rows} {i = i} {row = row} {past = past} {events = events} f found =
+    subst (λ (z : List Entry). HasRoom header z (events ++ past)) (next_row rows i row found) f.room
+
+pub left_next : {header : Header} {h : ℕ} {outside : Outside} {task child : TaskId} {rows : List Entry} {i : ℕ} {row : Entry} {past events : List Event}
+    {k : Parts} {ids : Ids} → HasForked header h outside task child rows i past k ids events → slice_get rows i ≡ Some row
+    → reverse (forked header h child rows past)
+    ≡ reverse (inherits_all header child ids.next_region ids.next_object (row ∷ drop (i + 1) rows)) ++ events
+left_next {header = header} {h = h} {child = child} {rows = rows} {i = i} {row = row} {past = past} {events = events} {ids = ids} f found =
+    subst (λ (z : List Entry). reverse (forked header h child rows past) ≡ reverse (inherits_all header child ids.next_region ids.next_object z) ++ events)
+    (next_row rows i row found) f.told
+
+-- the next entry may be copied
+pub may_copy : (header : Header) (h : ℕ) (outside : Outside) (task child : TaskId) (rows : List Entry) (i : ℕ) (row : Entry) (past : List Event) (k : Parts)
+    (ids : Ids) (events : List Event) → HasForked header h outside task child rows i past k ids events
+    → AreEntries k.maps.size rows → slice_get rows i ≡ Some row → row.inherit ≡ inherit.Copy → named header ≤ row.region.0
+    → MayCopy header child.0 row.region row.offset row (events ++ past) k
+may_copy header h outside task child rows i row past k ids events f sound found is temporary =
+    let m = f.works.matches in
+    let before = events ++ past in
+    let rest = drop (i + 1) rows in
+    let pages = row.bytes / header.size in
+    let leads = leads_next header h outside task child rows i row past k ids events f sound found in
+    let room : HasRoom header (row ∷ rest) before = room_next f found in
+    let count : copies (row ∷ rest) ≡ copies rest + 1 = rw (ap is_copied is) refl in
+    let copy : RegionId = record { 0 = next_region header before } in
+    let small = small_region m.core.objects.regions row.region.0 leads.region leads.there in
+    let later = room_copied header row rest before copy pages (ap is_copied is) temporary refl small room in
+    let marks = marked_copied header before copy row.region row.offset pages refl small in
+    record {
+      lives = f.lives;
+      idle = f.idle;
+      free = (is_next header h outside task child rows i row past k ids events f sound found).free;
+      pages = leads.pages;
+      region = leads.region;
+      there = leads.there;
+      counted = leads.counted;
+      temporary = temporary;
+      inside = leads.inside;
+      regions = omega (arith, room.regions, count);
+      objects = omega (arith, later.objects, marks);
+      from = leads.from;
+    }
+
+-- the child has the next entry, or one in its place
+pub gave_next : {header : Header} {h : ℕ} {outside : Outside} {task child : TaskId} {rows : List Entry} {i : ℕ} {past : List Event} {k k2 : Parts}
+    {ids ids2 : Ids} {events after : List Event} (row new : Entry) → HasForked header h outside task child rows i past k ids events
+    → IsNext header child.0 rows i row k → new.address ≡ row.address → new.bytes ≡ row.bytes
+    → ChangesOnly k.maps k2.maps child.0 (Some (entered new (rows_in child.0 k.maps))) → Works header h k2 ids2 woken.Nobody (after ++ past)
+    → Heads header h outside (command.Fork task child) past after → waiting child.0 (after ++ past) ≡ None
+    → HasRoom header (drop (i + 1) rows) (after ++ past)
+    → reverse (forked header h child rows past) ≡ reverse (inherits_all header child ids2.next_region ids2.next_object (drop (i + 1) rows)) ++ after
+    → HasForked header h outside task child rows (i + 1) past k2 ids2 after
+gave_next {task = task} {child = child} {k = k} {k2 = k2} row new f next address bytes changes works heads idle room told =
+    let now : rows_in child.0 k2.maps ≡ entered new (rows_in child.0 k.maps) = ap (λ z. unwrap_or z []) changes.changed in
+    record {
+      apart = f.apart;
+      works = works;
+      heads = heads;
+      others = changes.others task.0 f.apart ∙ f.others;
+      lives = changes.changed ∙ ap Some (sym now);
+      front = row.address + row.bytes;
+      own =
+          subst (AllRows (λ mine. mine.address + mine.bytes ≤ row.address + row.bytes)) (sym now)
+          (rows_entered (λ mine. mine.address + mine.bytes ≤ row.address + row.bytes) new (rows_in child.0 k.maps) (omega (arith, address, bytes)) next.own);
+      order = next.order;
+      few = let count = ap length now in omega (arith, count, length_entered new (rows_in child.0 k.maps), f.few);
+      idle = idle;
+      room = room;
+      told = told;
+    }
+
 -- an entry more was shared
 pub fork_shared : (header : Header) (h : ℕ) (outside : Outside) (task child : TaskId) (rows : List Entry) (i : ℕ) (row : Entry) (past : List Event)
     (k k2 : Parts) (ids : Ids) (events after : List Event) → HasForked header h outside task child rows i past k ids events
     → AreEntries k.maps.size rows → slice_get rows i ≡ Some row → row.inherit ≡ inherit.Share → Shares child row k k2 events after
     → HasForked header h outside task child rows (i + 1) past k2 ids after
 fork_shared header h outside task child rows i row past k k2 ids events after f sound found is s =
-    let m = f.rests.matches in
+    let m = f.works.matches in
     let doing = command.Fork task child in
     let e = got child row in
     let rest = drop (i + 1) rows in
     let next = is_next header h outside task child rows i row past k ids events f sound found in
     let may = may_share header h outside task child rows i row past k ids events f sound found in
-    let now : rows_in child.0 k2.maps ≡ entered row (rows_in child.0 k.maps) = ap (λ z. unwrap_or z []) s.maps.changed in
-    let few = f.few in
-    let told = told_next header.size child ids.next_region ids.next_region row rest (forked header h child rows past) (e ∷ []) events (e ∷ events)
-    (ap (λ z. inherits z header.size child ids.next_region row) is) (ap (λ z. next_behind z ids.next_region) is)
-    (subst (λ (z : List Entry). reverse (forked header h child rows past) ≡ reverse (inherits_all header.size child ids.next_region z) ++ events)
-    (next_row rows i row found) f.told) refl in
+    let told = told_next header child ids.next_region ids.next_region ids.next_object ids.next_object row rest (forked header h child rows past) (e ∷ []) events
+    (e ∷ events) (ap (λ z. inherits z header child ids.next_region ids.next_object row) is) (ap (λ z. next_behind z ids.next_region) is)
+    (ap (λ z. object_behind z header row.region ids.next_object) is)
+    (left_next f found) refl in
     subst (λ (z : List Event). HasForked header h outside task child rows (i + 1) past k2 ids z) (sym s.told)
+    (gave_next row row f next refl refl s.maps (works_shared header h outside doing child row (events ++ past) k k2 ids events after f.works may s)
+    (heads_more header h outside doing past events e f.heads
     (record {
-      apart = f.apart;
-      rests = rests_shared header h outside doing child row (events ++ past) k k2 ids events after f.rests may s;
-      heads =
-          heads_more header h outside doing past events e f.heads
-          (record {
-            settled = m.settled;
-            cause = share_enters header h child row (events ++ past) k ids f.rests may;
-            own_bytes = tt;
-            frames = suffices header h k.memory.frames (events ++ past) m.core.pages.counted;
-            inner = tt;
-            said = tt;
-            own = own_task h child.0 (events ++ past) (m.core.spaces.tasks.hosts child.0 ∙ ap is_some f.lives);
-            creates = tt;
-          });
-      others = s.maps.others task.0 f.apart ∙ f.others;
-      lives = s.maps.changed ∙ ap Some (sym now);
-      front = row.address + row.bytes;
-      own =
-          subst (AllRows (λ mine. mine.address + mine.bytes ≤ row.address + row.bytes)) (sym now)
-          (rows_entered (λ mine. mine.address + mine.bytes ≤ row.address + row.bytes) row (rows_in child.0 k.maps) (omega arith) next.own);
-      order = next.order;
-      few = let count = ap length now in omega (arith, count, length_entered row (rows_in child.0 k.maps), few);
-      idle = f.idle;
-      room =
-          room_more header rest (events ++ past) (e ∷ (events ++ past)) refl refl (λ r. refl)
-          (room_other header row rest (events ++ past) (ap is_copied is) (subst (λ (z : List Entry). HasRoom header z (events ++ past))
-          (next_row rows i row found) f.room));
-      told = told;
-    })
+      settled = m.settled;
+      cause = share_enters header h child row (events ++ past) k ids f.works may;
+      own_bytes = tt;
+      frames = suffices header h k.memory.frames (events ++ past) m.core.pages.counted;
+      inner = tt;
+      said = tt;
+      own = own_task h child.0 (events ++ past) (m.core.spaces.tasks.hosts child.0 ∙ ap is_some f.lives);
+      creates = tt;
+    }))
+    f.idle
+    (room_more header rest (events ++ past) (e ∷ (events ++ past)) refl refl (λ r. refl)
+    (room_other header row rest (events ++ past) (ap is_copied is) (room_next f found)))
+    told)
 
 -- an entry more was copied
 pub fork_copied : (header : Header) (h : ℕ) (outside : Outside) (task child : TaskId) (rows : List Entry) (i : ℕ) (row : Entry) (past : List Event)
     (k k2 : Parts) (ids ids2 : Ids) (events after : List Event) → HasForked header h outside task child rows i past k ids events
-    → AreEntries k.maps.size rows → slice_get rows i ≡ Some row → row.inherit ≡ inherit.Copy
+    → AreEntries k.maps.size rows → slice_get rows i ≡ Some row → row.inherit ≡ inherit.Copy → named header ≤ row.region.0
     → EntersCopy child row.region row.offset row k k2 ids ids2 events after → HasForked header h outside task child rows (i + 1) past k2 ids2 after
-fork_copied header h outside task child rows i row past k k2 ids ids2 events after f sound found is s =
-    let m = f.rests.matches in
+fork_copied header h outside task child rows i row past k k2 ids ids2 events after f sound found is temporary s =
+    let m = f.works.matches in
     let doing = command.Fork task child in
     let size = header.size in
     let before = events ++ past in
@@ -550,41 +615,32 @@ fork_copied header h outside task child rows i row past k k2 ids ids2 events aft
     let one : Event = copied s.copy row.region row.offset (row.bytes / size) in
     let e = got child new in
     let next = is_next header h outside task child rows i row past k ids events f sound found in
-    let may = may_copy header h outside task child rows i row past k ids events f sound found is in
+    let may = may_copy header h outside task child rows i row past k ids events f sound found is temporary in
     let number : s.copy.0 ≡ next_region header before = s.number ∙ m.core.objects.regions.region in
     let named_copy : record { 0 = ids.next_region } ≡ s.copy = λ j. record { 0 = sym s.number j } in
     let next2 : ids.next_region + 1 ≡ ids2.next_region = sym (ap (λ z. z.next_region) s.ids) in
-    let now : rows_in child.0 k2.maps ≡ entered new (rows_in child.0 k.maps) = ap (λ z. unwrap_or z []) s.maps.changed in
-    let few = f.few in
     let region = region_row k.chains row.region.0 next.inside.region in
     let small = small_region m.core.objects.regions row.region.0 region.0 region.1 in
-    let told = told_next size child ids.next_region ids2.next_region row rest (forked header h child rows past) (one ∷ e ∷ []) events (e ∷ one ∷ events)
-    (ap (λ z. inherits z size child ids.next_region row) is
-    ∙ ap (λ (z : RegionId). copied z row.region row.offset (row.bytes / size) ∷ got child (entry_on row z) ∷ []) named_copy)
+    let above : nat_lt row.region.0 (named header) ≡ false = grind (arith, nat_tests) in
+    let told = told_next header child ids.next_region ids2.next_region ids.next_object ids2.next_object row rest (forked header h child rows past)
+    (one ∷ e ∷ []) events (e ∷ one ∷ events)
+    (ap (λ z. inherits z header child ids.next_region ids.next_object row) is
+    ∙ (ap (λ b. copied_late b ids.next_region ids.next_object row.region row.offset (row.bytes / size)
+    ∷ got child (entry_on row (record { 0 = ids.next_region })) ∷ []) above
+    ∙ ap (λ (z : RegionId). copied z row.region row.offset (row.bytes / size) ∷ got child (entry_on row z) ∷ []) named_copy))
     (ap (λ z. next_behind z ids.next_region) is ∙ next2)
-    (subst (λ (z : List Entry). reverse (forked header h child rows past) ≡ reverse (inherits_all size child ids.next_region z) ++ events)
-    (next_row rows i row found) f.told) refl in
+    (ap (λ z. object_behind z header row.region ids.next_object) is ∙ (ap (λ b. if b then ids.next_object + 1 else ids.next_object) above
+    ∙ sym (ap (λ z. z.next_object) s.ids)))
+    (left_next f found) refl in
     subst (λ (z : List Event). HasForked header h outside task child rows (i + 1) past k2 ids2 z)
-    (sym (told_copied header h child row.region row.offset row before k k2 ids ids2 events after f.rests s))
-    (record {
-      apart = f.apart;
-      rests = rests_copied header h outside doing child row.region row.offset row before k k2 ids ids2 events after f.rests may s;
-      heads = heads_copied header h outside doing child s.copy row.region row.offset row past events k ids f.rests may number f.heads;
-      others = s.maps.others task.0 f.apart ∙ f.others;
-      lives = s.maps.changed ∙ ap Some (sym now);
-      front = row.address + row.bytes;
-      own =
-          subst (AllRows (λ mine. mine.address + mine.bytes ≤ row.address + row.bytes)) (sym now)
-          (rows_entered (λ mine. mine.address + mine.bytes ≤ row.address + row.bytes) new (rows_in child.0 k.maps) (omega arith) next.own);
-      order = next.order;
-      few = let count = ap length now in omega (arith, count, length_entered new (rows_in child.0 k.maps), few);
-      idle = f.idle;
-      room =
-          room_more header rest (one ∷ before) (e ∷ one ∷ before) refl refl (λ r. refl)
-          (room_copied header row rest before s.copy (row.bytes / size) (ap is_copied is) number small
-          (subst (λ (z : List Entry). HasRoom header z before) (next_row rows i row found) f.room));
-      told = told;
-    })
+    (sym (told_copied header h child row.region row.offset row before k k2 ids ids2 events after f.works s))
+    (gave_next row new f next refl refl s.maps
+    (works_copied header h outside doing child row.region row.offset row before k k2 ids ids2 events after f.works may s)
+    (heads_copied header h outside doing child s.copy row.region row.offset row past events k ids f.works may number f.heads) f.idle
+    (room_more header rest (one ∷ before) (e ∷ one ∷ before) refl refl (λ r. refl)
+    (room_copied header row rest before s.copy (row.bytes / size) (ap is_copied is) temporary number small
+    (room_next f found)))
+    told)
 
 -- an entry isn't given
 pub fork_other : (header : Header) (h : ℕ) (outside : Outside) (task child : TaskId) (rows : List Entry) (i : ℕ) (row : Entry) (past : List Event) (k : Parts)
@@ -596,7 +652,7 @@ fork_other header h outside task child rows i row past k ids events f sound foun
     let few = f.few in
     record {
       apart = f.apart;
-      rests = f.rests;
+      works = f.works;
       heads = f.heads;
       others = f.others;
       lives = f.lives;
@@ -607,26 +663,30 @@ fork_other header h outside task child rows i row past k ids events f sound foun
       idle = f.idle;
       room =
           room_other header row (drop (i + 1) rows) (events ++ past) (ap is_copied isnt)
-          (subst (λ (z : List Entry). HasRoom header z (events ++ past)) (next_row rows i row found) f.room);
+          (room_next f found);
       told =
-          told_next header.size child ids.next_region ids.next_region row (drop (i + 1) rows) (forked header h child rows past) [] events events
-          (ap (λ z. inherits z header.size child ids.next_region row) isnt) (ap (λ z. next_behind z ids.next_region) isnt)
-          (subst (λ (z : List Entry). reverse (forked header h child rows past) ≡ reverse (inherits_all header.size child ids.next_region z) ++ events)
-          (next_row rows i row found) f.told) refl;
+          told_next header child ids.next_region ids.next_region ids.next_object ids.next_object row (drop (i + 1) rows) (forked header h child rows past) []
+          events events (ap (λ z. inherits z header child ids.next_region ids.next_object row) isnt) (ap (λ z. next_behind z ids.next_region) isnt)
+          (ap (λ z. object_behind z header row.region ids.next_object) isnt)
+          (left_next f found) refl;
     }
 
 -- all was given
-pub ran_fork : (header : Header) (h : ℕ) (outside : Outside) (task child : TaskId) (i : ℕ) (past : List Event) (k k2 : Parts) (ids ids2 : Ids)
+pub begun_fork : (header : Header) (h : ℕ) (outside : Outside) (task child : TaskId) (i : ℕ) (past : List Event) (k k2 : Parts) (ids ids2 : Ids)
     (before events : List Event) → Starts header h (command.Fork task child) past k ids before
     → HasForked header h outside task child (rows_in task.0 k.maps) i past k2 ids2 events → length (rows_in task.0 k.maps) ≤ i
-    → Ran header h outside (command.Fork task child) past k2 ids2 events
-ran_fork header h outside task child i past k k2 ids ids2 before events s f end =
+    → HasBegun header h outside (command.Fork task child) past k2 ids2 events
+begun_fork header h outside task child i past k k2 ids ids2 before events s f end =
     let m = s.rests.matches in
     let may = may_fork header h task child past k ids before s in
     let rows = rows_in task.0 k.maps in
     let first = forked header h child rows past in
-    let whole : reverse first ≡ events = f.told ∙ ap (λ (z : List Entry). reverse (inherits_all header.size child ids2.next_region z) ++ events)
+    let whole : reverse first ≡ events = f.told ∙ ap (λ (z : List Entry). reverse (inherits_all header child ids2.next_region ids2.next_object z) ++ events)
     (drop_past rows i end) in
     let is : head header past (command.Fork task child) ≡ Some first = rw (lives_here m.core.spaces.tasks may.lives, rows_here m.core.spaces.tasks may.lives)
     refl in
-    ran_head header h outside (command.Fork task child) past k2 ids2 events first is (sym whole) f.heads tt f.rests
+    record {
+      works = f.works;
+      grows = grows_head header h outside (command.Fork task child) past events first is (sym whole) f.heads;
+      done = λ all. tt;
+    }

@@ -7,8 +7,10 @@ use Rattle.vm_kernel.proofs.space.EntriesCounted.{by_some}
 use Rattle.vm_kernel.proofs.space.RegionsFilled.{filled_temporary, row_use}
 use Rattle.vm_kernel.specs.Sweeping.{IsWhole}
 use Rattle.vm_legal.specs.Swept.{IsUnheld}
+use Rattle.vm_legal.specs.Walks.{Below}
+use Rattle.vm_model.specs.Regions.{backing_of, region_of}
 use Rattle.vm_state.proofs.Declared.{over_declared}
-use Rattle.vm_state.proofs.Reaching.{temporary_up}
+use Rattle.vm_state.proofs.Reaching.{temporary_up, under_up}
 use Rattle.vm_state.proofs.Referring.{OfRegion, OfShadow, referrer_of}
 use Rattle.vm_supply.specs.declared.woken.Woken.TheVariants as woken
 use Rattle.vm_terminate.specs.Finishes.{IsReferred}
@@ -61,7 +63,10 @@ held header h k ids past object whole less referred unheld = elim (referrer_of m
       let has : has_entry object (rows_in task.0 k.maps) ≡ true = subst (λ (z : ℕ). has_entry z (rows_in task.0 k.maps) ≡ true) own task.1 in
       let bad : false ≡ true = sym none ∙ (ap (has_entry object) (m.core.spaces.tasks.rows task.0 here) ∙ has) in
       cc
-  | OfShadow s row found under ↦ let least = m.core.objects.kinds.unders s row found in omega (arith, under, least, less)
+  | OfShadow s row found under ↦
+      let up = under_up m.core.objects.regions m.core.objects.kinds m.core.spaces.homes.1 whole.referred.shadows (λ r. in_use header h r past)
+      (λ r region least there. regions_used header h k ids past whole r region least there) s row found in
+      unheld.unreached up.0 up.1 up.2 up.3 (subst (λ (z : ℕ). Below (λ o. backing_of header o past) up.1 (region_of header up.0 past).top z) under up.4)
 ]
   where
     m : Matches header h k ids [] past

@@ -1,7 +1,6 @@
 -- An object to which nothing refers: its pages go, its control ends, where one lives, and what stood under it has one reference less.
 use Rattle.vm_kernel.proofs.memory.CoreChanges.{pages_known_so}
 use Rattle.vm_state.proofs.KnownPages.{sizes_put}
-use Rattle.vm_state.proofs.PlainObjects.{OwesNothing, owes_none, plain_put}
 use Rattle.vm_kernel.proofs.Common.{AllEntriesInside, Below, Bool, CausedInTurn, ChainTable, Changes, Command, Does, Elsewhere, EndsObject, Entry, Event}
 use Rattle.vm_kernel.proofs.Common.{FrameTable, HasControls, HasEntries, HasFrames, HasPages, HasSlow, HaveHomes, Header, HostParts, Ids, Inside, IsAmid}
 use Rattle.vm_kernel.proofs.Common.{IsInside, IsOfKind, IsSettled, IsWhole, LaundryList, LegalEvents, List, Local, Mapped, Matches, None, ObjectId, ObjectRow}
@@ -37,7 +36,7 @@ use Rattle.vm_state.proofs.Files.{files_put}
 use Rattle.vm_state.proofs.Going.{regions_dropped}
 use Rattle.vm_state.proofs.Knowing.{known_put}
 use Rattle.vm_state.proofs.Places.{told_apart, unsent_apart, waits_dropped}
-use Rattle.vm_state.proofs.Reaching.{chain_declared, region_temporary, temporary_down}
+use Rattle.vm_state.proofs.Reaching.{chain_declared, region_down, temporary_down}
 use Rattle.vm_state.proofs.Referred.{but_dropped, but_gone, but_known, referred_dropped, stays_served}
 use Rattle.vm_state.proofs.Referring.{unreferred_region, unreferred_shadow, uncached_unreferred}
 use Rattle.vm_state.proofs.Filling.{copies_kept, filled_there, rows_unmade}
@@ -52,6 +51,13 @@ use Rattle.vm_state.proofs.Passing.{quiet_if}
 use Rattle.vm_kernel.proofs.memory.PageChanges.{amidst_gone, amidst_of, amidst_returned, drop_follows, drops, fit_lost, fits_known, gives, live_at, matches_of}
 use Rattle.vm_kernel.proofs.memory.PageChanges.{objects_known, return_follows, same_objects, seen_of}
 use Rattle.vm_kernel.specs.Matches.{Amidst, IsCalm, IsReplied}
+use Rattle.vm_copies.specs.Copies.{CopyTable, LeavesCopies, WasCopy, WasNone}
+use Rattle.vm_kernel.proofs.Common.{HasWaits}
+use Rattle.vm_kernel.proofs.memory.CopiesKept.{copied_put}
+use Rattle.vm_kernel.proofs.space.CopiesEnd.{copied_dropped, copied_ended, copied_referred}
+use Rattle.vm_state.proofs.CopyFits.{IsNoNewest}
+use Rattle.vm_state.proofs.CopyObjects.{not_referred}
+use Rattle.vm_state.proofs.Owing.{waits_ended}
 use Rattle.vm_model.specs.declared.event.Event.TheVariants as event
 use Rattle.vm_model.specs.declared.message.Message.TheVariants as message
 use Rattle.vm_objects.specs.declared.row.PagerState.TheVariants as state
@@ -79,13 +85,6 @@ used_there header h k ids rest past r m copies temporary used = elim ((m.core.sp
   | inr filled ↦ let there = filled_there copies filled.task r filled.fills in (filled_row there.object there.pages, there.region)
 ]
 
--- no store owes its page to a copy
-pub owes_nothing : (header : Header) (h : ℕ) (k : Parts) (ids : Ids) (rest : List Entry) (past : List Event) → Matches header h k ids rest past
-    → HasSlow header k past → OwesNothing header h past
-owes_nothing header h k ids rest past m copies =
-    owes_none m.core.objects.regions m.core.spaces.homes.1 (λ r temporary used. used_there header h k ids rest past r m copies temporary used)
-    m.core.objects.plain
-
 -- the chain of a declared region is of its own object alone
 pub declared_chain : (header : Header) (past : List Event) (r n u : ℕ) → HaveHomes header past → r < named header
     → Below (λ o. backing_of header o past) n (region_of header r past).top u → r ≡ u
@@ -110,9 +109,12 @@ unheld header h k ids rest past o row m copies known none declared =
       unmapped = λ task lives. by_test task (sym (m.core.spaces.tasks.hosts task) ∙ lives) (has_entry o (entries_of header.size task past)) refl;
       uncached = m.core.flags o declared ∙ (ap cached_in known ∙ uncached_unreferred m.core.objects.regions o row known none);
       unreached =
-          λ r depth temporary used below. let there = used_there header h k ids rest past r m copies temporary used in
-          let least = region_temporary m.core.objects.regions m.core.objects.kinds r there.0 temporary there.1 depth o below in
-          absurd (omega (arith, least, declared));
+          λ r depth temporary used below.
+          let is = region_down header m.core.objects.regions (λ q. in_use header h q past)
+          (λ q later in_it. used_there header h k ids rest past q m copies later in_it) r depth o temporary used below in
+          let some = is.some in
+          let same = ap (λ z. z.references) (some_is row is.row (sym known ∙ is.known)) in
+          absurd (omega (arith, some, same, none));
     }
   where
     by_test : (task : ℕ) → is_some (entries_in task k.maps) ≡ true → (b : Bool) → has_entry o (entries_of header.size task past) ≡ b → b ≡ false
@@ -526,6 +528,7 @@ ends_told header h outside doing past who k ids rest object events row objects s
             fits = fits_known found put refl core.fits;
             spaces = core.spaces;
             objects = objects_known found put marks refl refl refl quiet core.objects;
+            copied = copied_put o row (quiet_row row) objects found put refl (λ some. absurd (omega (arith, some, unreferred))) core.copied;
             controls = controls;
             flags = rw (own_host h) (flags_set o (quiet_row row) false put uncached core.flags);
             pages = record { shown = pages; washed = m.core.pages.washed; counted = counted };
@@ -581,7 +584,52 @@ entries_kept size maps cs cs2 rest same has =
       counts = λ r row found. has.counts r row (sym (same r) ∙ found);
     }
 
--- An object to which nothing refers, without pages and without a control, loses what stands under it: that has so many references left.
+-- it is one copy object less, or was none
+
+ended_waits : (header : Header) (h : ℕ) (who : Woken) (k : Parts) (past : List Event) {copies : CopyTable} (o : ℕ)
+    → LeavesCopies o k.copies copies → ((p : ℕ) → row_at k.memory.resident o p ≡ None) → HasWaits header h k who past
+    → HasWaits header h (record k { copies = copies }) who past
+ended_waits header h who k past o (WasCopy row ends living) bare waits =
+    waits_ended k.maps k.chains k.memory.resident k.memory.objects k.waits.rows (is_woken who) (λ t. waiting t past) o row waits ends
+    (λ p asked. let bad : None ≡ Some asked.row = sym (bare p) ∙ asked.found in cc)
+ended_waits header h who k past o (WasNone plain same) bare waits =
+    subst (λ (z : CopyTable). HasWaits header h (record k { copies = z }) who past) (sym same) waits
+
+-- its row among the copy objects goes, once its pages have
+pub ends_copy : {header : Header} {h : ℕ} {past : List Event} {who : Woken} {k : Parts} {ids : Ids} {rest : List Entry} {copies : CopyTable} (o : ℕ)
+    → EndsObject header h who k ids rest o past → LeavesCopies o k.copies copies → ((p : ℕ) → row_at k.memory.resident o p ≡ None)
+    → EndsObject header h who (record k { copies = copies }) ids rest o past
+ends_copy {header = header} {h = h} {past = past} {who = who} {k = k} o e leaves bare =
+    let m = e.runs.matches in
+    let core = m.core in
+    record {
+      runs = record {
+        matches = record {
+          core = record {
+            setting = core.setting;
+            calm = core.calm;
+            fits = core.fits;
+            spaces = core.spaces;
+            objects = core.objects;
+            copied = copied_ended o leaves (not_referred o e.row k.memory.objects e.known e.none) core.copied;
+            controls = core.controls;
+            flags = core.flags;
+            pages = core.pages;
+          };
+          settled = m.settled;
+          replied = m.replied;
+        };
+        waits = ended_waits header h who k past o leaves bare e.runs.waits;
+        order = e.runs.order;
+      };
+      used = e.used;
+      row = e.row;
+      known = e.known;
+      none = e.none;
+      referred = e.referred;
+    }
+
+-- An object to which nothing refers, without pages and without a control, loses what stands under it: that has so many references left. It is no newest copy.
 pub record LeavesOne (k : Parts) (o left : ℕ) (row : ShadowRow) (known : ObjectRow) (chains : ChainTable) (objects : ObjectTable) : Type 0 where
   pub bare : (p : ℕ) → row_at k.memory.resident o p ≡ None
   pub quiet : (known : ObjectRow) → object_at k.memory.objects o ≡ Some known → known.live ≡ false
@@ -591,6 +639,7 @@ pub record LeavesOne (k : Parts) (o left : ℕ) (row : ShadowRow) (known : Objec
   pub less : left + 1 ≡ known.references
   pub put : PutsObject row.under.0 (Some (record known { references = left })) k.memory.objects objects
   pub marks : SameMarks k.memory.objects objects
+  pub none : IsNoNewest k.copies o
 
 inside_dropped : (header : Header) (h : ℕ) (past : List Event) (who : Woken) (k : Parts) (ids : Ids) (rest : List Entry) (o left : ℕ) (row : ShadowRow)
     (known : ObjectRow) (chains : ChainTable) (objects : ObjectTable)
@@ -621,9 +670,10 @@ inside_dropped header h past who k ids rest o left row known chains objects e le
           files = files_put header h under known (record known { references = left }) k.memory.objects objects _ leaves.under leaves.put core.objects.files;
           sizes = sizes_put (named header) under known (record known { references = left }) k.memory.objects objects _ leaves.under refl leaves.put
               core.objects.sizes;
-          plain = plain_put under known (record known { references = left }) k.memory.objects objects _ leaves.under leaves.put core.objects.plain;
           undelayed = core.objects.undelayed;
         };
+        copied = copied_dropped o leaves.drops leaves.none (copied_referred under left known objects leaves.under leaves.put
+            (λ some. let less = leaves.less in omega (arith, less)) core.copied);
         controls = controls_referred under left known k.memory.objects objects _ _ _ leaves.under leaves.put core.controls;
         flags = flags_put under (record known { references = left }) leaves.put (ap cached_in leaves.under) core.flags;
         pages = pages_known_so leaves.marks core.pages;

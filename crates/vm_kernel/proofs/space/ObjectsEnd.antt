@@ -10,7 +10,11 @@ use Rattle.vm_kernel.proofs.abroad.OwnHost.{named_host}
 use Rattle.vm_kernel.proofs.lists.ListsAsTold.{plays_both, plays_told}
 use Rattle.vm_kernel.proofs.memory.FramesHeld.{room_once}
 use Rattle.vm_queues.specs.Queues.{EachOnce}
-use Rattle.vm_kernel.proofs.space.ObjectEnds.{GoesToPager, LeavesOne, departs_unheld, ends_dropped, ends_lost, ends_returned, ends_told, going_back, lost_plays}
+use Rattle.vm_copies.specs.Copies.{CopyTable, LeavesCopies}
+use Rattle.vm_kernel.proofs.space.CopiesEnd.{ended_no_newest}
+use Rattle.vm_state.proofs.CopyFits.{IsNoNewest}
+use Rattle.vm_kernel.proofs.space.ObjectEnds.{GoesToPager, LeavesOne, departs_unheld, ends_copy, ends_dropped, ends_lost, ends_returned, ends_told, going_back}
+use Rattle.vm_kernel.proofs.space.ObjectEnds.{lost_plays}
 use Rattle.vm_kernel.proofs.space.ObjectEnds.{quiet_row, whole_dropped}
 use Rattle.vm_abroad.proofs.Regions.{kind_cases}
 use Rattle.vm_state.proofs.Knowing.{known_put}
@@ -59,11 +63,16 @@ place_ends maps cs os ids region_from backing_from rm om marked object first has
         (sym (ap (λ (z : PageKey). z.object.0) link.is) ∙ same) in
         above task what last.0 (record { top = place.top; at = place.at; steps = n; leads = last.1 }) its
 
+-- a kernel's parts as one state
+abbrev pub state_of : HostParts → ChainTable → CopyTable → LaundryList → List Event → FinishState
+state_of memory chains copies laundry events =
+    record { parts = memory; chains = chains; copies = copies; held = laundry.held; room = laundry.room; events = events }
+
 -- an object to which nothing refers can end
 pub can_finish : (header : Header) (h : ℕ) (past : List Event) (who : Woken) (k : Parts) (ids : Ids) (rest : List Entry) (object : ℕ) (events : List Event)
     → EndsObject header h who k ids rest object (events ++ past)
     → EachOnce (k.memory.queues.inactive ++ k.memory.queues.active)
-    → CanFinish (record { parts = k.memory; chains = k.chains; held = k.laundry.held; room = k.laundry.room; events = events }) object
+    → CanFinish (state_of k.memory k.chains k.copies k.laundry events) object
 can_finish header h past who k ids rest object events e once =
     record {
       fit = e.runs.matches.core.fits.parts;
@@ -91,7 +100,13 @@ can_finish header h past who k ids rest object events e once =
 
 -- the kernel with this state; what buffers it has stands aside
 abbrev pub of_state : Parts → FinishState → Parts
-of_state k s = record k { memory = record s.parts { buffers = k.memory.buffers }; chains = s.chains; laundry = record { held = s.held; room = s.room } }
+of_state k s =
+    record k {
+      memory = record s.parts { buffers = k.memory.buffers };
+      chains = s.chains;
+      copies = s.copies;
+      laundry = record { held = s.held; room = s.room };
+    }
 
 -- nothing was added
 pub only_none : (events : List Event) → EndsOnly events events
@@ -152,10 +167,10 @@ record IsLess (header : Header) (h : ℕ) (outside : Outside) (doing : Command) 
 page_leaves : (header : Header) (h : ℕ) (outside : Outside) (doing : Command) (past : List Event) (who : Woken) (k : Parts) (ids : Ids) (rest : List Entry)
     (object : ObjectId) (known : ObjectRow) (page : PageNo) (row : PageRow) (old new : FinishState)
     → EndsObject header h who (of_state k old) ids rest object.0 (old.events ++ past) → object_at old.parts.objects object.0 ≡ Some known
-    → ((q : ℕ) → q < page.0 → row_at old.parts.resident object.0 q ≡ None) → row.here ≡ true → new.chains ≡ old.chains
+    → ((q : ℕ) → q < page.0 → row_at old.parts.resident object.0 q ≡ None) → row.here ≡ true → new.chains ≡ old.chains → new.copies ≡ old.copies
     → PageLeaves (host_id h) (record { object = object; page = page }) known row old new
     → IsLess header h outside doing past who k ids rest object page.0 old new
-page_leaves header h outside doing past who k ids rest object known page row old new e found first here chains
+page_leaves header h outside doing past who k ids rest object known page row old new e found first here chains copies
     (GoesBack other wanted c objects absent held room events) =
     record {
       ends = subst (λ (z : List Event). EndsObject header h who (of_state k new) ids rest object.0 (z ++ past)) (sym events)
@@ -221,8 +236,9 @@ page_leaves header h outside doing past who k ids rest object known page row old
     returned = ends_returned header h outside doing past who base ids rest key known row memory laundry old.events e goes
 
     same : of_state k new ≡ record base { memory = memory; laundry = laundry }
-    same = λ i. record k { memory = memory; chains = chains i; laundry = laundry }
-page_leaves header h outside doing past who k ids rest object known page row old new e found first here chains (IsDropped why c objects held room events) =
+    same = λ i. record k { memory = memory; chains = chains i; copies = copies i; laundry = laundry }
+page_leaves header h outside doing past who k ids rest object known page row old new e found first here chains copies
+    (IsDropped why c objects held room events) =
     record {
       ends = subst (λ (z : List Event). EndsObject header h who (of_state k new) ids rest object.0 (z ++ past)) (sym events)
           (subst (λ (z : Parts). EndsObject header h who z ids rest object.0 ((event.Dropped (host_id h) object page ∷ old.events) ++ past)) (sym same)
@@ -253,7 +269,7 @@ page_leaves header h outside doing past who k ids rest object known page row old
     beside = changes_beside old.parts new.parts k c
 
     same : of_state k new ≡ record base { memory = memory }
-    same = λ i. record k { memory = memory; chains = chains i; laundry = record { held = held i; room = room i } }
+    same = λ i. record k { memory = memory; chains = chains i; copies = copies i; laundry = record { held = held i; room = room i } }
 
     m : Matches header h base ids rest (old.events ++ past)
     m = e.runs.matches
@@ -289,9 +305,9 @@ pages_leave header h outside doing past who k ids rest object known _ _ _ e foun
     by_test p true less = low p (grind (arith, nat_tests))
     by_test p false less = none p (grind (arith, nat_tests))
 pages_leave header h outside doing past who k ids rest object known _ _ _ e found low
-    (Next from page row old mid new le none there here chains leaves more) =
+    (Next from page row old mid new le none there here chains copies leaves more) =
     let less = page_leaves header h outside doing past who k ids rest object known page row old mid e found (λ q below. first q below (nat_lt q from) refl)
-    here chains leaves in
+    here chains copies leaves in
     let all = pages_leave header h outside doing past who k ids rest object known (suc page.0) mid new less.ends (less.found ∙ found)
     (λ q below. next less q below) more in
     record { ends = all.ends; led = led_both header h outside doing past k old mid new less.led all.led; found = all.found; none = all.none }
@@ -348,30 +364,55 @@ control_ends header h outside doing past who k ids rest object known start old n
         ends_told header h outside doing past who (of_state k old) ids rest object old.events known new.parts.objects bare.ends bare.none bare.found live put
         keeps.marks
 
+-- and it is no copy object any more
+record IsSilent (header : Header) (h : ℕ) (outside : Outside) (doing : Command) (past : List Event) (who : Woken) (k : Parts) (ids : Ids) (rest : List Entry)
+    (object : ObjectId) (old new : FinishState) : Type 0 where
+  quiet : IsQuiet header h outside doing past who k ids rest object old new
+  none : IsNoNewest new.copies object.0
+
+copy_ends : (header : Header) (h : ℕ) (outside : Outside) (doing : Command) (past : List Event) (who : Woken) (k : Parts) (ids : Ids) (rest : List Entry)
+    (object : ObjectId) (start old new : FinishState) → IsQuiet header h outside doing past who k ids rest object start old
+    → LeavesCopies object.0 old.copies new.copies → new ≡ record old { copies = new.copies }
+    → IsSilent header h outside doing past who k ids rest object start new
+copy_ends header h outside doing past who k ids rest object start old new quiet leaves same =
+    subst (λ (z : FinishState). IsSilent header h outside doing past who k ids rest object start z) (sym same)
+    (record {
+      quiet = record {
+        ends = ends_copy object.0 quiet.ends leaves quiet.none;
+        led = record { goes = quiet.led.goes; plays = quiet.led.plays; only = quiet.led.only; pages = quiet.led.pages };
+        none = quiet.none;
+        dead = quiet.dead;
+      };
+      none = ended_no_newest object.0 leaves quiet.ends.runs.matches.core.copied;
+    })
+
 -- nothing is left of an object that ends but what stands under it
 ends_above : (header : Header) (h : ℕ) (outside : Outside) (doing : Command) (past : List Event) (who : Woken) (k : Parts) (ids : Ids) (rest : List Entry)
-    (object : ObjectId) (known : ObjectRow) (old bare quiet : FinishState) → EndsObject header h who (of_state k old) ids rest object.0 (old.events ++ past)
-    → object_at old.parts.objects object.0 ≡ Some known
+    (object : ObjectId) (known : ObjectRow) (old bare quiet silent : FinishState)
+    → EndsObject header h who (of_state k old) ids rest object.0 (old.events ++ past) → object_at old.parts.objects object.0 ≡ Some known
     → PagesLeave (host_id h) object known 0 old bare → ControlEnds (host_id h) object known bare quiet
-    → IsQuiet header h outside doing past who k ids rest object old quiet
-ends_above header h outside doing past who k ids rest object known old bare quiet e found pages control =
-    control_ends header h outside doing past who k ids rest object known old bare quiet
-    (pages_leave header h outside doing past who k ids rest object known 0 old bare e found (λ q below. absurd (omega arith)) pages) control
+    → LeavesCopies object.0 quiet.copies silent.copies → silent ≡ record quiet { copies = silent.copies }
+    → IsSilent header h outside doing past who k ids rest object old silent
+ends_above header h outside doing past who k ids rest object known old bare quiet silent e found pages control copies same =
+    copy_ends header h outside doing past who k ids rest object old quiet silent
+    (control_ends header h outside doing past who k ids rest object known old bare quiet
+    (pages_leave header h outside doing past who k ids rest object known 0 old bare e found (λ q below. absurd (omega arith)) pages) control) copies same
 
 leaves_one : (header : Header) (h : ℕ) (outside : Outside) (doing : Command) (past : List Event) (who : Woken) (k : Parts) (ids : Ids) (rest : List Entry)
     (object : ObjectId) (row : ShadowRow) (known : ObjectRow) (left : ℕ) (start old new : FinishState)
-    → IsQuiet header h outside doing past who k ids rest object start old → LosesUnder object row known left old new
+    → IsSilent header h outside doing past who k ids rest object start old → LosesUnder object row known left old new
     → LeavesOne (of_state k old) object.0 left row known new.chains new.parts.objects
-leaves_one header h outside doing past who k ids rest object row known left start old new quiet loses =
+leaves_one header h outside doing past who k ids rest object row known left start old new silent loses =
     record {
-      bare = quiet.none;
-      quiet = quiet.dead;
+      bare = silent.quiet.none;
+      quiet = silent.quiet.dead;
       found = loses.found;
       drops = loses.chains;
       under = loses.under;
       less = loses.less;
       put = loses.objects;
       marks = loses.marks;
+      none = silent.none;
     }
 
 -- what stood under it ends next
@@ -389,35 +430,40 @@ pub record Swept (header : Header) (h : ℕ) (outside : Outside) (doing : Comman
 pub finished : (header : Header) (h : ℕ) (outside : Outside) (doing : Command) (past : List Event) (who : Woken) (k : Parts) (ids : Ids) (rest : List Entry)
     (object : ObjectId) (old new : FinishState) → EndsObject header h who (of_state k old) ids rest object.0 (old.events ++ past)
     → Finishes (host_id h) object old new → Swept header h outside doing past who k ids rest old new
-finished header h outside doing past who k ids rest _ _ _ e (Alone object known old bare new found pages control alone) =
-    let quiet = ends_above header h outside doing past who k ids rest object known old bare new e found pages control in
+finished header h outside doing past who k ids rest _ _ _ e (Alone object known old bare quiet new found pages control copies same alone) =
+    let silent = (ends_above header h outside doing past who k ids rest object known old bare quiet new e found pages control copies same).quiet in
     record {
       whole =
           record {
-            runs = quiet.ends.runs;
-            used = quiet.ends.used;
-            referred = all_ended object.0 new.chains new.parts.objects new.parts.resident quiet.ends.referred quiet.dead quiet.none alone;
+            runs = silent.ends.runs;
+            used = silent.ends.used;
+            referred = all_ended object.0 new.chains new.parts.objects new.parts.resident silent.ends.referred silent.dead silent.none alone;
           };
-      led = quiet.led;
+      led = silent.led;
     }
-finished header h outside doing past who k ids rest _ _ _ e (OverOne object known under row left old bare quiet new found pages control loses some) =
-    let above = ends_above header h outside doing past who k ids rest object known old bare quiet e found pages control in
-    let leaves = leaves_one header h outside doing past who k ids rest object row under left old quiet new above loses in
+finished header h outside doing past who k ids rest _ _ _ e
+    (OverOne object known under row left old bare quiet silent new found pages control copies same loses some) =
+    let above = ends_above header h outside doing past who k ids rest object known old bare quiet silent e found pages control copies same in
+    let leaves = leaves_one header h outside doing past who k ids rest object row under left old silent new above loses in
+    let led = above.quiet.led in
     subst (λ (z : FinishState). Swept header h outside doing past who k ids rest old z) (sym loses.rest)
     (record {
-      whole = whole_dropped header h past who (of_state k quiet) ids rest object.0 left row under quiet.events new.chains new.parts.objects above.ends
+      whole =
+          whole_dropped header h past who (of_state k silent) ids rest object.0 left row under silent.events new.chains new.parts.objects above.quiet.ends
           leaves some;
-      led = record { goes = above.led.goes; plays = above.led.plays; only = above.led.only; pages = above.led.pages };
+      led = record { goes = led.goes; plays = led.plays; only = led.only; pages = led.pages };
     })
-finished header h outside doing past who k ids rest _ _ _ e (Downward object known under row old bare quiet next new found pages control loses more) =
-    let above = ends_above header h outside doing past who k ids rest object known old bare quiet e found pages control in
-    let leaves = leaves_one header h outside doing past who k ids rest object row under 0 old quiet next above loses in
+finished header h outside doing past who k ids rest _ _ _ e
+    (Downward object known under row old bare quiet silent next new found pages control copies same loses more) =
+    let above = ends_above header h outside doing past who k ids rest object known old bare quiet silent e found pages control copies same in
+    let leaves = leaves_one header h outside doing past who k ids rest object row under 0 old silent next above loses in
+    let led = above.quiet.led in
     let down : IsNext header h outside doing past who k ids rest row.under.0 old next =
     subst (λ (z : FinishState). IsNext header h outside doing past who k ids rest row.under.0 old z) (sym loses.rest)
     (record {
-      ends = ends_dropped header h past who (of_state k quiet) ids rest object.0 row under quiet.events next.chains next.parts.objects above.ends
-          leaves;
-      led = record { goes = above.led.goes; plays = above.led.plays; only = above.led.only; pages = above.led.pages };
+      ends =
+          ends_dropped header h past who (of_state k silent) ids rest object.0 row under silent.events next.chains next.parts.objects above.quiet.ends leaves;
+      led = record { goes = led.goes; plays = led.plays; only = led.only; pages = led.pages };
     }) in
     let all = finished header h outside doing past who k ids rest row.under next new down.ends more in
     record { whole = all.whole; led = led_both header h outside doing past k old next new down.led all.led }
@@ -438,41 +484,40 @@ whole_beside header h past who k ids rest memory events s fit size =
       referred = s.referred;
     }
 
--- a kernel's parts as one state
-abbrev pub state_of : HostParts → ChainTable → LaundryList → List Event → FinishState
-state_of memory chains laundry events = record { parts = memory; chains = chains; held = laundry.held; room = laundry.room; events = events }
-
 swept_led : (header : Header) (h : ℕ) (outside : Outside) (doing : Command) (past : List Event) (who : Woken) (k : Parts) (ids : Ids) (rest : List Entry)
-    (object : ObjectId) (events after : List Event) (memory : HostParts) (chains : ChainTable) (laundry : LaundryList)
+    (object : ObjectId) (events after : List Event) (memory : HostParts) (chains : ChainTable) (copies : CopyTable) (laundry : LaundryList)
     → EndsObject header h who k ids rest object.0 (events ++ past)
-    → Finishes k.host object (state_of k.memory k.chains k.laundry events)
-    (state_of memory chains laundry after) → Swept header h outside doing past who k ids rest (state_of k.memory k.chains k.laundry events)
-    (state_of memory chains laundry after)
-swept_led header h outside doing past who k ids rest object events after memory chains laundry e is =
-    finished header h outside doing past who k ids rest object (state_of k.memory k.chains k.laundry events) (state_of memory chains laundry after) e
-    (subst (λ (z : HostId). Finishes z object (state_of k.memory k.chains k.laundry events) (state_of memory chains laundry after))
+    → Finishes k.host object (state_of k.memory k.chains k.copies k.laundry events)
+    (state_of memory chains copies laundry after) → Swept header h outside doing past who k ids rest (state_of k.memory k.chains k.copies k.laundry events)
+    (state_of memory chains copies laundry after)
+swept_led header h outside doing past who k ids rest object events after memory chains copies laundry e is =
+    finished header h outside doing past who k ids rest object (state_of k.memory k.chains k.copies k.laundry events)
+    (state_of memory chains copies laundry after) e
+    (subst (λ (z : HostId). Finishes z object (state_of k.memory k.chains k.copies k.laundry events) (state_of memory chains copies laundry after))
     (named_host k.host h e.runs.matches.core.setting.numbered) is)
 
 -- an object has ended: what is left, the events, the lists of pages, and the pages
 pub record ObjectEnded (header : Header) (h : ℕ) (outside : Outside) (doing : Command) (past : List Event) (who : Woken) (k : Parts) (ids : Ids)
-    (rest : List Entry) (memory : HostParts) (chains : ChainTable) (laundry : LaundryList) (events after : List Event) : Type 0 where
+    (rest : List Entry) (memory : HostParts) (chains : ChainTable) (copies : CopyTable) (laundry : LaundryList) (events after : List Event) : Type 0 where
   pub whole : Fit memory → memory.buffers.size ≡ k.memory.buffers.size
-      → IsWhole header h who (record k { memory = memory; chains = chains; laundry = laundry }) ids rest (after ++ past)
+      → IsWhole header h who (record k { memory = memory; chains = chains; copies = copies; laundry = laundry }) ids rest (after ++ past)
   pub goes : LegalEvents header h outside doing past events after
-  pub plays : Plays header past events (paging k) after (paging (record k { memory = memory; chains = chains; laundry = laundry }))
+  pub plays : Plays header past events (paging k) after (paging (record k { memory = memory; chains = chains; copies = copies; laundry = laundry }))
   pub only : EndsOnly events after
   pub pages : OnlyLoses k.memory.resident memory.resident
 
 pub object_ended : (header : Header) (h : ℕ) (outside : Outside) (doing : Command) (past : List Event) (who : Woken) (k : Parts) (ids : Ids) (rest : List Entry)
-    (object : ObjectId) (events after : List Event) (memory : HostParts) (chains : ChainTable) (laundry : LaundryList)
+    (object : ObjectId) (events after : List Event) (memory : HostParts) (chains : ChainTable) (copies : CopyTable) (laundry : LaundryList)
     → EndsObject header h who k ids rest object.0 (events ++ past)
-    → Finishes k.host object (state_of k.memory k.chains k.laundry events)
-    (state_of memory chains laundry after) → ObjectEnded header h outside doing past who k ids rest memory chains laundry events after
-object_ended header h outside doing past who k ids rest object events after memory chains laundry e is =
-    let swept = swept_led header h outside doing past who k ids rest object events after memory chains laundry e is in
+    → Finishes k.host object (state_of k.memory k.chains k.copies k.laundry events)
+    (state_of memory chains copies laundry after) → ObjectEnded header h outside doing past who k ids rest memory chains copies laundry events after
+object_ended header h outside doing past who k ids rest object events after memory chains copies laundry e is =
+    let swept = swept_led header h outside doing past who k ids rest object events after memory chains copies laundry e is in
     let led = swept.led in
     record {
-      whole = λ fit size. whole_beside header h past who (record k { chains = chains; laundry = laundry }) ids rest memory after swept.whole fit size;
+      whole =
+          λ fit size. whole_beside header h past who (record k { chains = chains; copies = copies; laundry = laundry }) ids rest memory after swept.whole fit
+          size;
       goes = led.goes;
       plays = led.plays;
       only = led.only;

@@ -1,9 +1,11 @@
 -- An object is merged into its shadow inside a command's step: the kernel stands for the history with that told, and so it goes on until none can be merged.
-use Rattle.std.proofs.Common.{List, Some, [], ◌∷◌, ◌++◌, ◌∙◌, ◌≡◌, ◌<◌, ◌≤◌, ◌+◌, ℕ, ap, arith, false, inl, inr, refl, subst, sym, true}
+use Rattle.std.proofs.Common.{List, None, Option, Some, [], ◌∷◌, ◌++◌, ◌∙◌, ◌≡◌, ◌<◌, ◌≤◌, ◌+◌, ℕ, ap, arith, false, inl, inr, refl, subst, sym, true}
 use Rattle.std.proofs.lemmas.Bool.{cases_lt}
+use Rattle.std.specs.Prelude.{is_some}
 use Rattle.std.proofs.lemmas.Bool.Decides.{eqb_tells}
 use Rattle.vm_base.specs.Limits.{most_pages}
 use Rattle.vm_base.specs.declared.ids.ObjectId.{ObjectId}
+use Rattle.vm_copies.specs.Copies.{CopyRow, CopyTable, copy_at}
 use Rattle.vm_kernel.proofs.Common.{append_assoc, of_both}
 use Rattle.vm_kernel.proofs.controls.LockReplied.{replied_behind}
 use Rattle.vm_kernel.proofs.lists.ListsAsTold.{paging_in, plays_both, plays_told}
@@ -28,7 +30,7 @@ use Rattle.vm_merge.specs.Merges.{CanMerge, IsThin, MergeInTurn, MergeState, Mer
 use Rattle.vm_model.specs.Homes.{home_of, object_home}
 use Rattle.vm_model.specs.Local.{is_on}
 use Rattle.vm_model.specs.Named.{named}
-use Rattle.vm_model.specs.Regions.{Backing, next_object, next_region, object_pages}
+use Rattle.vm_model.specs.Regions.{Backing, backing_of, is_copy, next_object, next_region, object_pages}
 use Rattle.vm_model.specs.Waiting.{waiting}
 use Rattle.vm_model.specs.declared.command.Command.{Command}
 use Rattle.vm_model.specs.declared.event.Event.{Event}
@@ -46,7 +48,7 @@ use Rattle.vm_shadow.specs.declared.ids.Ids.{Ids}
 use Rattle.vm_state.proofs.Declared.{shadow_temporary}
 use Rattle.vm_state.proofs.FramesMerged.{frames_merged, held_merged, laundry_merged}
 use Rattle.vm_state.proofs.KnownPages.{object_few}
-use Rattle.vm_state.proofs.PlainObjects.{plain_put}
+use Rattle.vm_kernel.proofs.space.CopiesEnd.{copied_merged}
 use Rattle.vm_state.proofs.MergedPages.{AreHere, all_here, here_untold, shown_merged}
 use Rattle.vm_state.proofs.MergedWaits.{waits_merged}
 use Rattle.vm_state.proofs.Merging.{controls_merged, files_merged, homes_merged, kinds_merged, merged_apart, never_told, pages_merged, regions_merged}
@@ -66,13 +68,13 @@ use Rattle.vm_kernel.proofs.controls.FlagsKept.{flags_put}
 
 -- the kernel with these parts and chains
 abbrev pub with_state : Parts → MergeState → Parts
-with_state k s = record k { memory = s.parts; chains = s.chains }
+with_state k s = record k { memory = s.parts; chains = s.chains; copies = s.copies }
 
 -- one merge, of a kernel that sweeps and has nothing left to sweep
 module _ {header : Header} {h : ℕ} {outside : Outside} {doing : Command} {past : List Event} {ids : Ids} {upper lower : ObjectId} (k : Parts) (old : MergeState)
     (moved : HostParts) (os2 : ObjectTable) (cs2 : ChainTable) (sweeps : Sweeps header h outside doing past (with_state k old) ids [] old.events)
-    (merges : MergesObjects upper.0 lower.0 old.chains cs2 old.parts.objects os2)
-    (pages : PagesMerge upper lower merges.can.link.shift merges.can.upper_row.pages 0 old.parts moved)
+    (merges : MergesObjects upper.0 lower.0 old.chains cs2 old.copies old.parts.objects os2)
+    (pages : PagesMerge upper lower merges.can.link.shift merges.can.upper_row.pages 0 old.parts moved) (same : moved.objects ≡ old.parts.objects)
     (fit : Fit (record moved { objects = os2 })) (buffers : moved.buffers ≡ old.parts.buffers) where
   m : Matches header h (with_state k old) ids [] (old.events ++ past)
   m = sweeps.runs.matches
@@ -99,7 +101,7 @@ module _ {header : Header} {h : ℕ} {outside : Outside} {doing : Command} {past
     referred = sweeps.referred;
   }
 
-  knows : KnowsPairs header h old.chains old.parts.objects ids (next_region header (old.events ++ past)) (next_object header (old.events ++ past))
+  knows : KnowsPairs header h old.chains old.copies old.parts.objects ids (next_region header (old.events ++ past)) (next_object header (old.events ++ past))
       (marks_of header (old.events ++ past)) (old.events ++ past)
   knows = record {
     regions = m.core.objects.regions;
@@ -109,14 +111,38 @@ module _ {header : Header} {h : ℕ} {outside : Outside} {doing : Command} {past
     shadows = sweeps.referred.shadows;
     all = λ r row least found. regions_used header h (with_state k old) ids (old.events ++ past) whole r row least found;
     there = λ r least used. used_there header h (with_state k old) ids [] (old.events ++ past) r m sweeps.used.copies least used;
-    plain = m.core.objects.plain;
+    copies = λ o row found some. m.core.copied.known.are o (record { row = row; known = found; some = some });
   }
 
-  cause : ((u l : ℕ) → CanMerge old.chains old.parts.objects u l → lower.0 ≤ l) → Merges header upper.0 lower.0 (old.events ++ past)
+  cause : ((u l : ℕ) → CanMerge old.copies old.chains old.parts.objects u l → lower.0 ≤ l) → Merges header upper.0 lower.0 (old.events ++ past)
   cause least =
       merges_told knows (λ o row less found. m.core.controls.home o row less found) (swept header h (with_state k old) ids (old.events ++ past) whole) upper.0
       lower.0
       merges.can least
+
+  -- The upper is no copy object: a copy stands on a declared object or another copy, and the lower is neither.
+  plain_upper : copy_at old.copies upper.0 ≡ None
+  plain_upper = by (copy_at old.copies upper.0) refl
+    where
+      below : (backing_of header upper.0 (old.events ++ past)).under ≡ lower.0
+      below =
+          ap (λ (z : Backing). z.under) (m.core.objects.regions.shadows upper.0 merges.can.link merges.can.over) ∙ merges.can.under
+
+      no_copy : is_copy lower.0 (old.events ++ past) ≡ false
+      no_copy =
+          let sole = merges.can.sole in
+          knows.copies lower.0 merges.can.lower_row merges.can.lower_known (omega (arith, sole)) ∙ ap is_some merges.can.plain
+
+      by : (x : Option CopyRow) → copy_at old.copies upper.0 ≡ x → x ≡ None
+      by None is = refl
+      by (Some row) is = elim (m.core.spaces.homes.1.lined upper.0 (m.core.copied.known.copy upper.0 row is)).over [
+        | inl low ↦
+            let number = ((m.core.objects.kinds.kinds lower.0 merges.can.lower_row merges.can.lower_known).declared (omega (arith, low, below))).number in
+            let never = merges.can.lower_never in
+            absurd (omega (arith, number, never))
+        | inr copy ↦
+            absurd (let bad : false ≡ true = sym no_copy ∙ (ap (λ z. is_copy z (old.events ++ past)) (sym below) ∙ copy) in cc)
+      ]
 
   plain_row : (o p : ℕ) (row : PageRow)
       → RowWas upper.0 lower.0 merges.can.link.shift merges.can.upper_row.pages old.parts.resident o p row → row.here ≡ false → IsPlainRow row
@@ -130,7 +156,8 @@ module _ {header : Header} {h : ℕ} {outside : Outside} {doing : Command} {past
   ]
 
   matches_now : HasCause header outside (event.Merged upper lower) (old.events ++ past)
-      → Matches header h (record k { memory = record moved { objects = os2 }; chains = cs2 }) ids [] (event.Merged upper lower ∷ (old.events ++ past))
+      → Matches header h (record k { memory = record moved { objects = os2 }; chains = cs2; copies = old.copies }) ids []
+      (event.Merged upper lower ∷ (old.events ++ past))
   matches_now why = record {
     core = record {
       setting = m.core.setting;
@@ -157,10 +184,10 @@ module _ {header : Header} {h : ℕ} {outside : Outside} {doing : Command} {past
         sizes =
             pages_merged (named header) upper.0 lower.0 old.chains cs2 old.parts.objects os2 (λ o. object_pages header o (old.events ++ past)) merges
             m.core.objects.sizes;
-        plain = plain_put lower.0 merges.can.lower_row (record merges.can.lower_row { references = 0 }) old.parts.objects os2 _ merges.can.lower_known
-            merges.object m.core.objects.plain;
         undelayed = m.core.objects.undelayed;
       };
+      copied =
+          let now = copied_merged upper lower os2 merges pages same plain_upper m.core.copied in record { known = now.known; fits = now.fits };
       controls = controls_merged upper.0 lower.0 old.chains cs2 old.parts.objects os2 merges m.core.controls;
       flags = flags_put lower.0 (record merges.can.lower_row { references = 0 }) merges.object (ap cached_in merges.can.lower_known) m.core.flags;
       pages = record {
@@ -193,8 +220,9 @@ module _ {header : Header} {h : ℕ} {outside : Outside} {doing : Command} {past
       upper_unfilled upper.0 merges.can.link merges.can.over
       (λ t w target found is. target_unshadowed (old.events ++ past) m.core.objects.regions m.core.spaces.homes.1 t target is) sweeps.used
 
-  pub sweeps_now : ((u l : ℕ) → CanMerge old.chains old.parts.objects u l → lower.0 ≤ l)
-      → Sweeps header h outside doing past (record k { memory = record moved { objects = os2 }; chains = cs2 }) ids [] (event.Merged upper lower ∷ old.events)
+  pub sweeps_now : ((u l : ℕ) → CanMerge old.copies old.chains old.parts.objects u l → lower.0 ≤ l)
+      → Sweeps header h outside doing past (record k { memory = record moved { objects = os2 }; chains = cs2; copies = old.copies }) ids []
+      (event.Merged upper lower ∷ old.events)
   sweeps_now least =
       let after = matches_now (doing, cause least) in
       record {
@@ -234,18 +262,22 @@ pub one_merged : {header : Header} {h : ℕ} {outside : Outside} {doing : Comman
     (old new : MergeState) → Sweeps header h outside doing past (with_state k old) ids [] old.events → MergesInto upper lower old new → Fit new.parts
     → new.parts.buffers ≡ old.parts.buffers → Sweeps header h outside doing past (with_state k new) ids [] new.events
 one_merged {header = header} {h = h} {outside = outside} {doing = doing} {past = past} {ids = ids} k upper lower old new sweeps merges fit buffers =
-    subst (λ (z : HostParts). Sweeps header h outside doing past (record k { memory = z; chains = new.chains }) ids [] new.events) (sym merges.rest)
+    subst (λ (z : CopyTable). Sweeps header h outside doing past (record k { memory = new.parts; chains = new.chains; copies = z }) ids [] new.events)
+    (sym merges.copied)
+    (subst (λ (z : HostParts). Sweeps header h outside doing past (record k { memory = z; chains = new.chains; copies = old.copies }) ids [] new.events)
+    (sym merges.rest)
     (subst (λ (z : List Event). Sweeps header h outside doing past (record k {
       memory = record merges.moved { objects = new.parts.objects };
       chains = new.chains;
+      copies = old.copies;
     }) ids [] z) (sym merges.told)
     (sweeps_now k old merges.moved new.parts.objects new.chains sweeps (record {
       can = merges.can;
       chain = merges.chain;
       object = merges.object;
       marks = merges.marks;
-    }) merges.pages
-    (subst Fit merges.rest fit) (sym (ap (λ (z : HostParts). z.buffers) merges.rest) ∙ buffers) merges.least))
+    }) merges.pages merges.same
+    (subst Fit merges.rest fit) (sym (ap (λ (z : HostParts). z.buffers) merges.rest) ∙ buffers) merges.least)))
 
 -- what it does to the lists of pages
 one_does : {header : Header} {h : ℕ} {outside : Outside} {doing : Command} {past : List Event} {ids : Ids} (k : Parts) (upper lower : ObjectId)
@@ -267,7 +299,7 @@ one_does {header = header} {past = past} k upper lower old new sweeps merges =
 pub record AllMerged (header : Header) (h : ℕ) (outside : Outside) (doing : Command) (past : List Event) (k : Parts) (ids : Ids) (old new : MergeState) : Type 0
   where
     pub sweeps : Sweeps header h outside doing past (with_state k new) ids [] new.events
-    pub thin : IsThin new.chains new.parts.objects
+    pub thin : IsThin new.copies new.chains new.parts.objects
     pub plays : Plays header past old.events (paging_in old.parts) new.events (paging_in new.parts)
     pub only : MergesOnly old.events new.events
 
@@ -292,7 +324,7 @@ all_merged k old new (OneFirst upper lower _ mid _ merges fit buffers more) swee
 -- such a kernel may merge
 
 pub may_merge : {header : Header} {h : ℕ} {outside : Outside} {doing : Command} {past : List Event} {ids : Ids} (k : Parts) (events : List Event)
-    → Sweeps header h outside doing past k ids [] events → MayMerge most_pages k.memory k.chains
+    → Sweeps header h outside doing past k ids [] events → MayMerge most_pages k.memory k.chains k.copies
 may_merge {header = header} {h = h} {past = past} {ids = ids} k events sweeps =
     record {
       fit = m.core.fits.parts;

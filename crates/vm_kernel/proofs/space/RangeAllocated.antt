@@ -1,8 +1,9 @@
 -- A range is allocated: a region over a new object, and an entry on the whole of it.
 use Rattle.vm_kernel.proofs.memory.CoreChanges.{pages_known_so}
 use Rattle.vm_state.proofs.KnownPages.{sizes_made}
-use Rattle.vm_model.specs.Regions.{is_copy}
-use Rattle.vm_state.proofs.PlainObjects.{plain_new, unmade_plain}
+use Rattle.vm_kernel.proofs.space.CopiesEnd.{copied_made, made_no_newest}
+use Rattle.vm_kernel.proofs.space.DeclaredPages.{declared_made}
+use Rattle.vm_state.proofs.PlainObjects.{unmade_plain}
 use Rattle.vm_kernel.proofs.Common.{AllInTurn, AllReferred, Bool, ChainTable, ChangesOnly, EachIn, Enters, Entry, Event, Fit, HasCause, HasEntries, HasRegions}
 use Rattle.vm_kernel.proofs.Common.{HasSlow, HasUse, HasWaits, Header, HostParts, Ids, IfSome, IsFilledIn, IsInside, IsLined, IsMine, IsUsed, KnowsHomes, List}
 use Rattle.vm_kernel.proofs.Common.{MadeRange, MapChange, Mapped, None, ObjectId, ObjectRow, ObjectTable, Outside, Parts, PutsObject, PutsRegion, Ran, Region}
@@ -13,7 +14,7 @@ use Rattle.vm_kernel.proofs.Common.{is_range, is_ready, is_some, last_control, l
 use Rattle.vm_kernel.proofs.Common.{meets_range, most_entries, nat_le, nat_tests, next_object, next_region, object_at, object_home, one_case, page_below}
 use Rattle.vm_kernel.proofs.Common.{pages_in, pages_of_row, place_of, refl, region_at, region_of, region_pages, rows_entered, rows_in, rows_map, some_is}
 use Rattle.vm_kernel.proofs.Common.{starts_copy, subst, sym, tasks, true, waiting, waiting_in, whole_entry, ℕ, ◌%◌, ◌++◌, ◌+◌, ◌-◌, ◌/◌, ◌<◌, ◌==◌, ◌^◌, ◌||◌}
-use Rattle.vm_kernel.proofs.Common.{◌∙◌, ◌∷◌, ◌≡◌, ◌≢◌, ◌≤◌, ◌⊎◌}
+use Rattle.vm_kernel.proofs.Common.{Inside, ◌∙◌, ◌∷◌, ◌≡◌, ◌≢◌, ◌≤◌, ◌⊎◌}
 use Rattle.vm_supply.specs.declared.woken.Woken.TheVariants as woken
 use Rattle.vm_kernel.proofs.space.RegionsFilled.{free_unfilled, put_filled, same_waiting, unknown_unfilled}
 use Rattle.vm_kernel.proofs.space.RegionsInUse.{ApartFrom, fills_here, holds_rows, unfilled, uses_entered}
@@ -157,45 +158,45 @@ made_test r n o pages was same = elim (eqb_tells r n) [
   | inr apart ↦ absurd (apart.1 (sym same))
 ]
 
-entries_range : (size : ℕ) (maps new : Mapped) (chains chains2 : ChainTable) (task n address bytes : ℕ) (object : ObjectId) → HasEntries size maps chains []
-    → region_at chains n ≡ None → PutsRegion n (Some (new_region object (bytes / size))) chains chains2
-    → ChangesOnly maps new task (Some (entered (whole_entry address bytes (record { 0 = n })) (rows_in task maps))) → task < 1024 → bytes % size ≡ 0 → 0 < bytes
-    → address + bytes ≤ 2 ^ 32 → length (rows_in task maps) < most_entries
+-- a region is made with so many pages, and a task gets an entry on the whole of it
+pub entries_over : (size : ℕ) (maps new : Mapped) (chains chains2 : ChainTable) (task : ℕ) (row : RegionRow) (entry : Entry) → HasEntries size maps chains []
+    → region_at chains entry.region.0 ≡ None → PutsRegion entry.region.0 (Some row) chains chains2 → row.pages ≡ entry.bytes / size → row.entries ≡ 1
+    → entry.offset ≡ 0 → ChangesOnly maps new task (Some (entered entry (rows_in task maps))) → task < all_tasks → entry.bytes % size ≡ 0 → 0 < entry.bytes
+    → entry.address + entry.bytes ≤ 2 ^ 32 → length (rows_in task maps) < most_entries
     → HasEntries size new chains2 []
-entries_range size maps new chains chains2 task n address bytes object has none put changes below whole some end room =
-    let row : RegionRow = new_region object (bytes / size) in
-    let entry : Entry = whole_entry address bytes (record { 0 = n }) in
+entries_over size maps new chains chains2 task row entry has none put pages single first changes below whole some end room =
+    let n = entry.region.0 in
     let keeps = keeps_new chains chains2 n row none put in
-    let pages : region_pages chains2 n ≡ bytes / size = ap pages_in made in
+    let sized : region_pages chains2 n ≡ entry.bytes / size = ap pages_in made ∙ pages in
     let one : IsInside size chains2 entry =
     record {
       region = ap is_some made;
       some = some;
       below = end;
       inside =
-          rw pages (record {
-            whole = omega arith;
-            each = λ a low high. let less = page_below size (a - address) bytes (omega arith) whole in omega
-                (arith, less);
+          subst (λ (z : ℕ). Inside size z entry) (sym sized) (record {
+            whole = omega (arith, first);
+            each = λ a low high. let less = page_below size (a - entry.address) entry.bytes (omega (arith, low, high)) whole in omega
+                (arith, less, first);
           });
     } in
-    let all = rows_map (IsInside size chains) (IsInside size chains2) (λ row is. inside_kept size chains chains2 row keeps is) (rows_in task maps)
+    let all = rows_map (IsInside size chains) (IsInside size chains2) (λ other is. inside_kept size chains chains2 other keeps is) (rows_in task maps)
     (has.inside task) in
-    entries_changed size maps new chains chains2 task (entered entry (rows_in task maps)) has keeps changes (rw most_is below)
-    (rows_entered (IsInside size chains2) entry (rows_in task maps) one all) (omega (arith, length_entered entry (rows_in task maps)))
+    entries_changed size maps new chains chains2 task (entered entry (rows_in task maps)) has keeps changes below
+    (rows_entered (IsInside size chains2) entry (rows_in task maps) one all) (omega (arith, length_entered entry (rows_in task maps), room))
     (λ r row2 found. elim (region_cases n (Some row) chains chains2 put r) [
       | inl same ↦
           let is : row ≡ row2 = some_is row row2 (sym same.1 ∙ found) in
-          let count : 1 ≡ row2.entries = ap (λ z. z.entries) is in
+          let count : row.entries ≡ row2.entries = ap (λ z. z.entries) is in
           let nothing : count_by all_tasks r maps ≡ 0 = by_none all_tasks r maps (λ t. subst (λ (z : ℕ). has_entry z (rows_in t maps) ≡ false) same.0
           (none_leads size chains n (rows_in t maps) none (has.inside t))) in
-          omega (arith, count, nothing, one_on n r same.0, on_entered r entry (rows_in task maps))
+          omega (arith, count, single, nothing, one_on n r same.0, on_entered r entry (rows_in task maps))
       | inr apart ↦
           omega (arith, has.counts r row2 (sym apart.1 ∙ found), none_on n r apart.0, on_entered r entry (rows_in task maps))
     ])
   where
-    made : region_at chains2 n ≡ Some (new_region object (bytes / size))
-    made = elim (region_cases n (Some (new_region object (bytes / size))) chains chains2 put n) [ inl same ↦ same.1 | inr apart ↦ absurd (apart.0 refl) ]
+    made : region_at chains2 entry.region.0 ≡ Some row
+    made = elim (region_cases entry.region.0 (Some row) chains chains2 put entry.region.0) [ inl same ↦ same.1 | inr apart ↦ absurd (apart.0 refl) ]
 
 -- no slow copy has just begun
 target_lined : (past : List Event) (task : ℕ) → IsLined past → (region : RegionId) (object : ObjectId) (pages : ℕ)
@@ -485,6 +486,11 @@ rests_range header h outside task address bytes past k k2 ids maps lined rests m
     let none = region_free header h k ids past rests in
     let local_at = λ (o p : ℕ). known_local header o p (local header h (place_of o p) past) in
     let unknown = object_free header h k ids past rests in
+    let high : next_object header past ≤ ids.next_object = omega (arith, m.core.objects.regions.object) in
+    let copied_now = copied_made ids.next_object (new_object pages) k2.memory.objects unknown made.object_row made.region_row.shadows
+    (unmade_plain ids.next_object past (m.core.spaces.homes.1.objects ids.next_object high))
+    (made_no_newest header ids.next_object past m.core.spaces.homes.1 high) (λ o shadow found. (m.core.objects.regions.unders o shadow found).1)
+    m.core.copied in
     record {
       matches =
           record {
@@ -501,10 +507,9 @@ rests_range header h outside task address bytes past k k2 ids maps lined rests m
                 tasks = tasks_entered h header.size k.maps maps (event.RegionMade (record { 0 = n }) object pages ∷ past) task
                     (whole_entry address bytes (record { 0 = n })) m.core.spaces.tasks changes may.lives;
                 entries =
-                    entries_range header.size k.maps maps k.chains k2.chains task.0 n address bytes object m.core.spaces.entries none made.region_row changes
-                    below may.whole
-                    may.some may.below may.room;
-                shared = shared_entered (named header) task.0 k.maps maps row changes (temporary_shared (named header) row
+                    entries_over header.size k.maps maps k.chains k2.chains task.0 (new_region object pages) row m.core.spaces.entries none made.region_row
+                    refl refl refl changes (rw most_is below) may.whole may.some may.below may.room;
+                shared = shared_entered header task.0 k.maps maps row changes (temporary_shared header row
                     (first_temporary header h past k ids rests).region) m.core.spaces.shared;
                 uses = range_uses header h task address bytes past k ids maps object (bytes / header.size) lined rests may (rw most_is below) changes;
                 homes = homes_put header h k.chains k2.chains n (new_region object pages) (ranged task ids address bytes pages ++ past) made.region_row.at
@@ -522,11 +527,10 @@ rests_range header h outside task address bytes past k k2 ids maps lined rests m
                 sizes =
                     sizes_made header past (named header) (record { 0 = n }) object pages (new_object pages) k.memory.objects k2.memory.objects made.object_row
                     may.few refl m.core.objects.sizes;
-                plain = plain_new ids.next_object (new_object pages) k.memory.objects k2.memory.objects (λ o. is_copy o past) made.object_row
-                    (unmade_plain ids.next_object past (m.core.spaces.homes.1.objects ids.next_object (omega (arith, m.core.objects.regions.object))))
-                    m.core.objects.plain;
-                undelayed = m.core.objects.undelayed;
+                undelayed = declared_made header past (record { 0 = n }) object pages (first_temporary header h past k ids rests).object
+                    m.core.objects.undelayed;
               };
+              copied = record { known = copied_now.known; fits = copied_now.fits };
               controls = controls_made k.memory.objects k2.memory.objects (λ o. last_control h o past) (λ o. live_control h o past) (λ o. is_ready h o past)
                   ids.next_object pages m.core.controls unknown made.object_row
                   (λ o is. objects_stay o h (ranged task ids address bytes pages) past is)

@@ -3,7 +3,7 @@ use Rattle.vm_kernel.proofs.Common.{Access, Bool, Entry, Event, Header, Ids, IsA
 use Rattle.vm_kernel.proofs.Common.{Starts, TaskId, [], allows, ap, arith, code_where, entries_in, entries_of, entry, entry_at, false, found_row, got, head}
 use Rattle.vm_kernel.proofs.Common.{host_of, if◌then◌else◌, is_none, is_on, is_range, is_some, length, marks_of, meets_range, most_entries, named, nat_le}
 use Rattle.vm_kernel.proofs.Common.{nat_tests, next_object, next_region, page_at, pages_in, place_at, refl, region_of, region_pages, rows_in, subst, sym, true}
-use Rattle.vm_kernel.proofs.Common.{waiting, whole_entry, ℕ, ◌%◌, ◌&&◌, ◌+◌, ◌-◌, ◌/◌, ◌<◌, ◌==◌, ◌||◌, ◌∙◌, ◌∷◌, ◌≡◌, ◌≤◌}
+use Rattle.vm_kernel.proofs.Common.{waiting, whole_entry, ℕ, ◌%◌, ◌&&◌, ◌+◌, ◌-◌, ◌/◌, ◌<◌, ◌==◌, ◌^◌, ◌||◌, ◌∙◌, ◌∷◌, ◌≡◌, ◌≤◌}
 use Rattle.vm_kernel.proofs.space.RegionsFilled.{entry_some}
 use Rattle.vm_state.proofs.Places.{on_its_region}
 use Rattle.std.proofs.Common.{nat_lt, not}
@@ -17,24 +17,43 @@ use Rattle.vm_model.specs.declared.command.Command.TheVariants as command
 use Rattle.vm_model.specs.declared.event.Event.TheVariants as event
 use Rattle.vm_state.proofs.Marks.{regions_marked}
 use Rattle.vm_kernel.specs.Forking.{CanCopy, EntersCopy, entry_on}
-use Rattle.vm_legal.specs.Follows.{copy_head}
+use Rattle.vm_legal.specs.Follows.{copied_late, copy_head}
+use Rattle.vm_legal.specs.Outside.{is_file, is_file_kept}
 use Rattle.vm_legal.specs.Refusal as refusing
+use Rattle.vm_model.specs.Named.{declared}
 use Rattle.vm_legal.specs.Refusal.{is_uncopied}
-use Rattle.vm_kernel.proofs.steps.HeadAlone.{ran_head}
+use Rattle.vm_kernel.proofs.steps.HeadAlone.{grows_head, ran_head}
+use Rattle.vm_kernel.proofs.steps.QueueServed.{works_at_rest}
 use Rattle.vm_legal.proofs.Heads.{passed}
 use Rattle.vm_kernel.proofs.abroad.OwnHost.{lives_here, lives_in, rows_here}
 use Rattle.vm_kernel.proofs.space.RegionRows.{region_row}
 use Rattle.std.proofs.lemmas.Bool.{and_parts, not-false, or_parts}
 use Rattle.vm_model.specs.Regions.{marked_regions}
-use Rattle.vm_kernel.proofs.space.RegionCopied.{MayCopy, can_copy, copied, heads_copied, rests_copied, told_copied}
+use Rattle.vm_kernel.proofs.space.RegionCopied.{IsFrom, MayCopy, can_copy, copied, file_of, heads_copied, rests_copied, told_copied}
+use Rattle.vm_kernel.proofs.space.RegionDelayed.{MayDelay, can_delay, heads_delayed, told_delayed, works_delayed}
+use Rattle.vm_kernel.proofs.space.PagedRegions.{paged_among}
+use Rattle.vm_kernel.specs.Begun.{HasBegun}
+use Rattle.vm_kernel.specs.Changes.{CanEnter}
+use Rattle.vm_kernel.specs.Delaying.{CanDelay, EntersDelayed, delayed}
+use Rattle.vm_kernel.specs.Refusing.{is_paged}
+use Rattle.vm_model.specs.declared.script.Declared.{Declared}
 
--- a copy costs an object, and one for its source where that can get a mark
-pub is_full_copy : (header : Header) (source : ℕ) (past : List Event) (a b : Bool) → nat_lt source (named header) ≡ a → (region_of header source past).mark ≡ b
+-- what a copy of a region takes of the objects: of a file, and of one that gets no mark
+abbrev pub cost_by : Bool → Bool → ℕ
+cost_by file markless = if file then 2 else if markless then 1 else 2
+
+pub is_full_copy : (header : Header) (source : ℕ) (past : List Event) (marked : Bool) → (region_of header source past).mark ≡ marked
     → refusing.is_copy_full header source past ≡ (nat_le most_regions (next_region header past) || nat_lt most_objects
-    (next_object header past + marked_regions header past + (if a || b then 1 else 2)))
-is_full_copy header source past true b declared mark = rw declared refl
-is_full_copy header source past false true declared mark = rw (declared, mark) refl
-is_full_copy header source past false false declared mark = rw (declared, mark) refl
+    (next_object header past + marked_regions header past + cost_by (is_file header source) (nat_lt source (named header) || marked)))
+is_full_copy header source past marked mark = by (is_file header source) refl (nat_lt source (named header)) refl marked mark
+  where
+    by : (a : Bool) → is_file header source ≡ a → (b : Bool) → nat_lt source (named header) ≡ b → (c : Bool) → (region_of header source past).mark ≡ c
+        → refusing.is_copy_full header source past ≡ (nat_le most_regions (next_region header past) || nat_lt most_objects
+        (next_object header past + marked_regions header past + cost_by a (b || c)))
+    by true file b below c is = rw file refl
+    by false file true below c is = rw (file, below) refl
+    by false file false below true is = rw (file, below, is) refl
+    by false file false below false is = rw (file, below, is) refl
 
 -- the numbers of a range
 
@@ -75,7 +94,7 @@ source_of header address bytes target to past (Some entry) fine =
       full = both.1;
     }
 
--- what a copy that may be run has: a symmetric one is of a temporary region
+-- what a copy that may be run has: a symmetric one is of a temporary region, and a delayed one of a file's
 pub record MayPlace (header : Header) (task address bytes : ℕ) (target : ℕ) (to : ℕ) (past : List Event) (k : Parts) : Type 0 where
   pub entry : Entry
   pub lives : entries_in task k.maps ≡ Some (rows_in task k.maps)
@@ -91,6 +110,8 @@ pub record MayPlace (header : Header) (task address bytes : ℕ) (target : ℕ) 
   pub full : refusing.is_copy_full header entry.region.0 past ≡ false
   pub may : nat_lt entry.region.0 (named header) ≡ false
       → MayCopy header target entry.region (page_at k.maps.size address entry) (whole_entry to bytes entry.region) past k
+  pub delays : is_file header entry.region.0 ≡ true
+      → MayDelay header target entry.region (page_at k.maps.size address entry) (whole_entry to bytes entry.region) past k
 
 pub may_place : (header : Header) (h : ℕ) (task : TaskId) (address bytes : ℕ) (target : TaskId) (to : ℕ) (past : List Event) (k : Parts) (ids : Ids)
     (events : List Event) → Starts header h (command.Copy task address bytes target to) past k ids events
@@ -138,6 +159,20 @@ may_place header h task address bytes target to past k ids events s =
     let ends = source.ends in
     let grows = div_grows size (address - entry.address + bytes) entry.bytes (omega (arith, start, ends)) in
     let within : page_at size address entry + bytes / size ≤ entry.offset + entry.bytes / size = omega (arith, sum, grows) in
+    let target_free : CanEnter target.0 (whole_entry to bytes entry.region) k = rw (m.core.spaces.tasks.sized, ranges.1, free, few) refl in
+    let pages_few : bytes / size < 2 ^ 32 = let most : bytes / size ≤ most_pages = grind (arith, nat_tests) in omega (arith, most) in
+    let counted : 0 < region.0.entries = entry_some size entry.region.0 task.0 k.maps k.chains [] region.0 m.core.spaces.entries region.1
+    (on_its_region address (rows_in task.0 k.maps) entry found) in
+    let within_region : page_at k.maps.size address entry + bytes / size ≤ region.0.pages =
+    subst (λ (z : ℕ). page_at z address entry + bytes / size ≤ region.0.pages) (sym m.core.spaces.tasks.sized)
+    (omega (arith, within, inside, pages)) in
+    let from : IsFrom header entry.region.0 (page_at k.maps.size address entry) (bytes / size) past = record {
+      task = task.0;
+      address = address;
+      at = record { host = h; entry = entry; lives = lives_here m.core.spaces.tasks lives; found = source.is };
+      source_is = refl;
+      inside = subst (λ (z : ℕ). page_at z address entry + bytes / size ≤ entry.offset + entry.bytes / size) (sym m.core.spaces.tasks.sized) within;
+    } in
     record {
       entry = entry;
       lives = lives;
@@ -152,41 +187,57 @@ may_place header h task address bytes target to past k ids events s =
       few = few;
       full = source.full;
       may = λ unnamed.
-          let full = sym (is_full_copy header entry.region.0 past false (region_of header entry.region.0 past).mark unnamed refl) ∙ source.full in
-          let counts = or_parts (nat_le most_regions (next_region header past)) (nat_lt most_objects
-          (next_object header past + marked_regions header past + (if (region_of header entry.region.0 past).mark then 1 else 2))) full in
-          let regions : nat_le most_regions (next_region header past) ≡ false = counts.0 in
-          let objects = counts.1 in
+          let mark = (region_of header entry.region.0 past).mark in
+          let room = few_by entry (ap (λ b. cost_by (b && is_file_kept (declared header entry.region.0)) (b || mark)) unnamed) source.full in
           record {
             lives = there;
             idle = idle_both (waiting task.0 past) (waiting target.0 past) two.0;
-            free = rw (m.core.spaces.tasks.sized, ranges.1, free, few) refl;
-            pages = let most : bytes / size ≤ most_pages = grind (arith, nat_tests) in omega (arith, most);
+            free = target_free;
+            pages = pages_few;
             region = region.0;
             there = region.1;
-            counted =
-                entry_some size entry.region.0 task.0 k.maps k.chains [] region.0 m.core.spaces.entries region.1
-                (on_its_region address (rows_in task.0 k.maps) entry found);
+            counted = counted;
             temporary = grind (arith, nat_tests);
-            inside =
-                subst (λ (z : ℕ). page_at z address entry + bytes / size ≤ region.0.pages) (sym m.core.spaces.tasks.sized)
-                (omega (arith, within, inside, pages));
-            regions = grind (arith, nat_tests);
-            objects = few_objects (if (region_of header entry.region.0 past).mark then 1 else 2) objects;
-            from =
-                record {
-                  task = task.0;
-                  address = address;
-                  at = record { host = h; entry = entry; lives = lives_here m.core.spaces.tasks lives; found = source.is };
-                  source_is = refl;
-                  inside = subst (λ (z : ℕ). page_at z address entry + bytes / size ≤ entry.offset + entry.bytes / size) (sym m.core.spaces.tasks.sized) within;
-                };
+            inside = within_region;
+            regions = room.0;
+            objects = room.1;
+            from = from;
+          };
+      delays = λ file.
+          let low = nat_lt entry.region.0 (named header) || (region_of header entry.region.0 past).mark in
+          let room = few_by entry (ap (λ b. cost_by b low) file) source.full in
+          let objects = room.1 in
+          record {
+            lives = there;
+            idle = idle_both (waiting task.0 past) (waiting target.0 past) two.0;
+            free = target_free;
+            pages = pages_few;
+            region = region.0;
+            there = region.1;
+            counted = counted;
+            file = file;
+            inside = within_region;
+            regions = room.0;
+            objects = omega (arith, objects);
+            from = from;
           };
     }
   where
-    few_objects : (n : ℕ) → nat_lt most_objects (next_object header past + marked_regions header past + n) ≡ false
-        → next_object header past + (marks_of header past + n) ≤ most_objects
-    few_objects n not_more = let same = regions_marked header past in grind (arith, nat_tests)
+    -- the copy takes so many objects, for which there is room
+    few_by : {cost : ℕ} (entry : Entry)
+        → cost_by (is_file header entry.region.0) (nat_lt entry.region.0 (named header) || (region_of header entry.region.0 past).mark) ≡ cost
+        → refusing.is_copy_full header entry.region.0 past ≡ false
+        → (next_region header past + 1 ≤ most_regions) × (next_object header past + (marks_of header past + cost) ≤ most_objects)
+    few_by {cost} entry is fits =
+        let full = sym (is_full_copy header entry.region.0 past (region_of header entry.region.0 past).mark refl
+        ∙ ap (λ (z : ℕ). nat_le most_regions (next_region header past) || nat_lt most_objects (next_object header past + marked_regions header past + z)) is)
+        ∙ fits in
+        let counts = or_parts (nat_le most_regions (next_region header past)) (nat_lt most_objects
+        (next_object header past + marked_regions header past + cost)) full in
+        let regions = counts.0 in
+        let objects = counts.1 in
+        let same = regions_marked header past in
+        (grind (arith, nat_tests), grind (arith, nat_tests))
 
     idle_both : (x y : Option Access) → (is_some x || is_some y) ≡ false → y ≡ None
     idle_both (Some x) y e = absurd (let bad : true ≡ false = e in cc)
@@ -211,7 +262,7 @@ can_place header h task address bytes target to past k ids events place range s 
     let p = may_place header h task address bytes target to past k ids events s in
     subst (λ (z : Entry). CanCopy target.0 place.region place.page.0 z k ids) (sym made)
     (subst (λ (z : Place). CanCopy target.0 z.region z.page.0 (whole_entry to bytes z.region) k ids) (sym (is p.entry p.found))
-    (can_copy header h target.0 p.entry.region (page_at k.maps.size address p.entry) (whole_entry to bytes p.entry.region) past k ids s.rests
+    (can_copy header h target.0 p.entry.region (page_at k.maps.size address p.entry) (whole_entry to bytes p.entry.region) past k ids (works_at_rest s.rests)
     (p.may (plain_source address p.entry place s.rests (is p.entry p.found) least))))
 
 -- the two events with which a slow copy begins
@@ -241,19 +292,102 @@ ran_copy header h outside task address bytes target to past k k2 ids ids2 before
     let named_copy : c.copy ≡ record { 0 = next_region header past } = λ i. record { 0 = number i } in
     let events : List Event = got target (entry_on row c.copy) ∷ copied c.copy source page (bytes / header.size) ∷ [] in
     let first : List Event = copied c.copy source page (bytes / header.size) ∷ got target (entry_on row c.copy) ∷ [] in
-    let told : after ≡ events = told_copied header h target source page row past k k2 ids ids2 before after s.rests c
+    let told : after ≡ events = told_copied header h target source page row past k k2 ids ids2 before after (works_at_rest s.rests) c
     ∙ ap (λ z. got target (entry_on row c.copy) ∷ copied c.copy source page (bytes / header.size) ∷ z) s.nothing in
     let same : entry_at address (entries_of header.size task.0 past) ≡ Some p.entry = ap (entry_at address) (rows_here m.core.spaces.tasks p.lives) ∙ p.found in
     let written : head header past doing ≡ Some first =
-    ap (copy_head (named header) header.size (next_region header past) (next_object header past) task address bytes target to) same
-    ∙ (ap (λ b. Some (if b then begun_copy task address bytes to (record { 0 = next_region header past }) (record { 0 = next_object header past })
-    (bytes / header.size) else copied (record { 0 = next_region header past }) source (page_at header.size address p.entry) (bytes / header.size) ∷ got
-    target (entry_on row (record { 0 = next_region header past })) ∷ [])) unnamed
+    ap (copy_head header (next_region header past) (next_object header past) task address bytes target to) same
+    ∙ (ap (λ b. Some (if b && not (b && is_file_kept (declared header source.0)) then begun_copy task address bytes to (record { 0 = next_region header past })
+    (record { 0 = next_object header past }) (bytes / header.size) else copied_late (b && is_file_kept (declared header source.0)) (next_region header past)
+    (next_object header past) source (page_at header.size address p.entry) (bytes / header.size) ∷ got target
+    (entry_on row (record { 0 = next_region header past })) ∷ [])) unnamed
     ∙ (ap (λ (z : ℕ). Some (copied (record { 0 = next_region header past }) source (page_at z address p.entry) (bytes / header.size) ∷ got target
     (entry_on row (record { 0 = next_region header past })) ∷ [])) (sym m.core.spaces.tasks.sized)
     ∙ ap (λ (z : RegionId). Some (copied z source page (bytes / header.size) ∷ got target (entry_on row z) ∷ [])) (sym named_copy))) in
     subst (λ (z : List Event). Ran header h outside doing past k2 ids2 z) (sym told)
     (ran_head header h outside doing past k2 ids2 events first written refl
-    (heads_copied header h outside doing target c.copy source page row past [] k ids s.rests may number
+    (heads_copied header h outside doing target c.copy source page row past [] k ids (works_at_rest s.rests) may number
     (record { licensed = tt; own_bytes = tt; frames = tt; inner = tt; said = tt; mine = tt })) tt
     (rests_copied header h outside doing target source page row past k k2 ids ids2 before after s.rests may c))
+
+-- the region that the code found is a file's
+file_source : {header : Header} {h : ℕ} {k : Parts} {ids : Ids} {past : List Event} (address : ℕ) (entry : Entry) (place : Place) → Rests header h k ids past
+    → place ≡ place_at k.maps.size address entry → is_paged k.declared.items place.region.0 ≡ true → place.region.0 < length k.declared.items
+    → is_file header entry.region.0 ≡ true
+file_source {header = header} {k = k} address entry place rests is paged less =
+    let objects = rests.matches.core.setting.objects in
+    let all : length k.declared.items ≡ named header = ap length objects in
+    let same : place.region.0 ≡ entry.region.0 = ap (λ z. z.region.0) is in
+    let late = sym (ap (λ (z : List Declared). is_paged z entry.region.0) objects ∙ paged_among header entry.region.0)
+    ∙ (ap (is_paged k.declared.items) (sym same) ∙ paged) in
+    file_of header entry.region.0 (omega (arith, same, all, less)) late
+
+-- a delayed copy is in place
+pub can_place_late : (header : Header) (h : ℕ) (task : TaskId) (address bytes : ℕ) (target : TaskId) (to : ℕ) (past : List Event) (k : Parts) (ids : Ids)
+    (events : List Event) (place : Place) (range : Entry) → Starts header h (command.Copy task address bytes target to) past k ids events
+    → ((entry : Entry) → entry_at address (rows_in task.0 k.maps) ≡ Some entry → place ≡ place_at k.maps.size address entry)
+    → is_paged k.declared.items place.region.0 ≡ true → place.region.0 < length k.declared.items → range ≡ whole_entry to bytes place.region
+    → CanDelay target.0 place.region range k ids
+can_place_late header h task address bytes target to past k ids events place range s is paged less made =
+    let p = may_place header h task address bytes target to past k ids events s in
+    subst (λ (z : Entry). CanDelay target.0 place.region z k ids) (sym made)
+    (subst (λ (z : Place). CanDelay target.0 z.region (whole_entry to bytes z.region) k ids) (sym (is p.entry p.found))
+    (can_delay header h target.0 p.entry.region (page_at k.maps.size address p.entry) (whole_entry to bytes p.entry.region) past k ids
+    (works_at_rest s.rests) (p.delays (file_source address p.entry place s.rests (is p.entry p.found) paged less))))
+
+-- the head of a copy of a file's pages
+late_head : (slow file : Bool) (begun : List Event) (next object : ℕ) (source : RegionId) (offset pages : ℕ) (own : Event) → file ≡ true
+    → (if slow && not file then begun else copied_late file next object source offset pages ∷ own ∷ [])
+    ≡ delayed (record { 0 = next }) source offset pages (record { 0 = object }) ∷ own ∷ []
+late_head true true begun next object source offset pages own is = refl
+late_head false true begun next object source offset pages own is = refl
+late_head slow false begun next object source offset pages own is = absurd (let bad : false ≡ true = is in cc)
+
+-- its head is told, and who waited to push a page of the file is to be run again
+pub begun_late : (header : Header) (h : ℕ) (outside : Outside) (task : TaskId) (address bytes : ℕ) (target : TaskId) (to : ℕ) (past : List Event)
+    (k k2 : Parts) (ids ids2 : Ids) (before after : List Event) (place : Place) (range : Entry)
+    → Starts header h (command.Copy task address bytes target to) past k ids before
+    → ((entry : Entry) → entry_at address (rows_in task.0 k.maps) ≡ Some entry → place ≡ place_at k.maps.size address entry)
+    → is_paged k.declared.items place.region.0 ≡ true → place.region.0 < length k.declared.items → range ≡ whole_entry to bytes place.region
+    → EntersDelayed target place.region place.page.0 range k k2 ids ids2 before after
+    → HasBegun header h outside (command.Copy task address bytes target to) past k2 ids2 after
+begun_late header h outside task address bytes target to past k k2 ids ids2 before after place range s is paged less made entered =
+    let m = s.rests.matches in
+    let works = works_at_rest s.rests in
+    let doing = command.Copy task address bytes target to in
+    let p = may_place header h task address bytes target to past k ids before s in
+    let file = file_source address p.entry place s.rests (is p.entry p.found) paged less in
+    let may = p.delays file in
+    let source = p.entry.region in
+    let page = page_at k.maps.size address p.entry in
+    let pages = bytes / header.size in
+    let row = whole_entry to bytes source in
+    let c : EntersDelayed target source page row k k2 ids ids2 before after =
+    subst (λ (z : Place). EntersDelayed target z.region z.page.0 (whole_entry to bytes z.region) k k2 ids ids2 before after) (is p.entry p.found)
+    (subst (λ (z : Entry). EntersDelayed target place.region place.page.0 z k k2 ids ids2 before after) made entered) in
+    let number : c.region.0 ≡ next_region header past = c.number ∙ m.core.objects.regions.region in
+    let object : c.copy.0 ≡ next_object header past = c.object ∙ m.core.objects.regions.object in
+    let named_region : c.region ≡ record { 0 = next_region header past } = λ i. record { 0 = number i } in
+    let named_copy : c.copy ≡ record { 0 = next_object header past } = λ i. record { 0 = object i } in
+    let events : List Event = got target (entry_on row c.region) ∷ delayed c.region source page pages c.copy ∷ [] in
+    let first : List Event = delayed c.region source page pages c.copy ∷ got target (entry_on row c.region) ∷ [] in
+    let told : after ≡ events = told_delayed header h target source page row past k k2 ids ids2 before after works c
+    ∙ ap (λ z. got target (entry_on row c.region) ∷ delayed c.region source page pages c.copy ∷ z) s.nothing in
+    let same : entry_at address (entries_of header.size task.0 past) ≡ Some p.entry = ap (entry_at address) (rows_here m.core.spaces.tasks p.lives) ∙ p.found in
+    let slow = begun_copy task address bytes to (record { 0 = next_region header past }) (record { 0 = next_object header past }) pages in
+    let written : head header past doing ≡ Some first =
+    ap (copy_head header (next_region header past) (next_object header past) task address bytes target to) same
+    ∙ (ap Some (late_head (nat_lt source.0 (named header)) (is_file header source.0) slow (next_region header past) (next_object header past) source
+    (page_at header.size address p.entry) pages (got target (entry_on row (record { 0 = next_region header past }))) file)
+    ∙ (ap (λ (z : ℕ). Some (delayed (record { 0 = next_region header past }) source (page_at z address p.entry) pages
+    (record { 0 = next_object header past }) ∷ got target (entry_on row (record { 0 = next_region header past })) ∷ [])) (sym m.core.spaces.tasks.sized)
+    ∙ (ap (λ (z : RegionId). Some (delayed z source page pages (record { 0 = next_object header past }) ∷ got target (entry_on row z) ∷ [])) (sym named_region)
+    ∙ ap (λ (z : ObjectId). Some (delayed c.region source page pages z ∷ got target (entry_on row c.region) ∷ [])) (sym named_copy)))) in
+    subst (λ (z : List Event). HasBegun header h outside doing past k2 ids2 z) (sym told)
+    (record {
+      works = works_delayed header h outside doing target source page row past k k2 ids ids2 before after works may c;
+      grows = grows_head header h outside doing past events first written refl
+          (heads_delayed header h outside doing target c.region source c.copy page row past [] k ids works may number object
+          (record { licensed = tt; own_bytes = tt; frames = tt; inner = tt; said = tt; mine = tt }));
+      done = λ all. tt;
+    })

@@ -1,12 +1,14 @@
 -- A task gets an entry on a symmetric copy of a region.
 use Rattle.vm_kernel.proofs.memory.CoreChanges.{pages_known_so}
 use Rattle.vm_state.proofs.KnownPages.{sizes_put}
-use Rattle.vm_state.proofs.PlainObjects.{plain_put}
+use Rattle.vm_kernel.proofs.space.CopiesEnd.{copied_referred, copied_regions}
+use Rattle.vm_kernel.specs.Matches.{Copied, object_facts}
+use Rattle.vm_legal.specs.Pushes.{is_pushed}
 use Rattle.vm_kernel.specs.Changes.{CanEnter}
 use Rattle.vm_kernel.proofs.Common.{Access, AllReferred, AllRows, ArePlain, Backing, Bool, ChainTable, ChangesOnly, Command, Enters, Entry, Event, Fit}
 use Rattle.vm_kernel.proofs.Common.{HasEntries, HasKinds, HasRegions, HasSlow, HasWaiters, HasWaits, Header, HostParts, Ids, Inside, IsFilledIn, IsInside}
 use Rattle.vm_kernel.proofs.Common.{IsUsed, KnowsHomes, List, Mapped, None, ObjectRow, ObjectTable, Option, Outside, Parts, PutsEntries, PutsObject, Region}
-use Rattle.vm_kernel.proofs.Common.{RegionRow, ResidentTable, Rests, SameMarks, Some, TaskId, Waiting, [], all_tasks, ap, arith, count_again, count_by}
+use Rattle.vm_kernel.proofs.Common.{RegionRow, ResidentTable, Rests, SameMarks, Some, TaskId, Waiting, Works, [], all_tasks, ap, arith, count_again, count_by}
 use Rattle.vm_kernel.proofs.Common.{count_on, entered, entering, entries_in, entry, entry_at, eqb_tells, false, fit_objects, found_row, got, has_entry, holds}
 use Rattle.vm_kernel.proofs.Common.{home_entered, home_of, if◌then◌else◌, in_use, inl, inr, is_range, is_ready, is_some, is_woken, last_control, length}
 use Rattle.vm_kernel.proofs.Common.{length_entered, live_control, lives_on, marks_of, meets_range, most_entries, named, nat_tests, next_object, next_region}
@@ -50,6 +52,7 @@ use Rattle.vm_supply.specs.declared.woken.Woken.TheVariants as woken
 use Rattle.vm_kernel.proofs.space.EntriesCounted.{by_none, none_on, on_entered, one_on}
 use Rattle.vm_kernel.proofs.steps.EventsGrow.{licensed, suffices}
 use Rattle.vm_kernel.proofs.steps.HeadAlone.{Heads, IsOne}
+use Rattle.vm_kernel.proofs.steps.QueueServed.{rests_of, works_at_rest}
 use Rattle.vm_kernel.proofs.abroad.OwnEvents.{mine_of, own_task}
 use Rattle.vm_kernel.proofs.abroad.OwnHost.{lives_here}
 use Rattle.vm_kernel.proofs.space.CountsChanged.{recounts_put}
@@ -60,7 +63,7 @@ use Rattle.vm_kernel.proofs.space.EntriesRewritten.{lives_below}
 use Rattle.vm_kernel.proofs.space.RegionEnds.{controls_referred}
 use Rattle.vm_kernel.proofs.controls.LockReplied.{replied_behind}
 use Rattle.vm_state.specs.Passed.{IsUnmet, StaysAway}
-use Rattle.vm_model.specs.Regions.{is_copy, object_pages}
+use Rattle.vm_model.specs.Regions.{object_pages}
 use Rattle.vm_kernel.proofs.memory.PageReturned.{controls_stay}
 use Rattle.vm_kernel.proofs.space.RegionHomes.{homes_caused}
 use Rattle.vm_kernel.proofs.space.StillThin.{thin_chains, thin_grown}
@@ -299,7 +302,7 @@ free_of size row rows fine =
         }
 
 -- as many references as regions and objects at most
-tally_few : (test : ℕ → Bool) (n : ℕ) → tally test n ≤ n
+pub tally_few : (test : ℕ → Bool) (n : ℕ) → tally test n ≤ n
 tally_few test zero = omega arith
 tally_few test (suc n) = by (test n) (tally_few test n)
   where
@@ -308,9 +311,9 @@ tally_few test (suc n) = by (test n) (tally_few test n)
     by false le = omega arith
 
 pub can_copy : (header : Header) (h : ℕ) (task : ℕ) (source : RegionId) (offset : ℕ) (row : Entry) (past : List Event) (k : Parts) (ids : Ids)
-    → Rests header h k ids past → MayCopy header task source offset row past k → CanCopy task source offset row k ids
-can_copy header h task source offset row past k ids rests may =
-    let m = rests.matches in
+    → Works header h k ids woken.Nobody past → MayCopy header task source offset row past k → CanCopy task source offset row k ids
+can_copy header h task source offset row past k ids works may =
+    let m = works.matches in
     let known = row_of (object_at k.memory.objects may.region.top.0) (m.core.objects.regions.tops source.0 may.region may.there) in
     let few = m.core.objects.regions.few in
     let more = may.regions in
@@ -376,28 +379,28 @@ pub file_of : (header : Header) (r : ℕ) → r < named header → cause.is_page
 file_of header r declared paged = let test : nat_lt r (named header) ≡ true = grind (arith, nat_tests) in sym (ap (λ b. not b || is_file header r) test) ∙ paged
 
 -- a region that is there is in use, if it is temporary or a file's
-pub used_there : (header : Header) (h : ℕ) (k : Parts) (ids : Ids) (past : List Event) (r : ℕ) (row : RegionRow) → Rests header h k ids past
-    → region_at k.chains r ≡ Some row → cause.is_paged header r ≡ true → in_use header h r past ≡ true
-used_there header h k ids past r row rests there paged =
-    let m = rests.matches in
+pub used_there : (header : Header) (h : ℕ) (k : Parts) (ids : Ids) (past : List Event) (r : ℕ) (row : RegionRow)
+    → Works header h k ids woken.Nobody past → region_at k.chains r ≡ Some row → cause.is_paged header r ≡ true → in_use header h r past ≡ true
+used_there header h k ids past r row works there paged =
+    let m = works.matches in
     elim (kind_cases header r) [
-      | inl declared ↦ elim (row_use r row m.core.spaces.entries there rests.used) [
+      | inl declared ↦ elim (row_use r row m.core.spaces.entries there works.used) [
         | inl some ↦ m.core.spaces.uses.files r (file_of header r declared paged) some
-        | inr filled ↦ let least = filled_temporary r rests.used.copies m.core.spaces.homes.1 filled in absurd (omega (arith, declared, least))
+        | inr filled ↦ let least = filled_temporary r works.used.copies m.core.spaces.homes.1 filled in absurd (omega (arith, declared, least))
       ]
-      | inr temporary ↦ (m.core.spaces.uses.used r temporary).is (row_use r row m.core.spaces.entries there rests.used)
+      | inr temporary ↦ (m.core.spaces.uses.used r temporary).is (row_use r row m.core.spaces.entries there works.used)
     ]
 
 -- the entry on the copy has its cause
 pub copy_enters : (header : Header) (h : ℕ) (task : TaskId) (copy source : RegionId) (offset : ℕ) (row : Entry) (past : List Event) (k : Parts) (ids : Ids)
-    → Rests header h k ids past → MayCopy header task.0 source offset row past k → copy.0 ≡ next_region header past
+    → Works header h k ids woken.Nobody past → MayCopy header task.0 source offset row past k → copy.0 ≡ next_region header past
     → Enters header task.0 row.bytes copy.0 0 (copied copy source offset (row.bytes / header.size) ∷ past)
-copy_enters header h task copy source offset row past k ids rests may number =
-    let m = rests.matches in
+copy_enters header h task copy source offset row past k ids works may number =
+    let m = works.matches in
     let used : in_use header h copy.0 (copied copy source offset (row.bytes / header.size) ∷ past) ≡ true = copy_use header h copy source offset
-    (row.bytes / header.size) past ∙ used_there header h k ids past source.0 may.region rests may.there (paged_temporary header source.0 may.temporary) in
-    let waits_copied : HasWaits header h k woken.Nobody (copied copy source offset (row.bytes / header.size) ∷ past) = rests.waits in
-    let copies_copied : HasSlow header k (copied copy source offset (row.bytes / header.size) ∷ past) = rests.used.copies in
+    (row.bytes / header.size) past ∙ used_there header h k ids past source.0 may.region works may.there (paged_temporary header source.0 may.temporary) in
+    let waits_copied : HasWaits header h k woken.Nobody (copied copy source offset (row.bytes / header.size) ∷ past) = works.waits in
+    let copies_copied : HasSlow header k (copied copy source offset (row.bytes / header.size) ∷ past) = works.used.copies in
     record {
       idle = may.idle;
       host = h;
@@ -410,7 +413,7 @@ copy_enters header h task copy source offset row past k ids rests may number =
       unfilled =
           unfilled header.size copy.0 (tasks past) k.maps k.waits.rows (copied copy source offset (row.bytes / header.size) ∷ past)
           (fills_here {past = copied copy source offset (row.bytes / header.size) ∷ past} waits_copied copies_copied)
-          (free_unfilled copy.0 rests.used.copies (m.core.objects.regions.unmade copy.0 (omega (arith, number))))
+          (free_unfilled copy.0 works.used.copies (m.core.objects.regions.unmade copy.0 (omega (arith, number))))
           (λ t none. m.core.spaces.uses.apart t copy.0 none (inr (omega (arith, number))));
     }
 
@@ -465,12 +468,12 @@ kinds_copied header source copy offset pages region known cs mid cs2 os os2 once
     by_row top r row least (OfOther apart was) = has.tops r row least was
 
 -- the kernel behind a copy and its entry
-pub rests_copied : (header : Header) (h : ℕ) (outside : Outside) (doing : Command) (task : TaskId) (source : RegionId) (offset : ℕ) (row : Entry)
-    (past : List Event) (k k2 : Parts) (ids ids2 : Ids) (before after : List Event) → Rests header h k ids past
+pub works_copied : (header : Header) (h : ℕ) (outside : Outside) (doing : Command) (task : TaskId) (source : RegionId) (offset : ℕ) (row : Entry)
+    (past : List Event) (k k2 : Parts) (ids ids2 : Ids) (before after : List Event) → Works header h k ids woken.Nobody past
     → MayCopy header task.0 source offset row past k → (s : EntersCopy task source offset row k k2 ids ids2 before after)
-    → Rests header h k2 ids2 (got task (entry_on row s.copy) ∷ copied s.copy source offset (row.bytes / header.size) ∷ past)
-rests_copied header h outside doing task source offset row past k k2 ids ids2 before after rests may s =
-    let m = rests.matches in
+    → Works header h k2 ids2 woken.Nobody (got task (entry_on row s.copy) ∷ copied s.copy source offset (row.bytes / header.size) ∷ past)
+works_copied header h outside doing task source offset row past k k2 ids ids2 before after works may s =
+    let m = works.matches in
     let size = header.size in
     let pages = row.bytes / size in
     let now : Event = copied s.copy source offset pages in
@@ -491,7 +494,7 @@ rests_copied header h outside doing task source offset row past k k2 ids ids2 be
     (free_of k.maps.size row (rows_in task.0 k.maps) may.free) in
     let lives = may.lives in
     let below = lives_below size task.0 k.maps k.chains [] m.core.spaces.entries lives in
-    let enters = copy_enters header h task s.copy source offset row past k ids rests may number in
+    let enters = copy_enters header h task s.copy source offset row past k ids works may number in
     let knows = homes_caused header outside h k.chains e (now ∷ past) (doing, enters) (homes_caused header outside h k.chains now past
     (doing, copy_cause header s.copy source offset pages past may.temporary may.from number) m.core.spaces.homes) in
     let recount = same_put s.copy.0 1 s.mid k2.chains s.counts in
@@ -508,27 +511,30 @@ rests_copied header h outside doing task source offset row past k k2 ids ids2 be
     let frames_are : k2.memory.frames ≡ k.memory.frames = ap (λ (z : HostParts). z.frames) s.memory in
     let rows_are : k2.memory.resident ≡ k.memory.resident = ap (λ (z : HostParts). z.resident) s.memory in
     let waits_at = λ (t : ℕ). waiting t past in
-    let none = no_row k.maps.size (entry k.waits.rows task.0) (waiting task.0 past) (rests.waits.is task.0 (ap is_some lives)) may.idle in
+    let none = no_row k.maps.size (entry k.waits.rows task.0) (waiting task.0 past) (works.waits.is task.0 (ap is_some lives)) may.idle in
     let now_waits : HasWaiters k2.maps k2.chains k.copies k.memory.resident k2.memory.objects k.waits.rows (is_woken woken.Nobody) waits_at
     (StaysAway header h past)
     (IsUnmet header h past) =
     waits_referred k2.maps k2.chains k.memory.resident k.memory.objects k2.memory.objects k.waits.rows (is_woken woken.Nobody) waits_at top
     (s.known.references + 1) s.known
     (waits_changed k.maps k2.maps k.chains k2.chains k.memory.resident k.memory.objects k.waits.rows (is_woken woken.Nobody) waits_at task.0
-    (Some (entered new (rows_in task.0 k.maps))) rests.waits s.maps none
+    (Some (entered new (rows_in task.0 k.maps))) works.waits s.maps none
     (places_copy source.0 s.copy.0 offset pages s.region k.chains s.mid k2.chains once)
-    (told_changed k.maps k2.maps k.waits.rows waits_at task.0 (rows_in task.0 k.maps) (Some (entered new (rows_in task.0 k.maps))) rests.waits.is s.maps
+    (told_changed k.maps k2.maps k.waits.rows waits_at task.0 (rows_in task.0 k.maps) (Some (entered new (rows_in task.0 k.maps))) works.waits.is s.maps
     lives))
     s.object s.refers in
+    let copied_now = copied_regions {chains = s.mid} s.counts.shadows (copied_regions {chains2 = s.mid} copies.shadows
+    (copied_referred top (s.known.references + 1) s.known k2.memory.objects
+    s.object s.refers (λ more. referred_source m.core.objects.regions source.0 s.region s.known s.there s.object) m.core.copied)) in
     let referred : AllReferred k2.chains k2.memory.objects k.memory.resident =
     referred_recounted s.mid k2.chains k2.memory.objects k.memory.resident recount
     (referred_copied top (record s.known { references = s.known.references + 1 }) source.0 s.copy.0 offset pages s.region k.chains s.mid k.memory.objects
-    k2.memory.objects k.memory.resident copies s.refers (omega arith) (stays_served s.object refl refl) rests.referred) in
+    k2.memory.objects k.memory.resident copies s.refers (omega arith) (stays_served s.object refl refl) works.referred) in
     record {
       matches =
           record {
             core = record {
-              setting = rw (s.size, s.host, s.declared, s.copied) m.core.setting;
+              setting = rw (s.size, s.host, s.declared) m.core.setting;
               calm = m.core.calm;
               fits = record {
                 parts =
@@ -543,7 +549,7 @@ rests_copied header h outside doing task source offset row past k k2 ids ids2 be
                 entries =
                     entries_copy size k.maps k2.maps source.0 offset s.region k.chains s.mid k2.chains task.0 s.copy row m.core.spaces.entries once s.maps below
                     free;
-                shared = shared_entered (named header) task.0 k.maps k2.maps new s.maps (temporary_shared (named header) new
+                shared = shared_entered header task.0 k.maps k2.maps new s.maps (temporary_shared header new
                     (let more = named_regions header past in omega (arith, number, more))) m.core.spaces.shared;
                 uses = rw s.waits (uses_entered header k.maps k2.maps (λ r. in_use header h r (now ∷ past)) (tasks past)
                     (λ t r. holds header.size t r (e ∷ now ∷ past)) (next_region header past + 1) task.0 new (lives_on h task.0 (now ∷ past))
@@ -552,7 +558,7 @@ rests_copied header h outside doing task source offset row past k k2 ids ids2 be
                     (m.core.spaces.uses.used r temporary))
                     (λ r file apart some. others_use header h s.copy source offset pages past r apart ∙ m.core.spaces.uses.files r file some)
                     (λ paged. copy_use header h s.copy source offset pages past
-                    ∙ used_there header h k ids past source.0 s.region rests s.there (paged_temporary header source.0 may.temporary)) m.core.spaces.uses.among
+                    ∙ used_there header h k ids past source.0 s.region works s.there (paged_temporary header source.0 may.temporary)) m.core.spaces.uses.among
                     s.maps lives
                     below
                     (m.core.spaces.tasks.hosts task.0 ∙ ap is_some lives)
@@ -580,10 +586,10 @@ rests_copied header h outside doing task source offset row past k k2 ids ids2 be
                     (λ o. home_of o past) s.object s.refers m.core.objects.files);
                 sizes = sizes_put (named header) top s.known (record s.known { references = s.known.references + 1 }) k.memory.objects k2.memory.objects
                     (λ o. object_pages header o past) s.object refl s.refers m.core.objects.sizes;
-                plain = plain_put top s.known (record s.known { references = s.known.references + 1 }) k.memory.objects k2.memory.objects
-                    (λ o. is_copy o past) s.object s.refers m.core.objects.plain;
                 undelayed = m.core.objects.undelayed;
               };
+              copied = rw s.copied (subst (λ (z : HostParts). Copied k.copies z k2.chains (object_facts header (e ∷ now ∷ past))
+                  (λ c p. is_pushed h c p past)) (sym s.memory) (record { known = copied_now.known; fits = copied_now.fits }));
               controls = controls_stay (λ o home. object_stays o h e (now ∷ past) home)
                   (controls_referred top (s.known.references + 1) s.known k.memory.objects k2.memory.objects (λ o. last_control h o past)
                   (λ o. live_control h o past) (λ o. is_ready h o past) s.object s.refers m.core.controls);
@@ -594,22 +600,21 @@ rests_copied header h outside doing task source offset row past k k2 ids ids2 be
             replied = replied_behind tt (replied_behind tt m.replied);
           };
       used = rw (rows_are, s.waits) (record {
-        regions = used_copy source.0 s.copy.0 offset pages s.region k.chains s.mid k2.chains once k.waits.rows counted rests.used.regions;
+        regions = used_copy source.0 s.copy.0 offset pages s.region k.chains s.mid k2.chains once k.waits.rows counted works.used.regions;
         copies =
-            copies_kept k.maps k2.maps k.chains k2.chains k.memory.resident k.memory.resident rests.used.copies
+            copies_kept k.maps k2.maps k.chains k2.chains k.memory.resident k.memory.resident works.used.copies
             (same_waiting k.maps k2.maps task.0 (Some (entered new (rows_in task.0 k.maps))) k.waits.rows s.maps none)
             (filled_copy source.0 s.copy.0 offset pages s.region k.chains s.mid k2.chains once counted) (rows_unmade k.chains k.memory.resident);
       });
       referred = subst (λ (z : ResidentTable). AllReferred k2.chains k2.memory.objects z) (sym rows_are) referred;
       thin =
-          thin_chains s.mid k2.chains k2.memory.objects recount.recounts.shadows (thin_grown top s.known
+          rw s.copied (thin_chains s.mid k2.chains k2.memory.objects recount.recounts.shadows (thin_grown top s.known
           (record s.known { references = s.known.references + 1 }) k.chains s.mid k.memory.objects k2.memory.objects
           (λ o shadow found. sym (ap (λ f. f o) copies.shadows) ∙ found) s.object (λ none. none)
           (λ one. let some = referred_source m.core.objects.regions source.0 s.region s.known s.there s.object in omega (arith, one, some)) s.refers
-          rests.thin);
+          works.thin));
       waits = rw (rows_are, s.waits, s.copied) now_waits;
-      order = rw s.waits rests.order;
-      idle = ap (λ z. count_again z.rows) s.waits ∙ rests.idle;
+      order = rw s.waits works.order;
     }
   where
     by_row : s.copy.0 ≡ next_region header past
@@ -618,7 +623,7 @@ rests_copied header h outside doing task source offset row past k k2 ids ids2 be
         → RowNow source.0 s.copy.0 offset (row.bytes / header.size) s.region k.chains r found_row
         → home_of r (got task (entry_on row s.copy) ∷ copied s.copy source offset (row.bytes / header.size) ∷ past) ≡ Some h
     by_row number homes r found_row paged (OfCopy same is) =
-        let m = rests.matches in
+        let m = works.matches in
         let now : Event = copied s.copy source offset (row.bytes / header.size) in
         subst (λ (z : ℕ). home_of z (got task (entry_on row s.copy) ∷ now ∷ past) ≡ Some h) same
         (home_entered h task row.address row.bytes s.copy 0 row.prot row.inherit (now ∷ past) (m.core.spaces.homes.1.regions s.copy.0 (omega (arith, number)))
@@ -627,6 +632,16 @@ rests_copied header h outside doing task source offset row past k k2 ids ids2 be
         subst (λ (z : ℕ). home_of z (got task (entry_on row s.copy) ∷ copied s.copy source offset (row.bytes / header.size) ∷ past) ≡ Some h) same
         (homes.0 source.0 s.region (paged_temporary header source.0 may.temporary) s.there)
     by_row number homes r found_row paged (OfOther apart was) = homes.0 r found_row paged was
+
+-- at the end of a step
+pub rests_copied : (header : Header) (h : ℕ) (outside : Outside) (doing : Command) (task : TaskId) (source : RegionId) (offset : ℕ) (row : Entry)
+    (past : List Event) (k k2 : Parts) (ids ids2 : Ids) (before after : List Event) → Rests header h k ids past
+    → MayCopy header task.0 source offset row past k → (s : EntersCopy task source offset row k k2 ids ids2 before after)
+    → Rests header h k2 ids2 (got task (entry_on row s.copy) ∷ copied s.copy source offset (row.bytes / header.size) ∷ past)
+rests_copied header h outside doing task source offset row past k k2 ids ids2 before after rests may s =
+    rests_of header h k2 ids2 (got task (entry_on row s.copy) ∷ copied s.copy source offset (row.bytes / header.size) ∷ past)
+    (works_copied header h outside doing task source offset row past k k2 ids ids2 before after (works_at_rest rests) may s)
+    (ap (λ z. count_again z.rows) s.waits ∙ rests.idle)
 
 -- the head of a command with an event more
 pub heads_more : (header : Header) (h : ℕ) (outside : Outside) (doing : Command) (past events : List Event) (e : Event)
@@ -643,11 +658,11 @@ heads_more header h outside doing past events e heads is =
 
 -- both events are the host's
 pub heads_copied : (header : Header) (h : ℕ) (outside : Outside) (doing : Command) (task : TaskId) (copy source : RegionId) (offset : ℕ) (row : Entry)
-    (past events : List Event) (k : Parts) (ids : Ids) → Rests header h k ids (events ++ past)
+    (past events : List Event) (k : Parts) (ids : Ids) → Works header h k ids woken.Nobody (events ++ past)
     → MayCopy header task.0 source offset row (events ++ past) k → copy.0 ≡ next_region header (events ++ past) → Heads header h outside doing past events
     → Heads header h outside doing past (got task (entry_on row copy) ∷ copied copy source offset (row.bytes / header.size) ∷ events)
-heads_copied header h outside doing task copy source offset row past events k ids rests may number heads =
-    let m = rests.matches in
+heads_copied header h outside doing task copy source offset row past events k ids works may number heads =
+    let m = works.matches in
     let now : Event = copied copy source offset (row.bytes / header.size) in
     let fine = suffices header h k.memory.frames (events ++ past) m.core.pages.counted in
     heads_more header h outside doing past (now ∷ events) (got task (entry_on row copy))
@@ -666,7 +681,7 @@ heads_copied header h outside doing task copy source offset row past events k id
     }))
     (record {
       settled = record { none_owed = refl; shut = λ region. refl };
-      cause = copy_enters header h task copy source offset row (events ++ past) k ids rests may number;
+      cause = copy_enters header h task copy source offset row (events ++ past) k ids works may number;
       own_bytes = tt;
       frames = fine;
       inner = tt;
@@ -677,7 +692,7 @@ heads_copied header h outside doing task copy source offset row past events k id
 
 -- the log behind them
 pub told_copied : (header : Header) (h : ℕ) (task : TaskId) (source : RegionId) (offset : ℕ) (row : Entry) (past : List Event) (k k2 : Parts) (ids ids2 : Ids)
-    (before after : List Event) → Rests header h k ids past → (s : EntersCopy task source offset row k k2 ids ids2 before after)
+    (before after : List Event) → Works header h k ids woken.Nobody past → (s : EntersCopy task source offset row k k2 ids ids2 before after)
     → after ≡ got task (entry_on row s.copy) ∷ copied s.copy source offset (row.bytes / header.size) ∷ before
-told_copied header h task source offset row past k k2 ids ids2 before after rests s =
-    s.told ∙ ap (λ (z : ℕ). got task (entry_on row s.copy) ∷ copied s.copy source offset (row.bytes / z) ∷ before) rests.matches.core.setting.sized
+told_copied header h task source offset row past k k2 ids ids2 before after works s =
+    s.told ∙ ap (λ (z : ℕ). got task (entry_on row s.copy) ∷ copied s.copy source offset (row.bytes / z) ∷ before) works.matches.core.setting.sized

@@ -2,12 +2,12 @@
 use Rattle.vm_kernel.proofs.memory.PageChanges.{fits_known}
 use Rattle.vm_kernel.proofs.memory.CoreChanges.{pages_known_so}
 use Rattle.vm_model.specs.Named.{named}
-use Rattle.vm_model.specs.Regions.{is_copy, object_pages}
+use Rattle.vm_model.specs.Regions.{object_pages}
 use Rattle.vm_state.proofs.KnownPages.{sizes_put}
-use Rattle.vm_state.proofs.PlainObjects.{plain_put}
+use Rattle.vm_kernel.proofs.space.CopiesEnd.{copied_referred, copied_regions}
 use Rattle.vm_kernel.proofs.Common.{AllEntriesInside, AllRows, Bool, ChainTable, EndsObject, EndsRegion, Entry, Event, HasControls, HasEntries, Header, Ids}
 use Rattle.vm_kernel.proofs.Common.{IfSome, Inside, IsAmid, IsReferred, IsWhole, List, Mapped, Matches, None, ObjectId, ObjectRow, ObjectTable, Option, Parts}
-use Rattle.vm_kernel.proofs.Common.{PutsObject, PutsRegion, RegionRow, SameMarks, Some, UsesAll, Woken, [], all_tasks, ap, arith, backing_of, count_by}
+use Rattle.vm_kernel.proofs.Common.{PutsObject, PutsRegion, Region, RegionRow, SameMarks, Some, UsesAll, Woken, [], all_tasks, ap, arith, backing_of, count_by}
 use Rattle.vm_kernel.proofs.Common.{count_on, entries_in_row, eqb_tells, false, has_entry, has_region, home_of, if◌then◌else◌, inl, inr, is_some, is_woken}
 use Rattle.vm_kernel.proofs.Common.{last_in, live_in, marks_of, nat_lt, nat_tests, next_object, next_region, object_at, one_case, pages_in, ready_in, refl}
 use Rattle.vm_kernel.proofs.Common.{region_at, region_entries, region_of, rows_in, some_is, subst, sym, true, unwrap_or, waiting, ℕ, ◌++◌, ◌+◌, ◌-◌, ◌<◌, ◌^◌}
@@ -178,6 +178,16 @@ top_referred header h past who k ids rest r events object e top =
     let is : object ≡ row.0.top = if_some (region_at k.chains r) (λ row. object ≡ row.top) row.0 row.1 top in
     subst (λ (z : ObjectId). IsReferred k.memory.objects z.0) (sym is) (refers_region e.runs.matches.core.objects.regions r row.0 row.1)
 
+-- it is that in the history, too
+pub top_told : (header : Header) (h : ℕ) (past : List Event) (who : Woken) (k : Parts) (ids : Ids) (rest : List Entry) (r : ℕ) (events : List Event)
+    (object : ObjectId)
+    → EndsRegion header h who k ids rest r (events ++ past) → IfSome (region_at k.chains r) (λ row. object ≡ row.top)
+    → object.0 ≡ (region_of header r (events ++ past)).top
+top_told header h past who k ids rest r events object e top =
+    let row = region_row k.chains r e.there in
+    let is : object ≡ row.0.top = if_some (region_at k.chains r) (λ row. object ≡ row.top) row.0 row.1 top in
+    ap (λ (z : ObjectId). z.0) is ∙ sym (ap (λ (z : Region). z.top) (e.runs.matches.core.objects.regions.rows r row.0 row.1))
+
 pub loses_region : (header : Header) (h : ℕ) (past : List Event) (who : Woken) (k : Parts) (ids : Ids) (rest : List Entry) (r left : ℕ) (events : List Event)
     (object : ObjectId) (chains : ChainTable) (objects : ObjectTable)
     → EndsRegion header h who k ids rest r (events ++ past) → IfSome (region_at k.chains r) (λ row. object ≡ row.top) → PutsRegion r None k.chains chains
@@ -243,10 +253,10 @@ runs_gone header h past who k ids rest r left events object chains objects e los
                 sizes_put (named header) top was (record was { references = left }) k.memory.objects objects (λ o. object_pages header o moment) loses.known
                 refl
                 loses.put m.core.objects.sizes;
-            plain = plain_put top was (record was { references = left }) k.memory.objects objects (λ o. is_copy o moment) loses.known loses.put
-                m.core.objects.plain;
             undelayed = m.core.objects.undelayed;
           };
+          copied = copied_regions loses.region.shadows (copied_referred top left was objects loses.known loses.put
+              (λ some. let less = loses.less in omega (arith, less)) m.core.copied);
           controls = controls_referred top left was k.memory.objects objects _ _ _ loses.known loses.put m.core.controls;
           flags = flags_put top (record was { references = left }) loses.put (ap cached_in loses.known) m.core.flags;
           pages = pages_known_so loses.marks m.core.pages;

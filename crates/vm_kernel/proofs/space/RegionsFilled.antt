@@ -135,9 +135,9 @@ unknown_unfilled cs os o tops none r object pages region alone same =
 -- an access fills temporary regions alone
 pub filled_temporary : {header : Header} {maps : Mapped} {cs : ChainTable} {rs : ResidentTable} {list : List Waiting} {next_at : ℕ → ℕ} {n m : ℕ}
     {home_from made_for : ℕ → Option ℕ} {used_at : ℕ → ℕ → Bool} {region_from : ℕ → Region} {backing_from : ℕ → Backing} {target_from : ℕ → Option Target}
-    {newest_from : ℕ → Option ℕ}
+    {newest_from : ℕ → Option ℕ} {copy_from : ℕ → Bool}
     (r : ℕ) → HasCopies header maps cs rs list next_at target_from
-    → AreHomes header n m home_from made_for used_at region_from backing_from target_from newest_from
+    → AreHomes header n m home_from made_for used_at region_from backing_from target_from newest_from copy_from
     → IsFilledIn list r → named header ≤ r
 filled_temporary r copies homes filled =
     let is = filled_there copies filled.task r filled.fills in homes.fills filled.task (record { region = r; object = is.object.0 }) is.made
@@ -145,8 +145,8 @@ filled_temporary r copies homes filled =
 -- a declared object is none of theirs
 pub declared_unfilled : {header : Header} {maps : Mapped} {cs : ChainTable} {rs : ResidentTable} {list : List Waiting} {next_at : ℕ → ℕ} {os : ObjectTable}
     {n m : ℕ} {home_from made_for : ℕ → Option ℕ} {used_at : ℕ → ℕ → Bool} {region_from : ℕ → Region} {backing_from : ℕ → Backing}
-    {target_from : ℕ → Option Target} {newest_from : ℕ → Option ℕ} (o : ℕ) → AllUsed header maps cs rs list next_at target_from
-    → AreHomes header n m home_from made_for used_at region_from backing_from target_from newest_from → HasKinds header os cs
+    {target_from : ℕ → Option Target} {newest_from : ℕ → Option ℕ} {copy_from : ℕ → Bool} (o : ℕ) → AllUsed header maps cs rs list next_at target_from
+    → AreHomes header n m home_from made_for used_at region_from backing_from target_from newest_from copy_from → HasKinds header os cs
     → o < named header
     → IsUnfilled cs o
 declared_unfilled o used homes kinds declared r object pages region alone same = elim (used.regions r (filled_row object pages) region) [

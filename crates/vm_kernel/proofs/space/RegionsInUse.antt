@@ -15,6 +15,7 @@ use Rattle.vm_kernel.proofs.space.EntriesCounted.{by_changed, by_some, by_zero, 
 use Rattle.std.proofs.lemmas.Bool.{and_parts, or_parts, or_right}
 use Rattle.vm_base.specs.declared.ids.PageKey.{PageKey}
 use Rattle.vm_copies.specs.Copies.{CopyTable}
+use Rattle.vm_state.specs.Passed.{Unmet}
 
 either : (a b : Bool) → (a || b) ≡ true → (a ≡ true) ⊎ (b ≡ true)
 either true b is = inl refl
@@ -25,7 +26,8 @@ pub record FillsHere (maps : Mapped) (rows : List Waiting) (past : List Event) :
   pub is : (task r : ℕ) → is_some (entries_in task maps) ≡ true → fills r (waiting task past) (copy_target task past) ≡ fills_in r (entry rows task)
   pub lives : (task : ℕ) → is_some (entry rows task) ≡ true → is_some (entries_in task maps) ≡ true
 
-pub fills_here : {copies : CopyTable} {stays unmet : PageKey → Type 0} {header : Header} {maps : Mapped} {cs : ChainTable} {rs : ResidentTable}
+pub fills_here : {copies : CopyTable} {stays : PageKey → Type 0} {unmet : PageKey → Unmet} {header : Header} {maps : Mapped} {cs : ChainTable}
+    {rs : ResidentTable}
     {os : ObjectTable}
     {rows : List Waiting} {who : On → Bool} {next_at : ℕ → ℕ} {past : List Event} → HasWaiters maps cs copies rs os rows who (λ t. waiting t past) stays unmet
     → HasCopies header maps cs rs rows next_at (λ t. copy_target t past)

@@ -3,6 +3,7 @@ use Rattle.std.proofs.Common.{◌==◌, ◌≡◌, ◌∙◌, ℕ, IsSome, List,
 use Rattle.std.proofs.lemmas.Bool.Decides.{nat_tests}
 use Rattle.std.specs.Prelude.{◌⊎◌}
 use Rattle.vm_base.specs.declared.ids.ObjectId.{ObjectId}
+use Rattle.vm_copies.specs.Copies.{CopyTable}
 use Rattle.vm_fault.specs.Faults.{has_one}
 use Rattle.vm_merge.specs.Merges.{IsThin, IsThinBut}
 use Rattle.vm_objects.specs.Objects.{ObjectTable, PutsObject, SameObjects, object_at}
@@ -26,7 +27,8 @@ pub record WasReferred (old : ObjectTable) (o : ℕ) (row : ObjectRow) : Type 0 
 abbrev pub KeepReferences : ObjectTable → ObjectTable → Type 0
 KeepReferences old new = (o : ℕ) (row : ObjectRow) → object_at new o ≡ Some row → WasReferred old o row
 
-pub thin_kept : (cs cs2 : ChainTable) (os os2 : ObjectTable) → KeepsShadows cs cs2 → KeepReferences os os2 → IsThin cs os → IsThin cs2 os2
+pub thin_kept : {copies : CopyTable} (cs cs2 : ChainTable) (os os2 : ObjectTable) → KeepsShadows cs cs2 → KeepReferences os os2 → IsThin copies cs os
+    → IsThin copies cs2 os2
 thin_kept cs cs2 os os2 shadows references thin u l can =
     let up = references u can.upper_row can.upper_known in
     let low = references l can.lower_row can.lower_known in
@@ -41,6 +43,7 @@ thin_kept cs cs2 os os2 shadows references thin u l can =
       sole = sym low.same ∙ can.sole;
       upper_never = up.never can.upper_never;
       lower_never = low.never can.lower_never;
+      plain = can.plain;
     })
 
 -- the chains with the same shadows
@@ -63,12 +66,14 @@ references_put o was now os os2 known same never put x row is = by (one_case o x
     by (inr other) = record { was = row; known = sym other.1 ∙ is; same = refl; never = λ none. none }
 
 -- the chains alone have changed
-pub thin_chains : (cs cs2 : ChainTable) (os : ObjectTable) → ((o : ℕ) → shadow_at cs2 o ≡ shadow_at cs o) → IsThin cs os → IsThin cs2 os
+pub thin_chains : {copies : CopyTable} (cs cs2 : ChainTable) (os : ObjectTable) → ((o : ℕ) → shadow_at cs2 o ≡ shadow_at cs o) → IsThin copies cs os
+    → IsThin copies cs2 os
 thin_chains cs cs2 os same thin = thin_kept cs cs2 os os (keeps_same cs cs2 same) (references_same os os (λ o. refl)) thin
 
 -- also where some can be merged
-pub thin_but_chains : (losers : List ObjectId) (cs cs2 : ChainTable) (os : ObjectTable) → ((o : ℕ) → shadow_at cs2 o ≡ shadow_at cs o) → IsThinBut losers cs os
-    → IsThinBut losers cs2 os
+pub thin_but_chains : {copies : CopyTable} (losers : List ObjectId) (cs cs2 : ChainTable) (os : ObjectTable) → ((o : ℕ) → shadow_at cs2 o ≡ shadow_at cs o)
+    → IsThinBut copies losers cs os
+    → IsThinBut copies losers cs2 os
 thin_but_chains losers cs cs2 os same thin u l can =
     thin u l (record {
       link = can.link;
@@ -81,17 +86,19 @@ thin_but_chains losers cs cs2 os same thin u l can =
       sole = can.sole;
       upper_never = can.upper_never;
       lower_never = can.lower_never;
+      plain = can.plain;
     })
 
 -- the objects alone have
-pub thin_objects : (cs : ChainTable) (os os2 : ObjectTable) → KeepReferences os os2 → IsThin cs os → IsThin cs os2
+pub thin_objects : {copies : CopyTable} (cs : ChainTable) (os os2 : ObjectTable) → KeepReferences os os2 → IsThin copies cs os → IsThin copies cs os2
 thin_objects cs os os2 references thin = thin_kept cs cs os os2 (λ o row is. is) references thin
 
 -- Objects that are new, or have more references than one.
 
 -- an object has other references, and not one
-pub thin_grown : (o : ℕ) (was now : ObjectRow) (cs cs2 : ChainTable) (os os2 : ObjectTable) → KeepsShadows cs cs2 → object_at os o ≡ Some was
-    → (now.control ≡ 0 → was.control ≡ 0) → (now.references ≡ 1 → ⊥) → PutsObject o (Some now) os os2 → IsThin cs os → IsThin cs2 os2
+pub thin_grown : {copies : CopyTable} (o : ℕ) (was now : ObjectRow) (cs cs2 : ChainTable) (os os2 : ObjectTable) → KeepsShadows cs cs2
+    → object_at os o ≡ Some was
+    → (now.control ≡ 0 → was.control ≡ 0) → (now.references ≡ 1 → ⊥) → PutsObject o (Some now) os os2 → IsThin copies cs os → IsThin copies cs2 os2
 thin_grown o was now cs cs2 os os2 keeps known never many put thin u l can =
     by (one_case o l (Some now) (object_at os l) (object_at os2 l) (put.at l)) (one_case o u (Some now) (object_at os u) (object_at os2 u) (put.at u))
   where
@@ -110,6 +117,7 @@ thin_grown o was now cs cs2 os os2 keeps known never many put thin u l can =
           sole = can.sole;
           upper_never = never (ap (λ (z : ObjectRow). z.control) (some_is now can.upper_row (sym up.1 ∙ can.upper_known)) ∙ can.upper_never);
           lower_never = can.lower_never;
+          plain = can.plain;
         })
     by (inr low) (inr up) =
         thin u l (record {
@@ -123,12 +131,13 @@ thin_grown o was now cs cs2 os os2 keeps known never many put thin u l can =
           sole = can.sole;
           upper_never = can.upper_never;
           lower_never = can.lower_never;
+          plain = can.plain;
         })
 
 -- an object is new: it is no shadow, and no shadow is over it
-pub thin_made : (n : ℕ) (now : ObjectRow) (cs cs2 : ChainTable) (os os2 : ObjectTable)
+pub thin_made : {copies : CopyTable} (n : ℕ) (now : ObjectRow) (cs cs2 : ChainTable) (os os2 : ObjectTable)
     → ((o : ℕ) (row : ShadowRow) → shadow_at cs o ≡ Some row → IsSome (object_at os o) × IsSome (object_at os row.under.0)) → KeepsShadows cs cs2
-    → object_at os n ≡ None → PutsObject n (Some now) os os2 → IsThin cs os → IsThin cs2 os2
+    → object_at os n ≡ None → PutsObject n (Some now) os os2 → IsThin copies cs os → IsThin copies cs2 os2
 thin_made n now cs cs2 os os2 unders keeps unknown put thin u l can =
     let link = keeps u can.link can.over in
     let known = unders u can.link link in
@@ -143,6 +152,7 @@ thin_made n now cs cs2 os os2 unders keeps unknown put thin u l can =
       sole = can.sole;
       upper_never = can.upper_never;
       lower_never = can.lower_never;
+      plain = can.plain;
     })
   where
     was : (x : ℕ) (row : ObjectRow) → IsSome (object_at os x) → object_at os2 x ≡ Some row → object_at os x ≡ Some row
@@ -156,12 +166,12 @@ thin_made n now cs cs2 os os2 unders keeps unknown put thin u l can =
 -- more of the same, for pages, controls and new shadows
 
 -- each object is known as it was
-pub thin_same : (cs : ChainTable) (os os2 : ObjectTable) → SameObjects os os2 → IsThin cs os → IsThin cs os2
+pub thin_same : {copies : CopyTable} (cs : ChainTable) (os os2 : ObjectTable) → SameObjects os os2 → IsThin copies cs os → IsThin copies cs os2
 thin_same cs os os2 same thin = thin_objects cs os os2 (references_same os os2 same.at) thin
 
 -- one object is known otherwise, and has a control
-pub thin_paged : (o : ℕ) (now : ObjectRow) (cs cs2 : ChainTable) (os os2 : ObjectTable) → KeepsShadows cs cs2 → (now.control ≡ 0 → ⊥)
-    → PutsObject o (Some now) os os2 → IsThin cs os → IsThin cs2 os2
+pub thin_paged : {copies : CopyTable} (o : ℕ) (now : ObjectRow) (cs cs2 : ChainTable) (os os2 : ObjectTable) → KeepsShadows cs cs2 → (now.control ≡ 0 → ⊥)
+    → PutsObject o (Some now) os os2 → IsThin copies cs os → IsThin copies cs2 os2
 thin_paged o now cs cs2 os os2 shadows paged put thin upper lower can =
     thin upper lower (record {
       link = can.link;
@@ -174,6 +184,7 @@ thin_paged o now cs cs2 os os2 shadows paged put thin upper lower can =
       sole = can.sole;
       upper_never = can.upper_never;
       lower_never = can.lower_never;
+      plain = can.plain;
     })
   where
     was : (x : ℕ) (row : ObjectRow) → row.control ≡ 0 → object_at os2 x ≡ Some row → object_at os x ≡ Some row
@@ -183,9 +194,9 @@ thin_paged o now cs cs2 os os2 shadows paged put thin upper lower can =
     ]
 
 -- a region gets an object of its own over its old top, which has another reference: that is none to merge, and nothing stands on the new object
-pub thin_shadowed : (region : ℕ) (object : ObjectId) (row : RegionRow) (now : ObjectRow) (cs cs2 : ChainTable) (os os2 : ObjectTable)
+pub thin_shadowed : {copies : CopyTable} (region : ℕ) (object : ObjectId) (row : RegionRow) (now : ObjectRow) (cs cs2 : ChainTable) (os os2 : ObjectTable)
     → region_at cs region ≡ Some row → ObjectsBelow object.0 cs → has_one (object_at os row.top.0) ≡ false → ShadowsRegion region object row cs cs2
-    → PutsObject object.0 (Some now) os os2 → IsThin cs os → IsThin cs2 os2
+    → PutsObject object.0 (Some now) os os2 → IsThin copies cs os → IsThin copies cs2 os2
 thin_shadowed region object row now cs cs2 os os2 there below shared made put thin upper lower can =
     by (one_case object.0 upper (Some made_link) (shadow_at cs upper) (shadow_at cs2 upper) (made.under upper))
   where
@@ -225,4 +236,5 @@ thin_shadowed region object row now cs cs2 os os2 there below shared made put th
           sole = can.sole;
           upper_never = can.upper_never;
           lower_never = can.lower_never;
+          plain = can.plain;
         })

@@ -1,7 +1,7 @@
 -- A task is made: it doesn't wait, and who waits goes on waiting; and an object is made, which has no control yet.
 use Rattle.vm_kernel.proofs.Common.{Access, Bool, ChainTable, ChangesOnly, Event, HasControls, HasWaiters, Header, HostId, Ids, List, Mapped, None, ObjectRow}
-use Rattle.vm_kernel.proofs.Common.{ObjectTable, On, Option, Outside, Parts, PutsObject, Ran, ResidentTable, Rests, Some, Starts, TaskId, Temp, Waiting}
-use Rattle.vm_kernel.proofs.Common.{Without, [], ap, arith, entries_in, entry, eqb_tells, false, holds, host_id, inl, inr, is_some, last_in, live_in}
+use Rattle.vm_kernel.proofs.Common.{ObjectTable, On, Option, Outside, Parts, PutsObject, Ran, ResidentTable, Some, Starts, TaskId, Temp, Waiting}
+use Rattle.vm_kernel.proofs.Common.{Without, Works, [], ap, arith, entries_in, entry, eqb_tells, false, holds, host_id, inl, inr, is_some, last_in, live_in}
 use Rattle.vm_kernel.proofs.Common.{next_region, object_at, one_case, ready_in, refl, rows_in, some_is, subst, sym, tasks, true, waiting, waiting_in, ℕ, ◌<◌}
 use Rattle.vm_kernel.proofs.Common.{◌∙◌, ◌∷◌, ◌≡◌}
 use Rattle.vm_kernel.proofs.space.RegionsFilled.{same_waiting}
@@ -17,6 +17,7 @@ use Rattle.vm_model.specs.declared.command.Command.TheVariants as command
 use Rattle.vm_kernel.proofs.space.EntriesCounted.{most_is}
 use Rattle.vm_kernel.proofs.steps.EventsGrow.{suffices}
 use Rattle.vm_kernel.proofs.steps.HeadAlone.{heads_one, ran_head}
+use Rattle.vm_kernel.proofs.steps.QueueServed.{rests_of, works_at_rest}
 use Rattle.vm_kernel.proofs.space.TaskTables.{can_make, entries_made, tasks_made, unmade}
 use Rattle.vm_kernel.proofs.space.RegionsInUse.{uses_made}
 use Rattle.vm_state.proofs.Waited.{tops_same, waits_changed}
@@ -25,6 +26,8 @@ use Rattle.vm_kernel.proofs.abroad.OwnEvents.{own_new}
 use Rattle.vm_kernel.proofs.controls.LockReplied.{replied_behind}
 use Rattle.vm_base.specs.declared.ids.PageKey.{PageKey}
 use Rattle.vm_copies.specs.Copies.{CopyTable}
+use Rattle.vm_supply.specs.declared.woken.Woken.TheVariants as woken
+use Rattle.vm_state.specs.Passed.{Unmet}
 
 -- who doesn't wait in the history has no row
 pub idle_of : (size : ℕ) (x : Option Waiting) (w : Option Access) → w ≡ waiting_in size x → is_some w ≡ false → x ≡ None
@@ -32,7 +35,8 @@ idle_of size None w is none = refl
 idle_of size (Some row) w is none = absurd (let bad : true ≡ false = sym (ap is_some is) ∙ none in cc)
 
 -- who waits lives
-pub no_waiter : {copies : CopyTable} {stays unmet : PageKey → Type 0} (maps : Mapped) (cs : ChainTable) (rs : ResidentTable) (os : ObjectTable)
+pub no_waiter : {copies : CopyTable} {stays : PageKey → Type 0} {unmet : PageKey → Unmet} (maps : Mapped) (cs : ChainTable) (rs : ResidentTable)
+    (os : ObjectTable)
     (rows : List Waiting)
     (who : On → Bool) (waiting_at : ℕ → Option Access) (task : ℕ)
     → HasWaiters maps cs copies rs os rows who waiting_at stays unmet → entries_in task maps ≡ None → entry rows task ≡ None
@@ -43,7 +47,8 @@ no_waiter maps cs rs os rows who waiting_at task has free = by_entry (entry rows
     by_entry (Some w) is = absurd (let bad : None ≡ Some (rows_in task maps) = sym free ∙ (has.allowed task w is).lives in cc)
 
 -- a new task doesn't wait
-pub waits_made : {copies : CopyTable} {stays unmet : PageKey → Type 0} (maps new : Mapped) (cs : ChainTable) (rs : ResidentTable) (os : ObjectTable)
+pub waits_made : {copies : CopyTable} {stays : PageKey → Type 0} {unmet : PageKey → Unmet} (maps new : Mapped) (cs : ChainTable) (rs : ResidentTable)
+    (os : ObjectTable)
     (rows : List Waiting)
     (who : On → Bool) (task : TaskId) (host : HostId) (past : List Event)
     → HasWaiters maps cs copies rs os rows who (λ t. waiting t past) stays unmet → entries_in task.0 maps ≡ None → ChangesOnly maps new task.0 (Some [])
@@ -63,18 +68,18 @@ pub holds_made : (size : ℕ) (task : TaskId) (host : HostId) (past : List Event
 holds_made size task host past t r apart = elim (eqb_tells task.0 t) [ inl same ↦ absurd (apart same.1) | inr other ↦ rw other.0 refl ]
 
 -- a task without entries has none on a declared region
-shared_made : (declared : ℕ) (maps new : Mapped) (task : ℕ) → AreShared declared maps → ChangesOnly maps new task (Some []) → AreShared declared new
-shared_made declared maps new task shared changes t = elim (eqb_tells task t) [
-  | inl same ↦ subst (λ (z : Option (List Entry)). AllRows (IsShared declared) (unwrap_or z [])) (sym changes.changed ∙ ap (λ z. entries_in z new) same.1) tt
-  | inr apart ↦ subst (λ (z : Option (List Entry)). AllRows (IsShared declared) (unwrap_or z [])) (sym (changes.others t (λ e. apart.1 (sym e)))) (shared t)
+shared_made : (header : Header) (maps new : Mapped) (task : ℕ) → AreShared header maps → ChangesOnly maps new task (Some []) → AreShared header new
+shared_made header maps new task shared changes t = elim (eqb_tells task t) [
+  | inl same ↦ subst (λ (z : Option (List Entry)). AllRows (IsShared header) (unwrap_or z [])) (sym changes.changed ∙ ap (λ z. entries_in z new) same.1) tt
+  | inr apart ↦ subst (λ (z : Option (List Entry)). AllRows (IsShared header) (unwrap_or z [])) (sym (changes.others t (λ e. apart.1 (sym e)))) (shared t)
 ]
 
 -- the kernel behind a new task
-pub rests_made : (header : Header) (h : ℕ) (task : TaskId) (past : List Event) (k : Parts) (ids : Ids) (maps : Mapped) → Rests header h k ids past
+pub works_made : (header : Header) (h : ℕ) (task : TaskId) (past : List Event) (k : Parts) (ids : Ids) (maps : Mapped) → Works header h k ids woken.Nobody past
     → ChangesOnly k.maps maps task.0 (Some []) → entries_in task.0 k.maps ≡ None → task.0 < 1024
-    → Rests header h (record k { maps = maps }) ids (event.TaskMade task (host_id h) ∷ past)
-rests_made header h task past k ids maps rests changes free below =
-    let m = rests.matches in
+    → Works header h (record k { maps = maps }) ids woken.Nobody (event.TaskMade task (host_id h) ∷ past)
+works_made header h task past k ids maps works changes free below =
+    let m = works.matches in
     record {
       matches =
           record {
@@ -85,12 +90,13 @@ rests_made header h task past k ids maps rests changes free below =
               spaces = record {
                 tasks = tasks_made h header.size k.maps maps past task m.core.spaces.tasks changes;
                 entries = entries_made header.size k.maps maps k.chains task.0 m.core.spaces.entries changes free below;
-                shared = shared_made _ k.maps maps task.0 m.core.spaces.shared changes;
+                shared = shared_made header k.maps maps task.0 m.core.spaces.shared changes;
                 uses = uses_made header k.maps maps _ (tasks past) _ _ (next_region header past) task.0 m.core.spaces.uses changes free (rw most_is below)
                     (holds_made header.size task (host_id h) past);
                 homes = m.core.spaces.homes;
               };
               objects = m.core.objects;
+              copied = m.core.copied;
               controls = m.core.controls;
               flags = m.core.flags;
               pages = m.core.pages;
@@ -100,17 +106,16 @@ rests_made header h task past k ids maps rests changes free below =
           };
       used =
           record {
-            regions = rests.used.regions;
-            copies = copies_kept k.maps maps k.chains k.chains k.memory.resident k.memory.resident rests.used.copies
+            regions = works.used.regions;
+            copies = copies_kept k.maps maps k.chains k.chains k.memory.resident k.memory.resident works.used.copies
                 (same_waiting k.maps maps task.0 (Some []) k.waits.rows changes (no_waiter k.maps k.chains k.memory.resident k.memory.objects k.waits.rows _ _
                 task.0
-                rests.waits free)) (chains_filled k.chains) (rows_unmade k.chains k.memory.resident);
+                works.waits free)) (chains_filled k.chains) (rows_unmade k.chains k.memory.resident);
           };
-      referred = rests.referred;
-      thin = rests.thin;
-      waits = waits_made k.maps maps k.chains k.memory.resident k.memory.objects k.waits.rows _ task (host_id h) past rests.waits free changes;
-      order = rests.order;
-      idle = rests.idle;
+      referred = works.referred;
+      thin = works.thin;
+      waits = waits_made k.maps maps k.chains k.memory.resident k.memory.objects k.waits.rows _ task (host_id h) past works.waits free changes;
+      order = works.order;
     }
 
 pub ran_task : (header : Header) (h : ℕ) (outside : Outside) (task : TaskId) (past : List Event) (k : Parts) (ids : Ids) (before after : List Event)
@@ -135,7 +140,8 @@ ran_task header h outside task past k ids before after maps s changes told =
       creates = tt;
     }))
     tt
-    (rests_made header h task past k ids maps s.rests changes free s.range.0))
+    (rests_of header h (record k { maps = maps }) ids (e ∷ past)
+    (works_made header h task past k ids maps (works_at_rest s.rests) changes free s.range.0) s.rests.idle))
 
 -- the row of a new object
 abbrev pub new_object : ℕ → ObjectRow

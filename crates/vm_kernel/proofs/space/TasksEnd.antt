@@ -2,7 +2,7 @@
 use Rattle.vm_kernel.proofs.Common.{Access, AllRows, Bool, ChainTable, ChangesOnly, Command, Entry, Event, HasTasks, HasUse, HasWaiters, Header, Ids}
 use Rattle.vm_kernel.proofs.Common.{IsDoneInTurn, IsShared, List, MapChange, Mapped, None, ObjectTable, On, Option, Outside, Parts, Raised, Ran, ResidentTable}
 use Rattle.vm_kernel.proofs.Common.{Rests, Some, Starts, Sweeps, TaskId, Waiting, [], ap, cut_at_ends, entries_in, entries_of, eqb_tells, false, holds, host_of}
-use Rattle.vm_kernel.proofs.Common.{if◌then◌else◌, in_use, inl, inr, is_on, is_woken, named, next_region, parts_for, parts_in, refl, removal, removed, rows_in}
+use Rattle.vm_kernel.proofs.Common.{if◌then◌else◌, in_use, inl, inr, is_on, is_woken, next_region, parts_for, parts_in, refl, removal, removed, rows_in}
 use Rattle.vm_kernel.proofs.Common.{rows_rewritten, subst, sym, true, unwrap_or, waiting, ℕ, ◌++◌, ◌==◌, ◌∙◌, ◌∷◌, ◌≡◌}
 use Rattle.std.proofs.Common.{is_some}
 use Rattle.vm_model.specs.declared.event.Event.TheVariants as event
@@ -19,7 +19,7 @@ use Rattle.vm_kernel.proofs.space.SharedEntries.{shared_changed}
 use Rattle.vm_kernel.proofs.space.RegionsInUse.{ApartFrom, elsewhere, fills_here, holds_rows, uses_cut}
 use Rattle.vm_kernel.proofs.abroad.OwnEvents.{own_task}
 use Rattle.vm_kernel.proofs.controls.LockReplied.{replied_behind}
-use Rattle.vm_state.specs.Passed.{IsUnmet, StaysAway}
+use Rattle.vm_state.specs.Passed.{IsUnmet, StaysAway, Unmet}
 use Rattle.vm_base.specs.declared.ids.PageKey.{PageKey}
 use Rattle.vm_kernel.proofs.space.RegionHomes.{homes_caused}
 use Rattle.vm_merge.specs.Merges.{IsThin}
@@ -46,7 +46,8 @@ tasks_ended h size task maps new host_at rows_at has changes =
     }
 
 -- a task that ends didn't wait
-waits_ended : {copies : CopyTable} {stays unmet : PageKey → Type 0} (maps : Mapped) (cs : ChainTable) (rs : ResidentTable) (os : ObjectTable)
+waits_ended : {copies : CopyTable} {stays : PageKey → Type 0} {unmet : PageKey → Unmet} (maps : Mapped) (cs : ChainTable) (rs : ResidentTable)
+    (os : ObjectTable)
     (rows : List Waiting) (who : On → Bool)
     (waiting_at : ℕ → Option Access) (task : ℕ) → HasWaiters maps cs copies rs os rows who waiting_at stays unmet → entries_in task maps ≡ None
     → HasWaiters maps cs copies rs os rows who (λ t. if task == t then None else waiting_at t) stays unmet
@@ -101,7 +102,7 @@ sweeps_exit header h outside task past events k ids maps gone s value changes =
             spaces = record {
               tasks = shown_tasks;
               entries = c.entries;
-              shared = shared_changed (named header) task.0 k.maps maps None changes tt m.core.spaces.shared;
+              shared = shared_changed header task.0 k.maps maps None changes tt m.core.spaces.shared;
               uses =
                   uses_cut header k.maps maps k.waits.rows (λ r. in_use header h r past) _ (next_region header past) (event.TaskEnded task ∷ past) task.0 None
                   m.core.spaces.uses changes live.1 (λ r some. uses_fewer header.size task.0 r k.maps maps k.chains None m.core.spaces.entries changes live.1
@@ -111,6 +112,7 @@ sweeps_exit header h outside task past events k ids maps gone s value changes =
               homes = homes_caused header outside h k.chains (event.TaskEnded task) past (command.Exit task, idle) c.homes;
             };
             objects = c.objects;
+            copied = c.copied;
             controls = m.core.controls;
             flags = m.core.flags;
             pages = m.core.pages;
@@ -141,10 +143,10 @@ sweeps_exit header h outside task past events k ids maps gone s value changes =
 -- a range is unmapped
 
 -- what is left of entries keeps their inheritance
-shared_removed : (declared size address bytes : ℕ) (rows : List Entry) → AllRows (IsShared declared) rows
-    → AllRows (IsShared declared) (removed size address bytes rows)
-shared_removed declared size address bytes rows all =
-    rows_rewritten size (IsShared declared) (λ row. []) (λ row start end is low less high. is) (λ row is. tt) address bytes rows all
+shared_removed : (header : Header) (size address bytes : ℕ) (rows : List Entry) → AllRows (IsShared header) rows
+    → AllRows (IsShared header) (removed size address bytes rows)
+shared_removed header size address bytes rows all =
+    rows_rewritten size (IsShared header) (λ row. []) (λ row start end is low less high. is) (λ row is. tt) address bytes rows all
 
 pub sweeps_removed : (header : Header) (h : ℕ) (outside : Outside) (task : TaskId) (address bytes : ℕ) (past events : List Event) (k : Parts) (ids : Ids)
     (maps : Mapped) (chains : ChainTable) (change : MapChange) (gone : List Entry)
@@ -189,8 +191,8 @@ sweeps_removed header h outside task address bytes past events k ids maps chains
               tasks = shown_tasks;
               entries = c.entries;
               shared =
-                  shared_changed (named header) task.0 k.maps maps (Some made) same
-                  (shared_removed (named header) header.size address bytes rows (m.core.spaces.shared task.0))
+                  shared_changed header task.0 k.maps maps (Some made) same
+                  (shared_removed header header.size address bytes rows (m.core.spaces.shared task.0))
                   m.core.spaces.shared;
               uses =
                   uses_cut header k.maps maps k.waits.rows (λ r. in_use header h r past) _ (next_region header past) (event.Removed task address bytes ∷ past)
@@ -206,6 +208,7 @@ sweeps_removed header h outside task address bytes past events k ids maps chains
               homes = homes_caused header outside h chains (event.Removed task address bytes) past (command.Deallocate task address bytes, idle) c.homes;
             };
             objects = c.objects;
+            copied = c.copied;
             controls = m.core.controls;
             flags = m.core.flags;
             pages = m.core.pages;
@@ -235,7 +238,7 @@ sweeps_removed header h outside task address bytes past events k ids maps chains
 
 -- once all that has gone is swept
 pub ran_swept : (header : Header) (h : ℕ) (outside : Outside) (doing : Command) (past events : List Event) (k : Parts) (ids : Ids)
-    → Sweeps header h outside doing past k ids [] events → IsThin k.chains k.memory.objects → IsDoneInTurn header doing events past
+    → Sweeps header h outside doing past k ids [] events → IsThin k.copies k.chains k.memory.objects → IsDoneInTurn header doing events past
     → Ran header h outside doing past k ids events
 ran_swept header h outside doing past events k ids s thin done =
     let rests : Rests header h k ids (events ++ past) = record {

@@ -3,6 +3,7 @@ use Rattle.vm_kernel.proofs.Common.{Below, ChainTable, EndsObject, EndsRegion, E
 use Rattle.vm_kernel.proofs.Common.{ObjectId, ObjectRow, PageKey, PageRow, Parts, ShadowRow, Some, Woken, [], ap, append_assoc, backing_of, eqb_tells}
 use Rattle.vm_kernel.proofs.Common.{if◌then◌else◌, inl, inr, of_both, refl, region_at, region_of, shadow_at, subst, suc, sym, true, ℕ, ◌++◌, ◌∙◌, ◌∷◌}
 use Rattle.vm_kernel.proofs.Common.{◌≡◌}
+use Rattle.vm_copies.specs.Copies.{CopyTable}
 use Rattle.vm_kernel.proofs.space.ObjectsEnd.{state_of}
 use Rattle.vm_kernel.proofs.space.RegionRows.{region_row}
 use Rattle.vm_kernel.specs.Endings.{EndsBelow, EndsUnder, IsUnderneath}
@@ -73,7 +74,7 @@ done_both header past top old mid new one two =
 pages_below : (header : Header) (past : List Event) (host : HostId) (top : ℕ) (object : ObjectId) (known : ObjectRow) (from : ℕ) (old new : FinishState)
     → IsUnderneath header past top object.0 → PagesLeave host object known from old new → IsDone header past top old new
 pages_below header past host top object known _ _ _ is (NoMore from s none) = record { below = below_none header past top s.events; chains = refl }
-pages_below header past host top object known _ _ _ is (Next from page row old mid new le none there here chains leaves more) =
+pages_below header past host top object known _ _ _ is (Next from page row old mid new le none there here chains copies leaves more) =
     done_both header past top old mid new
     (record { below = page_below header past host top (record { object = object; page = page }) known row old mid is leaves; chains = chains })
     (pages_below header past host top object known (suc page.0) mid new is more)
@@ -85,35 +86,39 @@ control_below header past host top object known old new is (NoControl dead same)
 control_below header past host top object known old new is (IsTold live keeps put events) =
     record { below = below_one header past top _ old.events new.events events is; chains = ap (λ z. z.chains) keeps.is }
 
-object_below : (header : Header) (past : List Event) (host : HostId) (top : ℕ) (object : ObjectId) (known : ObjectRow) (old bare new : FinishState)
-    → IsUnderneath header past top object.0 → PagesLeave host object known 0 old bare → ControlEnds host object known bare new → IsDone header past top old new
-object_below header past host top object known old bare new is pages control =
-    done_both header past top old bare new (pages_below header past host top object known 0 old bare is pages)
-    (control_below header past host top object known bare new is control)
+object_below : (header : Header) (past : List Event) (host : HostId) (top : ℕ) (object : ObjectId) (known : ObjectRow) (old bare quiet new : FinishState)
+    → IsUnderneath header past top object.0 → PagesLeave host object known 0 old bare → ControlEnds host object known bare quiet
+    → new ≡ record quiet { copies = new.copies } → IsDone header past top old new
+object_below header past host top object known old bare quiet new is pages control same =
+    let above = done_both header past top old bare quiet (pages_below header past host top object known 0 old bare is pages)
+    (control_below header past host top object known bare quiet is control) in
+    subst (λ (z : FinishState). IsDone header past top old z) (sym same) (record { below = above.below; chains = above.chains })
 
 -- and what stands under it, where it ends with it
 finish_below : (header : Header) (past : List Event) (host : HostId) (top : ℕ) (object : ObjectId) (old new : FinishState)
     → IsUnderneath header past top object.0 → KnowsUnder header past old.chains → Finishes host object old new → EndsBelow header past top old.events new.events
-finish_below header past host top _ _ _ is knows (Alone object known old bare new found pages control alone) =
-    (object_below header past host top object known old bare new is pages control).below
-finish_below header past host top _ _ _ is knows (OverOne object known under row left old bare quiet new found pages control loses some) =
-    let above = object_below header past host top object known old bare quiet is pages control in
+finish_below header past host top _ _ _ is knows (Alone object known old bare quiet new found pages control copies same alone) =
+    (object_below header past host top object known old bare quiet new is pages control same).below
+finish_below header past host top _ _ _ is knows (OverOne object known under row left old bare quiet silent new found pages control copies same loses some) =
+    let above = object_below header past host top object known old bare quiet silent is pages control same in
     subst (λ (z : List Event). EndsBelow header past top old.events z) (sym (ap (λ (z : FinishState). z.events) loses.rest)) above.below
-finish_below header past host top _ _ _ is knows (Downward object known under row old bare quiet next new found pages control loses more) =
-    let above = object_below header past host top object known old bare quiet is pages control in
-    let quiet_knows : KnowsUnder header past quiet.chains = subst (λ (z : ChainTable). KnowsUnder header past z) (sym above.chains) knows in
+finish_below header past host top _ _ _ is knows
+    (Downward object known under row old bare quiet silent next new found pages control copies same loses more) =
+    let above = object_below header past host top object known old bare quiet silent is pages control same in
+    let silent_knows : KnowsUnder header past silent.chains = subst (λ (z : ChainTable). KnowsUnder header past z) (sym above.chains) knows in
     let first = subst (λ (z : List Event). EndsBelow header past top old.events z) (sym (ap (λ (z : FinishState). z.events) loses.rest)) above.below in
     below_both header past top old.events next.events new.events first
-    (finish_below header past host top row.under next new (stands_under header past top object.0 row quiet.chains is quiet_knows loses.found)
-    (knows_less header past object.0 quiet.chains next.chains quiet_knows loses.chains) more)
+    (finish_below header past host top row.under next new (stands_under header past top object.0 row silent.chains is silent_knows loses.found)
+    (knows_less header past object.0 silent.chains next.chains silent_knows loses.chains) more)
 
 pub object_under : (header : Header) (h : ℕ) (past : List Event) (who : Woken) (k : Parts) (ids : Ids) (rest : List Entry) (object : ObjectId)
-    (events after : List Event) (memory : HostParts) (chains : ChainTable) (laundry : LaundryList)
+    (events after : List Event) (memory : HostParts) (chains : ChainTable) (copies : CopyTable) (laundry : LaundryList)
     → EndsObject header h who k ids rest object.0 (events ++ past)
-    → Finishes k.host object (state_of k.memory k.chains k.laundry events) (state_of memory chains laundry after)
+    → Finishes k.host object (state_of k.memory k.chains k.copies k.laundry events) (state_of memory chains copies laundry after)
     → EndsBelow header (events ++ past) object.0 events after
-object_under header h past who k ids rest object events after memory chains laundry e is =
-    finish_below header (events ++ past) k.host object.0 object (state_of k.memory k.chains k.laundry events) (state_of memory chains laundry after) (0, refl)
+object_under header h past who k ids rest object events after memory chains copies laundry e is =
+    finish_below header (events ++ past) k.host object.0 object (state_of k.memory k.chains k.copies k.laundry events)
+    (state_of memory chains copies laundry after) (0, refl)
     e.runs.matches.core.objects.regions.shadows is
 
 -- the top of a region is as the history says

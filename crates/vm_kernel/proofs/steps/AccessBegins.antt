@@ -29,7 +29,7 @@ use Rattle.vm_kernel.proofs.space.RegionsInUse.{uses_still, holds_waits}
 use Rattle.vm_kernel.proofs.abroad.OwnEvents.{own_task}
 use Rattle.vm_kernel.proofs.controls.LockReplied.{replied_behind}
 use Rattle.vm_base.specs.declared.ids.PageKey.{PageKey}
-use Rattle.vm_state.specs.Passed.{IsUnmet, Passed, StaysAway}
+use Rattle.vm_state.specs.Passed.{IsUnmet, Passed, StaysAway, Unmet}
 use Rattle.vm_copies.specs.Copies.{CopyTable}
 
 -- what tests find of an access that isn't refused
@@ -197,7 +197,8 @@ begun_grows header h outside k ids past task (Stores address size value) m fine 
     })
 
 -- a task that didn't wait waits with an access that is to be run
-pub waits_added : {copies : CopyTable} {stays unmet : PageKey → Type 0} (maps : Mapped) (chains : ChainTable) (resident : ResidentTable) (objects : ObjectTable)
+pub waits_added : {copies : CopyTable} {stays : PageKey → Type 0} {unmet : PageKey → Unmet} (maps : Mapped) (chains : ChainTable) (resident : ResidentTable)
+    (objects : ObjectTable)
     (rows new : List Waiting) (w : Waiting) (was : ℕ → Option Access) (now : ℕ → Option Access)
     → HasWaiters maps chains copies resident objects rows (is_woken woken.Nobody) was stays unmet → PutsEntry w.task.0 (Some w) rows new
     → entry rows w.task.0 ≡ None
@@ -246,7 +247,8 @@ waits_added {copies = copies} {stays = stays} {unmet = unmet} maps chains reside
           waits = asker.waits;
         }
 
-pub waits_begun : {copies : CopyTable} {stays unmet : PageKey → Type 0} (maps : Mapped) (chains : ChainTable) (resident : ResidentTable) (objects : ObjectTable)
+pub waits_begun : {copies : CopyTable} {stays : PageKey → Type 0} {unmet : PageKey → Unmet} (maps : Mapped) (chains : ChainTable) (resident : ResidentTable)
+    (objects : ObjectTable)
     (rows new : List Waiting) (task : TaskId) (what : Number) (was : ℕ → Option Access) (now : ℕ → Option Access)
     → HasWaiters maps chains copies resident objects rows (is_woken woken.Nobody) was stays unmet → PutsEntry task.0 (Some (begun_row task what)) rows new
     → entry rows task.0 ≡ None → IsAllowed maps task.0 (address_in maps.size (want_of what)) (need_in (want_of what)) → IsSizedWant maps.size (want_of what)

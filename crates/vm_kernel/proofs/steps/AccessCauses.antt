@@ -11,7 +11,7 @@ use Rattle.vm_state.proofs.Locks.{free_number, open_number, storing_is}
 use Rattle.vm_kernel.proofs.steps.WhereAccessLeads.{Leads, it_waits, top_at}
 use Rattle.vm_kernel.proofs.abroad.OwnEvents.{own_lives, own_named}
 use Rattle.vm_legal.specs.Walks.{Below, IsTop}
-use Rattle.vm_state.proofs.PlainObjects.{OwesNothing}
+use Rattle.vm_legal.specs.Pushes.{OwesPush}
 use Rattle.vm_model.specs.Regions.{Region, backing_of}
 use Rattle.vm_model.specs.Waiting.{Loading, Storing}
 use Rattle.vm_model.specs.declared.event.Event.TheVariants as event
@@ -21,15 +21,16 @@ use Rattle.vm_legal.proofs.Served.{later_paged as paged_temporary}
 use Rattle.vm_state.proofs.Declared.{marked_temporary}
 use Rattle.vm_state.proofs.Referring.{top_counted}
 use Rattle.vm_fault.specs.Faults.{has_one}
-use Rattle.vm_legal.specs.Licences.{Finding, IsTopAlone, Unmarks}
+use Rattle.vm_legal.specs.Licences.{Finding, IsTopAlone, Pushing, Unmarks}
 use Rattle.vm_kernel.proofs.memory.TopAlone.{alone_told, shared_told}
 use Rattle.vm_supply.specs.declared.woken.Woken.TheVariants as woken
-use Rattle.vm_state.proofs.Shown.{IsShown, may_ask, shows_row}
+use Rattle.vm_state.proofs.Shown.{IsShown, may_ask, misses, shows_row}
 use Rattle.vm_state.proofs.Walks.{sinks_of, walks_of}
 use Rattle.vm_waits.specs.declared.waiting.Want.TheVariants as want
 use Rattle.std.specs.Prelude.{◌⊎◌}
 use Rattle.vm_legal.specs.Licences.{Shadows}
-use Rattle.vm_kernel.proofs.Common.{RegionId}
+use Rattle.vm_kernel.proofs.Common.{Bool, None, RegionId, row_at, ◌&&◌, ◌||◌}
+use Rattle.vm_base.specs.declared.ids.Lock.{Lock}
 
 -- a load, and a store, as the history has it
 
@@ -232,6 +233,51 @@ raised_follows header h outside doing past k task what top at address size value
       creates = tt;
     }
 
+-- who keeps no writer out keeps no reader out
+open_reader : (lock : Lock) → keeps_out lock true ≡ false → keeps_out lock false ≡ false
+open_reader lock out = by lock.read out
+  where
+    by : (b : Bool) → (b || (true && lock.write)) ≡ false → (b || (false && lock.write)) ≡ false
+    by true bad = absurd (let no : true ≡ false = bad in cc)
+    by false is = refl
+
+-- the page of a store is copied up into the copy to which it owes it
+pub pushed_follows : (header : Header) (h : ℕ) (outside : Outside) (doing : Command) (past : List Event) (k : Parts) (task : ℕ) (what : Want) (top : PageKey)
+    (at : IsAt k.maps k.chains task what top) (address size value : ℕ) (place : PageKey) (row : PageRow)
+    → Leads header h past k task what top at → IsShown header h k.memory k.chains past → what ≡ want.Store address size value → at.row.marked ≡ false
+    → Finds k.memory k.chains 0 top top row → keeps_out row.lock true ≡ false
+    → OwesPush header h top.object.0 top.page.0 place.object.0 past → place.page.0 ≡ top.page.0
+    → row_at k.memory.resident place.object.0 place.page.0 ≡ None
+    → Suffice header h (event.Raised (host_id h) top.object top.page place.object place.page ∷ past)
+    → Follows header h outside doing (event.Raised (host_id h) top.object top.page place.object place.page) past
+pushed_follows header h outside doing past k task what top at address size value place row to s is clear finds open_it owes same none frames =
+    let shows = shows_row s top.object.0 top.page.0 row finds.found finds.here in
+    let missing = misses s place.object.0 place.page.0 none in
+    record {
+      consequence = tt;
+      cause = Pushing (record {
+        task = task;
+        address = address;
+        bytes = size;
+        value = value;
+        waits = store_waits header h past k task what top at address size value to is;
+        on_host = refl;
+        unmarked = to.marks ∙ clear;
+        is_top = top_is header h past k task what (want.Store address size value) top at to is;
+        here = shows.here;
+        owes = owes;
+        same_page = same;
+        away = missing.away;
+        unasked = missing.unasked;
+      });
+      own_bytes = record { here = shows.here; unlocked = read_at shows.lock (open_number row.lock (open_reader row.lock open_it)) };
+      frames = frames;
+      inner = tt;
+      said = tt;
+      own = own_named h;
+      creates = tt;
+    }
+
 -- a load ends
 pub loaded_follows : (header : Header) (h : ℕ) (outside : Outside) (doing : Command) (past : List Event) (k : Parts) (task : TaskId) (what : Want)
     (top : PageKey) (at : IsAt k.maps k.chains task.0 what top) (address size value : ℕ) (steps : ℕ) (key : PageKey) (row : PageRow)
@@ -277,10 +323,11 @@ loaded_follows header h outside doing past k task what top at address size value
 pub stored_follows : (header : Header) (h : ℕ) (outside : Outside) (doing : Command) (past : List Event) (k : Parts) (task : TaskId) (what : Want)
     (top : PageKey) (at : IsAt k.maps k.chains task.0 what top) (address size value : ℕ) (row : PageRow)
     → Leads header h past k task.0 what top at → IsShown header h k.memory k.chains past → what ≡ want.Store address size value → at.row.marked ≡ false
-    → Finds k.memory k.chains 0 top top row → keeps_out row.lock true ≡ false → OwesNothing header h past
+    → Finds k.memory k.chains 0 top top row → keeps_out row.lock true ≡ false
+    → ((copy : ℕ) → OwesPush header h top.object.0 top.page.0 copy past → ⊥)
     → Suffice header h (event.Stored task top.object top.page (address % header.size) size value ∷ past)
     → Follows header h outside doing (event.Stored task top.object top.page (address % header.size) size value) past
-stored_follows header h outside doing past k task what top at address size value row to s is clear finds open_it unowed frames =
+stored_follows header h outside doing past k task what top at address size value row to s is clear finds open_it paid frames =
     let shows = shows_row s top.object.0 top.page.0 row finds.found finds.here in
     let waits = store_waits header h past k task.0 what top at address size value to is in
     record {
@@ -292,7 +339,7 @@ stored_follows header h outside doing past k task what top at address size value
         unmarked = to.marks ∙ clear;
         here = shows.here;
         place = refl;
-        paid = λ copy. unowed top.object.0 top.page.0 copy;
+        paid = paid;
       };
       own_bytes = record {
         address = address;

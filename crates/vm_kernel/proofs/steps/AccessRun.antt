@@ -1,26 +1,28 @@
 -- An access is run: what holds after each thing that it may come to.
-use Rattle.vm_kernel.proofs.Common.{Bool, Command, Event, Header, HostId, HostParts, Ids, IfSome, IsAt, IsOfNumber, LegalEvents, List, Matches, None, ObjectId}
+use Rattle.vm_kernel.proofs.Common.{Bool, Command, Event, Header, HostId, HostParts, Ids, IfSome, IsAt, IsOfNumber, LegalEvents, List, None, ObjectId}
 use Rattle.vm_kernel.proofs.Common.{Option, Outside, PageKey, PageRow, Parts, RegionRow, Some, Up, WaitTable, Waiting, Want, Wants, WantsFrame, Works, []}
-use Rattle.vm_kernel.proofs.Common.{access_in, address_in, ap, clean_row, entry, entry_at, false, free, has_pager, host_id, if◌then◌else◌, inl, inr}
-use Rattle.vm_kernel.proofs.Common.{live_control, live_in, named, page_at, page_of, refl, region_at, row_put, rows_in, some_is, subst, suc, sym, true, unlocked}
-use Rattle.vm_kernel.proofs.Common.{with_on, zero, ℕ, ◌%◌, ◌&&◌, ◌++◌, ◌∙◌, ◌∷◌, ◌≡◌, ◌≤◌, ◌⊎◌}
-use Rattle.vm_kernel.proofs.space.RegionsFilled.{at_unfilled, entry_some}
+use Rattle.vm_kernel.proofs.Common.{access_in, address_in, ap, entry, entry_at, false, free, host_id, if◌then◌else◌, inl, inr}
+use Rattle.vm_kernel.proofs.Common.{live_control, page_at, page_of, refl, region_at, rows_in, some_is, subst, suc, sym, true}
+use Rattle.vm_kernel.proofs.Common.{with_on, ℕ, ◌%◌, ◌&&◌, ◌++◌, ◌∙◌, ◌∷◌, ◌≡◌, ◌⊎◌}
+use Rattle.vm_kernel.proofs.space.RegionsFilled.{entry_some}
 use Rattle.vm_state.proofs.Places.{on_its_region}
 use Rattle.vm_base.specs.declared.entry.Entry.{Entry}
 use Rattle.vm_copies.specs.Copies.{CopyTable}
-use Rattle.vm_base.specs.declared.ids.TaskId.{TaskId}
-use Rattle.vm_kernel.proofs.controls.NothingCopied.{notes_nothing, owed_nowhere}
-use Rattle.vm_kernel.specs.Matches.{no_copies}
-use Rattle.vm_fault.specs.Faults.{AfterZeros, AsksUnlock, AtOnce, AwaitsPage, Copied, Ended, FaultState, Faulted, Hits, Needs, NothingChanges, Nowhere}
-use Rattle.vm_fault.specs.Faults.{Prepares, Raised}
-use Rattle.vm_fault.specs.Faults.{Pushed, RequestsPage, ToAsk, ToCopy, ToPush, ToRaise}
-use Rattle.vm_fault.specs.Walks.{Finds, PassesOver, Sinks, StopsAsked, WalksTo, is_copying, is_storing, keeps_out, top_place, wanted_number, writes_at}
+use Rattle.vm_fault.specs.Faults.{AwaitsPush}
+use Rattle.vm_kernel.proofs.memory.PagesPushed.{due_told, page_unpushing, push_pushing}
+use Rattle.vm_kernel.specs.Destroying.{place_led}
+use Rattle.vm_state.proofs.Pushing.{push_awaited}
+use Rattle.vm_state.proofs.Waiting.{IsAwaitedBy}
+use Rattle.vm_kernel.proofs.Common.{length, ◌||◌}
+use Rattle.vm_fault.specs.Faults.{AsksUnlock, AwaitsPage, Ended, FaultState, Faulted, Needs, NothingChanges, Nowhere}
+use Rattle.vm_fault.specs.Faults.{Prepares}
+use Rattle.vm_fault.specs.Faults.{RequestsPage, ToAsk, ToCopy, ToPush, ToRaise}
+use Rattle.vm_fault.specs.Walks.{Finds, StopsAsked, WalksTo, is_copying, is_storing, keeps_out, top_place, wanted_number, writes_at}
 use Rattle.vm_fault.specs.declared.step.FaultStep.{FaultStep}
 use Rattle.vm_fault.specs.declared.step.FaultStep.TheVariants as step
-use Rattle.vm_kernel.proofs.memory.ComesForAccess.{works_loaded, works_raised, works_stored, works_touched, works_zeroed}
 use Rattle.vm_kernel.proofs.controls.PageAsked.{works_asked, works_joined, works_turned}
-use Rattle.vm_kernel.proofs.steps.AccessCauses.{comes_at, loaded_follows, raised_follows, request_follows, shadow_caused, shadowed_follows, stored_follows}
-use Rattle.vm_kernel.proofs.steps.AccessCauses.{unmark_caused, unmarked_follows, zeroed_follows}
+use Rattle.vm_kernel.proofs.steps.AccessCauses.{comes_at, request_follows, shadow_caused}
+use Rattle.vm_kernel.proofs.steps.AccessCauses.{shadowed_follows, unmark_caused, unmarked_follows}
 use Rattle.vm_kernel.proofs.steps.EventsGrow.{goes_both, goes_none, goes_one, suffices}
 use Rattle.vm_kernel.proofs.steps.WhereAccessLeads.{IsServed, Leads, it_waits, leads_of, top_at}
 use Rattle.vm_kernel.proofs.steps.RowsInOrder.{PutsInOrder}
@@ -30,13 +32,11 @@ use Rattle.vm_kernel.proofs.memory.ShadowMade.{works_shadowed}
 pub use Rattle.vm_kernel.proofs.steps.FaultStates.{state_of, with_state}
 use Rattle.vm_kernel.proofs.memory.SourceIsTold.{needs_it}
 use Rattle.vm_kernel.specs.Plays.{IsToCopyPage, SparesSource}
-use Rattle.vm_kernel.specs.Serving.{IsHere, IsTheSource, IsToCopy, runs_now}
+use Rattle.vm_kernel.specs.Serving.{IsHere, IsTheSource, IsToCopy, is_pushing, runs_now, waits_at}
 use Rattle.vm_legal.specs.Accesses as legal
 use Rattle.vm_model.specs.declared.event.Event.TheVariants as event
 use Rattle.vm_model.specs.declared.message.Message.TheVariants as message
 use Rattle.vm_shadow.specs.Chains.{ChainTable}
-use Rattle.vm_kernel.proofs.space.ObjectEnds.{owes_nothing}
-use Rattle.vm_state.proofs.Reaching.{chain_temporary}
 use Rattle.vm_state.proofs.Shown.{may_ask, shows_row}
 use Rattle.vm_state.proofs.Walks.{referred_down, sinks_of, walks_lead, walks_of}
 use Rattle.vm_kernel.proofs.memory.PlacesPassed.{over_walk, unmet_at}
@@ -45,244 +45,14 @@ use Rattle.vm_state.specs.Passed.{IsPlaceBehind, StaysAway}
 use Rattle.vm_state.specs.Waiters.{IsPagerTold}
 use Rattle.vm_supply.specs.declared.woken.Woken.TheVariants as woken
 use Rattle.vm_waits.specs.declared.waiting.On.TheVariants as on
-use Rattle.vm_waits.specs.declared.waiting.Want.TheVariants as want
 use Rattle.vm_kernel.proofs.memory.WalksShown.{shown_at}
-use Rattle.vm_state.proofs.Locks.{kept_anywhere, plain_open, storing_is}
+use Rattle.vm_state.proofs.Locks.{kept_anywhere, storing_is}
 use Rattle.vm_kernel.proofs.controls.UnlockAsked.{unlock_follows, unlocking, works_unlocked}
 use Rattle.std.proofs.lemmas.Bool.{and_parts, or_right}
-use Rattle.vm_objects.specs.declared.row.PagerState.TheVariants as state
-use Rattle.vm_state.proofs.Declared.{over_declared}
-use Rattle.std.proofs.Common.{arith}
-use Rattle.vm_abroad.proofs.Regions.{kind_cases}
-use Rattle.std.specs.Prelude.{nat_lt, ◌<◌, ◌==◌}
-use Rattle.vm_kernel.proofs.memory.SourceOfCopy.{copies_source, only_copies, wants_copy}
+use Rattle.std.specs.Prelude.{nat_lt}
+use Rattle.vm_kernel.proofs.memory.SourceOfCopy.{copies_source, only_copies, pushes_now, wants_copy}
 use Rattle.vm_base.specs.declared.ids.RegionId.{RegionId}
-
--- the kernel behind some more events, which follow from what stood there
-pub record Reaches (header : Header) (h : ℕ) (outside : Outside) (doing : Command) (past events : List Event) (k : Parts) (ids : Ids) (after : List Event) :
-    Type 0 where
-  pub works : Works header h k ids woken.Nobody (after ++ past)
-  pub goes : LegalEvents header h outside doing past events after
-
--- an access that is run, and the top place of its page; the region of a store has no mark
-pub record Tries (header : Header) (h : ℕ) (past : List Event) (k : Parts) (ids : Ids) (w : Waiting) (top : PageKey) : Type 0 where
-  pub works : Works header h k ids woken.Nobody past
-  pub is : entry k.waits.rows w.task.0 ≡ Some w
-  pub now : runs_now w.on ≡ true
-  pub at : IsAt k.maps k.chains w.task.0 w.want top
-  pub clear : is_storing w.want ≡ true → at.row.marked ≡ false
-
-pub leads_there : (header : Header) (h : ℕ) (past : List Event) (k : Parts) (ids : Ids) (w : Waiting) (top : PageKey) → (t : Tries header h past k ids w top)
-    → Leads header h past k w.task.0 w.want top t.at
-leads_there header h past k ids w top t = leads_of header h k ids past woken.Nobody w.task.0 w top t.works.matches t.works.waits t.works.used.copies t.is t.at
-
--- a want that stores
-pub record IsStore (what : Want) : Type 0 where
-  pub address : ℕ
-  pub size : ℕ
-  pub value : ℕ
-  pub is : what ≡ want.Store address size value
-
-pub store_of : (what : Want) → is_storing what ≡ true → IsStore what
-store_of (want.Load address size) stores = absurd (let bad : false ≡ true = stores in cc)
-store_of (want.CopyTo address pages target next) stores = absurd (let bad : false ≡ true = stores in cc)
-store_of (want.Store address size value) stores = record { address = address; size = size; value = value; is = refl }
-
--- it ends with a page that is here
-
-hit_load : (header : Header) (h : ℕ) (outside : Outside) (doing : Command) (past : List Event) (k : Parts) (ids : Ids) (w : Waiting) (top : PageKey)
-    (events : List Event) (steps : ℕ) (key : PageKey) (row : PageRow) (address size value : ℕ) (e : Event) (m2 : HostParts) (waits2 : WaitTable)
-    → Tries header h (events ++ past) k ids w top → w.want ≡ want.Load address size → Finds k.memory k.chains steps top key row
-    → keeps_out row.lock false ≡ false → Hits w.task (want.Load address size) key row.frame (address % header.size) value e k.memory m2
-    → PutsInOrder w.task.0 None k.waits.rows waits2.rows
-    → Reaches header h outside doing past events (record k { memory = m2; waits = waits2 }) ids (e ∷ events)
-hit_load header h outside doing past k ids w top events steps key row address size value e m2 waits2 t is finds out hits put =
-    let moment = events ++ past in
-    let loaded : Event = event.Loaded w.task key.object key.page value in
-    let works = works_loaded header h moment k ids w key value waits2 (subst IsOfNumber (sym is) tt) t.works t.is t.now put in
-    let to = leads_there header h moment k ids w top t in
-    let s = shown_at t.works.matches in
-    let enough = suffices header h k.memory.frames (loaded ∷ moment) works.matches.core.pages.counted in
-    subst (λ (z : Event). Reaches header h outside doing past events (record k { memory = m2; waits = waits2 }) ids (z ∷ events)) (sym hits.2)
-    (record {
-      works = works_touched header h (loaded ∷ moment) (record k { waits = waits2 }) ids woken.Nobody row.frame m2 hits.1 works;
-      goes = goes_one header h outside doing past events loaded t.works.matches.settled
-          (loaded_follows header h outside doing moment k w.task w.want top t.at address size value steps key row to s is finds out hits.0 enough);
-    })
-
-hit_store : (header : Header) (h : ℕ) (outside : Outside) (doing : Command) (past : List Event) (k : Parts) (ids : Ids) (w : Waiting) (top : PageKey)
-    (events : List Event) (row : PageRow) (address size number value : ℕ) (e : Event) (m2 : HostParts) (waits2 : WaitTable)
-    → Tries header h (events ++ past) k ids w top → w.want ≡ want.Store address size number → Finds k.memory k.chains 0 top top row
-    → keeps_out row.lock true ≡ false → Hits w.task (want.Store address size number) top row.frame (address % header.size) value e k.memory m2
-    → PutsInOrder w.task.0 None k.waits.rows waits2.rows
-    → Reaches header h outside doing past events (record k { memory = m2; waits = waits2 }) ids (e ∷ events)
-hit_store header h outside doing past k ids w top events row address size number value e m2 waits2 t is finds out hits put =
-    let moment = events ++ past in
-    let mid : HostParts = hits.1.0 in
-    let stored : Event = event.Stored w.task top.object top.page (address % header.size) size number in
-    let works = works_stored header h moment k ids w top row.frame (address % header.size) size number row mid waits2 (subst IsOfNumber (sym is) tt) t.works
-    t.is t.now put hits.1.1 finds.found finds.here out in
-    let to = leads_there header h moment k ids w top t in
-    let s = shown_at t.works.matches in
-    let enough = suffices header h mid.frames (stored ∷ moment) works.matches.core.pages.counted in
-    subst (λ (z : Event). Reaches header h outside doing past events (record k { memory = m2; waits = waits2 }) ids (z ∷ events)) (sym hits.2)
-    (record {
-      works = works_touched header h (stored ∷ moment) (record k { memory = mid; waits = waits2 }) ids woken.Nobody row.frame m2 hits.1.2 works;
-      goes = goes_one header h outside doing past events stored t.works.matches.settled
-          (stored_follows header h outside doing moment k w.task w.want top t.at address size number row to s is (t.clear (ap is_storing is)) finds out
-          (owes_nothing header h k ids [] moment t.works.matches t.works.used.copies) enough);
-    })
-
-hit : (header : Header) (h : ℕ) (outside : Outside) (doing : Command) (past : List Event) (k : Parts) (ids : Ids) (w : Waiting) (top : PageKey)
-    (events : List Event) (steps : ℕ) (key : PageKey) (row : PageRow) (value : ℕ) (e : Event) (m2 : HostParts) (waits2 : WaitTable)
-    → Tries header h (events ++ past) k ids w top → Finds k.memory k.chains steps top key row → (is_storing w.want ≡ true → steps ≡ 0)
-    → keeps_out row.lock (writes_at w.want steps) ≡ false
-    → Hits w.task w.want key row.frame (address_in k.maps.size w.want % header.size) value e k.memory m2
-    → PutsInOrder w.task.0 None k.waits.rows waits2.rows
-    → Reaches header h outside doing past events (record k { memory = m2; waits = waits2 }) ids (e ∷ events)
-hit header h outside doing past k ids w top events steps key row value e m2 waits2 t finds none out hits put =
-    by w.want refl hits
-  where
-    by : (what : Want) → w.want ≡ what → Hits w.task what key row.frame (address_in k.maps.size what % header.size) value e k.memory m2
-        → Reaches header h outside doing past events (record k { memory = m2; waits = waits2 }) ids (e ∷ events)
-    by (want.CopyTo address pages target next) is hits2 = absurd hits2
-    by (want.Load address size) is hits2 =
-        hit_load header h outside doing past k ids w top events steps key row address size value e m2 waits2 t is finds
-        (subst (λ (z : Want). keeps_out row.lock (writes_at z steps) ≡ false) is out) hits2 put
-    by (want.Store address size number) is hits2 =
-        let there : Finds k.memory k.chains 0 top key row = subst (λ (z : ℕ). Finds k.memory k.chains z top key row) (none (ap is_storing is)) finds in
-        let same : key ≡ top = sym there.walks in
-        hit_store header h outside doing past k ids w top events row address size number value e m2 waits2 t is
-        (subst (λ (z : PageKey). Finds k.memory k.chains 0 top z row) same there)
-        (subst (λ (z : ℕ). keeps_out row.lock (z == 0) ≡ false) (none (ap is_storing is))
-        (subst (λ (z : Want). keeps_out row.lock (writes_at z steps) ≡ false) is out))
-        (subst (λ (z : PageKey). Hits w.task (want.Store address size number) z row.frame (address % header.size) value e k.memory m2) same hits2) put
-
--- it goes on with other pages
-tries_on : (header : Header) (h : ℕ) (past past2 : List Event) (k : Parts) (ids : Ids) (w : Waiting) (top : PageKey) (m2 : HostParts)
-    → Tries header h past k ids w top → Works header h (record k { memory = m2 }) ids woken.Nobody past2
-    → Tries header h past2 (record k { memory = m2 }) ids w top
-tries_on header h past past2 k ids w top m2 t works = record { works = works; is = t.is; now = t.now; at = t.at; clear = t.clear }
-
--- the walk that finds a page nowhere passes over its top place
-passes_top : (parts : HostParts) (chains : ChainTable) (top : PageKey) → Sinks parts chains top → PassesOver parts top
-passes_top parts chains top sinks = by sinks.steps sinks.walks
-  where
-    by : (steps : ℕ) → WalksTo parts chains steps top sinks.last → PassesOver parts top
-    by zero walks = subst (PassesOver parts) (sym walks) sinks.passes
-    by (suc steps) walks = walks.0
-
--- so that is a place of a temporary object: a declared one has a pager here, which may have each of its pages
-top_temporary : (header : Header) (h : ℕ) (past : List Event) (k : Parts) (ids : Ids) (w : Waiting) (top : PageKey) → Tries header h past k ids w top
-    → IsServed header h k w.task.0 w.want past → Sinks k.memory k.chains top → named header ≤ top.object.0
-top_temporary header h past k ids w top t served sinks = elim (kind_cases header top.object.0) [
-  | inl declared ↦ elim (over.none) [
-    | inl without ↦
-        let own = same declared in
-        absurd (served t.at.entry t.at.found (omega (arith, declared, own)) (ended own without))
-    | inr lacked ↦ absurd (let bad : false ≡ true = sym (m.core.objects.kinds.present top.object.0 top.page.0 declared) ∙ lacked in cc)
-  ]
-  | inr temporary ↦ temporary
-]
-  where
-    m : Matches header h k ids [] past
-    m = t.works.matches
-
-    over : PassesOver k.memory top
-    over = passes_top k.memory k.chains top sinks
-
-    at_top : top.object.0 ≡ t.at.row.top.0
-    at_top = ap (λ (z : PageKey). z.object.0) t.at.is
-
-    same : top.object.0 < named header → t.at.entry.region.0 ≡ top.object.0
-    same declared =
-        over_declared m.core.objects.regions m.core.objects.kinds m.core.spaces.homes.1 t.at.entry.region.0 t.at.row t.at.region
-        (omega (arith, declared, at_top)) ∙ sym at_top
-
-    ended : t.at.entry.region.0 ≡ top.object.0 → over.row.state ≡ state.Without → live_control h t.at.entry.region.0 past ≡ None
-    ended own without =
-        let none : over.row.live ≡ false = (m.core.objects.kinds.kinds top.object.0 over.row over.known).lives ∙ ap has_pager without in
-        ap (λ z. live_control h z past) own
-        ∙ (m.core.controls.live top.object.0 ∙ (ap live_in over.known ∙ ap (λ b. if b then Some over.row.control else None) none))
-
--- it ends with its page, after a copy or zeros came, or at once
-ended : (header : Header) (h : ℕ) (outside : Outside) (doing : Command) (past : List Event) (k : Parts) (ids : Ids) (w : Waiting) (top : PageKey)
-    (events : List Event) (value : ℕ) (m2 : HostParts) (have : CopyTable) (after : List Event) (waits2 : WaitTable)
-    → IsOfNumber w.want → Tries header h (events ++ past) k ids w top → IsServed header h k w.task.0 w.want (events ++ past)
-    → Ended (host_id h) w.task w.want top (address_in k.maps.size w.want % header.size) value k.memory m2 k.chains k.copies have
-    events after
-    → PutsInOrder w.task.0 None k.waits.rows waits2.rows → Reaches header h outside doing past events (record k { memory = m2; waits = waits2 }) ids after
-ended header h outside doing past k ids w top events value m2 have after waits2 number t served (AtOnce steps key row finds none out owes e hits same told)
-    put =
-    subst (λ (z : List Event). Reaches header h outside doing past events (record k { memory = m2; waits = waits2 }) ids z) (sym told)
-    (hit header h outside doing past k ids w top events steps key row value e m2 waits2 t finds none out hits put)
-ended header h outside doing past k ids w top events value m2 have after waits2 number t served
-    (Raised steps key row finds stores out frame copied with_hit raises keeps e hits touched notes told) put =
-    let moment = events ++ past in
-    let raised : Event = event.Raised (host_id h) key.object key.page top.object top.page in
-    let to = leads_there header h moment k ids w top t in
-    let s = shown_at t.works.matches in
-    let store = store_of w.want stores in
-    let works1 = works_raised header h moment k ids steps key top row frame copied t.works finds.walks
-    (at_unfilled header.size w.task.0 w.want top k.maps k.chains [] t.works.matches.core.spaces.entries t.at) to.referred finds.found finds.here raises keeps in
-    let t1 = tries_on header h moment (raised ∷ moment) k ids w top copied t works1 in
-    let one = goes_one header h outside doing past events raised t.works.matches.settled
-    (raised_follows header h outside doing moment k w.task.0 w.want top t.at store.address store.size store.value steps key row to s store.is (t.clear stores)
-    finds out
-    (suffices header h copied.frames (raised ∷ moment) works1.matches.core.pages.counted)) in
-    let row2 : PageRow = record (clean_row frame unlocked false) { dirty = true } in
-    let there : Finds copied k.chains 0 top top row2 = record {
-      walks = refl;
-      found = row_put k.memory.resident copied.resident top.object.0 top.page.0 (Some row2) raises.row;
-      here = refl;
-    } in
-    let two = hit header h outside doing past (record k { memory = copied }) ids w top (raised ∷ events) 0 top row2 value e with_hit waits2 t1 there
-    (λ is. refl) (plain_open row2.lock (writes_at w.want 0) refl) hits put in
-    subst (λ (z : List Event). Reaches header h outside doing past events (record k { memory = m2; waits = waits2 }) ids z) (sym told)
-    (record {
-      works = works_touched header h (e ∷ raised ∷ moment) (record k { memory = with_hit; waits = waits2 }) ids woken.Nobody row.frame m2 touched two.works;
-      goes = goes_both header h outside doing past events (raised ∷ events) (e ∷ raised ∷ events) one two.goes;
-    })
-ended header h outside doing past k ids w top events value m2 have after waits2 number t served
-    (Pushed row finds stores out place owed none frame copied raises keeps e hits notes told) put =
-    absurd (let bad : None ≡ Some place = sym (owed_nowhere t.works.matches.core.setting.uncopied top) ∙ owed in cc)
-ended header h outside doing past k ids w top events value m2 have after waits2 number t served
-    (AfterZeros sinks frame brought brings keeps e hits notes told) put =
-    let moment = events ++ past in
-    let zeros : Event = event.Zeroed (host_id h) top.object top.page in
-    let to = leads_there header h moment k ids w top t in
-    let s = shown_at t.works.matches in
-    let temporary = top_temporary header h moment k ids w top t served sinks in
-    let works1 = works_zeroed header h moment k ids top frame brought t.works sinks temporary
-    (at_unfilled header.size w.task.0 w.want top k.maps k.chains [] t.works.matches.core.spaces.entries t.at) to.referred brings keeps in
-    let t1 = tries_on header h moment (zeros ∷ moment) k ids w top brought t works1 in
-    let one = goes_one header h outside doing past events zeros t.works.matches.settled
-    (zeroed_follows header h outside doing moment k w.task.0 w.want top t.at temporary to s t.clear sinks
-    (λ depth below. chain_temporary t.works.matches.core.objects.regions t.works.matches.core.objects.kinds depth top.object.0 below temporary to.referred)
-    (suffices header h brought.frames (zeros ∷ moment) works1.matches.core.pages.counted)) in
-    let row2 : PageRow = clean_row frame unlocked false in
-    let there : Finds brought k.chains 0 top top row2 = record {
-      walks = refl;
-      found = row_put k.memory.resident brought.resident top.object.0 top.page.0 (Some row2) brings.row;
-      here = refl;
-    } in
-    let two = hit header h outside doing past (record k { memory = brought }) ids w top (zeros ∷ events) 0 top row2 value e m2 waits2 t1 there (λ is. refl)
-    (plain_open row2.lock (writes_at w.want 0) refl) hits put in
-    subst (λ (z : List Event). Reaches header h outside doing past events (record k { memory = m2; waits = waits2 }) ids z) (sym told)
-    (record { works = two.works; goes = goes_both header h outside doing past events (zeros ∷ events) (e ∷ zeros ∷ events) one two.goes })
-ended header h outside doing past k ids w top events value m2 have after waits2 number t served
-    (Copied address pages next target is steps key row finds out is_none copies same) put =
-    absurd (subst IsOfNumber is number)
-
--- what its page was noted for
-ended_copies : {host : HostId} {task : TaskId} {what : Want} {top : PageKey} {at value : ℕ} {old new : HostParts} {chains : ChainTable}
-    {had have : CopyTable} {before after : List Event} → had ≡ no_copies
-    → Ended host task what top at value old new chains had have before after → have ≡ had
-ended_copies uncopied (AtOnce steps key row finds none out owes e hits same told) = same
-ended_copies uncopied (Raised steps key row finds stores out frame copied with_hit raises keeps e hits touched notes told) = notes_nothing uncopied notes
-ended_copies {top = top} uncopied (Pushed row finds stores out place owed none frame copied raises keeps e hits notes told) = notes_nothing uncopied notes
-ended_copies uncopied (AfterZeros sinks frame brought brings keeps e hits notes told) = notes_nothing uncopied notes
-ended_copies uncopied (Copied address pages next target is steps key row finds out is_none copies same) = same
+use Rattle.vm_kernel.proofs.steps.AccessEnds.{Reaches, Tries, ended, leads_there, store_of}
 
 -- a place to which its walk leads is one of its places, and it has passed over those above
 place_of_walk : (header : Header) (h : ℕ) (past : List Event) (k : Parts) (ids : Ids) (w : Waiting) (top key : PageKey) (steps : ℕ)
@@ -473,20 +243,28 @@ prepared header h outside doing past k ids w may answer events new works is now 
         }
 
 -- the chains, the copy objects and the next numbers are those behind what the mark brought
+settle_noted : (header : Header) (h : ℕ) (outside : Outside) (doing : Command) (past : List Event) (k : Parts) (events : List Event) (mid new : FaultState)
+    (waits2 : WaitTable) → LegalEvents header h outside doing past events mid.events
+    → Reaches header h outside doing past mid.events (record (with_state k mid) { memory = new.parts; copies = new.copies; waits = waits2 }) mid.ids new.events
+    → new.chains ≡ mid.chains → new.ids ≡ mid.ids
+    → Reaches header h outside doing past events (record (with_state k new) { waits = waits2 }) new.ids new.events
+settle_noted header h outside doing past k events mid new waits2 first r chains ids =
+    record {
+      works = subst (λ (z : Ids). Works header h (record (with_state k new) { waits = waits2 }) z woken.Nobody (new.events ++ past)) (sym ids)
+          (subst (λ (z : ChainTable). Works header h (record k { memory = new.parts; chains = z; copies = new.copies; waits = waits2 }) mid.ids woken.Nobody
+          (new.events ++ past)) (sym chains) r.works);
+      goes = goes_both header h outside doing past events mid.events new.events first r.goes;
+    }
+
 settle : (header : Header) (h : ℕ) (outside : Outside) (doing : Command) (past : List Event) (k : Parts) (events : List Event) (mid new : FaultState)
     (waits2 : WaitTable) → LegalEvents header h outside doing past events mid.events
     → Reaches header h outside doing past mid.events (record (with_state k mid) { memory = new.parts; waits = waits2 }) mid.ids new.events
     → new.chains ≡ mid.chains → new.ids ≡ mid.ids → new.copies ≡ mid.copies
     → Reaches header h outside doing past events (record (with_state k new) { waits = waits2 }) new.ids new.events
 settle header h outside doing past k events mid new waits2 first r chains ids copies =
-    record {
-      works = subst (λ (z : Ids). Works header h (record (with_state k new) { waits = waits2 }) z woken.Nobody (new.events ++ past)) (sym ids)
-          (subst (λ (z : CopyTable). Works header h (record k { memory = new.parts; chains = new.chains; copies = z; waits = waits2 }) mid.ids woken.Nobody
-          (new.events ++ past)) (sym copies)
-          (subst (λ (z : ChainTable). Works header h (record k { memory = new.parts; chains = z; copies = mid.copies; waits = waits2 }) mid.ids woken.Nobody
-          (new.events ++ past)) (sym chains) r.works));
-      goes = goes_both header h outside doing past events mid.events new.events first r.goes;
-    }
+    settle_noted header h outside doing past k events mid new waits2 first
+    (subst (λ (z : CopyTable). Reaches header h outside doing past mid.events (record (with_state k mid) { memory = new.parts; copies = z; waits = waits2 })
+    mid.ids new.events) (sym copies) r) chains ids
 
 -- nothing changes but what it waits for
 stays : (header : Header) (h : ℕ) (outside : Outside) (doing : Command) (past : List Event) (k : Parts) (mid new : FaultState) (waits2 : WaitTable)
@@ -520,10 +298,10 @@ done_reaches header h outside doing past k ids w may value events new waits2 num
     new.copies f.mid.events new.events) (named_host k.host h works.matches.core.setting.numbered) f.comes in
     let sized = subst (λ (z : ℕ). Ended (host_id h) w.task w.want f.top (address % z) value f.mid.parts new.parts f.mid.chains f.mid.copies
     new.copies f.mid.events new.events) (works.matches.core.fits.buffers ∙ works.matches.core.setting.sized) named in
-    settle header h outside doing past k events f.mid new waits2 p.goes (ended header h outside doing past (with_state k f.mid) f.mid.ids w f.top f.mid.events
-    value new.parts new.copies new.events waits2 number p.tries
+    settle_noted header h outside doing past k events f.mid new waits2 p.goes (ended header h outside doing past (with_state k f.mid) f.mid.ids w f.top
+    f.mid.events value new.parts new.copies new.events waits2 number p.tries
     (prepared_served header h past (is_storing w.want && f.row.marked) f.entry.region f.row k ids events f.mid w.task.0 w.want f.prepares served)
-    sized put) f.chains f.ids (ended_copies p.tries.works.matches.core.setting.uncopied f.comes)
+    sized put) f.chains f.ids
 
 -- it waits for its object's pager
 pub ready_reaches : (header : Header) (h : ℕ) (outside : Outside) (doing : Command) (past : List Event) (k : Parts) (ids : Ids) (w : Waiting) (may : Bool)
@@ -546,14 +324,14 @@ ready_reaches header h outside doing past k ids w may object events new waits2 w
     settle header h outside doing past k events f.mid new waits2 p.goes
     (stays header h outside doing past k f.mid new waits2 f.comes.1
     (works_turned header h (f.mid.events ++ past) (with_state k f.mid) f.mid.ids w (on.Ready object) waits2 p.tries.works is now
-    (key, behind_place place, same, told) (key, place, same, unmet) put)) f.chains f.ids f.comes.1.copies
+    (key, behind_place place, same, told) (key, behind_place place, same, λ none. (place, unmet)) put)) f.chains f.ids f.comes.1.copies
 
--- its page is asked, or an unlock of it is outstanding; it was asked for now or before
+-- its page is asked, or an unlock of it is outstanding, which was asked for now
 pub page_reaches : (header : Header) (h : ℕ) (outside : Outside) (doing : Command) (past : List Event) (k : Parts) (ids : Ids) (w : Waiting) (may : Bool)
     (answer : FaultStep) (key : PageKey) (events : List Event) (new : FaultState) (waits2 : WaitTable)
     → Works header h k ids woken.Nobody (events ++ past) → entry k.waits.rows w.task.0 ≡ Some w → runs_now w.on ≡ true
     → Faulted k.maps k.host w.task w.want may answer (state_of k ids events) new
-    → (answer ≡ step.Ask key) ⊎ ((answer ≡ step.Unlock key) ⊎ (answer ≡ step.WaitAnswer key))
+    → (answer ≡ step.Ask key) ⊎ (answer ≡ step.Unlock key)
     → PutsInOrder w.task.0 (Some (with_on w (on.Page key))) k.waits.rows waits2.rows
     → Reaches header h outside doing past events (record (with_state k new) { waits = waits2 }) new.ids new.events
 page_reaches header h outside doing past k ids w may answer key events new waits2 works is now faulted (inl asks) put =
@@ -564,7 +342,7 @@ page_reaches header h outside doing past k ids w may answer key events new waits
     (named_host k.host h works.matches.core.setting.numbered) f.comes.0 in
     settle header h outside doing past k events f.mid new waits2 p.goes (asked header h outside doing past (with_state k f.mid) f.mid.ids w f.top key
     f.mid.events new.parts new.events waits2 p.tries named put) f.chains f.ids f.comes.1
-page_reaches header h outside doing past k ids w may answer key events new waits2 works is now faulted (inr (inl unlocks)) put =
+page_reaches header h outside doing past k ids w may answer key events new waits2 works is now faulted (inr unlocks) put =
     let f : Faulted k.maps k.host w.task w.want may (step.Unlock key) (state_of k ids events) new = subst
     (λ (z : FaultStep). Faulted k.maps k.host w.task w.want may z (state_of k ids events) new) unlocks faulted in
     let p = prepared header h outside doing past k ids w may (step.Unlock key) events new works is now f in
@@ -572,39 +350,57 @@ page_reaches header h outside doing past k ids w may answer key events new waits
     (named_host k.host h works.matches.core.setting.numbered) f.comes.0 in
     settle header h outside doing past k events f.mid new waits2 p.goes (unlocked_by header h outside doing past (with_state k f.mid) f.mid.ids w f.top key
     f.mid.events new.parts new.events waits2 p.tries named put) f.chains f.ids f.comes.1
-page_reaches header h outside doing past k ids w may answer key events new waits2 works is now faulted (inr (inr joins)) put =
-    settle header h outside doing past k events f.mid new waits2 p.goes (stays header h outside doing past k f.mid new waits2 f.comes.1 (by awaits.why))
-    f.chains f.ids f.comes.1.copies
+
+-- or before; or a store owes its page to a place that is asked
+pub word_reaches : (header : Header) (h : ℕ) (outside : Outside) (doing : Command) (past : List Event) (k : Parts) (ids : Ids) (w : Waiting) (may : Bool)
+    (key : PageKey) (events : List Event) (new : FaultState) (waits2 : WaitTable)
+    → Works header h k ids woken.Nobody (events ++ past) → entry k.waits.rows w.task.0 ≡ Some w → runs_now w.on ≡ true
+    → Faulted k.maps k.host w.task w.want may (step.WaitAnswer key) (state_of k ids events) new
+    → PutsInOrder w.task.0 (Some (with_on w (waits_at k w key))) k.waits.rows waits2.rows
+    → Reaches header h outside doing past events (record (with_state k new) { waits = waits2 }) new.ids new.events
+word_reaches header h outside doing past k ids w may key events new waits2 works is now f put =
+    settle header h outside doing past k events f.mid new waits2 p.goes (stays header h outside doing past k f.mid new waits2 f.comes.1
+    (elim f.comes.0 [ inl page ↦ joins page | inr push ↦ pushes push ])) f.chains f.ids f.comes.1.copies
   where
-    f : Faulted k.maps k.host w.task w.want may (step.WaitAnswer key) (state_of k ids events) new
-    f = subst (λ (z : FaultStep). Faulted k.maps k.host w.task w.want may z (state_of k ids events) new) joins faulted
+    mid : Parts
+    mid = with_state k f.mid
 
     p : Prepared header h outside doing past k ids w events f.mid f.top
     p = prepared header h outside doing past k ids w may (step.WaitAnswer key) events new works is now f
 
-    awaits : AwaitsPage w.want f.top key f.mid.parts f.mid.chains
-    awaits = elim f.comes.0 [
-      | inl page ↦ page
-      | inr push ↦ absurd (let bad : None ≡ Some key = sym (owed_nowhere p.tries.works.matches.core.setting.uncopied f.top) ∙ push.owed in cc)
-    ]
+    turns : (b : Bool) → is_pushing (length k.declared.items) key (place_led k.maps w.task.0 w.want) ≡ b
+        → PutsInOrder w.task.0 (Some (with_on w (if b then on.Push key else on.Page key))) k.waits.rows waits2.rows
+    turns b same = subst (λ (z : Bool). PutsInOrder w.task.0 (Some (with_on w (if z then on.Push key else on.Page key))) k.waits.rows waits2.rows) same put
 
-    steps : ℕ
-    steps = awaits.steps
+    joins : AwaitsPage w.want f.top key f.mid.parts f.mid.chains
+        → Works header h (record mid { waits = waits2 }) f.mid.ids woken.Nobody (f.mid.events ++ past)
+    joins awaits = by awaits.why
+      where
+        there : (steps : ℕ) → WalksTo f.mid.parts f.mid.chains steps f.top key → IsAwaitedBy f.mid.parts.resident w.want key.object.0 key.page.0
+            → Works header h (record mid { waits = waits2 }) f.mid.ids woken.Nobody (f.mid.events ++ past)
+        there steps walks word =
+            works_joined header h (f.mid.events ++ past) mid f.mid.ids w key waits2 p.tries.works is now
+            (place_of_walk header h (f.mid.events ++ past) mid f.mid.ids w f.top key steps p.tries walks) word
+            (turns false (page_unpushing w.want steps key p.tries.works.matches p.tries.at walks))
 
-    row : PageRow
-    row = awaits.row
+        by : (Finds f.mid.parts f.mid.chains awaits.steps f.top key awaits.row × (keeps_out awaits.row.lock (writes_at w.want awaits.steps) ≡ true)
+            × (awaits.row.unlock_sent ≡ true)) ⊎ StopsAsked f.mid.parts f.mid.chains awaits.steps f.top key awaits.row
+            → Works header h (record mid { waits = waits2 }) f.mid.ids woken.Nobody (f.mid.events ++ past)
+        by (inl locked) = there awaits.steps locked.0.walks (inr (record {
+          row = awaits.row;
+          found = locked.0.found;
+          here = locked.0.here;
+          locked = kept_anywhere awaits.row.lock w.want awaits.steps locked.1;
+          sent = locked.2;
+        }))
+        by (inr stops) = there awaits.steps stops.walks (inl (record { row = awaits.row; found = stops.found; away = stops.away }))
 
-    by : (Finds f.mid.parts f.mid.chains steps f.top key row × (keeps_out row.lock (writes_at w.want steps) ≡ true) × (row.unlock_sent ≡ true))
-        ⊎ StopsAsked f.mid.parts f.mid.chains steps f.top key row
-        → Works header h (record (with_state k f.mid) { waits = waits2 }) f.mid.ids woken.Nobody (f.mid.events ++ past)
-    by (inl locked) =
-        works_joined header h (f.mid.events ++ past) (with_state k f.mid) f.mid.ids w key waits2 p.tries.works is now
-        (place_of_walk header h (f.mid.events ++ past) (with_state k f.mid) f.mid.ids w f.top key steps p.tries locked.0.walks)
-        (inr (record { row = row; found = locked.0.found; here = locked.0.here; locked = kept_anywhere row.lock w.want steps locked.1; sent = locked.2 })) put
-    by (inr stops) =
-        works_joined header h (f.mid.events ++ past) (with_state k f.mid) f.mid.ids w key waits2 p.tries.works is now
-        (place_of_walk header h (f.mid.events ++ past) (with_state k f.mid) f.mid.ids w f.top key steps p.tries stops.walks)
-        (inl (record { row = row; found = stops.found; away = stops.away })) put
+    pushes : AwaitsPush w.want f.top key f.mid.parts f.mid.chains f.mid.copies
+        → Works header h (record mid { waits = waits2 }) f.mid.ids woken.Nobody (f.mid.events ++ past)
+    pushes push =
+        works_turned header h (f.mid.events ++ past) mid f.mid.ids w (on.Push key) waits2 p.tries.works is now
+        (push_awaited k.maps f.mid.chains f.mid.copies f.mid.parts w.task.0 w.want f.top key p.tries.at push) tt
+        (turns true (push_pushing w.want key p.tries.works.matches p.tries.works.used p.tries.works.referred p.tries.at push.stores push.owed))
 
 -- it wants a frame: it joins the queue
 pub queued_reaches : (header : Header) (h : ℕ) (outside : Outside) (doing : Command) (past : List Event) (k : Parts) (ids : Ids) (w : Waiting) (may : Bool)
@@ -645,8 +441,9 @@ frame_why header h past k ids w top t served to (Nowhere sinks) =
 frame_why header h past k ids w top t served to (ToCopy steps key row finds copying out) =
     let s = shown_at t.works.matches in
     wants_copy header h k.maps.size w.task.0 to.destination t.at.entry.region.0 (page_of header w.task.0 (access_in k.maps.size to.destination w.want) past
-    t.at.entry) past w.want steps top.object.0 top.page.0 key.object.0 key.page.0
-    (or_right (is_storing w.want && nat_lt 0 steps) (is_copying w.want) copying) (top_at header h past k w.task.0 w.want top t.at to)
+    t.at.entry) past w.want false steps top.object.0 top.page.0 key.object.0 key.page.0
+    (or_right (is_storing w.want && (nat_lt 0 steps || false)) (is_copying w.want) copying)
+    (λ bad. absurd (let no : false ≡ true = bad in cc)) (top_at header h past k w.task.0 w.want top t.at to)
     (walks_of s steps top key finds.walks) (shows_row s key.object.0 key.page.0 row finds.found finds.here).here
 frame_why header h past k ids w top t served to (ToAsk steps key object comes ready) =
     let s = shown_at t.works.matches in
@@ -654,7 +451,10 @@ frame_why header h past k ids w top t served to (ToAsk steps key object comes re
     legal.Elsewhere key.object.0 key.page.0 (comes_at header h past k w.task.0 w.want top t.at to s steps key comes.walks) may.away may.unasked may.may_have
     may.ready
 frame_why header h past k ids w top t served to (ToPush row finds stores out place owed none) =
-    absurd (let bad : None ≡ Some place = sym (owed_nowhere t.works.matches.core.setting.uncopied top) ∙ owed in cc)
+    let now = pushes_now t.works.matches t.works.used t.works.referred top place owed none in
+    legal.Pushes top.object.0 top.page.0 now.copy (top_at header h past k w.task.0 w.want top t.at to)
+    (shows_row (shown_at t.works.matches) top.object.0 top.page.0 row finds.found finds.here).here (storing_is k.maps.size to.destination w.want ∙ stores)
+    now.owes now.unasked
 frame_why header h past k ids w top t served to (ToRaise steps key row finds stores out) =
     let s = shown_at t.works.matches in
     legal.Raises top.object.0 top.page.0 steps key.object.0 key.page.0 (top_at header h past k w.task.0 w.want top t.at to)
@@ -693,7 +493,7 @@ frame_source header h past k ids w top t served (ToAsk steps key object comes re
 frame_source header h past k ids w top t served (ToCopy steps key row finds copying out) =
     found_source header h past k ids w top t served steps key row finds (ToCopy steps key row finds copying out)
 frame_source header h past k ids w top t served (ToPush row finds stores out place owed none) =
-    absurd (let bad : None ≡ Some place = sym (owed_nowhere t.works.matches.core.setting.uncopied top) ∙ owed in cc)
+    found_source header h past k ids w top t served 0 top row finds (ToPush row finds stores out place owed none)
 frame_source header h past k ids w top t served (ToRaise steps key row finds stores out) =
     found_source header h past k ids w top t served (suc steps) key row finds (ToRaise steps key row finds stores out)
 
@@ -736,8 +536,7 @@ wanting_of header h outside doing past k ids w may source events new waits2 work
     let told : IsTheSource header h (SparesSource (Some w.task)) source moment =
     record {
       is = only_copies header h moment mid w.task source found;
-      only = needs_it header h moment mid w.task w.want f.top t.at source to
-          (owes_nothing header h mid f.mid.ids [] moment t.works.matches t.works.used.copies) (shown_at t.works.matches) t.works.matches.core.setting.uncopied
+      only = needs_it header h moment mid w.task w.want f.top t.at source to (due_told t.works.matches t.works.used.copies) (shown_at t.works.matches)
           f.comes.0;
     } in
     let here = subst (λ (z : HostParts). IsToCopy header h (record mid { memory = z }) source moment) (sym same.parts) copies in

@@ -8,7 +8,10 @@ use Rattle.vm_copies.specs.Copies.{CopyTable}
 use Rattle.vm_fault.specs.Faults.{FaultState, Faulted, Runs, has_more, want_after}
 use Rattle.vm_fault.specs.declared.step.FaultStep.{FaultStep}
 use Rattle.vm_fault.specs.declared.step.FaultStep.TheVariants as step
-use Rattle.vm_kernel.proofs.steps.AccessRun.{Reaches, Wanting, done_reaches, page_reaches, queued_reaches, ready_reaches, wanting_of}
+use Rattle.vm_kernel.proofs.steps.AccessEnds.{Reaches}
+use Rattle.vm_kernel.proofs.steps.AccessRun.{Wanting, done_reaches, page_reaches, queued_reaches, ready_reaches, wanting_of, word_reaches}
+use Rattle.vm_kernel.proofs.Common.{if◌then◌else◌, length}
+use Rattle.vm_kernel.specs.Destroying.{place_led}
 use Rattle.vm_kernel.proofs.steps.CopyEnds.{can_end_copy, copy_ended, maps_filled}
 use Rattle.vm_kernel.proofs.steps.CopyGoesOn.{Copying, copy_follows, page_copied, sized_of, slow_of}
 use Rattle.vm_kernel.proofs.steps.EventsGrow.{goes_both, goes_one}
@@ -16,7 +19,7 @@ use Rattle.vm_kernel.proofs.steps.LoadsAndStores.{stops_once}
 use Rattle.vm_kernel.proofs.steps.RowsInOrder.{PutsInOrder, puts_over, puts_twice, rewanted_keeps, turned_keeps, without_keeps}
 use Rattle.vm_kernel.proofs.steps.CopyMakesPages.{RunsTo, after_pages, makes_page, puts_itself, runs_to}
 use Rattle.vm_kernel.proofs.steps.FaultStates.{state_of, with_state}
-use Rattle.vm_kernel.specs.Serving.{pages_to_copy, runs_now}
+use Rattle.vm_kernel.specs.Serving.{is_pushing, pages_to_copy, runs_now, waits_at}
 use Rattle.vm_kernel.specs.Slow.{CanEndCopy, CanEndWant, DidNothing, EndsCopyIn, EndsWant, filled_entry}
 use Rattle.vm_model.specs.declared.event.Event.TheVariants as event
 use Rattle.vm_supply.specs.declared.woken.Woken.TheVariants as woken
@@ -61,18 +64,17 @@ ready_runs header h outside doing past k ids w may object last events new waits2
     (puts_over w.task.0 (Some (with_want w r.what)) (Some (with_on (with_want w r.what) (on.Ready object))) k.waits.rows r.waits.rows waits2.rows r.put
     r.back put2))
 
-last_waits : (answer : FaultStep) (key : PageKey) (what : Want) → (answer ≡ step.Ask key) ⊎ ((answer ≡ step.Unlock key) ⊎ (answer ≡ step.WaitAnswer key))
+last_waits : (answer : FaultStep) (key : PageKey) (what : Want) → (answer ≡ step.Ask key) ⊎ (answer ≡ step.Unlock key)
     → want_after answer what ≡ what
 last_waits answer key what (inl is) = ap (λ z. want_after z what) is
-last_waits answer key what (inr (inl is)) = ap (λ z. want_after z what) is
-last_waits answer key what (inr (inr is)) = ap (λ z. want_after z what) is
+last_waits answer key what (inr is) = ap (λ z. want_after z what) is
 
 -- its page is asked, or an unlock of it is outstanding
 pub page_runs : (header : Header) (h : ℕ) (outside : Outside) (doing : Command) (past : List Event) (k : Parts) (ids : Ids) (w : Waiting) (may : Bool)
     (answer : FaultStep) (key : PageKey) (last : Want) (events : List Event) (new : FaultState) (waits2 : WaitTable)
     → Works header h k ids woken.Nobody (events ++ past) → entry k.waits.rows w.task.0 ≡ Some w → runs_now w.on ≡ true
     → Runs k.maps k.host w.task may answer w.want last (state_of k ids events) new
-    → (answer ≡ step.Ask key) ⊎ ((answer ≡ step.Unlock key) ⊎ (answer ≡ step.WaitAnswer key))
+    → (answer ≡ step.Ask key) ⊎ (answer ≡ step.Unlock key)
     → PutsInOrder w.task.0 (Some (with_on (with_want w last) (on.Page key))) k.waits.rows waits2.rows
     → Reaches header h outside doing past events (record (with_state k new) { waits = waits2 }) new.ids new.events
 page_runs header h outside doing past k ids w may answer key last events new waits2 works is now runs why put =
@@ -83,6 +85,32 @@ page_runs header h outside doing past k ids w may answer key last events new wai
     (page_reaches header h outside doing past (kernel_there k r) r.mid.ids (with_want w r.what) may answer key r.mid.events new waits2 r.works r.is now r.ran
     why (puts_over w.task.0 (Some (with_want w r.what)) (Some (with_on (with_want w r.what) (on.Page key))) k.waits.rows r.waits.rows waits2.rows r.put
     r.back put2))
+
+-- a slow copy that has made more pages leads where it did
+led_after : (k : Parts) (w : Waiting) (n : ℕ) (what : Want) → place_led k.maps w.task.0 (after_pages n what) ≡ place_led k.maps w.task.0 what
+led_after k w n (want.Load address size) = refl
+led_after k w n (want.Store address size value) = refl
+led_after k w n (want.CopyTo address pages target next) = refl
+
+-- somebody's word on a page is outstanding that it waits for
+pub word_runs : (header : Header) (h : ℕ) (outside : Outside) (doing : Command) (past : List Event) (k : Parts) (ids : Ids) (w : Waiting) (may : Bool)
+    (key : PageKey) (last : Want) (events : List Event) (new : FaultState) (waits2 : WaitTable)
+    → Works header h k ids woken.Nobody (events ++ past) → entry k.waits.rows w.task.0 ≡ Some w → runs_now w.on ≡ true
+    → Runs k.maps k.host w.task may (step.WaitAnswer key) w.want last (state_of k ids events) new
+    → PutsInOrder w.task.0 (Some (with_on (with_want w last) (waits_at k w key))) k.waits.rows waits2.rows
+    → Reaches header h outside doing past events (record (with_state k new) { waits = waits2 }) new.ids new.events
+word_runs header h outside doing past k ids w may key last events new waits2 works is now runs put =
+    let r = runs_to header h outside doing past events k ids w may (step.WaitAnswer key) last new works is now runs in
+    let led : place_led k.maps w.task.0 w.want ≡ place_led k.maps w.task.0 r.what = sym (ap (place_led k.maps w.task.0) r.is_what
+    ∙ led_after k w r.made w.want) in
+    let same : waits_at k w key ≡ waits_at (kernel_there k r) (with_want w r.what) key =
+    ap (λ z. if is_pushing (length k.declared.items) key z then on.Push key else on.Page key) led in
+    let put2 = subst (λ (z : Want). PutsInOrder w.task.0 (Some (with_on (with_want w z) (waits_at k w key))) k.waits.rows waits2.rows) r.last_is put in
+    let put3 = subst (λ (z : On). PutsInOrder w.task.0 (Some (with_on (with_want w r.what) z)) k.waits.rows waits2.rows) same put2 in
+    let reason = waits_at (kernel_there k r) (with_want w r.what) key in
+    onward header h outside doing past events r.mid.events (record (with_state k new) { waits = waits2 }) new.ids new.events r.goes
+    (word_reaches header h outside doing past (kernel_there k r) r.mid.ids (with_want w r.what) may key r.mid.events new waits2 r.works r.is now r.ran
+    (puts_over w.task.0 (Some (with_want w r.what)) (Some (with_on (with_want w r.what) reason)) k.waits.rows r.waits.rows waits2.rows r.put r.back put3))
 
 -- it wants a frame: it stands in the queue, or joins it
 pub queued_runs : (header : Header) (h : ℕ) (outside : Outside) (doing : Command) (past : List Event) (k : Parts) (ids : Ids) (w : Waiting) (may : Bool)
@@ -146,6 +174,10 @@ at_copying header h past k new chains copies ids events waits w address pages ta
     (subst (λ (z : ChainTable). Copying header h (record k { memory = new.parts; chains = z; copies = copies; waits = waits }) ids (events ++ past) w address
     pages target next) (sym same_chains) copying)))
 
+-- the page behind which there is none is the last one
+last_page : (next pages : ℕ) → nat_lt (next + 1) pages ≡ false → next < pages → next + 1 ≡ pages
+last_page next pages none left = grind (arith, nat_tests)
+
 copies_last : (header : Header) (h : ℕ) (outside : Outside) (doing : Command) (past : List Event) (k : Parts) (ids : Ids) (w : Waiting) (may : Bool) (value : ℕ)
     (last : Want) (events : List Event) (new : FaultState) (address pages : ℕ) (target : ObjectId) (first : ℕ) → w.want ≡ want.CopyTo address pages target first
     → Works header h k ids woken.Nobody (events ++ past) → entry k.waits.rows w.task.0 ≡ Some w → runs_now w.on ≡ true
@@ -178,7 +210,7 @@ copies_last header h outside doing past k ids w may value last events new addres
           page.ids
           page.copies.told
           copying;
-      last = grind (arith, nat_tests);
+      last = last_page next pages none left;
       goes =
           subst (λ (z : List Event). LegalEvents header h outside doing past events z) (sym page.copies.told)
           (goes_both header h outside doing past events r.mid.events (e ∷ r.mid.events) r.goes one);

@@ -17,7 +17,8 @@ use Rattle.vm_kernel.proofs.controls.LockReplied.{replied_none}
 use Rattle.vm_model.specs.Regions.{region_of}
 use Rattle.vm_state.specs.Counts.{marked_in, marks_of}
 use Rattle.vm_state.specs.Pagers.{cached_in}
-use Rattle.vm_kernel.specs.Matches.{no_copies}
+use Rattle.vm_copies.specs.Copies.{IsCopyOf, copy_at, newest_at}
+use Rattle.vm_kernel.proofs.Common.{IfSome, ObjectId, Option}
 
 no_claims : (n : ℕ) → count_claims (replicate n false) ≡ 0
 no_claims zero = refl
@@ -49,7 +50,7 @@ unmarked header (suc n) = unmarked header n
 pub first_rests : (header : Header) (h : ℕ) (k : Parts) (count : ℕ) → IsRanged header → h < length header.frames.items → k.size ≡ header.size → k.host.0 ≡ h
     → k.declared.items ≡ header.objects.items → slice_get (reverse header.frames.items) h ≡ Some count → IsStart count header.size k.memory
     → k.maps ≡ record { size = header.size; tasks = [] } → ((r : ℕ) → region_at k.chains r ≡ None) → ((o : ℕ) → shadow_at k.chains o ≡ None)
-    → k.copies ≡ no_copies → k.laundry.held ≡ [] → k.laundry.room ≡ count → k.waits.rows ≡ []
+    → k.copies ≡ record { newest = []; copies = []; room = 0 } → k.laundry.held ≡ [] → k.laundry.room ≡ count → k.waits.rows ≡ []
     → Rests header h k (first_ids header) []
 first_rests header h k count ranged known size host declared hosts start maps regions shadows copies held room waits =
     let frames = start.frames_are in
@@ -61,6 +62,8 @@ first_rests header h k count ranged known size host declared hosts start maps re
     let few = ranged.objects in
     let objects : (o : ℕ) → object_at k.memory.objects o ≡ None = λ o. ap (object_among o) start.objects in
     let marks : (o p : ℕ) → absent_at k.memory.objects o p ≡ false = λ o p. ap (absent_among o p) start.absent in
+    let plain : (o : ℕ) → copy_at k.copies o ≡ None = λ o. ap (λ z. copy_at z o) copies in
+    let bare : (o : ℕ) → newest_at k.copies o ≡ None = λ o. ap (λ z. newest_at z o) copies in
     let unfilled : (t r : ℕ) → fills_in r (entry k.waits.rows t) ≡ false = λ t r. ap (λ z. fills_in r (entry z t)) waits in
     let no_use : (r : ℕ) → named header ≤ r → IsUsed (record { size = header.size; tasks = [] }) k.waits.rows r (in_use header h r []) = λ r temporary. record {
       why = λ used. inl (let test = sym (unused header h r temporary) ∙ used in grind (arith, nat_tests));
@@ -79,7 +82,6 @@ first_rests header h k count ranged known size host declared hosts start maps re
                 sized = size;
                 numbered = host;
                 objects = declared;
-                uncopied = copies;
               };
               calm = λ o is. absurd (let bad : false ≡ true = is in cc);
               fits = record {
@@ -137,8 +139,22 @@ first_rests header h k count ranged known size host declared hosts start maps re
                   at = λ o row least is. none_of (object_at k.memory.objects o) row (objects o) is;
                   few = λ o row is. none_of (object_at k.memory.objects o) row (objects o) is;
                 };
-                plain = λ o row is. refl;
-                undelayed = λ o less. refl;
+                undelayed = λ o less. record { copy = refl; pages = refl };
+              };
+              copied = record {
+                known = record {
+                  are = λ o referred. sym (ap is_some (plain o));
+                  copy = λ c row is. none_of (copy_at k.copies c) row (plain c) is;
+                  newest = λ f c is. none_of None c refl is;
+                  last = λ f c is. none_of (newest_at k.copies f) c (bare f) is;
+                  had = λ c row is. none_of (copy_at k.copies c) row (plain c) is;
+                  unpushed = λ o p none. refl;
+                };
+                fits = record {
+                  living = record { at = λ s. subst (λ (z : Option ObjectId). IfSome z (λ c. IsCopyOf s (copy_at k.copies c.0))) (sym (bare s)) tt };
+                  fits = λ c row is. none_of (copy_at k.copies c) row (plain c) is;
+                  stands = λ s c is. none_of (newest_at k.copies s) c (bare s) is;
+                };
               };
               controls = record {
                 last = λ o. sym (ap last_in (objects o));
@@ -212,6 +228,7 @@ rests_line header h k ids line past rests =
               fits = m.core.fits;
               spaces = m.core.spaces;
               objects = m.core.objects;
+              copied = m.core.copied;
               controls = m.core.controls;
               flags = m.core.flags;
               pages = m.core.pages;

@@ -1,12 +1,13 @@
 -- A slow copy begins: its region is there at once, over an object of its own, and its task waits.
 use Rattle.vm_kernel.proofs.memory.CoreChanges.{pages_known_so}
 use Rattle.vm_state.proofs.KnownPages.{sizes_made}
-use Rattle.vm_model.specs.Regions.{is_copy}
-use Rattle.vm_state.proofs.PlainObjects.{plain_new, unmade_plain}
+use Rattle.vm_kernel.proofs.space.DeclaredPages.{declared_made}
+use Rattle.vm_kernel.proofs.space.CopiesEnd.{copied_made, made_no_newest}
+use Rattle.vm_state.proofs.PlainObjects.{unmade_plain}
 use Rattle.vm_kernel.proofs.Common.{AllUsed, BeganInOrder, Bool, ChainTable, Command, EachOf, Entry, Event, Grows, HasEntries, HasRegions, HasUse, HasWaiters}
-use Rattle.vm_kernel.proofs.Common.{Header, Ids, InOrder, IsAllowed, IsDoneInTurn, IsFilledIn, IsInUse, IsInside, IsLined, KnowsHomes, LegalEvents, List}
+use Rattle.vm_kernel.proofs.Common.{Header, Ids, InOrder, IsAllowed, IsDoneInTurn, IsFilledIn, IsInUse, IsInside, IsLined, KnowsHomes, List}
 use Rattle.vm_kernel.proofs.Common.{MadeRange, Matches, None, ObjectId, ObjectRow, Option, Outside, PageRow, Parts, Place, PutsEntry, PutsRegion, QueueIsStill}
-use Rattle.vm_kernel.proofs.Common.{Ran, RegionId, RegionRow, Rests, RunsNone, Some, Starts, TaskId, WaitTable, Waiting, Works, [], all_tasks, ap, arith}
+use Rattle.vm_kernel.proofs.Common.{RegionId, RegionRow, Rests, RunsNone, Some, Starts, TaskId, WaitTable, Waiting, Works, [], all_tasks, ap, arith}
 use Rattle.vm_kernel.proofs.Common.{backing_of, begun_at, copy_target, count_by, entries_in, entries_of, entry, entry_at, eqb_tells, false, fills, fills_in}
 use Rattle.vm_kernel.proofs.Common.{has_entry, head, holds, home_of, host_of, if◌then◌else◌, in_use, inl, inr, is_on, is_ready, is_some, is_woken, last_control}
 use Rattle.vm_kernel.proofs.Common.{length, live_control, lives_on, made_here, named, nat_lt, nat_tests, next_object, next_page, next_region, object_at}
@@ -22,7 +23,7 @@ use Rattle.vm_kernel.proofs.space.RegionCopied.{heads_more, same_put}
 use Rattle.vm_kernel.proofs.space.RangeCopied.{may_place}
 use Rattle.vm_kernel.proofs.space.EntriesCounted.{by_none}
 use Rattle.vm_kernel.proofs.space.RegionsFilled.{free_unfilled, put_filled, unknown_unfilled}
-use Rattle.vm_kernel.proofs.steps.EventsGrow.{grows_goes, suffices}
+use Rattle.vm_kernel.proofs.steps.EventsGrow.{suffices}
 use Rattle.vm_kernel.proofs.steps.HeadAlone.{Heads, grows_head, heads_one}
 use Rattle.vm_kernel.proofs.space.TaskMade.{controls_made, new_object}
 use Rattle.vm_kernel.proofs.abroad.OwnEvents.{own_task}
@@ -38,7 +39,8 @@ use Rattle.vm_kernel.proofs.space.RegionsInUse.{elsewhere}
 use Rattle.vm_kernel.specs.Forking.{EntersCopy}
 use Rattle.vm_kernel.specs.Sweeping.{PutsEntries}
 use Rattle.vm_legal.proofs.Heads.{to_itself}
-use Rattle.vm_legal.specs.Follows.{copy_head}
+use Rattle.vm_legal.specs.Follows.{copied_late, copy_head}
+use Rattle.std.specs.Prelude.{not}
 use Rattle.vm_legal.specs.Outside.{is_file}
 use Rattle.vm_model.specs.Homes.{first_of, home_in}
 use Rattle.vm_model.specs.Waiting.{Copying}
@@ -64,7 +66,12 @@ use Rattle.vm_state.specs.Counts.{marks_of}
 use Rattle.vm_kernel.proofs.space.RegionHomes.{homes_caused, homes_put}
 use Rattle.vm_kernel.proofs.space.StillThin.{thin_made}
 use Rattle.vm_kernel.proofs.controls.FlagsKept.{flags_temporary}
-use Rattle.vm_kernel.proofs.steps.CopyMayBegin.{MayBegin, may_begin}
+use Rattle.vm_kernel.specs.Begun.{HasBegun}
+use Rattle.vm_kernel.proofs.space.PagedRegions.{paged_among}
+use Rattle.vm_kernel.proofs.steps.CopyMayBegin.{MayBegin, may_begin, slow_declared}
+use Rattle.vm_kernel.specs.Refusing.{is_paged}
+use Rattle.vm_legal.specs.Licences.{is_paged as is_paged_for}
+use Rattle.vm_model.specs.declared.script.Declared.{Declared}
 
 -- the row of the access that begins
 abbrev pub copy_row : TaskId → ℕ → ℕ → ℕ → RegionId → ObjectId → Waiting
@@ -443,6 +450,11 @@ module _ (header : Header) (h : ℕ) (outside : Outside) (task : TaskId) (addres
   matches_now =
       let m = rests.matches in
       let temporary = first_temporary header h past k ids rests in
+      let high : next_object header past ≤ ids.next_object = let number = numbers.1 in omega (arith, number) in
+      let copied_now = copied_made ids.next_object (new_object pages) k2.memory.objects unknown made.object_row made.region_row.shadows
+      (unmade_plain ids.next_object past (m.core.spaces.homes.1.objects ids.next_object high))
+      (made_no_newest header ids.next_object past m.core.spaces.homes.1 high) (λ o shadow found. (m.core.objects.regions.unders o shadow found).1)
+      m.core.copied in
       record {
         core = record {
           setting = m.core.setting;
@@ -473,11 +485,9 @@ module _ (header : Header) (h : ℕ) (outside : Outside) (task : TaskId) (addres
                 made.object_row m.core.objects.files o file;
             sizes = sizes_made header front (named header) region target pages (new_object pages) k.memory.objects k2.memory.objects made.object_row may.short
                 refl m.core.objects.sizes;
-            plain = plain_new ids.next_object (new_object pages) k.memory.objects k2.memory.objects (λ o. is_copy o past) made.object_row
-                (unmade_plain ids.next_object past (m.core.spaces.homes.1.objects ids.next_object (let number = numbers.1 in omega (arith, number))))
-                m.core.objects.plain;
-            undelayed = m.core.objects.undelayed;
+            undelayed = declared_made header front region target pages temporary.object m.core.objects.undelayed;
           };
+          copied = record { known = copied_now.known; fits = copied_now.fits };
           controls =
               controls_made k.memory.objects k2.memory.objects (λ o. last_control h o past) (λ o. live_control h o past) (λ o. is_ready h o past)
               ids.next_object
@@ -536,25 +546,20 @@ module _ (header : Header) (h : ℕ) (outside : Outside) (task : TaskId) (addres
 
   head_now : head header past (command.Copy task address bytes task to) ≡ Some (begun ∷ its ∷ [])
   head_now =
-      let test : nat_lt may.row.region.0 (named header) ≡ true = let less = may.declared in grind (arith, nat_tests) in
+      let both = slow_declared header may.row.region.0 may.slow in
       let there : entry_at address (entries_of header.size task.0 past) ≡ Some may.row = ap (entry_at address)
       (rows_here rests.matches.core.spaces.tasks may.lives)
       ∙ may.found in
-      ap (copy_head (named header) header.size (next_region header past) (next_object header past) task address bytes task to) there
+      ap (copy_head header (next_region header past) (next_object header past) task address bytes task to) there
       ∙ (ap (λ b. Some (if b then begun ∷ event.RegionMade (record { 0 = next_region header past }) (record { 0 = next_object header past }) pages ∷ [] else
-      event.RegionCopied (record { 0 = next_region header past }) may.row.region (page_at header.size address may.row) pages
-      ∷ event.Entered task to bytes (record { 0 = next_region header past }) 0 (record { read = true; write = true }) Copy ∷ [])) test
+      copied_late (is_file header may.row.region.0) (next_region header past) (next_object header past) may.row.region
+      (page_at header.size address may.row) pages
+      ∷ event.Entered task to bytes (record { 0 = next_region header past }) 0 (record { read = true; write = true }) Copy ∷ []))
+      (ap (λ b. nat_lt may.row.region.0 (named header) && not b) both.1 ∙ ap (λ b. b && not false) both.0)
       ∙ rw (← numbers.0, ← numbers.1) refl)
 
   pub grows_now : Grows header h outside (command.Copy task address bytes task to) past (its ∷ begun ∷ [])
   grows_now = grows_head header h outside (command.Copy task address bytes task to) past (its ∷ begun ∷ []) (begun ∷ its ∷ []) head_now refl heads_now
-
--- where a slow copy has begun, its pages are to be copied, and its command asks no more
-pub record HasBegun (header : Header) (h : ℕ) (outside : Outside) (doing : Command) (past : List Event) (k : Parts) (ids : Ids) (log : List Event) : Type 0
-  where
-    pub works : Works header h k ids woken.Nobody (log ++ past)
-    pub grows : Grows header h outside doing past log
-    pub done : (events : List Event) → IsDoneInTurn header doing events past
 
 -- what the code did is that
 pub record BeginsCopy (doing : Command) (task : TaskId) (address bytes to pages : ℕ) (k k2 : Parts) (ids : Ids) (before mid log : List Event)
@@ -570,7 +575,8 @@ pub record BeginsCopy (doing : Command) (task : TaskId) (address bytes to pages 
 
 pub has_begun : {doing : Command} {task : TaskId} {address bytes to pages : ℕ} {k k2 : Parts} {ids : Ids} {before mid log : List Event}
     {reserved waits : WaitTable} (header : Header) (h : ℕ) (outside : Outside) (past : List Event)
-    → Starts header h doing past k ids before → ((row : Entry) → entry_at address (rows_in task.0 k.maps) ≡ Some row → row.region.0 < length k.declared.items)
+    → Starts header h doing past k ids before
+    → ((row : Entry) → entry_at address (rows_in task.0 k.maps) ≡ Some row → is_paged k.declared.items row.region.0 ≡ false)
     → InOrder 0 (2 ^ 32) (rows_in task.0 k.maps)
     → BeginsCopy doing task address bytes to pages k k2 ids before mid log reserved waits
     → HasBegun header h outside doing past (record k2 { waits = waits }) (ids_after ids) log
@@ -634,16 +640,10 @@ has_begun {doing = doing} {task = task} {address = address} {bytes = bytes} {to 
       done = λ events. subst (λ (z : Command). IsDoneInTurn header z events past) (sym b.is) tt;
     }
 
-pub copy_ran : {header : Header} {h : ℕ} {outside : Outside} {doing : Command} {past log after : List Event} {k new : Parts} {ids ids2 : Ids}
-    → HasBegun header h outside doing past k ids log → Rests header h new ids2 (after ++ past) → LegalEvents header h outside doing past log after
-    → Ran header h outside doing past new ids2 after
-copy_ran {header = header} {h = h} {outside = outside} {doing = doing} {past = past} {log = log} {after = after} begun rests goes =
-    record { rests = rests; grows = grows_goes header h outside doing past log after begun.grows goes; done = begun.done after }
-
 -- its task has no row yet, and there are regions left
 pub copy_absent : {doing : Command} {task : TaskId} {address bytes to : ℕ} {k : Parts} {ids : Ids} {before : List Event} (header : Header) (h : ℕ)
     (past : List Event) → doing ≡ command.Copy task address bytes task to → Starts header h doing past k ids before
-    → ((row : Entry) → entry_at address (rows_in task.0 k.maps) ≡ Some row → row.region.0 < length k.declared.items)
+    → ((row : Entry) → entry_at address (rows_in task.0 k.maps) ≡ Some row → is_paged k.declared.items row.region.0 ≡ false)
     → InOrder 0 (2 ^ 32) (rows_in task.0 k.maps) → (entry k.waits.rows task.0 ≡ None) × (ids.next_region < most_regions)
 copy_absent {task = task} {address = address} {bytes = bytes} {to = to} {k = k} {ids = ids} {before = before} header h past is starts declared order =
     let may = may_begin header h task address bytes to past k ids before (subst (λ (z : Command). Starts header h z past k ids before) is starts) declared
@@ -661,32 +661,33 @@ copy_quiet {count = count} {made = made} {over = over} queue told region_told =
           (tt, (tt, all));
     }
 
--- a copy of a declared object's region is to the task itself
+-- a copy that isn't delayed is to the task itself
 
-pub copy_declared : (address : ℕ) (place : Place) (k : Parts) (rows : List Entry)
-    → ((entry : Entry) → entry_at address rows ≡ Some entry → place ≡ place_at k.maps.size address entry) → place.region.0 < length k.declared.items
-    → (own : Entry) → entry_at address rows ≡ Some own → own.region.0 < length k.declared.items
-copy_declared address place k rows is less own found = let same = ap (λ z. z.region.0) (is own found) in omega (arith, same, less)
+pub copy_slow : (address : ℕ) (place : Place) (k : Parts) (rows : List Entry)
+    → ((entry : Entry) → entry_at address rows ≡ Some entry → place ≡ place_at k.maps.size address entry)
+    → is_paged k.declared.items place.region.0 ≡ false
+    → (own : Entry) → entry_at address rows ≡ Some own → is_paged k.declared.items own.region.0 ≡ false
+copy_slow address place k rows is slow own found = sym (ap (λ (z : Place). is_paged k.declared.items z.region.0) (is own found)) ∙ slow
 
 pub copy_target_own : {header : Header} {h : ℕ} {task : TaskId} {address bytes : ℕ} {target : TaskId} {to : ℕ} {past : List Event} {k : Parts} {ids : Ids}
     {before : List Event} (place : Place) → Starts header h (command.Copy task address bytes target to) past k ids before
     → ((entry : Entry) → entry_at address (rows_in task.0 k.maps) ≡ Some entry → place ≡ place_at k.maps.size address entry)
-    → place.region.0 < length k.declared.items → target ≡ task
+    → is_paged k.declared.items place.region.0 ≡ false → target ≡ task
 copy_target_own {header = header} {h = h} {task = task} {address = address} {bytes = bytes} {target = target} {to = to} {past = past} {k = k} {ids = ids}
-    {before = before} place s is less =
+    {before = before} place s is slow =
     let p = may_place header h task address bytes target to past k ids before s in
-    let low = copy_declared address place k (rows_in task.0 k.maps) is less p.entry p.found in
-    let all : length k.declared.items ≡ named header = ap length s.rests.matches.core.setting.objects in
-    let test : nat_lt p.entry.region.0 (named header) ≡ true = let below : p.entry.region.0 < named header = omega (arith, low, all) in grind
-    (arith, nat_tests) in
+    let r = p.entry.region.0 in
+    let late : is_paged_for header r ≡ false =
+    sym (ap (λ (z : List Declared). is_paged z r) s.rests.matches.core.setting.objects ∙ paged_among header r)
+    ∙ copy_slow address place k (rows_in task.0 k.maps) is slow p.entry p.found in
     let there : entry_at address (entries_of header.size task.0 past) ≡ Some p.entry = ap (entry_at address)
     (rows_here s.rests.matches.core.spaces.tasks p.lives)
     ∙ p.found in
-    let own = (to_itself header past task address bytes target to p.entry s.accepted there test).1 in
+    let own = (to_itself header past task address bytes target to p.entry s.accepted there).1 late in
     let same : target.0 ≡ task.0 = grind (arith, nat_tests) in
     λ i. record { 0 = same i }
 
--- nor where a symmetric copy is made
+-- nobody has run where a symmetric copy is made
 pub entered_quiet : {task : TaskId} {source : RegionId} {offset : ℕ} {range : Entry} {old new : Parts} {ids ids2 : Ids} {before after : List Event}
     → EntersCopy task source offset range old new ids ids2 before after → QueueIsStill old.waits.queue new.waits.queue before after
 entered_quiet entered = record { queue = ap (λ z. z.queue) entered.waits; none = λ all. subst (EachOf RunsNone) (sym entered.told) (tt, (tt, all)) }

@@ -47,6 +47,7 @@ use Rattle.vm_waits.specs.declared.waiting.Destination.{Destination}
 use Rattle.vm_waits.specs.declared.waiting.Want.{Want}
 use Rattle.vm_waits.specs.declared.waiting.Want.TheVariants as want
 use Rattle.vm_kernel.proofs.controls.WaitersFail.{fills_apart}
+use Rattle.vm_kernel.proofs.space.CopiesEnd.{copied_regions}
 use Rattle.vm_state.specs.Passed.{IsUnmet, StaysAway}
 use Rattle.vm_kernel.proofs.memory.PageReturned.{controls_stay}
 use Rattle.vm_kernel.proofs.space.RegionHomes.{homes_caused}
@@ -390,7 +391,7 @@ matches_ended header h outside doing k ids past w address pages target next c la
           tasks = tasks_entered h size k.maps k2.maps (first ∷ past) w.task row m.core.spaces.tasks changes e.lives;
           entries = entries_share size k.maps k2.maps k.chains k2.chains t row m.core.spaces.entries e.inside counts_more changes
               (lives_below size t k.maps k.chains [] m.core.spaces.entries e.lives) room;
-          shared = shared_entered (named header) t k.maps k2.maps row changes (temporary_shared (named header) row e.temporary) m.core.spaces.shared;
+          shared = shared_entered header t k.maps k2.maps row changes (temporary_shared header row e.temporary) m.core.spaces.shared;
           uses = use_ended header h k ids past w address pages target next c waits2.rows put k2.maps changes;
           homes = homes_caused header outside h k2.chains second (first ∷ past)
               (doing, enters_cause header h k ids past w address pages target next waits2.rows c now put)
@@ -405,9 +406,9 @@ matches_ended header h outside doing k ids past w address pages target next c la
               (file_paged header r file)
               c.slow.region) m.core.objects.files;
           sizes = m.core.objects.sizes;
-          plain = m.core.objects.plain;
           undelayed = m.core.objects.undelayed;
         };
+        copied = let is = copied_regions counts.shadows m.core.copied in record { known = is.known; fits = is.fits };
         controls = controls_stay (λ o home. object_stays o h second (first ∷ past) home) m.core.controls;
         flags = m.core.flags;
         pages = m.core.pages;

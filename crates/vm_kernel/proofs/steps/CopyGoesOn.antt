@@ -46,6 +46,10 @@ use Rattle.vm_waits.specs.Waits.{with_want}
 use Rattle.vm_waits.specs.declared.waiting.Destination.{Destination}
 use Rattle.vm_waits.specs.declared.waiting.On.TheVariants as on
 use Rattle.vm_waits.specs.declared.waiting.Want.TheVariants as want
+use Rattle.vm_copies.specs.Copies.{copy_at}
+use Rattle.vm_kernel.proofs.memory.PageChanges.{same_objects}
+use Rattle.vm_kernel.proofs.memory.PagesPushed.{copied_beside}
+use Rattle.vm_kernel.proofs.steps.WhereAccessLeads.{is_fresh}
 use Rattle.vm_kernel.proofs.memory.PlacesPassed.{waits_filled}
 use Rattle.vm_state.specs.Passed.{IsUnmet, Passed, StaysAway}
 use Rattle.vm_kernel.proofs.space.RegionsFilled.{place_unfilled}
@@ -65,7 +69,7 @@ pub record Copying (header : Header) (h : ℕ) (k : Parts) (ids : Ids) (past : L
       → FitsCopy header k.maps k.chains k.memory.resident t v.want v.destination (next_page t past) (copy_target t past)
   pub apart : (t u r : ℕ) → fills_in r (entry k.waits.rows t) ≡ true → fills_in r (entry k.waits.rows u) ≡ true → t ≡ u
   pub referred : AllReferred k.chains k.memory.objects k.memory.resident
-  pub thin : IsThin k.chains k.memory.objects
+  pub thin : IsThin k.copies k.chains k.memory.objects
   pub waits : HasWaits header h k woken.Nobody past
   pub order : HasOrder k past
 
@@ -89,8 +93,9 @@ matches_copied : (header : Header) (h : ℕ) (k : Parts) (ids : Ids) (past : Lis
     (row : PageRow) (frame : FrameNo) (memory : HostParts) → Matches header h k ids [] past → host_of task.0 past ≡ Some h
     → row_at k.memory.resident low.object.0 low.page.0 ≡ Some row → row.here ≡ true
     → RaisesPage (copied_key target next) frame (page_in k.memory.frames row.frame.0) k.memory memory → KeepsPlan k.memory memory
+    → copy_at k.copies target.0 ≡ None
     → Matches header h (record k { memory = memory }) ids [] (event.CopiedPage task (record { 0 = next }) low.object low.page target ∷ past)
-matches_copied header h k ids past task low target next row frame memory m lives found here c plan =
+matches_copied header h k ids past task low target next row frame memory m lives found here c plan plain =
     let top = copied_key target next in
     let e : Event = event.CopiedPage task (record { 0 = next }) low.object low.page target in
     let lower : Local = local header h (place_of low.object.0 low.page.0) past in
@@ -105,7 +110,8 @@ matches_copied header h k ids past task low target next row frame memory m lives
     (ap (λ z. shown_as now true true z (absent_at k.memory.objects top.object.0 top.page.0)) same) (λ o p apart. refl)) in
     record {
       core = core_rerowed top frame m.core c plan (λ away. record { lock = refl; precious = refl; unlock_sent = refl }) (rw (lives, own_host h) pages2)
-          (rw (lives, own_host h) (λ held. let more = c.claims in omega arith));
+          (rw (lives, own_host h) (λ held. let more = c.claims in omega arith))
+          (copied_beside top _ (same_objects plan.objects) c.row plain m.core.copied);
       settled = record { none_owed = refl; shut = λ region. refl };
       replied = replied_behind tt m.replied;
     }
@@ -174,7 +180,7 @@ page_made header h past k ids w address pages target next key row frame memory w
       matches =
           matches_copied header h k ids past w.task key target next row frame memory m
           (lives_here m.core.spaces.tasks (works.waits.allowed w.task.0 w is).lives) found here
-          c plan;
+          c plan (is_fresh w (want.CopyTo address pages target next) m slow);
       regions = works.used.regions;
       is = is;
       what = what;

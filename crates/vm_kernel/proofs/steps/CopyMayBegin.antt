@@ -1,19 +1,24 @@
 -- A slow copy that isn't refused may begin: the pages of its range lie in one entry, and their place is free.
 use Rattle.vm_kernel.proofs.Common.{Bool, Entry, Event, Header, Ids, InOrder, IsAllowed, List, Mapped, None, Parts, Some, Starts, TaskId, [], ap, arith}
-use Rattle.vm_kernel.proofs.Common.{entries_in, entries_of, entry, entry_at, false, if◌then◌else◌, is_range, is_some, length, marked_regions, named, nat_le}
+use Rattle.vm_kernel.proofs.Common.{entries_in, entries_of, entry, entry_at, false, if◌then◌else◌, is_range, is_some, marked_regions, named, nat_le}
 use Rattle.vm_kernel.proofs.Common.{nat_lt, nat_tests, next_object, next_region, refl, region_of, rows_in, some_is, subst, suc, sym, true, waiting, zero, ℕ}
 use Rattle.vm_kernel.proofs.Common.{◌%◌, ◌&&◌, ◌*◌, ◌+◌, ◌/◌, ◌<◌, ◌^◌, ◌∙◌, ◌∷◌, ◌≡◌, ◌≤◌}
 use Rattle.std.proofs.Math.Nat.{mul-lt-mul_of_pos_right}
-use Rattle.std.proofs.lemmas.Bool.{or_parts}
+use Rattle.std.proofs.lemmas.Bool.{not-false, or_parts}
+use Rattle.std.specs.Prelude.{not, ◌||◌}
+use Rattle.vm_kernel.proofs.space.PagedRegions.{paged_among}
+use Rattle.vm_kernel.specs.Refusing.{is_paged as is_paged_among}
+use Rattle.vm_legal.specs.Licences.{is_paged}
+use Rattle.vm_model.specs.declared.script.Declared.{Declared}
 use Rattle.vm_base.specs.Limits.{most_objects, most_pages, most_regions}
 use Rattle.vm_base.specs.Pages.{page_positive}
 use Rattle.vm_base.specs.declared.ids.Access.TheVariants as need
 use Rattle.vm_maps.proofs.Multiples.{pages_of}
 use Rattle.vm_kernel.proofs.space.RegionCopied.{no_row}
-use Rattle.vm_kernel.proofs.space.RangeCopied.{is_full_copy, may_place}
+use Rattle.vm_kernel.proofs.space.RangeCopied.{cost_by, is_full_copy, may_place}
 use Rattle.vm_kernel.proofs.abroad.OwnHost.{rows_here}
 use Rattle.vm_legal.proofs.Heads.{to_itself}
-use Rattle.vm_legal.specs.Outside.{is_wild}
+use Rattle.vm_legal.specs.Outside.{is_file, is_wild}
 use Rattle.vm_model.specs.declared.command.Command.TheVariants as command
 use Rattle.vm_state.proofs.Marks.{regions_marked}
 use Rattle.vm_state.specs.Filling.{IsCopied, IsFreeFor}
@@ -58,6 +63,7 @@ pub record MayBegin (header : Header) (task address bytes to : ℕ) (past : List
   pub lives : entries_in task k.maps ≡ Some (rows_in task k.maps)
   pub found : entry_at address (rows_in task k.maps) ≡ Some row
   pub allowed : IsAllowed k.maps task address need.Load
+  pub slow : is_paged header row.region.0 ≡ false
   pub declared : row.region.0 < named header
   pub copied : IsCopied header k.maps task address (bytes / header.size)
   pub even : address % header.size ≡ 0
@@ -90,26 +96,39 @@ copied_range header maps task address bytes row sized some order found declared 
           found_behind 0 (2 ^ 32) address (address + p * header.size) (rows_in task maps) row order found (omega arith) (omega (arith, below, whole, ends)));
     }
 
+-- a region whose copies aren't delayed is a declared object's, but no file's
+pub slow_declared : (header : Header) (r : ℕ) → is_paged header r ≡ false → (nat_lt r (named header) ≡ true) × (is_file header r ≡ false)
+slow_declared header r slow =
+    let both = or_parts (not (nat_lt r (named header))) (is_file header r) slow in (not-false (nat_lt r (named header)) both.0, both.1)
+
 pub may_begin : (header : Header) (h : ℕ) (task : TaskId) (address bytes to : ℕ) (past : List Event) (k : Parts) (ids : Ids) (before : List Event)
     → Starts header h (command.Copy task address bytes task to) past k ids before
-    → ((row : Entry) → entry_at address (rows_in task.0 k.maps) ≡ Some row → row.region.0 < length k.declared.items)
+    → ((row : Entry) → entry_at address (rows_in task.0 k.maps) ≡ Some row → is_paged_among k.declared.items row.region.0 ≡ false)
     → InOrder 0 (2 ^ 32) (rows_in task.0 k.maps) → MayBegin header task.0 address bytes to past k ids
-may_begin header h task address bytes to past k ids before s is_declared order =
+may_begin header h task address bytes to past k ids before s is_slow order =
     let m = s.rests.matches in
     let size = header.size in
     let pages = bytes / size in
     let p = may_place header h task address bytes task to past k ids before s in
-    let all : length k.declared.items ≡ named header = ap length m.core.setting.objects in
-    let declared : p.entry.region.0 < named header = let less = is_declared p.entry p.found in omega (arith, less, all) in
-    let test : nat_lt p.entry.region.0 (named header) ≡ true = grind (arith, nat_tests) in
+    let r = p.entry.region.0 in
+    let slow : is_paged header r ≡ false =
+    sym (ap (λ (z : List Declared). is_paged_among z r) m.core.setting.objects ∙ paged_among header r) ∙ is_slow p.entry p.found in
+    let both = slow_declared header r slow in
+    let test = both.0 in
+    let declared : r < named header = grind (arith, nat_tests) in
     let there : entry_at address (entries_of size task.0 past) ≡ Some p.entry = ap (entry_at address) (rows_here m.core.spaces.tasks p.lives) ∙ p.found in
-    let own = to_itself header past task address bytes task to p.entry s.accepted there test in
+    let own = to_itself header past task address bytes task to p.entry s.accepted there in
     let from : is_range size address bytes ≡ true = p.from in
     let even_bytes : bytes % size ≡ 0 = grind (arith, nat_tests) in
     let some_bytes : 0 < bytes = grind (arith, nat_tests) in
     let whole = pages_of size bytes even_bytes in
     let few = p.few in
-    let full = sym (is_full_copy header p.entry.region.0 past true (region_of header p.entry.region.0 past).mark test refl) ∙ p.full in
+    let mark = (region_of header r past).mark in
+    let cost : cost_by (is_file header r) (nat_lt r (named header) || mark) ≡ 1 = ap (λ b. cost_by b (nat_lt r (named header) || mark)) both.1
+    ∙ ap (λ b. cost_by false (b || mark)) test in
+    let full = sym (is_full_copy header r past mark refl
+    ∙ ap (λ (z : ℕ). nat_le most_regions (next_region header past) || nat_lt most_objects (next_object header past + marked_regions header past + z)) cost)
+    ∙ p.full in
     let counts = or_parts (nat_le most_regions (next_region header past)) (nat_lt most_objects (next_object header past + marked_regions header past + 1))
     full in
     let regions : nat_le most_regions (next_region header past) ≡ false = counts.0 in
@@ -122,6 +141,7 @@ may_begin header h task address bytes to past k ids before s is_declared order =
       lives = p.lives;
       found = p.found;
       allowed = p.allowed;
+      slow = slow;
       declared = declared;
       copied =
           copied_range header k.maps task.0 address bytes p.entry m.core.spaces.tasks.sized (page_positive size m.core.setting.ranged.size) order p.found

@@ -1,20 +1,18 @@
 -- The refusal of a copy is that of its history.
-use Rattle.vm_kernel.proofs.Common.{Bool, Code, Entry, Event, Header, Ids, IsInside, IsSome, List, None, Option, Parts, RegionRow, Rests, Some, TaskId, Temp}
-use Rattle.vm_kernel.proofs.Common.{Waiting, ap, arith, code_of, code_where, entries_of, entry, entry_at, false, found_row, has_region, host_of, if◌then◌else◌}
-use Rattle.vm_kernel.proofs.Common.{inl, inr, is_marked, is_range, is_some, length, lives_on, marked_regions, named, nat_le, nat_lt, nat_tests, next_object}
-use Rattle.vm_kernel.proofs.Common.{not, object_at, refl, refusal, region_at, region_of, rows_in, subst, sym, true, waiting, waiting_in, ℕ, ◌&&◌, ◌+◌, ◌/◌, ◌<◌}
+use Rattle.vm_kernel.proofs.Common.{Bool, Code, Entry, Event, Header, Ids, IsInside, List, None, Option, Parts, RegionRow, Rests, Some, TaskId}
+use Rattle.vm_kernel.proofs.Common.{Waiting, ap, code_of, code_where, entries_of, entry, entry_at, false, found_row, has_region, host_of}
+use Rattle.vm_kernel.proofs.Common.{is_marked, is_range, is_some, length, lives_on, marked_regions, named, nat_le, nat_lt, next_object}
+use Rattle.vm_kernel.proofs.Common.{next_region}
+use Rattle.vm_kernel.proofs.Common.{not, refl, refusal, region_at, region_of, rows_in, sym, true, waiting, waiting_in, ℕ, ◌&&◌, ◌+◌, ◌/◌}
 use Rattle.vm_kernel.proofs.Common.{◌==◌, ◌||◌, ◌∙◌, ◌≡◌}
 use Rattle.vm_base.specs.Limits.{most_objects, most_pages, most_regions}
 use Rattle.vm_base.specs.declared.code.Code.TheVariants as code
-use Rattle.vm_legal.specs.Outside.{is_wild, is_wild_kind, kind_in}
 use Rattle.vm_legal.specs.Refusal as refusing
-use Rattle.vm_model.specs.Named.{declared}
 use Rattle.vm_model.specs.declared.command.Command.TheVariants as command
-use Rattle.vm_abroad.proofs.Regions.{kind_cases}
-use Rattle.vm_state.proofs.Declared.{whole_row}
-use Rattle.vm_state.proofs.Referring.{row_of}
-use Rattle.vm_kernel.specs.Refusing.{is_copy_full, is_uncopied, is_wild_row, source_code}
-use Rattle.vm_kernel.proofs.space.RangeCopied.{is_full_copy}
+use Rattle.vm_kernel.specs.Refusing.{copy_cost, is_copy_full, is_uncopied, source_code}
+use Rattle.vm_kernel.proofs.space.PagedRegions.{file_among, uncopied_among}
+use Rattle.vm_model.specs.declared.script.Declared.{Declared}
+use Rattle.vm_kernel.proofs.space.RangeCopied.{cost_by, is_full_copy}
 use Rattle.vm_kernel.proofs.abroad.OwnHost.{lives_in, on_is, own_host, rows_here}
 use Rattle.vm_kernel.proofs.space.RegionRows.{region_row}
 use Rattle.vm_state.proofs.Marks.{regions_marked}
@@ -40,50 +38,27 @@ pub declared_are : {header : Header} {h : ℕ} {k : Parts} {ids : Ids} {past : L
 declared_are rests = ap length rests.matches.core.setting.objects
 
 full_same : (header : Header) (h : ℕ) (k : Parts) (ids : Ids) (past : List Event) (r : ℕ) → Rests header h k ids past → has_region k.chains r ≡ true
-    → refusing.is_copy_full header r past ≡ is_copy_full (length k.declared.items) k.chains ids r
+    → refusing.is_copy_full header r past ≡ is_copy_full k.declared.items k.chains ids r
 full_same header h k ids past r rests there =
     let m = rests.matches in
     let row = region_row k.chains r there in
     let mark : (region_of header r past).mark ≡ is_marked k.chains r = ap (λ z. z.mark) (m.core.objects.regions.rows r row.0 row.1)
     ∙ sym (marked_is k r row.0 row.1) in
-    is_full_copy header r past (nat_lt r (length k.declared.items)) (is_marked k.chains r) (ap (nat_lt r) (sym (declared_are rests))) mark
+    is_full_copy header r past (is_marked k.chains r) mark
+    ∙ (ap (λ b. nat_le most_regions (next_region header past) || nat_lt most_objects
+    (next_object header past + marked_regions header past + cost_by b (nat_lt r (named header) || is_marked k.chains r))) (sym (file_among header r))
     ∙ (ap (λ (z : ℕ). nat_le most_regions z || nat_lt most_objects (next_object header past + marked_regions header
-    past + (if nat_lt r (length k.declared.items) || is_marked k.chains r then 1 else 2))) (sym m.core.objects.regions.region)
+    past + copy_cost header.objects.items k.chains r)) (sym m.core.objects.regions.region)
     ∙ (ap (λ (z : ℕ). nat_le most_regions ids.next_region || nat_lt most_objects (z + marked_regions header
-    past + (if nat_lt r (length k.declared.items) || is_marked k.chains r then 1 else 2))) (sym m.core.objects.regions.object)
-    ∙ ap (λ (z : ℕ). nat_le most_regions ids.next_region || nat_lt most_objects (ids.next_object + z + (if nat_lt r (length k.declared.items) || is_marked
-    k.chains r then 1 else 2))) (regions_marked header past ∙ sym m.core.objects.regions.marks)))
-
--- a declared object whose region is there is known by its kind
-wild_is : (header : Header) (h : ℕ) (k : Parts) (ids : Ids) (past : List Event) (r : ℕ) → Rests header h k ids past → has_region k.chains r ≡ true
-    → r < named header → is_wild_row (object_at k.memory.objects r) ≡ is_wild header r
-wild_is header h k ids past r rests there declared =
-    let m = rests.matches in
-    let row = region_row k.chains r there in
-    let whole = whole_row m.core.objects.regions m.core.spaces.homes.1 r row.0 declared row.1 in
-    let known = row_of (object_at k.memory.objects r) (subst (λ (z : ℕ). IsSome (object_at k.memory.objects z)) whole.top
-    (m.core.objects.regions.tops r row.0 row.1)) in
-    ap is_wild_row known.1 ∙ ap is_wild_kind ((m.core.objects.kinds.kinds r known.0 known.1).declared declared).kind
+    past + copy_cost header.objects.items k.chains r)) (sym m.core.objects.regions.object)
+    ∙ (ap (λ (z : ℕ). nat_le most_regions ids.next_region || nat_lt most_objects (ids.next_object + z + copy_cost header.objects.items k.chains r))
+    (regions_marked header past ∙ sym m.core.objects.regions.marks)
+    ∙ ap (λ (z : List Declared). is_copy_full z k.chains ids r) (sym m.core.setting.objects)))))
 
 uncopied_same : (header : Header) (h : ℕ) (k : Parts) (ids : Ids) (past : List Event) (own : Bool) (row : Entry) → Rests header h k ids past
-    → has_region k.chains row.region.0 ≡ true
-    → refusing.is_uncopied header own (Some row) ≡ is_uncopied (length k.declared.items) k.memory.objects own row.region.0
-uncopied_same header h k ids past own row rests there =
-    let r = row.region.0 in
-    let count = declared_are rests in
-    elim (kind_cases header r) [
-      | inl declared ↦
-          let one : nat_lt r (named header) ≡ true = grind (arith, nat_tests) in
-          let two : nat_lt r (length k.declared.items) ≡ true = ap (nat_lt r) count ∙ one in
-          ap (λ b. is_wild header r || (b && not own)) one
-          ∙ (ap (λ b. b || not own) (sym (wild_is header h k ids past r rests there declared))
-          ∙ ap (λ b. b && (is_wild_row (object_at k.memory.objects r) || not own)) (sym two))
-      | inr temporary ↦
-          let one : nat_lt r (named header) ≡ false = grind (arith, nat_tests) in
-          let two : nat_lt r (length k.declared.items) ≡ false = ap (nat_lt r) count ∙ one in
-          ap (λ b. is_wild_kind (if b then kind_in (declared header r) else Temp) || (b && not own)) one
-          ∙ ap (λ b. b && (is_wild_row (object_at k.memory.objects r) || not own)) (sym two)
-    ]
+    → refusing.is_uncopied header own (Some row) ≡ is_uncopied k.declared.items own row.region.0
+uncopied_same header h k ids past own row rests =
+    sym (ap (λ (z : List Declared). is_uncopied z own row.region.0) rests.matches.core.setting.objects ∙ uncopied_among header own row)
 
 source_same : (header : Header) (h : ℕ) (k : Parts) (ids : Ids) (past : List Event) (task target address bytes to : ℕ) (own : Bool) (x : Option Entry)
     → Rests header h k ids past → entries_of header.size target past ≡ rows_in target k.maps → entry_at address (rows_in task k.maps) ≡ x
@@ -92,7 +67,7 @@ source_same : (header : Header) (h : ℕ) (k : Parts) (ids : Ids) (past : List E
 source_same header h k ids past task target address bytes to own None rests same found = refl
 source_same header h k ids past task target address bytes to own (Some row) rests same found =
     let is = found_row (IsInside header.size k.chains) address (rows_in task k.maps) row (rests.matches.core.spaces.entries.inside task) found in
-    rw (uncopied_same header h k ids past own row rests is.is.region, same, full_same header h k ids past row.region.0 rests is.is.region) refl
+    rw (uncopied_same header h k ids past own row rests, same, full_same header h k ids past row.region.0 rests is.is.region) refl
 
 some_waits : (size : ℕ) (o : Option Waiting) → is_some (waiting_in size o) ≡ is_some o
 some_waits size None = refl

@@ -30,7 +30,8 @@ use Rattle.std.proofs.lemmas.Bool.{and_left, and_right}
 use Rattle.vm_model.specs.Waiting.{Copying}
 use Rattle.std.specs.Prelude.{◌*◌}
 use Rattle.std.specs.Prelude.{None}
-use Rattle.vm_kernel.proofs.controls.NothingCopied.{owed_nowhere}
+use Rattle.vm_kernel.proofs.memory.PagesPushed.{unowed_here}
+use Rattle.vm_legal.specs.Pushes.{OwesPush}
 use Rattle.vm_fault.specs.Faults.{Pushed, ToPush}
 use Rattle.vm_fault.specs.Pushes.{owed_at}
 use Rattle.vm_copies.specs.Copies.{CopyTable}
@@ -108,6 +109,7 @@ read_at header h past k task address bytes object page what top at to waits come
 record WritesAt (header : Header) (h : ℕ) (past : List Event) (what : Want) (top : PageKey) (region : ℕ) : Type 0 where
   pub finds : FindsAt header h past what top
   pub unmarked : (region_of header region past).mark ≡ false
+  pub paid : (copy : ℕ) → OwesPush header h top.object.0 top.page.0 copy past → ⊥
 
 write_at : (header : Header) (h : ℕ) (past : List Event) (k : Parts) (task address bytes value object page : ℕ) (what : Want) (top : PageKey)
     (at : IsAt k.maps k.chains task what top) → Leads header h past k task what top at
@@ -115,8 +117,9 @@ write_at : (header : Header) (h : ℕ) (past : List Event) (k : Parts) (task add
     → IsTop (region_of header waits.at.entry.region.0 past) (page_at header.size address waits.at.entry) object page
     → (region_of header waits.at.entry.region.0 past).mark ≡ false
     → (page_on header waits.at.host object page past).here ≡ true → names (page_on header waits.at.host object page past).lock true ≡ false
+    → ((copy : ℕ) → OwesPush header waits.at.host object page copy past → ⊥)
     → WritesAt header h past what top at.entry.region.0
-write_at header h past k task address bytes value object page what top at to waits is_top unmarked here open_to =
+write_at header h past k task address bytes value object page what top at to waits is_top unmarked here open_to paid =
     by what refl
   where
     store_address : (a n v a2 n2 v2 : ℕ) → Some (Storing a n v) ≡ Some (Storing a2 n2 v2) → a ≡ a2
@@ -153,12 +156,16 @@ write_at header h past k task address bytes value object page what top at to wai
                 ∙ subst (λ (z : ℕ). names (page_on header z object page past).lock true ≡ false) host open_to;
           };
           unmarked = subst (λ (z : Entry). (region_of header z.region.0 past).mark ≡ false) entries unmarked;
+          paid = λ copy owes. paid copy (subst (λ (z : ℕ). OwesPush header z object page copy past) (sym host)
+              (subst (λ (z : ℕ). OwesPush header h z page copy past) (sym to.is_top.object ∙ top2.object)
+              (subst (λ (z : ℕ). OwesPush header h top.object.0 z copy past) (sym to.is_top.page ∙ top2.page) owes)));
         }
 
 -- where it finds its page, the region of a store has no mark
 pub record FindsFirst (header : Header) (h : ℕ) (past : List Event) (what : Want) (top : PageKey) (row : RegionRow) : Type 0 where
   pub finds : FindsAt header h past what top
   pub bare : (is_storing what && row.marked) ≡ false
+  pub paid : is_storing what ≡ true → (copy : ℕ) → OwesPush header h top.object.0 top.page.0 copy past → ⊥
 
 pub finds_first : (header : Header) (h : ℕ) (past : List Event) (k : Parts) (task : ℕ) (what : Want) (top : PageKey) (at : IsAt k.maps k.chains task what top)
     → Leads header h past k task what top at → FindsPage header task past
@@ -167,6 +174,7 @@ finds_first header h past k task what top at to (ToRead address bytes object pag
     record {
       finds = read_at header h past k task address bytes object page what top at to waits comes here open_it;
       bare = and_left (is_storing what) at.row.marked (loads what refl);
+      paid = λ stores. absurd (let bad : false ≡ true = sym (loads what refl) ∙ stores in cc);
     }
   where
     loads : (want2 : Want) → what ≡ want2 → is_storing what ≡ false
@@ -176,8 +184,13 @@ finds_first header h past k task what top at to (ToRead address bytes object pag
         absurd (let bad : Some (Storing a n v) ≡ Some (Loading address bytes) = sym (to.waits ∙ ap (λ z. Some (access_in k.maps.size to.destination z)) is)
         ∙ waits.waits in cc)
 finds_first header h past k task what top at to (ToWrite address bytes value object page waits is_top unmarked here open_it paid) =
-    let writes = write_at header h past k task address bytes value object page what top at to waits is_top unmarked here open_it in
-    record { finds = writes.finds; bare = and_right (is_storing what) at.row.marked (sym to.marks ∙ writes.unmarked) }
+    let writes = write_at header h past k task address bytes value object page what top at to waits is_top unmarked here open_it
+    paid in
+    record {
+      finds = writes.finds;
+      bare = and_right (is_storing what) at.row.marked (sym to.marks ∙ writes.unmarked);
+      paid = λ stores. writes.paid;
+    }
 
 -- what the kernel's walk comes to is what the history's does
 
@@ -333,7 +346,7 @@ ends_once header h past k ids w may answer events new works is f finds =
           shown = shown_at works.matches;
           referred = referred;
           finds = found2.finds;
-          unowed = λ stores. owed_nowhere works.matches.core.setting.uncopied f.top;
+          unowed = λ stores. unowed_here works.matches works.used works.referred f.top (found2.paid stores);
         })
         comes
 

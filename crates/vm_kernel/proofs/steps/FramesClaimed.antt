@@ -32,7 +32,7 @@ use Rattle.vm_state.proofs.Waiting.{awaited_row}
 use Rattle.vm_state.specs.Waiters.{HasWaiters, Reason, is_woken}
 use Rattle.vm_supply.specs.declared.woken.Woken.TheVariants as woken
 use Rattle.vm_waits.proofs.Entries.{puts_here}
-use Rattle.vm_waits.specs.Waits.{PutsEntry, WaitTable, entry, is_again, is_frame, queue_without, with_on, with_want}
+use Rattle.vm_waits.specs.Waits.{PutsEntry, WaitTable, entry, is_again, is_frame, one_again, queue_without, with_on, with_want}
 use Rattle.vm_waits.specs.declared.waiting.On.{On}
 use Rattle.vm_waits.specs.declared.waiting.On.TheVariants as on
 use Rattle.vm_waits.specs.declared.waiting.Waiting.{Waiting}
@@ -43,6 +43,10 @@ use Rattle.vm_kernel.specs.Turns.{RunsOnce, Shadow, Unmark, Unserved}
 use Rattle.vm_kernel.proofs.steps.PageByPage.{PageDone, Pagewise, page_done, pagewise}
 use Rattle.vm_copies.specs.Copies.{CopyTable}
 use Rattle.vm_fault.specs.Faults.{Pushed}
+use Rattle.vm_kernel.proofs.Common.{Parts, if◌then◌else◌}
+use Rattle.vm_kernel.specs.Destroying.{place_led}
+use Rattle.vm_kernel.specs.Serving.{is_pushing, waits_at}
+use Rattle.vm_state.specs.Passed.{Unmet}
 
 -- what stands first: a shadow claims no frame, and each page of a slow copy one; and no row of a page has gone
 pub record Front (task : TaskId) (copying : Bool) (s mid : FaultState) : Type 0 where
@@ -364,20 +368,41 @@ WaitsOn (step.Done value) reason = ⊥
 WaitsOn (step.Ask key) reason = reason ≡ on.Page key
 WaitsOn (step.Unlock key) reason = reason ≡ on.Page key
 WaitsOn (step.WaitReady object) reason = reason ≡ on.Ready object
-WaitsOn (step.WaitAnswer key) reason = reason ≡ on.Page key
+WaitsOn (step.WaitAnswer key) reason = (reason ≡ on.Page key) ⊎ (reason ≡ on.Push key)
 WaitsOn (step.NeedFrame source) reason = ⊥
 
 pub waits_ready : (answer : FaultStep) (reason : On) (object : ObjectId) → answer ≡ step.WaitReady object → reason ≡ on.Ready object → WaitsOn answer reason
 waits_ready answer reason object is at = subst (λ (z : FaultStep). WaitsOn z reason) (sym is) at
 
-pub waits_page : (answer : FaultStep) (reason : On) (key : PageKey) → (answer ≡ step.Ask key) ⊎ ((answer ≡ step.Unlock key) ⊎ (answer ≡ step.WaitAnswer key))
+pub waits_page : (answer : FaultStep) (reason : On) (key : PageKey) → (answer ≡ step.Ask key) ⊎ (answer ≡ step.Unlock key)
     → reason ≡ on.Page key → WaitsOn answer reason
 waits_page answer reason key (inl is) at = subst (λ (z : FaultStep). WaitsOn z reason) (sym is) at
-waits_page answer reason key (inr (inl is)) at = subst (λ (z : FaultStep). WaitsOn z reason) (sym is) at
-waits_page answer reason key (inr (inr is)) at = subst (λ (z : FaultStep). WaitsOn z reason) (sym is) at
+waits_page answer reason key (inr is) at = subst (λ (z : FaultStep). WaitsOn z reason) (sym is) at
+
+pub waits_word : (k : Parts) (w : Waiting) (answer : FaultStep) (reason : On) (key : PageKey) → answer ≡ step.WaitAnswer key → reason ≡ waits_at k w key
+    → WaitsOn answer reason
+waits_word k w answer reason key is at =
+    subst (λ (z : FaultStep). WaitsOn z reason) (sym is) (by (is_pushing (length k.declared.items) key (place_led k.maps w.task.0 w.want)) at)
+  where
+    by : (b : Bool) → reason ≡ (if b then on.Push key else on.Page key) → (reason ≡ on.Page key) ⊎ (reason ≡ on.Push key)
+    by true same = inr same
+    by false same = inl same
+
+-- so it isn't to be run again
+pub word_over : (k : Parts) (w : Waiting) (key : PageKey) → one_again (waits_at k w key) ≡ 0
+word_over k w key = by (is_pushing (length k.declared.items) key (place_led k.maps w.task.0 w.want))
+  where
+    by : (b : Bool) → one_again (if b then on.Push key else on.Page key) ≡ 0
+    by true = refl
+    by false = refl
+
+not_again : (reason : On) (key : PageKey) → (reason ≡ on.Page key) ⊎ (reason ≡ on.Push key) → is_again reason ≡ false
+not_again reason key (inl same) = ap is_again same
+not_again reason key (inr same) = ap is_again same
 
 -- nobody waits for a page that has no row
-unasked : {copies : CopyTable} {stays unmet : PageKey → Type 0} (maps : Mapped) (chains : ChainTable) (resident : ResidentTable) (objects : ObjectTable)
+unasked : {copies : CopyTable} {stays : PageKey → Type 0} {unmet : PageKey → Unmet} (maps : Mapped) (chains : ChainTable) (resident : ResidentTable)
+    (objects : ObjectTable)
     (rows : List Waiting)
     (waiting_at : ℕ → Option Access) (key : PageKey) (t : ℕ) (v : Waiting)
     → HasWaiters maps chains copies resident objects rows (is_woken woken.Nobody) waiting_at stays unmet
@@ -389,7 +414,8 @@ unasked {copies = copies} maps chains resident objects rows waiting_at key t v h
     awaited_row resident v.want key.object.0 key.page.0 reason.1 (λ row there is. let bad : None ≡ Some row = sym absent ∙ there in absurd (cc))
 
 -- an access waits for a word of a pager
-pub once_turned : {stays unmet : PageKey → Type 0} (w : Waiting) (may : Bool) (answer : FaultStep) (reason : On) {maps : Mapped} {host : HostId} {last : Want}
+pub once_turned : {stays : PageKey → Type 0} {unmet : PageKey → Unmet} (w : Waiting) (may : Bool) (answer : FaultStep) (reason : On) {maps : Mapped}
+    {host : HostId} {last : Want}
     {s new : FaultState} (objects : ObjectTable) (waits waits2 : WaitTable) (waiting_at : ℕ → Option Access) → WaitsOn answer reason
     → HasWaiters maps s.chains s.copies s.parts.resident objects waits.rows (is_woken woken.Nobody) waiting_at stays unmet
     → Runs maps host w.task may answer w.want last s new → (may ≡ false → free new.parts.frames ≡ free s.parts.frames)
@@ -408,7 +434,7 @@ once_turned w may (step.WaitAnswer key) reason {last = last} {s = s} {new = new}
     let row = with_on (with_want w last) reason in
     stayed w (is_copying w.want) may false s p.ran.mid new waits waits2 (front_in p) p.ran.comes.1.told p.ran.comes.1.parts kept
     (puts_rest w.task (Some row) waits.rows waits2.rows put) queue
-    (done_by w.task.0 (Some row) waits.rows waits2.rows put (λ v. turned_done (with_want w last) v reason (ap is_again why)))
+    (done_by w.task.0 (Some row) waits.rows waits2.rows put (λ v. turned_done (with_want w last) v reason (not_again reason key why)))
 once_turned w may (step.Unlock key) reason {host = host} {last = last} {s = s} {new = new} objects waits waits2 waiting_at why has runs kept put queue =
     let p = pagewise runs in
     let row = with_on (with_want w last) reason in

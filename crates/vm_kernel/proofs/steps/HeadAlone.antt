@@ -1,8 +1,9 @@
 -- A command whose events are those of its head.
 use Rattle.vm_kernel.proofs.Common.{AllInner, AllInTurn, CausedInTurn, Command, CreatesHere, EachIn, EachOf, Event, Grows, Header, Ids}
-use Rattle.vm_kernel.proofs.Common.{IsDoneInTurn, IsInner, IsMine, IsOnlyOfHost, IsSettled, KernelSays, List, MomentsIn, Outside, OwnBytes, Parts}
-use Rattle.vm_kernel.proofs.Common.{Ran, Rests, Some, Suffice, [], head, refl, reverse, ℕ, ◌++◌, ◌∷◌, ◌≡◌}
-use Rattle.vm_kernel.proofs.steps.EventsGrow.{licensed}
+use Rattle.vm_kernel.proofs.Common.{IsDoneInTurn, IsInner, IsMine, IsOnlyOfHost, IsSettled, KernelSays, LegalEvents, List, MomentsIn, Outside, OwnBytes, Parts}
+use Rattle.vm_kernel.proofs.Common.{Ran, Rests, Some, Starts, Suffice, [], head, refl, reverse, subst, sym, ℕ, ◌++◌, ◌∷◌, ◌≡◌}
+use Rattle.vm_kernel.specs.Begun.{HasBegun}
+use Rattle.vm_kernel.proofs.steps.EventsGrow.{grows_goes, licensed}
 use Rattle.vm_kernel.proofs.abroad.OwnEvents.{mine_of}
 
 -- what holds of each event of a command's head
@@ -65,3 +66,27 @@ pub ran_head : (header : Header) (h : ℕ) (outside : Outside) (doing : Command)
     → Ran header h outside doing past k ids events
 ran_head header h outside doing past k ids events first is same all done rests =
     record { rests = rests; grows = grows_head header h outside doing past events first is same all; done = done }
+
+-- the accesses that were to be run again have been
+pub begun_ran : {header : Header} {h : ℕ} {outside : Outside} {doing : Command} {past log after : List Event} {k new : Parts} {ids ids2 : Ids}
+    → HasBegun header h outside doing past k ids log → Rests header h new ids2 (after ++ past) → LegalEvents header h outside doing past log after
+    → Ran header h outside doing past new ids2 after
+begun_ran {header = header} {h = h} {outside = outside} {doing = doing} {past = past} {log = log} {after = after} begun rests goes =
+    record { rests = rests; grows = grows_goes header h outside doing past log after begun.grows goes; done = begun.done after }
+
+-- equal commands start, begin and run alike
+
+pub starts_as : {header : Header} {h : ℕ} {doing other : Command} {past events : List Event} {k : Parts} {ids : Ids} → doing ≡ other
+    → Starts header h doing past k ids events → Starts header h other past k ids events
+starts_as {header = header} {h = h} {past = past} {events = events} {k = k} {ids = ids} is starts =
+    subst (λ (z : Command). Starts header h z past k ids events) is starts
+
+pub begun_as : {header : Header} {h : ℕ} {outside : Outside} {doing other : Command} {past events : List Event} {k : Parts} {ids : Ids} → doing ≡ other
+    → HasBegun header h outside other past k ids events → HasBegun header h outside doing past k ids events
+begun_as {header = header} {h = h} {outside = outside} {past = past} {events = events} {k = k} {ids = ids} is begun =
+    subst (λ (z : Command). HasBegun header h outside z past k ids events) (sym is) begun
+
+pub ran_as : {header : Header} {h : ℕ} {outside : Outside} {doing other : Command} {past events : List Event} {k : Parts} {ids : Ids} → doing ≡ other
+    → Ran header h outside other past k ids events → Ran header h outside doing past k ids events
+ran_as {header = header} {h = h} {outside = outside} {past = past} {events = events} {k = k} {ids = ids} is ran =
+    subst (λ (z : Command). Ran header h outside z past k ids events) (sym is) ran

@@ -27,6 +27,11 @@ pub served_ok : {A B : Type 0} (r : Result A B) (header : Header) (h : ℕ) (out
 served_ok (Ok x) header h outside doing past old k ids new rests goes queue prompt = record { rests = rests; goes = goes; queue = queue; prompt = prompt }
 served_ok (Err e) header h outside doing past old k ids new rests goes queue prompt = tt
 
+-- at the end of a step
+pub works_at_rest : {header : Header} {h : ℕ} {k : Parts} {ids : Ids} {past : List Event} → Rests header h k ids past → Works header h k ids woken.Nobody past
+works_at_rest rests =
+    record { matches = rests.matches; used = rests.used; referred = rests.referred; thin = rests.thin; waits = rests.waits; order = rests.order }
+
 -- nothing is left that is to be run again
 pub rests_of : (header : Header) (h : ℕ) (k : Parts) (ids : Ids) (past : List Event) → Works header h k ids woken.Nobody past → count_again k.waits.rows ≡ 0
     → Rests header h k ids past

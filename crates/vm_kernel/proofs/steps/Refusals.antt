@@ -3,15 +3,17 @@ use Rattle.vm_kernel.proofs.Common.{AllRows, Bool, Code, Command, Declared, Entr
 use Rattle.vm_kernel.proofs.Common.{IsForHere, IsInside, IsSome, List, Mapped, None, ObjectId, Option, Parts, Region, Rests, Some, TaskId, [], acting}
 use Rattle.vm_kernel.proofs.Common.{acting_in, acts_on, ap, arith, code_of, code_where, copies_from, entries_in, false, frames_free, frames_wired}
 use Rattle.vm_kernel.proofs.Common.{has_copy_mark, has_region, host_of, is_copied, is_marked, is_on, is_range, is_some, kernel_runs, length, lives_on}
-use Rattle.vm_kernel.proofs.Common.{marked_regions, meets_declared, named, new_marks, next_object, object_total, refl, refusal, reverse, rows_in, rows_map}
+use Rattle.vm_kernel.proofs.Common.{marked_regions, meets_uncopied, named, new_marks, next_object, object_total, refl, refusal, reverse, rows_in, rows_map}
 use Rattle.vm_kernel.proofs.Common.{slice_get, subst, sym, takes_name, true, ℕ, ◌&&◌, ◌+◌, ◌<◌, ◌==◌, ◌||◌, ◌∙◌, ◌∷◌, ◌≡◌}
 use Rattle.std.proofs.Common.{nat_lt, if◌then◌else◌, not}
 use Rattle.vm_base.specs.declared.code.Code.TheVariants as code
 use Rattle.vm_model.specs.declared.command.Command.TheVariants as command
+use Rattle.vm_legal.specs.Refusal as refusing
 use Rattle.vm_legal.specs.Refusal.{is_elsewhere}
 use Rattle.vm_model.specs.Named.{declared_pages, pages_kept}
 use Rattle.vm_kernel.specs.Begun.{targets_here}
-use Rattle.vm_kernel.specs.Refusing.{maps_elsewhere, pages_declared}
+use Rattle.vm_kernel.proofs.space.PagedRegions.{meets_among}
+use Rattle.vm_kernel.specs.Refusing.{maps_elsewhere, pages_declared, takes_no_mark}
 use Rattle.vm_kernel.proofs.steps.CopyRefused.{copy_refused, declared_are, waits_are}
 use Rattle.vm_kernel.proofs.steps.EventsGrow.{free_is}
 use Rattle.vm_kernel.proofs.abroad.OwnHost.{host_same, lives_in, on_is, rows_here}
@@ -104,8 +106,9 @@ inherit_code header h k ids past elsewhere task address bytes inherit rests acts
     (rw (
       entries_same task.0 m.core.spaces.tasks acts,
       m.core.spaces.tasks.sized,
-      declared_are rests,
-    ) (code_swap (not (is_range header.size address bytes)) (is_copied inherit && meets_declared (named header) address bytes rows)
+      m.core.setting.objects,
+      meets_among header address bytes rows,
+    ) (code_swap (not (is_range header.size address bytes)) (is_copied inherit && meets_uncopied header address bytes rows)
     code.InvalidArgument _))
 
 -- why a fork is refused
@@ -117,19 +120,21 @@ marks_same one two (row ∷ rows) all =
     ap (λ b. if is_copied row.inherit && (not (copies_from row.region.0 rows) && not b) then new_marks one rows + 1 else new_marks one rows) all.0
     ∙ ap (λ n. if is_copied row.inherit && (not (copies_from row.region.0 rows) && not (two row.region.0)) then n + 1 else n) (marks_same one two rows all.1)
 
--- the history marks the regions that the kernel does
+-- the history gives marks to the regions to which the kernel does
 mark_is : (header : Header) (h : ℕ) (k : Parts) (ids : Ids) (past : List Event) (r : ℕ) → Rests header h k ids past → has_region k.chains r ≡ true
-    → has_copy_mark header past r ≡ is_marked k.chains r
+    → refusing.takes_no_mark header past r ≡ takes_no_mark (length k.declared.items) k.chains r
 mark_is header h k ids past r rests there =
     let row = region_row k.chains r there in
     let mark : has_copy_mark header past r ≡ row.0.marked = ap (λ (z : Region). z.mark) (rests.matches.core.objects.regions.rows r row.0 row.1) in
-    mark ∙ sym (rw row.1 refl)
+    ap (λ b. nat_lt r (named header) || b) (mark ∙ sym (rw row.1 refl))
+    ∙ ap (λ (z : ℕ). nat_lt r z || is_marked k.chains r) (sym (declared_are rests))
 
 marks_are : (header : Header) (h : ℕ) (k : Parts) (ids : Ids) (past : List Event) (task : ℕ) → Rests header h k ids past
-    → new_marks (has_copy_mark header past) (rows_in task k.maps) ≡ new_marks (is_marked k.chains) (rows_in task k.maps)
+    → new_marks (refusing.takes_no_mark header past) (rows_in task k.maps) ≡ new_marks (takes_no_mark (length k.declared.items) k.chains) (rows_in task k.maps)
 marks_are header h k ids past task rests =
-    marks_same (has_copy_mark header past) (is_marked k.chains) (rows_in task k.maps)
-    (rows_map (IsInside header.size k.chains) (λ row. has_copy_mark header past row.region.0 ≡ is_marked k.chains row.region.0)
+    marks_same (refusing.takes_no_mark header past) (takes_no_mark (length k.declared.items) k.chains) (rows_in task k.maps)
+    (rows_map (IsInside header.size k.chains)
+    (λ row. refusing.takes_no_mark header past row.region.0 ≡ takes_no_mark (length k.declared.items) k.chains row.region.0)
     (λ row inside. mark_is header h k ids past row.region.0 rests inside.region) (rows_in task k.maps) (rests.matches.core.spaces.entries.inside task))
 
 fork_code : (header : Header) (h : ℕ) (k : Parts) (ids : Ids) (past : List Event) (elsewhere : Bool) (task child : TaskId) → Rests header h k ids past
@@ -145,6 +150,7 @@ fork_code header h k ids past elsewhere task child rests acts unnamed =
       objects_are header h k ids past rests,
       ← m.core.objects.regions.region,
       marks_are header h k ids past task.0 rests,
+      declared_are rests,
     ) refl
 
 -- why frames are not wired, or not unwired

@@ -1,7 +1,7 @@
 -- At the end of a step nobody waits in vain, and nothing is left behind.
 use Rattle.vm_kernel.proofs.Common.{Access, Event, HasQueue, HasWaits, Header, HostIsFull, Ids, IsPagerTold, List}
 use Rattle.vm_kernel.proofs.Common.{Matches, None, NoneInVain, On, Option, Parts, PromptAt, QueueIsServed, Reason, Rests}
-use Rattle.vm_legal.specs.Prompt.{AtPlace}
+use Rattle.vm_legal.specs.Prompt.{AtPlace, ForPush}
 use Rattle.vm_kernel.proofs.Common.{Some, Waiting, Waits, WaitsForPager, Want, [], access_in, ap, copies_to}
 use Rattle.vm_kernel.proofs.Common.{entries_in, entry, false, inl, inr, is_again, is_frame, is_on, is_store}
 use Rattle.vm_kernel.proofs.Common.{none_again, none_queued}
@@ -15,7 +15,7 @@ use Rattle.vm_state.proofs.Shown.{awaits_ready}
 use Rattle.vm_supply.specs.declared.woken.Woken.TheVariants as woken
 use Rattle.vm_waits.specs.declared.waiting.On.TheVariants as on
 use Rattle.vm_kernel.proofs.abroad.OwnHost.{own_host}
-use Rattle.vm_kernel.proofs.memory.WalksShown.{shown_at, waiting_place}
+use Rattle.vm_kernel.proofs.memory.WalksShown.{shown_at, top_met, waiting_place}
 use Rattle.vm_kernel.proofs.lists.PagesSpared.{here_waits}
 use Rattle.vm_legal.specs.Merges.{IsThin}
 use Rattle.vm_legal.specs.Prompt.{EachLeads}
@@ -24,7 +24,9 @@ use Rattle.vm_state.proofs.Pairs.{KnowsPairs, thin_told}
 use Rattle.vm_state.specs.Counts.{marks_of}
 use Rattle.vm_state.proofs.Filling.{AgreesNext, copies_next}
 use Rattle.vm_model.specs.Waiting.{next_page}
-use Rattle.vm_kernel.proofs.controls.NothingCopied.{nobody_pushes}
+use Rattle.vm_kernel.proofs.Common.{AllReferred, UsesAll}
+use Rattle.vm_kernel.proofs.memory.PagesPushed.{push_here}
+use Rattle.vm_state.proofs.Locks.{storing_is}
 
 -- the row of an access that waits
 pub record HasRow (size : ℕ) (rows : List Waiting) (task : ℕ) (access : Access) : Type 0 where
@@ -57,12 +59,13 @@ each_leads header h k ids past rests task access waits lives =
 
 -- what an access waits for that isn't to be run again
 waits_for : (header : Header) (h : ℕ) (k : Parts) (ids : Ids) (past : List Event) (task to : ℕ) (what : Want) (why : On) → AgreesNext what (next_page task past)
-    → Matches header h k ids [] past → Reason k.maps k.chains k.copies k.memory.resident k.memory.objects task what why → is_again why ≡ false
+    → Matches header h k ids [] past → UsesAll header k past → AllReferred k.chains k.memory.objects k.memory.resident
+    → Reason k.maps k.chains k.copies k.memory.resident k.memory.objects task what why → is_again why ≡ false
     → (is_frame why ≡ true → HostIsFull header h past)
     → (waits : Waits header task (access_in k.maps.size to what) past) → waits.at.host ≡ h → WaitsForPager header h task (access_in k.maps.size to what) past
     ⊎ HostIsFull header h past
-waits_for header h k ids past task to what on.Again agrees m reason fresh full waits home = absurd (let bad : true ≡ false = fresh in cc)
-waits_for header h k ids past task to what (on.Ready object) agrees m reason fresh full waits home =
+waits_for header h k ids past task to what on.Again agrees m used referred reason fresh full waits home = absurd (let bad : true ≡ false = fresh in cc)
+waits_for header h k ids past task to what (on.Ready object) agrees m used referred reason fresh full waits home =
     let told : IsPagerTold k.memory.objects reason.0.object.0 = subst (λ z. IsPagerTold k.memory.objects z.0) (sym reason.2) reason.3 in
     inl (record {
       waits = waits;
@@ -71,7 +74,7 @@ waits_for header h k ids past task to what (on.Ready object) agrees m reason fre
           (waiting_place m to agrees reason.1 (at_home header h k ids past task (access_in k.maps.size to what) m waits home) waits)
           (awaits_ready (shown_at m) reason.0.object.0 told.row told.found told.sent (is_store (access_in k.maps.size to what)) reason.0.page.0);
     })
-waits_for header h k ids past task to what (on.Page key) agrees m reason fresh full waits home =
+waits_for header h k ids past task to what (on.Page key) agrees m used referred reason fresh full waits home =
     inl (record {
       waits = waits;
       on_host = home;
@@ -79,9 +82,15 @@ waits_for header h k ids past task to what (on.Page key) agrees m reason fresh f
           (waiting_place m to agrees reason.0 (at_home header h k ids past task (access_in k.maps.size to what) m waits home) waits)
           (awaits_word (shown_at m) k.maps.size to key.object.0 key.page.0 what reason.1);
     })
-waits_for header h k ids past task to what (on.Push key) agrees m reason fresh full waits home =
-    absurd (nobody_pushes m.core.setting.uncopied reason)
-waits_for header h k ids past task to what on.Frame agrees m reason fresh full waits home = inr (full refl)
+waits_for header h k ids past task to what (on.Push key) agrees m used referred reason fresh full waits home =
+    let told = push_here m used referred task what key reason in
+    inl (record {
+      waits = waits;
+      on_host = home;
+      what = ForPush reason.top.object.0 reason.top.page.0 key.object.0 (storing_is k.maps.size to what ∙ reason.stores)
+          (top_met to m agrees reason.at (at_home header h k ids past task (access_in k.maps.size to what) m waits home) waits) told.0 told.1;
+    })
+waits_for header h k ids past task to what on.Frame agrees m used referred reason fresh full waits home = inr (full refl)
 
 -- an access that wants a frame waits while the queue can't go on
 queue_full : (header : Header) (h : ℕ) (k : Parts) (past : List Event) (task : ℕ) (w : Waiting) → QueueIsServed header h k past
@@ -97,7 +106,8 @@ none_in_vain header h k ids past rests served task access waits home =
     let w = row.row in
     subst (λ (z : Access). (it : Waits header task z past) → it.at.host ≡ h → WaitsForPager header h task z past ⊎ HostIsFull header h past) (sym row.is)
     (waits_for header h k ids past task (copies_to w.destination) w.want w.on (copies_next rests.used.copies task w row.found) rests.matches
-    (rests.waits.reasons task w row.found refl) (none_again k.waits.rows task w rests.idle row.found) (queue_full header h k past task w served row.found))
+    rests.used rests.referred (rests.waits.reasons task w row.found refl) (none_again k.waits.rows task w rests.idle row.found)
+    (queue_full header h k past task w served row.found))
     waits home
 
 -- whoever stands in the frame queue, no frame is free then
@@ -109,7 +119,8 @@ queue_of header h k past (inr full) = inr full.none
 no_pair : (header : Header) (h : ℕ) (k : Parts) (ids : Ids) (past : List Event) → Rests header h k ids past → IsThin header h past
 no_pair header h k ids past rests upper lower pair =
     let m = rests.matches in
-    let knows : KnowsPairs header h k.chains k.memory.objects ids (next_region header past) (next_object header past) (marks_of header past) past = record {
+    let knows : KnowsPairs header h k.chains k.copies k.memory.objects ids (next_region header past) (next_object header past) (marks_of header past)
+    past = record {
       regions = m.core.objects.regions;
       kinds = m.core.objects.kinds;
       homes = m.core.spaces.homes.1;
@@ -117,7 +128,7 @@ no_pair header h k ids past rests upper lower pair =
       shadows = rests.referred.shadows;
       all = λ r row least found. regions_used header h k ids past (whole_of rests) r row least found;
       there = λ r least used. used_there header h k ids [] past r m rests.used.copies least used;
-      plain = m.core.objects.plain;
+      copies = λ o row found some. m.core.copied.known.are o (record { row = row; known = found; some = some });
     } in
     thin_told knows rests.thin upper lower pair
 

@@ -6,12 +6,14 @@ use Rattle.vm_kernel.proofs.Common.{is_some, length, live_control, live_in, name
 use Rattle.vm_kernel.proofs.Common.{refl, region_at, region_of, region_pages, rows_in, some_is, subst, sym, true, waiting, waiting_in, ℕ, ◌&&◌, ◌*◌, ◌+◌, ◌<◌}
 use Rattle.vm_kernel.proofs.Common.{◌^◌, ◌∙◌, ◌≡◌, ◌≢◌, ◌≤◌}
 use Rattle.std.specs.Prelude.{◌-◌}
-use Rattle.vm_kernel.proofs.controls.NothingCopied.{all_fresh, none_fit}
+use Rattle.vm_fault.specs.Pushes.{IsFresh}
+use Rattle.vm_state.proofs.CopyObjects.{plain_row}
 use Rattle.vm_fault.specs.Faults.{CanCopy, CanFault, LiesWithin}
 use Rattle.vm_fault.specs.Walks.{is_copying, top_place}
 use Rattle.vm_kernel.proofs.abroad.OwnHost.{lives_here, rows_here}
 use Rattle.vm_kernel.proofs.memory.SourceOfCopy.{walks_down}
-use Rattle.vm_model.specs.Regions.{Backing, Region}
+use Rattle.vm_model.specs.Regions.{Backing, Region, is_copy}
+use Rattle.vm_model.specs.Waiting.{Target}
 use Rattle.vm_shadow.specs.Chains.{ObjectsBelow, shadow_at}
 use Rattle.vm_state.proofs.Marks.{marked_some}
 use Rattle.vm_state.proofs.Referring.{objects_below, refers_region, small_region, top_counted}
@@ -116,6 +118,27 @@ can_copy {header = header} {k = k} w (want.CopyTo address pages target next) e r
       unmade = fits.unmade;
     }
 
+-- what a slow copy fills was made as no copy of a file
+target_plain : {header : Header} {h : ℕ} {k : Parts} {ids : Ids} {past : List Event} → Matches header h k ids [] past → (task : ℕ) (target : Target)
+    → copy_target task past ≡ Some target → is_copy target.object past ≡ false
+target_plain {past = past} m task target is = by (is_copy target.object past) refl
+  where
+    by : (b : Bool) → is_copy target.object past ≡ b → b ≡ false
+    by false plain = refl
+    by true copy =
+        let homes = m.core.spaces.homes.1 in
+        let bad : false ≡ true = sym (homes.target_bare task target is) ∙ (homes.lined target.object copy).backed in
+        absurd cc
+
+-- the target of a slow copy is no copy object
+pub is_fresh : {header : Header} {h : ℕ} {k : Parts} {ids : Ids} {past : List Event} (w : Waiting) (what : Want) → Matches header h k ids [] past
+    → FitsCopy header k.maps k.chains k.memory.resident w.task.0 what w.destination (next_page w.task.0 past) (copy_target w.task.0 past)
+    → IsFresh what k.copies
+is_fresh w (want.Load address n) m fits = tt
+is_fresh w (want.Store address n value) m fits = tt
+is_fresh w (want.CopyTo address pages target next) m fits =
+    plain_row target.0 m.core.copied.known (target_plain m w.task.0 (record { region = fits.to.region.0; object = target.0 }) fits.made)
+
 -- what waits can be run
 pub can_fault : (header : Header) (h : ℕ) (past : List Event) (k : Parts) (ids : Ids) (who : Woken) (w : Waiting) (events : List Event)
     → Works header h k ids who past → entry k.waits.rows w.task.0 ≡ Some w
@@ -139,8 +162,8 @@ can_fault header h past k ids who w events works is =
       region = walk.region;
       inside = lies_within w w.want walk.entry walk.row m fits sized walk.found walk.region;
       copies = can_copy w w.want walk.entry walk.row m fits sized walk.found walk.region;
-      copied = none_fit m.core.setting.uncopied k.memory k.chains;
-      fresh = all_fresh m.core.setting.uncopied w.want;
+      copied = m.core.copied.fits;
+      fresh = is_fresh w w.want m fits;
       counted = λ marked.
           (let some = marked_some header past walk.entry.region.0 (small_region m.core.objects.regions walk.entry.region.0 walk.row walk.region)
           (ap (λ (z : Region). z.mark) (m.core.objects.regions.rows walk.entry.region.0 walk.row walk.region) ∙ marked) in

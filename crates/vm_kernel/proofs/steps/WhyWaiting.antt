@@ -15,7 +15,8 @@ use Rattle.vm_state.proofs.Locks.{awaits_word}
 use Rattle.vm_state.proofs.Shown.{awaits_ready}
 use Rattle.std.proofs.lemmas.Bool.{not-true}
 use Rattle.vm_state.proofs.Filling.{copies_next}
-use Rattle.vm_kernel.proofs.controls.NothingCopied.{nobody_pushes}
+use Rattle.vm_kernel.proofs.steps.WhoSleeps.{OwesFree, never_pushing}
+use Rattle.vm_legal.specs.Accesses.{Comes}
 
 -- nothing but this place of its page is awaited
 abbrev AwaitsOnly : (header : Header) (h task : ℕ) (access : Access) (past : List Event) → Waits header task access past → ℕ → ℕ → Type 0
@@ -28,11 +29,13 @@ waits_there : (header : Header) (h : ℕ) (k : Parts) (ids : Ids) (past : List E
     → HasQueue header h k past → entry k.waits.rows task ≡ Some w → w.on ≡ why
     → (waits : Waits header task (access_in k.maps.size (copies_to w.destination) w.want) past)
     → AwaitsOnly header h task (access_in k.maps.size (copies_to w.destination) w.want) past waits object page
+    → Comes header h waits.at.entry.region.0 (page_of header task (access_in k.maps.size (copies_to w.destination) w.want) past waits.at.entry) object page past
+    → OwesFree header h (access_in k.maps.size (copies_to w.destination) w.want) past object page
     → ready_in (object_at k.memory.objects object) ≡ true
     → (frames_free header h past ≡ 0 → ⊥) → why ≡ on.Page (page_key object page)
-waits_there header h k ids past task object page w on.Again rests queue found is waits only ready frees =
+waits_there header h k ids past task object page w on.Again rests queue found is waits only comes free ready frees =
     absurd (let bad : true ≡ false = sym (ap is_again is) ∙ none_again k.waits.rows task w rests.idle found in cc)
-waits_there header h k ids past task object page w (on.Ready told) rests queue found is waits only ready frees =
+waits_there header h k ids past task object page w (on.Ready told) rests queue found is waits only comes free ready frees =
     let m = rests.matches in
     let here = ap is_some (rests.waits.allowed task w found).lives in
     let reason : Reason k.maps k.chains k.copies k.memory.resident k.memory.objects task w.want (on.Ready told) =
@@ -46,7 +49,7 @@ waits_there header h k ids past task object page w (on.Ready told) rests queue f
     awaits) in
     let named : told.0 ≡ object = ap (λ (z : ObjectId). z.0) (sym reason.2) ∙ same.0 in
     absurd (told_unready k.memory.objects object (subst (IsPagerTold k.memory.objects) named pager) ready)
-waits_there header h k ids past task object page w (on.Page key) rests queue found is waits only ready frees =
+waits_there header h k ids past task object page w (on.Page key) rests queue found is waits only comes free ready frees =
     let m = rests.matches in
     let here = ap is_some (rests.waits.allowed task w found).lives in
     let reason : Reason k.maps k.chains k.copies k.memory.resident k.memory.objects task w.want (on.Page key) =
@@ -54,13 +57,13 @@ waits_there header h k ids past task object page w (on.Page key) rests queue fou
     let same = only key.object.0 key.page.0 (waiting_place m (copies_to w.destination) (copies_next rests.used.copies task w found) reason.0 here waits)
     (awaits_word (shown_at m) k.maps.size (copies_to w.destination) key.object.0 key.page.0 w.want reason.1) in
     λ i. on.Page (page_key (same.0 i) (same.1 i))
-waits_there header h k ids past task object page w (on.Push key) rests queue found is waits only ready frees =
+waits_there header h k ids past task object page w (on.Push key) rests queue found is waits only comes free ready frees =
     let reason : Reason k.maps k.chains k.copies k.memory.resident k.memory.objects task w.want (on.Push key) =
     subst (λ (z : On). Reason k.maps k.chains k.copies k.memory.resident k.memory.objects task w.want z) is (rests.waits.reasons task w found refl) in
-    absurd (nobody_pushes rests.matches.core.setting.uncopied reason)
-waits_there header h k ids past task object page w on.Frame rests (inl none) found is waits only ready frees =
+    absurd (never_pushing rests found reason waits comes free)
+waits_there header h k ids past task object page w on.Frame rests (inl none) found is waits only comes free ready frees =
     absurd (let bad : true ≡ false = sym (ap is_frame is) ∙ none_queued k.waits.rows task w none found in cc)
-waits_there header h k ids past task object page w on.Frame rests (inr short) found is waits only ready frees = absurd (frees short)
+waits_there header h k ids past task object page w on.Frame rests (inr short) found is waits only comes free ready frees = absurd (frees short)
 
 -- the step of an error
 
@@ -114,6 +117,9 @@ ends_waiters header h outside doing k ids past front object control m events res
     stops_here.on_host) stops_here.waits.waits in
     let w = row.row in
     let on_page : w.on ≡ on.Page (page_key o p) =
-    subst (λ (z : Access). (waits : Waits header task z past) → AwaitsOnly header h task z past waits o p → w.on ≡ on.Page (page_key o p)) (sym row.is)
-    (λ waits only. waits_there header h k ids past task o p w w.on rests queue row.found refl waits only ready frees_here) stops_here.waits stops_here.only in
+    subst (λ (z : Access). (waits : Waits header task z past) → AwaitsOnly header h task z past waits o p
+    → Comes header h waits.at.entry.region.0 (page_of header task z past waits.at.entry) o p past → OwesFree header h z past o p
+    → w.on ≡ on.Page (page_key o p)) (sym row.is)
+    (λ waits only comes free. waits_there header h k ids past task o p w w.on rests queue row.found refl waits only comes free ready frees_here)
+    stops_here.waits stops_here.only stops_here.comes stops_here.free in
     each host o p task w error row.found on_page

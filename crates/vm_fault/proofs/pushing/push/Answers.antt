@@ -60,7 +60,7 @@ returns-clause-goes c =
     let raised = of_found _ row (λ r. RaisesPage place frame (page_in mid.frames r.frame.0) mid copied) found raises.raises in
     let told : c.push.new.self.items ≡ event.Raised c.args.run.host top.object top.page place.object place.page ∷ c.args.log.now.items = search rules in
     let is = owes c.args.copies.now k c.requires.fits.0 top place c.requires.fits.1 c.requires.owed c.requires.can.top in
-    let notes = noted_owed c.args.copies.now c.note.new.self k place is c.note.ensures.copy c.note.ensures.had c.note.ensures.newest in
+    let notes = noted_owed c.args.copies.now c.note.new.self k place is c.note.ensures.copy c.note.ensures.had c.note.ensures.newest c.note.ensures.room in
     λ chains finds ids. Pushed row finds c.requires.stores c.requires.unlocked place c.requires.owed absent frame copied
     (raises_roomier place frame row k mid copied same.is same.rows raised) (plan_roomier k mid copied same.is raises.fit raises.objects raises.buffers)
     hits.0 hits.1 notes (hits.2 ∙ ap (λ z. hits.0 ∷ z) told)

@@ -1,4 +1,5 @@
-use Rattle.vm_kernel.proofs.Common.{ap, arith, by_address, is_marked, length-reverse, new_marks, sym, ◌∙◌}
+use Rattle.vm_kernel.proofs.Common.{ap, arith, by_address, length-reverse, new_marks, sym, ◌∙◌}
+use Rattle.vm_kernel.specs.Refusing.{takes_no_mark}
 use Rattle.vm_kernel.proofs.space.CopiesCounted.{drop_past}
 use Rattle.vm_kernel.proofs.space.CopiesCounted.{marks_one, marks_other}
 use Rattle.vm_kernel.proofs.copying.new_marks.Goals as goal
@@ -9,11 +10,11 @@ all-preserved c =
     let rows = by_address c.args.entries.now in
     elim c.if-is_newly_marked.branch [
       | then-is_newly_marked w ↦
-          (let more = marks_one (is_marked c.args.chains.now) rows c.all.i c.at.result.now c.at.ensures
+          (let more = marks_one (takes_no_mark c.args.declared c.args.chains.now) rows c.all.i c.at.result.now c.at.ensures
           (sym c.is_newly_marked.ensures ∙ w.if-is_newly_marked.true) in
           record { sum = omega (arith, more, w.count-is, c.all.invariant.sum); few = omega (arith, w.count-is, c.all.invariant.few) })
       | else-is_newly_marked w ↦
-          (let more = marks_other (is_marked c.args.chains.now) rows c.all.i c.at.result.now c.at.ensures
+          (let more = marks_other (takes_no_mark c.args.declared c.args.chains.now) rows c.all.i c.at.result.now c.at.ensures
           (sym c.is_newly_marked.ensures ∙ w.if-is_newly_marked.false) in
           record { sum = omega (arith, more, w.count-is, c.all.invariant.sum); few = omega (arith, w.count-is, c.all.invariant.few) })
     ]
@@ -26,4 +27,4 @@ returns-clause-count c =
       c.all-test.false,
       c.len-i-end.ensures,
     )) in
-    omega (arith, ap (new_marks (is_marked c.args.chains.now)) past, c.all.invariant.sum)
+    omega (arith, ap (new_marks (takes_no_mark c.args.declared c.args.chains.now)) past, c.all.invariant.sum)

@@ -17,8 +17,8 @@ calls c =
     }
 
 pub returns-clause-merges : goal.returns-clause-merges
-returns-clause-merges c = λ least.
+returns-clause-merges c = λ copies can least.
     merges_into c.args.upper c.args.lower c.in-Some.link c.unrefer.result c.args.parts.now c.merge_pages.new.self c.unrefer.new.self
-    c.args.chains.now c.merge.new.self c.args.log.now.items c.push.new.self.items c.requires.can
+    c.args.chains.now c.merge.new.self c.args.log.now.items c.push.new.self.items can
     (calls (goal.at.returns-clause-merges c).After-unrefer)
     (on_ok c.push.result _ c.push.ensures.ok (c.push.ensures.succeeds c.requires.room)) least

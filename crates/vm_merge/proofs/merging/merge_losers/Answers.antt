@@ -12,13 +12,15 @@ merge_into-requires-clause-shift g c =
     shift_fits g.given c.losers.parts c.losers.chains c.in-Some-upper_of.upper.0 c.in-Some.lower.0 c.losers.invariant.may c.in-Some-upper_of.ensures.can
 
 abbrev before : (g : Over) → After-merge_into g → MergeState
-before g c = merge_state c.losers.parts c.losers.chains c.losers.log.items
+before g c = merge_state c.losers.parts c.losers.chains c.args.copies.now c.losers.log.items
 
 abbrev behind : (g : Over) → After-merge_into g → MergeState
-behind g c = merge_state c.merge_into.new.parts c.merge_into.new.chains c.merge_into.new.log.items
+behind g c = merge_state c.merge_into.new.parts c.merge_into.new.chains c.args.copies.now c.merge_into.new.log.items
 
 merged : (g : Over) (c : After-merge_into g) → MergesInto c.in-Some-upper_of.upper c.in-Some.lower (before g c) (behind g c)
-merged g c = c.merge_into.ensures.merges (λ u l can. c.in-Some.ensures.least.1 (record { 0 = l }) (c.losers.invariant.thin u l can))
+merged g c =
+    c.merge_into.ensures.merges c.args.copies.now c.in-Some-upper_of.ensures.can
+    (λ u l can. c.in-Some.ensures.least.1 (record { 0 = l }) (c.losers.invariant.thin u l can))
 
 pub losers-preserved-in-Some-upper_of : goal.losers-preserved-in-Some-upper_of
 losers-preserved-in-Some-upper_of g c =
@@ -71,6 +73,6 @@ losers-preserved g c =
 
 pub returns-clause-merges : goal.returns-clause-merges
 returns-clause-merges g c =
-    let end = merge_state c.losers.parts c.losers.chains c.losers.log.items in
+    let end = merge_state c.losers.parts c.losers.chains c.args.copies.now c.losers.log.items in
     c.losers.invariant.so_far end
     (NoneLeft end (none_of_none c.losers.losers.items c.losers.chains c.losers.parts.objects c.in_default.ensures.none c.losers.invariant.thin))

@@ -5,10 +5,10 @@ use Rattle.vm_merge.specs.Standing.{MayMerge, merge_state}
 
 abbrev pub invariant-losers : goal.invariant-losers
 invariant-losers g l = record {
-  may : MayMerge g.given l.parts l.chains;
-  thin : IsThinBut l.losers.items l.chains l.parts.objects;
-  so_far : (end : MergeState) → MergeInTurn (merge_state l.parts l.chains l.log.items) end
-      → MergeInTurn (merge_state l.fn.parts l.fn.chains l.fn.log.items) end;
+  may : MayMerge g.given l.parts l.chains l.fn.copies;
+  thin : IsThinBut l.fn.copies l.losers.items l.chains l.parts.objects;
+  so_far : (end : MergeState) → MergeInTurn (merge_state l.parts l.chains l.fn.copies l.log.items) end
+      → MergeInTurn (merge_state l.fn.parts l.fn.chains l.fn.copies l.fn.log.items) end;
   fewer : length l.losers.items ≤ length l.fn.losers.items;
   buffers : l.parts.buffers ≡ l.fn.parts.buffers;
   told : length l.log.items + length l.losers.items ≤ length l.fn.log.items + length l.fn.losers.items;

@@ -10,15 +10,15 @@ use Rattle.vm_terminate.specs.Steps.{finish_state}
 use Rattle.vm_terminate.proofs.destroying.cancel_pages.Goals as goal
 
 pub returns-in_default-clause-cancels : goal.returns-in_default-clause-cancels
-returns-in_default-clause-cancels c = λ chains held room events.
-    c.asked.invariant.cancels chains held room events [] _ (NoneAsked _ _ c.in_default.ensures)
+returns-in_default-clause-cancels c = λ chains copies held room events.
+    c.asked.invariant.cancels chains copies held room events [] _ (NoneAsked _ _ c.in_default.ensures)
 
 pub returns-clause-cancels : goal.returns-clause-cancels
-returns-clause-cancels c = λ chains held room events.
+returns-clause-cancels c = λ chains copies held room events.
     let kept = c.asked.invariant in
     let count = ap (λ z. object_pages z c.args.object.0) kept.objects in
     let none = none_above c.asked.parts c.args.object.0 c.asked.from.0 kept.fit (omega (arith, count, c.requires.pages, c.asked-test.false)) in
-    kept.cancels chains held room events [] _ (NoneAsked _ _ none)
+    kept.cancels chains copies held room events [] _ (NoneAsked _ _ none)
 
 pub asked-preserved : goal.asked-preserved
 asked-preserved c =
@@ -37,9 +37,10 @@ asked-preserved c =
       none = λ p. elim (row_cases object page.0 None c.asked.parts.resident c.cancel.new.self.resident gone.row object p)
           [ inl this ↦ ap is_here this.is | inr other ↦ ap is_here other.is ∙ kept.none p ];
       spare = omega (arith, kept.spare, c.cancel.ensures.room);
-      cancels = λ chains held room events more end rest.
-          kept.cancels chains held room events (page.0 ∷ more) end (cancels_one c.args.object c.asked.from.0 page more row.0
-          (finish_state c.asked.parts chains held room events) (finish_state c.cancel.new.self chains held room events) end c.in-Some.ensures row.1 (record {
+      cancels = λ chains copies held room events more end rest.
+          kept.cancels chains copies held room events (page.0 ∷ more) end (cancels_one c.args.object c.asked.from.0 page more row.0
+          (finish_state c.asked.parts chains copies held room events) (finish_state c.cancel.new.self chains copies held room events) end
+          c.in-Some.ensures row.1 (record {
             away = away;
             page = gone;
             rest = record { objects = c.cancel.ensures.objects; buffers = c.cancel.ensures.buffers; is = refl };

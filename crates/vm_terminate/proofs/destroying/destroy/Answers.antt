@@ -4,13 +4,13 @@ use Rattle.vm_terminate.proofs.destroying.destroy.Goals as goal
 
 pub returns-clause-destroys : goal.returns-clause-destroys
 returns-clause-destroys c =
-    on_ok_weaker c.end_control.result (λ ends. rw (← c.in-Some.ensures) (λ chains held room.
-    let cancels = c.cancel_pages.ensures.cancels chains held room c.drop_pages.new.log.items in
+    on_ok_weaker c.end_control.result (λ ends. rw (← c.in-Some.ensures) (λ chains copies held room.
+    let cancels = c.cancel_pages.ensures.cancels chains copies held room c.drop_pages.new.log.items in
     record {
-      bare = finish_state c.drop_pages.new.parts chains held room c.drop_pages.new.log.items;
-      clear = finish_state c.cancel_pages.new.parts chains held room c.drop_pages.new.log.items;
+      bare = finish_state c.drop_pages.new.parts chains copies held room c.drop_pages.new.log.items;
+      clear = finish_state c.cancel_pages.new.parts chains copies held room c.drop_pages.new.log.items;
       asked = cancels.0;
-      drops = c.in_ok-drop_pages.ensures.drops chains held room;
+      drops = c.in_ok-drop_pages.ensures.drops chains copies held room;
       cancels = cancels.1;
-      ends = ends chains held room;
+      ends = ends chains copies held room;
     })) c.end_control.ensures.ends

@@ -12,15 +12,15 @@ use Rattle.vm_terminate.proofs.destroying.drop_pages.Goals as goal
 use Rattle.vm_terminate.proofs.destroying.drop_pages.Goals.{then-row+in_ok-push, else-row}
 
 pub returns-in_default-clause-drops : goal.returns-in_default-clause-drops
-returns-in_default-clause-drops c = λ chains held room.
-    c.pages.invariant.drops chains held room _ (NoneHere _ _ (λ p low. ap is_here (c.in_default.ensures p low)))
+returns-in_default-clause-drops c = λ chains copies held room.
+    c.pages.invariant.drops chains copies held room _ (NoneHere _ _ (λ p low. ap is_here (c.in_default.ensures p low)))
 
 pub returns-clause-drops : goal.returns-clause-drops
-returns-clause-drops c = λ chains held room.
+returns-clause-drops c = λ chains copies held room.
     let kept = c.pages.invariant in
     let count = ap (λ z. object_pages z c.args.object.0) kept.objects in
     let none = none_above c.pages.parts c.args.object.0 c.pages.from.0 kept.fit (omega (arith, count, c.requires.pages, c.pages-test.false)) in
-    kept.drops chains held room _ (NoneHere _ _ (λ p low. ap is_here (none p low)))
+    kept.drops chains copies held room _ (NoneHere _ _ (λ p low. ap is_here (none p low)))
 
 pub returns-in_err-push-clause-succeeds : goal.returns-in_err-push-clause-succeeds
 returns-in_err-push-clause-succeeds c = λ n none enough.
@@ -76,9 +76,10 @@ pages-preserved c =
             told = rw w.in_ok-push.ensures.ok (omega (arith, kept.told, lists));
             fewer = omega (arith, kept.fewer, lists);
             spare = omega (arith, kept.spare, w.discard.ensures.room);
-            drops = λ chains held room end rest.
-                kept.drops chains held room end (drops_one c.args.host c.args.object from page row
-                (finish_state c.pages.parts chains held room c.pages.log.items) (finish_state w.discard.new.self chains held room w.push.new.self.items) end
+            drops = λ chains copies held room end rest.
+                kept.drops chains copies held room end (drops_one c.args.host c.args.object from page row
+                (finish_state c.pages.parts chains copies held room c.pages.log.items)
+                (finish_state w.discard.new.self chains copies held room w.push.new.self.items) end
                 next found (record {
                   here = here;
                   page = gone;
@@ -97,8 +98,8 @@ pages-preserved c =
         told = kept.told;
         fewer = kept.fewer;
         spare = kept.spare;
-        drops = λ chains held room end rest.
-            kept.drops chains held room end (passes_over c.args.host c.args.object from page row
-            (finish_state c.pages.parts chains held room c.pages.log.items) end next found w.if-row.false rest);
+        drops = λ chains copies held room end rest.
+            kept.drops chains copies held room end (passes_over c.args.host c.args.object from page row
+            (finish_state c.pages.parts chains copies held room c.pages.log.items) end next found w.if-row.false rest);
       }
     ]

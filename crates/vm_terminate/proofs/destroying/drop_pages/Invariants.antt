@@ -1,5 +1,6 @@
 use Rattle.std.proofs.Common.{◌≡◌, ℕ, ◌+◌, ◌-◌, ◌<◌, ◌≤◌, false, List, length}
 use Rattle.vm_base.specs.declared.ids.FrameNo.{FrameNo}
+use Rattle.vm_copies.specs.Copies.{CopyTable}
 use Rattle.vm_parts.specs.Changes.{is_here}
 use Rattle.vm_parts.specs.Fits.{Fit}
 use Rattle.vm_parts.specs.Listed.{listed_pages}
@@ -23,9 +24,9 @@ invariant-pages l = record {
   told : length l.log.items + listed_pages l.parts.queues ≤ length l.fn.log.items + listed_pages l.fn.parts.queues;
   fewer : listed_pages l.parts.queues ≤ listed_pages l.fn.parts.queues;
   spare : l.fn.parts.resident.spare ≤ l.parts.resident.spare;
-  drops : (chains : ChainTable) (held : List FrameNo) (room : ℕ) (end : FinishState)
-      → PagesDrop l.host l.object l.from.0 (finish_state l.parts chains held room l.log.items) end
-      → PagesDrop l.host l.object 0 (finish_state l.fn.parts chains held room l.fn.log.items) end;
+  drops : (chains : ChainTable) (copies : CopyTable) (held : List FrameNo) (room : ℕ) (end : FinishState)
+      → PagesDrop l.host l.object l.from.0 (finish_state l.parts chains copies held room l.log.items) end
+      → PagesDrop l.host l.object 0 (finish_state l.fn.parts chains copies held room l.fn.log.items) end;
 }
 
 abbrev pub decreases-pages : goal.decreases-pages

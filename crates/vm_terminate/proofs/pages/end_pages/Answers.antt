@@ -1,6 +1,7 @@
 use Rattle.std.proofs.lemmas.Option.{MatchOption-at_some}
 use Rattle.std.proofs.Common.{◌≡◌, ◌∙◌, true, false, [], refl, arith}
 use Rattle.vm_base.specs.declared.ids.PageKey.{PageKey}
+use Rattle.vm_copies.specs.Copies.{CopyTable}
 use Rattle.vm_parts.proofs.Lists.{some_here}
 use Rattle.vm_parts.proofs.Rows.{row_there}
 use Rattle.vm_shadow.specs.Chains.{ChainTable}
@@ -11,6 +12,9 @@ use Rattle.vm_terminate.proofs.pages.end_pages.Goals as goal
 
 no_chains : ChainTable
 no_chains = record { regions = []; shadows = []; marked = 0; spare = 0 }
+
+no_copies : CopyTable
+no_copies = record { newest = []; copies = []; room = 0 }
 
 pub end_page-requires-clause-room : goal.end_page-requires-clause-room
 end_page-requires-clause-room g c =
@@ -41,12 +45,12 @@ pages-preserved g c =
     let row = row_there _ c.in-Some.ensures.there in
     let here = kept.here c.in-Some.page.0 row.0 row.1 in
     let leaves = MatchOption-at_some _ _ row.0 row.1 c.in_ok-end_page.ensures.leaves in
-    let old = λ (chains : ChainTable). finish_state c.pages.parts chains (g.L.Holder.held c.pages.laundry) (g.L.Holder.room c.pages.laundry)
-    c.pages.log.items in
-    let new = λ (chains : ChainTable). finish_state c.end_page.new.parts chains (g.L.Holder.held c.end_page.new.laundry)
+    let old = λ (chains : ChainTable) (copies : CopyTable). finish_state c.pages.parts chains copies (g.L.Holder.held c.pages.laundry)
+    (g.L.Holder.room c.pages.laundry) c.pages.log.items in
+    let new = λ (chains : ChainTable) (copies : CopyTable). finish_state c.end_page.new.parts chains copies (g.L.Holder.held c.end_page.new.laundry)
     (g.L.Holder.room c.end_page.new.laundry) c.end_page.new.log.items in
     let key : PageKey = record { object = c.args.object; page = c.in-Some.page } in
-    let gone = has_gone c.args.host key c.args.known row.0 (old no_chains) (new no_chains) here (leaves no_chains) in
+    let gone = has_gone c.args.host key c.args.known row.0 (old no_chains no_copies) (new no_chains no_copies) here (leaves no_chains no_copies) in
     record {
       fit = c.in_ok-end_page.ensures.fit;
       known = gone.objects.at c.args.object.0 ∙ kept.known;
@@ -60,9 +64,9 @@ pages-preserved g c =
       rows = omega (arith, kept.rows, c.in_ok-end_page.ensures.rows);
       fewer = omega (arith, kept.fewer, gone.lists);
       leave =
-          λ chains end more. kept.leave chains end (one_more c.args.host c.args.object c.args.known c.pages.from.0 c.in-Some.page row.0 (old chains)
-          (new chains) end c.in-Some.ensures row.1 here refl (leaves chains) more);
+          λ chains copies end more. kept.leave chains copies end (one_more c.args.host c.args.object c.args.known c.pages.from.0 c.in-Some.page row.0
+          (old chains copies) (new chains copies) end c.in-Some.ensures row.1 here refl refl (leaves chains copies) more);
     }
 
 pub returns-clause-leave : goal.returns-clause-leave
-returns-clause-leave g c = λ chains. c.pages.invariant.leave chains _ (NoMore _ _ c.in_default.ensures)
+returns-clause-leave g c = λ chains copies. c.pages.invariant.leave chains copies _ (NoMore _ _ c.in_default.ensures)

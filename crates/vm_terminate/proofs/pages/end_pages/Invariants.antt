@@ -1,5 +1,6 @@
 use Rattle.std.proofs.Common.{◌≡◌, ◌+◌, ◌-◌, ◌≤◌, Some}
 use Rattle.vm_base.specs.declared.ids.ObjectKind.TheVariants as kind
+use Rattle.vm_copies.specs.Copies.{CopyTable}
 use Rattle.vm_objects.specs.Objects.{object_at}
 use Rattle.vm_parts.specs.Fits.{Fit}
 use Rattle.vm_parts.specs.Listed.{listed_pages}
@@ -21,9 +22,10 @@ invariant-pages g l = record {
   spare : l.fn.parts.resident.spare ≤ l.parts.resident.spare;
   rows : l.fn.parts.objects.rows ≤ l.parts.objects.rows;
   fewer : listed_pages l.parts.queues ≤ listed_pages l.fn.parts.queues;
-  leave : (chains : ChainTable) (end : FinishState)
-      → PagesLeave l.host l.object l.known l.from.0 (finish_state l.parts chains (g.L.Holder.held l.laundry) (g.L.Holder.room l.laundry) l.log.items) end
-      → PagesLeave l.host l.object l.known 0 (finish_state l.fn.parts chains (g.L.Holder.held l.fn.laundry) (g.L.Holder.room l.fn.laundry) l.fn.log.items) end;
+  leave : (chains : ChainTable) (copies : CopyTable) (end : FinishState)
+      → PagesLeave l.host l.object l.known l.from.0 (finish_state l.parts chains copies (g.L.Holder.held l.laundry) (g.L.Holder.room l.laundry) l.log.items) end
+      → PagesLeave l.host l.object l.known 0
+      (finish_state l.fn.parts chains copies (g.L.Holder.held l.fn.laundry) (g.L.Holder.room l.fn.laundry) l.fn.log.items) end;
 }
 
 abbrev pub decreases-pages : goal.decreases-pages

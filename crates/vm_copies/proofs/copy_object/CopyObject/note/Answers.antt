@@ -8,9 +8,9 @@ use Rattle.vm_copies.proofs.copy_object.CopyObject.note.Goals as goal
 below : (c : goal.After-self-1) → c.args.page.0 < c.self.inside.pages
 below c = rw (← c.self.view_is) at c.requires
 
-is : (c : goal.After-self-1) → pages_in c.self.inside.pages (words_with c.args.page.0 c.index_mut.result.now c.self.inside.words.items)
-    ≡ slice_set (pages_in c.self.inside.pages c.self.inside.words.items) c.args.page.0 true
-is c = pages_with c.self.inside.pages c.args.page.0 _ c.self.inside.words.items c.self.invariant (below c) c.index_mut.ensures.value
+is : (c : goal.After-self-1) → pages_in c.self.inside.pages (words_with c.args.page.0 c.self.inside.words)
+    ≡ slice_set (pages_in c.self.inside.pages c.self.inside.words) c.args.page.0 true
+is c = pages_with c.self.inside.pages c.args.page.0 c.self.inside.words c.self.invariant (below c)
 
 pub returns-clause-row : goal.returns-clause-row
 returns-clause-row c =
@@ -20,4 +20,4 @@ returns-clause-row c =
 pub returns-clause-had : goal.returns-clause-had
 returns-clause-had c p =
     rw (← c.self.view_is)
-    (ap (λ z. slice_index_or z p false) (is c) ∙ had_with c.self.inside.pages c.args.page.0 c.self.inside.words.items (below c) p)
+    (ap (λ z. slice_index_or z p false) (is c) ∙ had_with c.self.inside.pages c.args.page.0 c.self.inside.words (below c) p)

@@ -9,6 +9,7 @@ use Rattle.vm_hosts.proofs.Taking.{zeroed_went}
 use Rattle.std.specs.Prelude.{true, ℕ, ◌≡◌}
 use Rattle.vm_kernel.specs.Destroying.{MayDestroy, is_destroy}
 use Rattle.vm_kernel.specs.Rooms.{word_breadth}
+use Rattle.vm_kernel.specs.Taking.{IsOfPushed}
 use Rattle.vm_hosts.proofs.hosts.Hosts.hear.Goals as goal
 
 pub take-requires : goal.take-requires
@@ -26,8 +27,11 @@ take-requires g c =
           c.requires.1.1.1.1.0,
           (
             subst (λ (z : ℕ). is_destroy c.args.message.now ≡ true → MayDestroy given.header z c.args.object.0 given.past) (sym at.number)
-                c.requires.1.1.1.1.1.1.1.1,
-            c.requires.1.1.1.1.1.1.0,
+                c.requires.1.1.1.1.1.1.1.1.0,
+            (
+              c.requires.1.1.1.1.1.1.0,
+              subst (λ (z : ℕ). IsOfPushed z c.args.object.0 c.args.message.now given.past) (sym at.number) c.requires.1.1.1.1.1.1.1.1.1,
+            ),
           ),
         ),
       ),

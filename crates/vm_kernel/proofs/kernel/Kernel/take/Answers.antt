@@ -53,7 +53,7 @@ returns-clause-restarts g c =
 
 pub returns-clause-few : goal.returns-clause-few
 returns-clause-few g c =
-    let told = ap length c.requires.1.1.1.1 in
+    let told = ap length c.requires.1.1.1.1.0 in
     on_ok c.take.result _ _ (λ few. omega (arith, few, told))
     (of_old g c (λ z. OnOk c.take.result (length c.take.new.log.items + dues c.take.new.self ≤ length
     c.args.log.now.items + (full_dues z + front (word_breadth c.args.message.now) z))) c.take.ensures.few

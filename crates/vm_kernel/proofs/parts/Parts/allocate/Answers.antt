@@ -1,4 +1,5 @@
 use Rattle.vm_kernel.proofs.Common.{HostParts, WaitTable, ap, arith, entering, false, frame_count, got, length, refl, true, whole_entry, ◌/◌, ◌∙◌, ◌∷◌, ◌≡◌}
+use Rattle.vm_copies.specs.Copies.{CopyTable}
 use Rattle.vm_kernel.proofs.lists.ListsAsTold.{lists_same, plays_both, plays_told}
 use Rattle.vm_kernel.proofs.room.EndsSpend.{framed}
 use Rattle.vm_kernel.proofs.steps.EventsGrow.{on_ok}
@@ -36,6 +37,7 @@ returns-clause-spends g c =
     let frames = ap (λ (z : WaitTable). if_copies (count_copies z.rows) (frame_count c.make_range.new.self.memory.frames)) made.waits
     ∙ framed c.args.self.now (ap (λ (z : HostParts). frame_count z.frames) made.memory) in
     let marked = c.make_range.ensures.marked in
+    let copies = ap (λ (z : CopyTable). z.room) made.copied in
     let rows = ap (λ (z : HostParts). z.resident.spare) made.memory in
     let first = ap length c.in_ok-push.ensures.ok in
     on_ok c.push-2.result _ _
@@ -45,6 +47,7 @@ returns-clause-spends g c =
       rows = omega (arith, rows, waits, frames, marked);
       shadows = omega (arith, c.make_range.ensures.shadows, marked);
       objects = omega (arith, c.make_range.ensures.objects, marked);
+      copies = omega (arith, copies);
     })
     c.push-2.ensures.ok
 

@@ -1,13 +1,15 @@
 use Rattle.vm_kernel.proofs.Common.{ap, entry, false, frame_count, HostParts, Ids, length, length-append, List, Parts, refl, true, Waiting, WaitTable, ◌*◌, ◌+◌}
 use Rattle.vm_kernel.proofs.Common.{◌/◌, ◌∙◌, ◌≡◌, arith}
 use Rattle.std.specs.Prelude.{vec_capacity}
-use Rattle.vm_kernel.proofs.steps.CopyBegins.{copy_absent, copy_quiet, copy_ran, has_begun}
+use Rattle.vm_kernel.proofs.steps.CopyBegins.{copy_absent, copy_quiet, has_begun}
+use Rattle.vm_kernel.proofs.steps.HeadAlone.{begun_ran}
 use Rattle.vm_kernel.proofs.steps.EventsGrow.{on_ok}
 use Rattle.vm_kernel.proofs.lists.ListsAsTold.{lists_same, plays_both, plays_told}
 use Rattle.vm_kernel.proofs.steps.QueueServed.{three_ok}
 use Rattle.vm_kernel.proofs.steps.FramesInTurn.{restarts_behind}
 use Rattle.vm_kernel.proofs.room.PartsOfStep.{any_ok, few_behind, room_behind, told_behind}
 use Rattle.vm_kernel.proofs.room.RunPays.{copies_all}
+use Rattle.vm_copies.specs.Copies.{CopyTable}
 use Rattle.vm_kernel.specs.Rooms.{Spends}
 use Rattle.vm_waits.specs.Waits.{count_copies}
 use Rattle.vm_kernel.proofs.parts.Parts.begin_copy.Given as given
@@ -51,7 +53,7 @@ returns-clause-ran g c =
       puts = c.begin.ensures.entry;
       pushed = c.begin.ensures.rows;
     }) in
-    three_ok c.restart.result _ _ _ _ (λ rests goes first. copy_ran begun rests goes) c.restart.ensures.rests c.restart.ensures.goes c.restart.ensures.first
+    three_ok c.restart.result _ _ _ _ (λ rests goes first. begun_ran begun rests goes) c.restart.ensures.rests c.restart.ensures.goes c.restart.ensures.first
 
 pub returns-clause-plays : goal.returns-clause-plays
 returns-clause-plays g c =
@@ -94,6 +96,7 @@ begun g c =
     let frames = ap (λ (z : HostParts). frame_count z.frames) made.memory in
     let copied = copies_all (count_copies c.begin.new.self.rows) (frame_count c.make_range.new.self.memory.frames) in
     let marked = c.make_range.ensures.marked in
+    let copies = ap (λ (z : CopyTable). z.room) made.copied in
     let rows = ap (λ (z : HostParts). z.resident.spare) made.memory in
     let first = ap length c.in_ok-push.ensures.ok in
     let second = ap length c.in_ok-push-2.ensures.ok in record {
@@ -102,6 +105,7 @@ begun g c =
       rows = omega (arith, rows, waits, frames, copied, marked);
       shadows = omega (arith, c.make_range.ensures.shadows, marked);
       objects = omega (arith, c.make_range.ensures.objects, marked);
+      copies = omega (arith, copies);
     }
 
 pub returns-clause-few : goal.returns-clause-few

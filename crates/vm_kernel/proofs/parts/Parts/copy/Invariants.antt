@@ -10,3 +10,6 @@ ghost-begin_copy g a =
       past = g.given.past;
       command = command.Copy a.task a.address a.bytes a.task a.to;
     }
+
+abbrev pub ghost-restart : goal.ghost-restart
+ghost-restart g a = g.given

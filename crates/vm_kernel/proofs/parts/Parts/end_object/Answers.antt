@@ -16,37 +16,38 @@ pub returns-clause-whole : goal.returns-clause-whole
 returns-clause-whole g c =
     (object_ended g.given.header g.given.host g.given.outside g.given.command g.given.past g.given.who
     c.args.self.now c.args.ids.now g.given.rest c.args.object c.args.log.now.items c.finish.new.log.items c.finish.new.parts c.finish.new.chains
-    c.finish.new.laundry c.requires c.in_ok-left.ensures.finished.0).whole
+    c.finish.new.copies c.finish.new.laundry c.requires c.in_ok-left.ensures.finished.0).whole
     c.in_ok-left.ensures.fit c.in_ok-left.ensures.size
 
 pub returns-clause-goes : goal.returns-clause-goes
 returns-clause-goes g c =
     (object_ended g.given.header g.given.host g.given.outside g.given.command g.given.past g.given.who
     c.args.self.now c.args.ids.now g.given.rest c.args.object c.args.log.now.items c.finish.new.log.items c.finish.new.parts c.finish.new.chains
-    c.finish.new.laundry c.requires c.in_ok-left.ensures.finished.0).goes
+    c.finish.new.copies c.finish.new.laundry c.requires c.in_ok-left.ensures.finished.0).goes
 
 pub returns-clause-plays : goal.returns-clause-plays
 returns-clause-plays g c =
     (object_ended g.given.header g.given.host g.given.outside g.given.command g.given.past g.given.who
     c.args.self.now c.args.ids.now g.given.rest c.args.object c.args.log.now.items c.finish.new.log.items c.finish.new.parts c.finish.new.chains
-    c.finish.new.laundry c.requires c.in_ok-left.ensures.finished.0).plays
+    c.finish.new.copies c.finish.new.laundry c.requires c.in_ok-left.ensures.finished.0).plays
 
 pub returns-clause-only : goal.returns-clause-only
 returns-clause-only g c =
     (object_ended g.given.header g.given.host g.given.outside g.given.command g.given.past g.given.who
     c.args.self.now c.args.ids.now g.given.rest c.args.object c.args.log.now.items c.finish.new.log.items c.finish.new.parts c.finish.new.chains
-    c.finish.new.laundry c.requires c.in_ok-left.ensures.finished.0).only
+    c.finish.new.copies c.finish.new.laundry c.requires c.in_ok-left.ensures.finished.0).only
 
 pub returns-clause-pages : goal.returns-clause-pages
 returns-clause-pages g c =
     (object_ended g.given.header g.given.host g.given.outside g.given.command g.given.past g.given.who
     c.args.self.now c.args.ids.now g.given.rest c.args.object c.args.log.now.items c.finish.new.log.items c.finish.new.parts c.finish.new.chains
-    c.finish.new.laundry c.requires c.in_ok-left.ensures.finished.0).pages
+    c.finish.new.copies c.finish.new.laundry c.requires c.in_ok-left.ensures.finished.0).pages
 
 pub returns-clause-under : goal.returns-clause-under
 returns-clause-under g c =
     object_under g.given.header g.given.host g.given.past g.given.who c.args.self.now c.args.ids.now g.given.rest c.args.object
-    c.args.log.now.items c.finish.new.log.items c.finish.new.parts c.finish.new.chains c.finish.new.laundry c.requires c.in_ok-left.ensures.finished.0
+    c.args.log.now.items c.finish.new.log.items c.finish.new.parts c.finish.new.chains c.finish.new.copies c.finish.new.laundry c.requires
+    c.in_ok-left.ensures.finished.0
 
 -- what ends was made
 made : (g : given.Over) (k : Parts) (ids : Ids) (object : ℕ) (events : List Event)
@@ -58,12 +59,13 @@ pub returns-clause-spends : goal.returns-clause-spends
 returns-clause-spends g c =
     let whole = (object_ended g.given.header g.given.host g.given.outside g.given.command g.given.past g.given.who
     c.args.self.now c.args.ids.now g.given.rest c.args.object c.args.log.now.items c.finish.new.log.items c.finish.new.parts c.finish.new.chains
-    c.finish.new.laundry c.requires c.in_ok-left.ensures.finished.0).whole
+    c.finish.new.copies c.finish.new.laundry c.requires c.in_ok-left.ensures.finished.0).whole
     c.in_ok-left.ensures.fit c.in_ok-left.ensures.size in
     ended_spends g.given.header g.given.host g.given.past g.given.who c.args.self.now c.args.ids.now g.given.rest c.finish.new.parts
-    c.finish.new.chains c.finish.new.laundry c.args.log.now c.finish.new.log c.requires.runs.matches whole
+    c.finish.new.chains c.finish.new.copies c.finish.new.laundry c.args.log.now c.finish.new.log c.requires.runs.matches whole
     (c.in_ok-left.ensures.uses c.args.ids.now.next_object (made g c.args.self.now c.args.ids.now c.args.object.0 c.args.log.now.items c.requires))
     (c.in_ok-left.ensures.told c.args.ids.now.next_object (made g c.args.self.now c.args.ids.now c.args.object.0 c.args.log.now.items c.requires))
+    c.in_ok-left.ensures.room
 
 pub returns-in_err-left-clause-succeeds : goal.returns-in_err-left-clause-succeeds
 returns-in_err-left-clause-succeeds g c = λ room buffers.
@@ -76,7 +78,7 @@ returns-in_err-left-clause-succeeds g c = λ room buffers.
 pub returns-clause-buffers : goal.returns-clause-buffers
 returns-clause-buffers g c = λ had.
     buffers_left g.given.header g.given.host c.args.self.now c.args.ids.now g.given.rest (c.args.log.now.items ++ g.given.past)
-    c.args.object.0 c.args.ids.now.next_object c.finish.new.parts c.finish.new.chains c.finish.new.laundry _ _ c.requires.runs.matches
+    c.args.object.0 c.args.ids.now.next_object c.finish.new.parts c.finish.new.chains c.finish.new.copies c.finish.new.laundry _ _ c.requires.runs.matches
     (c.in_ok-left.ensures.uses c.args.ids.now.next_object (made g c.args.self.now c.args.ids.now c.args.object.0 c.args.log.now.items c.requires))
     c.in_ok-left.ensures.saved had
 

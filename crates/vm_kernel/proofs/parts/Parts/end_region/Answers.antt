@@ -1,8 +1,10 @@
-use Rattle.vm_kernel.proofs.Common.{Still, arith, refl}
+use Rattle.vm_kernel.proofs.Common.{Still, arith, refl, subst, ℕ, ◌++◌}
+use Rattle.std.specs.Prelude.{OnOk}
+use Rattle.vm_kernel.specs.Endings.{EndsBelow}
 use Rattle.vm_kernel.proofs.space.LosersMerge.{bare_behind, last_reference, thin_region}
 use Rattle.vm_kernel.proofs.space.ObjectsEnd.{only_none}
 use Rattle.vm_kernel.proofs.steps.EventsGrow.{goes_none, if_ok, on_ok}
-use Rattle.vm_kernel.proofs.space.RegionEnds.{LosesRegion, ends_top, loses_region, top_referred, whole_region}
+use Rattle.vm_kernel.proofs.space.RegionEnds.{LosesRegion, ends_top, loses_region, top_referred, top_told, whole_region}
 use Rattle.vm_terminate.proofs.Under.{referred_some, referred_there}
 use Rattle.vm_kernel.proofs.space.WhatStoodUnder.{below_none}
 use Rattle.vm_kernel.proofs.room.EndsSpend.{region_spends, roomy_on}
@@ -54,6 +56,13 @@ returns-then-unrefer-gt0-clause-only g c = only_none c.args.log.now.items
 
 pub returns-then-unrefer-gt0-clause-under : goal.returns-then-unrefer-gt0-clause-under
 returns-then-unrefer-gt0-clause-under g c = below_none g.given.header _ _ c.args.log.now.items
+
+pub returns-clause-under : goal.returns-clause-under
+returns-clause-under g c =
+    subst (λ (z : ℕ). OnOk c.end_object.result (EndsBelow g.given.header (c.args.log.now.items ++ g.given.past) z c.args.log.now.items
+    c.end_object.new.log.items))
+    (top_told g.given.header g.given.host g.given.past g.given.who c.args.self.now c.args.ids.now g.given.rest c.args.region.0 c.args.log.now.items
+    c.drop_region-object.result c.requires c.drop_region-object.ensures.top) c.end_object.ensures.under
 
 -- nothing is spent before an object ends
 first_spends : (g : given.Over) (c : After-unrefer g) → Spends (leaving c.args.self.now c.args.ids.now) 0

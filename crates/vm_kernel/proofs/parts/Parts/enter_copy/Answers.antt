@@ -15,6 +15,7 @@ returns-clause-spends c =
       rows = omega (arith, marks, marked);
       shadows = omega (arith, c.symmetric.ensures.spare, c.set_count.ensures.spare.0, marks, marked);
       objects = omega (arith, c.refer.ensures.rooms.rows, marks, marked);
+      copies = omega arith;
     })
     c.push-2.ensures.ok
 

@@ -1,157 +1,58 @@
-use Rattle.vm_kernel.proofs.Common.{AreEntries, Entry, List, Some, ap, arith, by_address, false, length, length-reverse, refl, rows_in, slice_get, subst, true}
-use Rattle.vm_kernel.proofs.Common.{◌++◌, ◌/◌, ◌∙◌, ◌∷◌, ◌≡◌}
-use Rattle.vm_model.specs.declared.event.Event.TheVariants as event
-use Rattle.vm_kernel.proofs.space.RegionCopied.{can_copy}
-use Rattle.vm_kernel.proofs.space.ForkShares.{can_share, fork_copied, fork_other, fork_shared, fork_start, may_copy, may_fork, may_share, ran_fork, same_rows}
-use Rattle.vm_kernel.proofs.lists.ListsAsTold.{lists_same, plays_both, plays_told}
-use Rattle.vm_kernel.proofs.steps.FramesInTurn.{quiet_both, quiet_more}
-use Rattle.vm_kernel.proofs.room.CallsSpend.{roomy_next, spends_all, spends_within, spends_next, spends_nothing}
-use Rattle.vm_kernel.proofs.room.PartsOfStep.{spare_both}
+use Rattle.vm_kernel.proofs.Common.{arith}
+use Rattle.vm_kernel.proofs.lists.ListsAsTold.{plays_both}
+use Rattle.vm_kernel.proofs.room.CallsSpend.{never_err}
+use Rattle.vm_kernel.proofs.room.MergesSpend.{any_err}
+use Rattle.vm_kernel.proofs.room.PartsOfStep.{few_behind, leaves_behind, room_behind, told_behind}
+use Rattle.vm_kernel.proofs.steps.EventsGrow.{on_ok}
+use Rattle.vm_kernel.proofs.steps.FramesInTurn.{restarts_behind}
+use Rattle.vm_kernel.proofs.steps.HeadAlone.{begun_as, begun_ran, starts_as}
+use Rattle.vm_kernel.proofs.steps.QueueServed.{three_ok}
+use Rattle.vm_kernel.specs.Rooms.{of_entries}
 use Rattle.vm_kernel.proofs.parts.Parts.fork.Goals as goal
-use Rattle.vm_kernel.proofs.parts.Parts.fork.Goals.{in-Copy+in_ok-enter_copy-in-Copy, in-Never, in-Share+in_ok-share-in-Share}
 
-pub all-init : goal.all-init
-all-init g c =
-    record {
-      quiet = quiet_more c.args.self.now.waits.queue c.args.self.now.waits.queue c.args.log.now.items c.push.new.self.items _ refl c.in_ok-push.ensures.ok tt;
-      forked =
-          fork_start g.given.header g.given.host g.given.outside c.args.task c.args.child g.given.past c.args.self.now c.args.ids.now c.args.log.now.items _
-          c.add_task.new.self c.requires c.in_ok-add_task.ensures.ok (by_address c.entries.result.now) c.entries.ensures.value c.entries.ensures.sound.in_order
-          c.in_ok-push.ensures.ok;
-      plays = plays_told c.in_ok-push.ensures.ok refl;
-      spare = record { buffers = refl; skip = refl; fewer = omega arith };
-      spends =
-          (let one = ap length c.in_ok-push.ensures.ok in record {
-            told = omega (arith, one);
-            room = omega (arith, c.push.ensures.room);
-            rows = omega arith;
-            shadows = omega arith;
-            objects = omega arith;
-          });
-    }
+pub fork_entries-requires : goal.fork_entries-requires
+fork_entries-requires g c = starts_as c.requires.0 c.requires.1
 
-pub share-requires : goal.share-requires
-share-requires g c =
-    let rows = rows_in c.args.task.0 c.args.self.now.maps in
-    let f = c.all.invariant.forked in
-    let same = same_rows _ _ _ c.entries-in-all.ensures.value f.others in
-    let sound = subst (AreEntries c.all.self.maps.size) same c.entries-in-all.ensures.sound in
-    let found = subst (λ (z : List Entry). slice_get z c.all.i ≡ Some c.at-entry.result.now) same c.at-entry.ensures in
-    can_share g.given.header g.given.host c.args.child.0 c.at-entry.result.now (c.all.log.items ++ g.given.past) c.all.self c.all.ids f.rests
-    (may_share g.given.header g.given.host g.given.outside c.args.task c.args.child rows c.all.i c.at-entry.result.now g.given.past c.all.self c.all.ids
-    c.all.log.items f sound found)
-
-pub enter_copy-requires : goal.enter_copy-requires
-enter_copy-requires g c =
-    let row = c.at-entry.result.now in
-    let rows = rows_in c.args.task.0 c.args.self.now.maps in
-    let f = c.all.invariant.forked in
-    let same = same_rows _ _ _ c.entries-in-all.ensures.value f.others in
-    let sound = subst (AreEntries c.all.self.maps.size) same c.entries-in-all.ensures.sound in
-    let found = subst (λ (z : List Entry). slice_get z c.all.i ≡ Some c.at-entry.result.now) same c.at-entry.ensures in
-    can_copy g.given.header g.given.host c.args.child.0 row.region row.offset row (c.all.log.items ++ g.given.past) c.all.self c.all.ids f.rests
-    (may_copy g.given.header g.given.host g.given.outside c.args.task c.args.child rows c.all.i row g.given.past c.all.self c.all.ids c.all.log.items f sound
-    found c.in-Copy.is)
-
-pub all-preserved : goal.all-preserved
-all-preserved g c =
-    let row = c.at-entry.result.now in
-    let rows = rows_in c.args.task.0 c.args.self.now.maps in
-    let f = c.all.invariant.forked in
-    let same = same_rows _ _ _ c.entries-in-all.ensures.value f.others in
-    let sound = subst (AreEntries c.all.self.maps.size) same c.entries-in-all.ensures.sound in
-    let found = subst (λ (z : List Entry). slice_get z c.all.i ≡ Some c.at-entry.result.now) same c.at-entry.ensures in
-    elim c.match-entry.branch [
-      | in-Share+in_ok-share-in-Share w ↦
-          let shares = w.in_ok-share-in-Share.ensures.shares in
-          rw (w.self-is, w.ids-is, w.log-is)
-          (record {
-            spends =
-                spends_next c.args.self.now c.all.self w.share.new.self c.args.log.now c.all.log w.share.new.log c.all.i c.all.invariant.spends
-                (spends_within c.all.self w.share.new.self c.all.log w.share.new.log 1 1 0 3 w.in_ok-share-in-Share.ensures.spends);
-            spare = spare_both c.args.self.now c.all.self w.share.new.self c.all.invariant.spare w.in_ok-share-in-Share.ensures.spare;
-            quiet =
-                quiet_both c.args.self.now.waits.queue c.all.self.waits.queue w.share.new.self.waits.queue c.args.log.now.items c.all.log.items
-                w.share.new.log.items c.all.invariant.quiet
-                (quiet_more c.all.self.waits.queue w.share.new.self.waits.queue c.all.log.items w.share.new.log.items _ (ap (λ z. z.queue) shares.waits)
-                shares.told tt);
-            forked =
-                fork_shared g.given.header g.given.host g.given.outside c.args.task c.args.child rows c.all.i row g.given.past c.all.self w.share.new.self
-                c.all.ids c.all.log.items w.share.new.log.items f sound found w.in-Share.is shares;
-            plays =
-                plays_both c.all.invariant.plays (plays_told shares.told (lists_same c.all.self w.share.new.self (ap (λ z. z.resident) shares.memory)
-                (ap (λ z. z.queues) shares.memory)));
-          })
-      | in-Copy+in_ok-enter_copy-in-Copy w ↦
-          let enters = w.in_ok-enter_copy-in-Copy.ensures.enters in
-          let mid = event.RegionCopied enters.copy row.region row.offset (row.bytes / c.all.self.size) ∷ c.all.log.items in
-          rw (w.self-is, w.ids-is, w.log-is)
-          (record {
-            spends =
-                spends_next c.args.self.now c.all.self w.enter_copy.new.self c.args.log.now c.all.log w.enter_copy.new.log c.all.i c.all.invariant.spends
-                w.in_ok-enter_copy-in-Copy.ensures.spends;
-            spare = spare_both c.args.self.now c.all.self w.enter_copy.new.self c.all.invariant.spare w.in_ok-enter_copy-in-Copy.ensures.spare;
-            quiet =
-                quiet_both c.args.self.now.waits.queue c.all.self.waits.queue w.enter_copy.new.self.waits.queue c.args.log.now.items c.all.log.items
-                w.enter_copy.new.log.items c.all.invariant.quiet
-                (quiet_both c.all.self.waits.queue c.all.self.waits.queue w.enter_copy.new.self.waits.queue c.all.log.items mid w.enter_copy.new.log.items
-                (quiet_more c.all.self.waits.queue c.all.self.waits.queue c.all.log.items mid _ refl refl tt)
-                (quiet_more c.all.self.waits.queue w.enter_copy.new.self.waits.queue mid w.enter_copy.new.log.items _ (ap (λ z. z.queue) enters.waits)
-                enters.told tt));
-            forked =
-                fork_copied g.given.header g.given.host g.given.outside c.args.task c.args.child rows c.all.i row g.given.past c.all.self w.enter_copy.new.self
-                c.all.ids w.enter_copy.new.ids c.all.log.items w.enter_copy.new.log.items f sound found w.in-Copy.is enters;
-            plays =
-                plays_both c.all.invariant.plays (plays_both (plays_told refl refl)
-                (plays_told enters.told (lists_same c.all.self w.enter_copy.new.self (ap (λ z. z.resident) enters.memory) (ap (λ z. z.queues) enters.memory))));
-          })
-      | in-Never w ↦
-          rw (w.self-is, w.ids-is, w.log-is)
-          (record {
-            spends =
-                spends_next c.args.self.now c.all.self c.all.self c.args.log.now c.all.log c.all.log c.all.i c.all.invariant.spends
-                (spends_nothing c.all.self c.all.log 4 4);
-            spare = c.all.invariant.spare;
-            quiet = c.all.invariant.quiet;
-            forked =
-                fork_other g.given.header g.given.host g.given.outside c.args.task c.args.child rows c.all.i row g.given.past c.all.self c.all.ids
-                c.all.log.items f sound found w.in-Never.is;
-            plays = c.all.invariant.plays;
-          })
-    ]
+pub restart-requires : goal.restart-requires
+restart-requires g c = c.in_ok-fork_entries.ensures.begun.works
 
 pub returns-clause-ran : goal.returns-clause-ran
 returns-clause-ran g c =
-    let may = may_fork g.given.header g.given.host c.args.task c.args.child g.given.past c.args.self.now c.args.ids.now c.args.log.now.items c.requires in
-    let same = same_rows _ _ _ c.entries.ensures.value (c.in_ok-add_task.ensures.ok.others c.args.task.0 c.all.invariant.forked.apart ∙ may.lives) in
-    ran_fork g.given.header g.given.host g.given.outside c.args.task c.args.child c.all.i g.given.past c.args.self.now c.all.self c.args.ids.now c.all.ids
-    c.args.log.now.items c.all.log.items c.requires c.all.invariant.forked
-    (omega (arith, ap length same, length-reverse c.entries.result.now.items, c.len-i-end.ensures, c.all-test.false))
+    let begun = begun_as c.requires.0 c.in_ok-fork_entries.ensures.begun in
+    three_ok c.restart.result _ _ _ _ (λ rests goes first. begun_ran begun rests goes) c.restart.ensures.rests c.restart.ensures.goes c.restart.ensures.first
 
-pub returns-in_err-push-clause-err : goal.returns-in_err-push-clause-err
-returns-in_err-push-clause-err g c = λ roomy. absurd (let bad : false ≡ true = c.in_err-push.ensures.succeeds (omega (arith, roomy.log)) in cc)
+pub returns-clause-plays : goal.returns-clause-plays
+returns-clause-plays g c = on_ok c.restart.result _ _ (λ more. plays_both c.in_ok-fork_entries.ensures.plays more) c.restart.ensures.plays
 
-pub returns-in_err-share-in-Share-clause-err : goal.returns-in_err-share-in-Share-clause-err
-returns-in_err-share-in-Share-clause-err g c = λ roomy.
-    let may = may_fork g.given.header g.given.host c.args.task c.args.child g.given.past c.args.self.now c.args.ids.now c.args.log.now.items c.requires in
-    let same = same_rows _ _ _ c.entries.ensures.value (c.in_ok-add_task.ensures.ok.others c.args.task.0 c.all.invariant.forked.apart ∙ may.lives) in
-    let left = roomy_next c.args.self.now c.all.self c.args.log.now c.all.log c.all.i (length (rows_in c.args.task.0 c.args.self.now.maps))
-    (omega (arith, ap length same, length-reverse c.entries.result.now.items, c.len-i-end.ensures, c.all-test.true)) c.all.invariant.spends
-    roomy in
-    absurd (let bad : false ≡ true = c.in_err-share-in-Share.ensures.succeeds (omega (arith, left.log)) in cc)
+pub returns-clause-restarts : goal.returns-clause-restarts
+returns-clause-restarts g c =
+    on_ok c.restart.result _ _
+    (restarts_behind g.given.header g.given.host c.restart.new.self.waits.rows g.given.past c.args.self.now.waits.queue c.fork_entries.new.self.waits.queue
+    c.restart.new.self.waits.queue c.args.log.now.items c.fork_entries.new.log.items c.restart.new.log.items c.requires.1.nothing
+    c.in_ok-fork_entries.ensures.quiet)
+    c.restart.ensures.restarts
 
-pub returns-in_err-enter_copy-in-Copy-clause-err : goal.returns-in_err-enter_copy-in-Copy-clause-err
-returns-in_err-enter_copy-in-Copy-clause-err g c = λ roomy.
-    let may = may_fork g.given.header g.given.host c.args.task c.args.child g.given.past c.args.self.now c.args.ids.now c.args.log.now.items c.requires in
-    let same = same_rows _ _ _ c.entries.ensures.value (c.in_ok-add_task.ensures.ok.others c.args.task.0 c.all.invariant.forked.apart ∙ may.lives) in
-    let left = roomy_next c.args.self.now c.all.self c.args.log.now c.all.log c.all.i (length (rows_in c.args.task.0 c.args.self.now.maps))
-    (omega (arith, ap length same, length-reverse c.entries.result.now.items, c.len-i-end.ensures, c.all-test.true)) c.all.invariant.spends
-    roomy in
-    absurd (let bad : false ≡ true = c.in_err-enter_copy-in-Copy.ensures.succeeds left in cc)
+pub returns-clause-few : goal.returns-clause-few
+returns-clause-few g c =
+    let made = of_entries c.args.task.0 c.args.self.now in
+    let few = told_behind c.args.self.now c.fork_entries.new.self c.args.log.now c.fork_entries.new.log made made made (omega arith)
+    c.in_ok-fork_entries.ensures.spends in
+    on_ok c.restart.result _ _ (λ more. few_behind more few) c.restart.ensures.few
 
-pub returns-clause-spends : goal.returns-clause-spends
-returns-clause-spends g c =
-    let may = may_fork g.given.header g.given.host c.args.task c.args.child g.given.past c.args.self.now c.args.ids.now c.args.log.now.items c.requires in
-    let same = same_rows _ _ _ c.entries.ensures.value (c.in_ok-add_task.ensures.ok.others c.args.task.0 c.all.invariant.forked.apart ∙ may.lives) in
-    spends_all c.args.self.now c.all.self c.args.log.now c.all.log c.all.i (length (rows_in c.args.task.0 c.args.self.now.maps)) (omega
-    (arith, ap length same, length-reverse c.entries.result.now.items, c.len-i-end.ensures, c.all.auto.i-end)) c.all.invariant.spends
+pub returns-clause-room : goal.returns-clause-room
+returns-clause-room g c = λ more had has skip.
+    let made = of_entries c.args.task.0 c.args.self.now in
+    let runs = c.restart.ensures.room more (room_behind c.args.self.now c.fork_entries.new.self c.args.log.now c.fork_entries.new.log made made more
+    c.in_ok-fork_entries.ensures.spends had) in
+    leaves_behind c.restart.result more c.args.self.now c.fork_entries.new.self c.restart.new.self c.restart.new.log.room runs.1
+    c.in_ok-fork_entries.ensures.spare c.restart.ensures.spare has skip
+
+pub returns-in_err-fork_entries-clause-err : goal.returns-in_err-fork_entries-clause-err
+returns-in_err-fork_entries-clause-err g c =
+    λ had. any_err c.from_residual.result _ (c.in_err-fork_entries.ensures.err had.tables)
+
+pub returns-clause-err : goal.returns-clause-err
+returns-clause-err g c = λ had.
+    let made = of_entries c.args.task.0 c.args.self.now in
+    let left = room_behind c.args.self.now c.fork_entries.new.self c.args.log.now c.fork_entries.new.log made made 0 c.in_ok-fork_entries.ensures.spends had in
+    never_err c.restart.result _ (c.restart.ensures.room 0 left).0

@@ -15,7 +15,8 @@ all_done : (g : given.Over) (c : goal.In_ok-woken g) → Heard g.given.header g.
 all_done g c =
     hears_done g.given.header g.given.host g.given.outside g.given.command c.args.self.now c.args.ids.now c.args.log.now.items c.answer.new.log.items
     g.given.past g.given.front c.args.object c.args.control c.args.message.now c.in_ok-woken.woken c.answer.new.parts
-    c.requires.0 c.requires.1.0 c.requires.1.1.0 c.requires.1.1.1.1 c.in_ok-woken.ensures.fit c.in_ok-woken.ensures.buffers c.in_ok-woken.ensures.answered
+    c.requires.0 c.requires.1.0 c.requires.1.1.0 c.requires.1.1.1.1.1 c.requires.1.1.1.1.0 c.in_ok-woken.ensures.fit c.in_ok-woken.ensures.buffers
+    c.in_ok-woken.ensures.answered
 
 -- and flags are those of the history
 all_works : (g : given.Over) (c : goal.In_ok-woken g) → Works g.given.header g.given.host (heard c.args.self.now c.answer.new.parts) c.args.ids.now
@@ -56,7 +57,7 @@ returns-clause-zeroed g c = (all_done g c).paid
 pub returns-clause-plays : goal.returns-clause-plays
 returns-clause-plays g c =
     answer_plays g.given.header (g.given.front ++ g.given.past) c.args.self.now.host c.args.object _ c.in_ok-woken.woken c.args.self.now c.args.log.now.items
-    c.answer.new.log.items c.answer.new.parts c.in_ok-woken.ensures.answered c.requires.1.1.1.1
+    c.answer.new.log.items c.answer.new.parts c.in_ok-woken.ensures.answered c.requires.1.1.1.1.0
 
 pub returns-clause-spends : goal.returns-clause-spends
 returns-clause-spends g c =

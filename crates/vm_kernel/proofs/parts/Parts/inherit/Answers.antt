@@ -49,6 +49,7 @@ returns-clause-spends g c =
       rows = omega (arith, marked);
       shadows = omega (arith, spare, marked);
       objects = omega (arith, marked);
+      copies = omega arith;
     })
     c.push.ensures.ok
 

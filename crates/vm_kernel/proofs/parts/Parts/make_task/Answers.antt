@@ -24,6 +24,7 @@ returns-clause-spends g c =
       rows = omega arith;
       shadows = omega arith;
       objects = omega arith;
+      copies = omega arith;
     })
     c.push.ensures.ok
 

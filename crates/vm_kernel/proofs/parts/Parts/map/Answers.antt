@@ -89,6 +89,7 @@ returns-clause-spends g c =
       rows = omega (arith, held.waits, held.frames, held.rows, little.held.waits, little.held.frames, little.held.rows, c.hold.ensures.marked, little.marked);
       shadows = omega (arith, c.hold.ensures.shadows, little.shadows, c.hold.ensures.marked, little.marked);
       objects = omega (arith, c.hold.ensures.objects, c.open.ensures.objects, c.hold.ensures.marked, little.marked);
+      copies = omega (arith, held.copies, little.held.copies);
     })
     c.open.ensures.opens
 

@@ -34,11 +34,11 @@ merge_losers-requires g c = (
 -- what all merges did
 merged : (g : Over) (c : After-merge_losers g) → AllMerged g.given.header g.given.host g.given.outside g.given.command g.given.past c.args.self.now
     c.args.ids.now
-    (merge_state c.args.self.now.memory c.args.self.now.chains c.reserve.new.self.items)
-    (merge_state c.merge_losers.new.parts c.merge_losers.new.chains c.merge_losers.new.log.items)
+    (merge_state c.args.self.now.memory c.args.self.now.chains c.args.self.now.copies c.reserve.new.self.items)
+    (merge_state c.merge_losers.new.parts c.merge_losers.new.chains c.args.self.now.copies c.merge_losers.new.log.items)
 merged g c =
-    all_merged c.args.self.now (merge_state c.args.self.now.memory c.args.self.now.chains c.reserve.new.self.items)
-    (merge_state c.merge_losers.new.parts c.merge_losers.new.chains c.merge_losers.new.log.items) c.merge_losers.ensures.merges
+    all_merged c.args.self.now (merge_state c.args.self.now.memory c.args.self.now.chains c.args.self.now.copies c.reserve.new.self.items)
+    (merge_state c.merge_losers.new.parts c.merge_losers.new.chains c.args.self.now.copies c.merge_losers.new.log.items) c.merge_losers.ensures.merges
     (with_log g c.args.self.now c.args.ids.now c.args.log.now.items
     c.reserve.new.self.items c.reserve.ensures.same c.requires.0)
 
@@ -77,8 +77,8 @@ pub returns-clause-buffers : goal.returns-clause-buffers
 returns-clause-buffers g c =
     merges_buffers c.args.self.now (record c.args.self.now { memory = c.merge_losers.new.parts; chains = c.merge_losers.new.chains }) refl
     c.merge_losers.ensures.buffers
-    (merges_list (merge_state c.args.self.now.memory c.args.self.now.chains c.reserve.new.self.items)
-    (merge_state c.merge_losers.new.parts c.merge_losers.new.chains c.merge_losers.new.log.items) c.merge_losers.ensures.merges)
+    (merges_list (merge_state c.args.self.now.memory c.args.self.now.chains c.args.self.now.copies c.reserve.new.self.items)
+    (merge_state c.merge_losers.new.parts c.merge_losers.new.chains c.args.self.now.copies c.merge_losers.new.log.items) c.merge_losers.ensures.merges)
 
 pub returns-clause-skip : goal.returns-clause-skip
 returns-clause-skip g c =

@@ -14,6 +14,11 @@ use Rattle.vm_kernel.proofs.parts.Parts.reclaim_but.Goals as goal
 none_left : (g : Over) (c : goal.In_default g) → AllSkipped c.args.self.now.skip.items c.args.self.now.memory.queues
 none_left g c = subst (λ (z : List FrameNo). AllSkipped z c.args.self.now.memory.queues) c.as_slice-skip.ensures.value c.in_default.ensures.none
 
+pub returns-in_default-clause-rests : goal.returns-in_default-clause-rests
+returns-in_default-clause-rests g c =
+    rests_touched g.given.header g.given.host c.args.ids.now c.args.self.now c.victim.new.self (c.args.log.now.items ++ g.given.past) c.requires.0
+    c.victim.ensures.pages (ap (λ z. z.frames) c.victim.ensures.queues)
+
 pub returns-in_default-clause-reclaimed : goal.returns-in_default-clause-reclaimed
 returns-in_default-clause-reclaimed g c =
     all_skipped g.given.header g.given.host c.args.self.now.skip.items c.args.self.now c.victim.new.self c.args.ids.now (c.args.log.now.items ++ g.given.past)
@@ -98,7 +103,7 @@ returns-clause-leaves g c =
     leaves_looked c.in_ok-answer.answer k k2 c.victim.new.self c.args.log.now.room c.reclaim.new.log.room
     (ap listed_pages c.victim.ensures.queues ∙ listed_searched k.memory.queues)
     (leaves_of c.in_ok-answer.answer k.host k.skip.items (looked_on k c.victim.new.self) k2 k.laundry c.reclaim.new.laundry c.args.log.now.items
-    c.reclaim.new.log.items c.args.log.now.room c.reclaim.new.log.room (effects g c) done.log done.buffers done.spare done.freed done.whole refl refl
+    c.reclaim.new.log.items c.args.log.now.room c.reclaim.new.log.room (effects g c) done.log done.buffers done.spare done.freed done.whole refl refl refl
     done.listed)
 
 pub returns-in_default-clause-leaves : goal.returns-in_default-clause-leaves
@@ -112,6 +117,7 @@ returns-in_default-clause-leaves g c =
       rows = omega arith;
       objects = omega arith;
       chains = refl;
+      copies = refl;
       skip = omega arith;
       none = λ is. same;
       fewer = λ apart. absurd (apart refl);

@@ -7,6 +7,7 @@ use Rattle.vm_kernel.proofs.room.PartsOfStep.{skip_kept}
 use Rattle.vm_base.specs.declared.ids.ObjectId.{ObjectId}
 use Rattle.vm_kernel.proofs.Common.{ChainTable, List, ObjectTable, ap}
 use Rattle.vm_kernel.proofs.space.StillThin.{thin_but_chains}
+use Rattle.vm_copies.specs.Copies.{CopyTable}
 use Rattle.vm_merge.specs.Merges.{IsThinBut}
 use Rattle.vm_kernel.proofs.parts.Parts.release.Goals as goal
 
@@ -99,8 +100,8 @@ pub returns-in_ok-left-clause-skip : goal.returns-in_ok-left-clause-skip
 returns-in_ok-left-clause-skip g c = skip_kept c.args.self.now c.end_region.new.self c.in_ok-left.ensures.skip.skip c.in_ok-left.ensures.waits
 
 -- the region counts less, and nothing else has changed
-counted : (losers : List ObjectId) (cs cs2 : ChainTable) (os : ObjectTable) (region count : ℕ) → PutsEntries region count cs cs2 → IsThinBut losers cs os
-    → IsThinBut losers cs2 os
+counted : {copies : CopyTable} (losers : List ObjectId) (cs cs2 : ChainTable) (os : ObjectTable) (region count : ℕ) → PutsEntries region count cs cs2
+    → IsThinBut copies losers cs os → IsThinBut copies losers cs2 os
 counted losers cs cs2 os region count puts thin = thin_but_chains losers cs cs2 os (λ o. ap (λ f. f o) puts.shadows) thin
 
 pub returns-else-count-eq1-clause-thin : goal.returns-else-count-eq1-clause-thin

@@ -13,13 +13,13 @@ returns-clause-ready c =
     (λ enough.
     let skipped = c.reserve_skip.ensures.is in
     let is = c.reserve_buffers.ensures.is in
-    let same = ap length c.in_ok-reserve-4.ensures.rows in
+    let same = ap length c.in_ok-reserve-5.ensures.rows in
     let rows = ap (λ (z : Parts). length z.waits.rows) is in
     let rows2 = ap (λ (z : Parts). length z.waits.rows) skipped in
     let frames = ap (λ (z : Parts). frame_count z.memory.frames) is ∙ ap (λ (z : Parts). frame_count z.memory.frames) skipped in
     let copied = ap (λ (z : Parts). if_copies (count_copies z.waits.rows) (frame_count z.memory.frames)) is
     ∙ (ap (λ (z : Parts). if_copies (count_copies z.waits.rows) (frame_count z.memory.frames)) skipped
-    ∙ ap (λ z. if_copies (count_copies z) (frame_count c.args.self.now.memory.frames)) c.in_ok-reserve-4.ensures.rows) in
+    ∙ ap (λ z. if_copies (count_copies z) (frame_count c.args.self.now.memory.frames)) c.in_ok-reserve-5.ensures.rows) in
     let marked = ap (λ (z : Parts). z.chains.marked) is ∙ (ap (λ (z : Parts). z.chains.marked) skipped ∙ c.in_ok-reserve-3.ensures.marked) in
     let maps = ap (λ (z : Parts). z.maps) is ∙ ap (λ (z : Parts). z.maps) skipped in
     let first = making_same c.args.breadth c.args.self.now c.reserve_buffers.new.self maps frames in
@@ -27,6 +27,7 @@ returns-clause-ready c =
     let spare = ap (λ (z : Parts). z.memory.resident.spare) is ∙ ap (λ (z : Parts). z.memory.resident.spare) skipped in
     let shadows = ap (λ (z : Parts). z.chains.spare) is ∙ ap (λ (z : Parts). z.chains.spare) skipped in
     let objects = ap (λ (z : Parts). z.memory.objects.rows) is ∙ ap (λ (z : Parts). z.memory.objects.rows) skipped in
+    let room = ap (λ (z : Parts). z.copies.room) is ∙ ap (λ (z : Parts). z.copies.room) skipped in
     let marks = ap (λ (z : Parts). z.memory.objects.marks) is ∙ ap (λ (z : Parts). z.memory.objects.marks) skipped in
     let access = ap (λ (z : Parts). z.waits.room) is ∙ ap (λ (z : Parts). z.waits.room) skipped in
     let here = ap returning is in
@@ -41,8 +42,9 @@ returns-clause-ready c =
       rows = omega (arith, same, rows, rows2, copied, marked, spare, kept, pages, behind, made, first);
       shadows = omega (arith, shadows, marked, count, sum, made, first, c.in_ok-reserve-3.ensures.room);
       objects = omega (arith, objects, marked, count, sum, made, first, c.in_ok-reserve-2.ensures.rows);
+      copies = omega (arith, room, count, sum, made, first, c.in_ok-reserve-4.ensures.room);
       mark = omega (arith, marks, c.in_ok-reserve-2.ensures.marks);
-      access = omega (arith, access, c.in_ok-reserve-4.ensures.room);
+      access = omega (arith, access, c.in_ok-reserve-5.ensures.room);
       buffers = omega (arith, here, told, enough);
       skip = omega (arith, rows, capacity, c.in_ok-reserve_skip.ensures.room);
     })

@@ -8,7 +8,7 @@ use Rattle.vm_kernel.proofs.room.EndsSpend.{roomy_fewer}
 use Rattle.vm_kernel.proofs.steps.QueueServed.{three_ok}
 use Rattle.vm_kernel.proofs.room.CallsSpend.{never_err}
 use Rattle.vm_kernel.specs.Plays.{PlaysBy, may_reclaim, paging}
-use Rattle.vm_kernel.specs.Rooms.{HasReturns, front, leaving, making}
+use Rattle.vm_kernel.specs.Rooms.{HasReturns, front, leaving, making, of_entries}
 use Rattle.vm_kernel.specs.declared.breadth.Breadth.TheVariants as wide
 use Rattle.vm_kernel.proofs.parts.Parts.run.Given as given
 use Rattle.vm_kernel.proofs.parts.Parts.run.Goals as goal
@@ -55,11 +55,6 @@ returns-in-Task-clause-restarts g c =
     on_ok c.make_task.result _ _ (restarts_quiet g.given.header g.given.host c.make_task.new.self.waits.rows g.given.past c.args.self.now.waits.queue
     c.make_task.new.self.waits.queue c.args.log.now.items c.make_task.new.log.items c.requires.0.nothing) c.make_task.ensures.quiet
 
-pub returns-in-Fork-clause-restarts : goal.returns-in-Fork-clause-restarts
-returns-in-Fork-clause-restarts g c =
-    on_ok c.fork.result _ _ (restarts_quiet g.given.header g.given.host c.fork.new.self.waits.rows g.given.past c.args.self.now.waits.queue
-    c.fork.new.self.waits.queue c.args.log.now.items c.fork.new.log.items c.requires.0.nothing) c.fork.ensures.quiet
-
 pub returns-in-Map-clause-restarts : goal.returns-in-Map-clause-restarts
 returns-in-Map-clause-restarts g c =
     on_ok c.map.result _ _ (restarts_quiet g.given.header g.given.host c.map.new.self.waits.rows g.given.past c.args.self.now.waits.queue
@@ -104,21 +99,21 @@ returns-in-Task-clause-err g c =
 
 pub returns-in-Fork-clause-few : goal.returns-in-Fork-clause-few
 returns-in-Fork-clause-few g c =
-    few_ok c.fork.result c.args.self.now c.fork.new.self c.args.log.now c.fork.new.log _ _ _
-    (few_in c.args.command.now _ c.args.self.now _ c.in-Fork.is (omega arith)) c.fork.ensures.spends
+    let made = of_entries c.in-Fork.task.0 c.args.self.now in
+    on_ok c.fork.result _ _ (λ few. few_behind few (up_to_front c.args.self.now (length c.args.log.now.items) made _
+    (few_in c.args.command.now _ c.args.self.now made c.in-Fork.is (omega arith)))) c.fork.ensures.few
 
 pub returns-in-Fork-clause-room : goal.returns-in-Fork-clause-room
 returns-in-Fork-clause-room g c = λ more had access has skip returns.
-    kept_ok c.fork.result c.args.self.now c.fork.new.self c.args.log.now c.fork.new.log _ _ _ _ more
-    (few_in c.args.command.now _ c.args.self.now _ c.in-Fork.is (omega arith))
-    (made_in c.args.command.now _ c.args.self.now _ c.in-Fork.is (omega arith)) c.fork.ensures.spends c.fork.ensures.spare had has
-    (skip_fewer c.args.self.now skip)
+    let made = of_entries c.in-Fork.task.0 c.args.self.now in
+    c.fork.ensures.room more (more_fewer _ _ made made more c.args.self.now _ had (few_in c.args.command.now _ c.args.self.now made c.in-Fork.is (omega arith))
+    (made_in c.args.command.now _ c.args.self.now made c.in-Fork.is (omega arith))) has skip
 
 pub returns-in-Fork-clause-err : goal.returns-in-Fork-clause-err
-returns-in-Fork-clause-err g c =
-    λ had access has skip returns. c.fork.ensures.err (roomy_fewer _ _ _ _ c.args.self.now _ had.tables
-    (few_in c.args.command.now _ c.args.self.now _ c.in-Fork.is (omega arith))
-    (made_in c.args.command.now _ c.args.self.now _ c.in-Fork.is (omega arith)))
+returns-in-Fork-clause-err g c = λ had access has skip returns.
+    let made = of_entries c.in-Fork.task.0 c.args.self.now in
+    c.fork.ensures.err (more_fewer _ _ made made 0 c.args.self.now _ had (few_in c.args.command.now _ c.args.self.now made c.in-Fork.is (omega arith))
+    (made_in c.args.command.now _ c.args.self.now made c.in-Fork.is (omega arith)))
 
 pub returns-in-Exit-clause-few : goal.returns-in-Exit-clause-few
 returns-in-Exit-clause-few g c =
@@ -284,6 +279,12 @@ returns-in-Copy-clause-plays g c =
     subst (λ (z : Command). OnOk c.copy.result (PlaysBy g.given.header (may_reclaim z c.args.self.now.waits.queue g.given.past) g.given.past
     c.args.log.now.items (paging c.args.self.now) c.copy.new.log.items (paging c.copy.new.self))) (sym c.in-Copy.is)
     c.copy.ensures.plays
+
+pub returns-in-Fork-clause-plays : goal.returns-in-Fork-clause-plays
+returns-in-Fork-clause-plays g c =
+    subst (λ (z : Command). OnOk c.fork.result (PlaysBy g.given.header (may_reclaim z c.args.self.now.waits.queue g.given.past) g.given.past
+    c.args.log.now.items (paging c.args.self.now) c.fork.new.log.items (paging c.fork.new.self))) (sym c.in-Fork.is)
+    c.fork.ensures.plays
 
 pub returns-in-Allocate-clause-room : goal.returns-in-Allocate-clause-room
 returns-in-Allocate-clause-room g c = λ more had access has skip returns. c.change_entries.ensures.room more had access has (skip_fewer c.args.self.now skip)

@@ -6,10 +6,18 @@ abbrev pub ghost-make_task : goal.ghost-make_task
 ghost-make_task g a = g.given
 
 abbrev pub ghost-fork : goal.ghost-fork
-ghost-fork g a = g.given
+ghost-fork g a =
+    record { header = g.given.header; host = g.given.host; outside = g.given.outside; past = g.given.past; command = command.Fork a.task a.child }
 
 abbrev pub ghost-copy : goal.ghost-copy
-ghost-copy g a = g.given
+ghost-copy g a =
+    record {
+      header = g.given.header;
+      host = g.given.host;
+      outside = g.given.outside;
+      past = g.given.past;
+      command = command.Copy a.task a.address a.bytes a.target a.to;
+    }
 
 abbrev pub ghost-wire : goal.ghost-wire
 ghost-wire g a = g.given

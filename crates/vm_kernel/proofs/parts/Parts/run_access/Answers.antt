@@ -6,7 +6,7 @@ use Rattle.vm_waits.specs.Waits.{count_copies, rewanted, turned, with_want}
 use Rattle.vm_waits.specs.declared.waiting.On.TheVariants as on
 use Rattle.vm_kernel.proofs.room.RoomForRun.{as_many, as_many_once, as_many_run, copies_gone, copies_on, copies_turn, cost_most, few_left, few_wanting}
 use Rattle.vm_kernel.proofs.room.RoomForRun.{keeps_both, one_fewer, pays_run, room_left, room_to_end, room_to_run, room_wanting, run_spare, some_run, tells_end}
-use Rattle.vm_kernel.proofs.steps.FramesClaimed.{WaitsOn, once_joins, once_queued, once_turned, waits_page, waits_ready}
+use Rattle.vm_kernel.proofs.steps.FramesClaimed.{WaitsOn, once_joins, once_queued, once_turned, waits_page, waits_ready, waits_word, word_over}
 use Rattle.vm_kernel.proofs.steps.FoundPageEnds.{ends_next}
 use Rattle.vm_kernel.proofs.steps.WhereAccessLeads.{can_fault}
 use Rattle.vm_kernel.proofs.steps.RowsInOrder.{PutsInOrder}
@@ -15,14 +15,17 @@ use Rattle.vm_kernel.proofs.steps.PagesLeft.{left_goes_on, left_gone, left_turns
 use Rattle.vm_kernel.proofs.steps.PageByPage.{left_at_end, pagewise}
 use Rattle.vm_kernel.proofs.lists.ListsAsTold.{plays_attempt}
 use Rattle.vm_kernel.proofs.steps.AfterRun.{can_end, done_runs, ends_last, if_row, joins_queue, keeps_rest, noted, noted_gone, noted_row, noted_turned}
-use Rattle.vm_kernel.proofs.steps.AfterRun.{once_ended, page_runs, queued_runs, ready_runs}
+use Rattle.vm_kernel.proofs.steps.AfterRun.{once_ended, page_runs, queued_runs, ready_runs, word_runs}
 use Rattle.vm_kernel.proofs.steps.FaultStates.{with_state}
-use Rattle.vm_kernel.specs.Serving.{LeavesFrameQueue}
+use Rattle.vm_kernel.specs.Serving.{LeavesFrameQueue, waits_at}
 use Rattle.vm_kernel.proofs.parts.Parts.run_access.Goals as goal
-use Rattle.vm_kernel.proofs.parts.Parts.run_access.Goals.{in-Ask, in-Ask-2, in-Ask-3, in-WaitReady}
+use Rattle.vm_kernel.proofs.parts.Parts.run_access.Goals.{in-Ask, in-Ask-2, in-WaitAnswer, in-WaitReady}
 
 pub fault-requires : goal.fault-requires
 fault-requires g c = can_fault g.given.header g.given.host _ _ _ _ c.args.waiting _ c.requires.0 c.requires.1.0
+
+pub waits_at-on-requires : goal.waits_at-on-requires
+waits_at-on-requires g c = record { allowed = c.requires.0.waits.allowed c.args.waiting.task.0 c.args.waiting c.requires.1.0 }
 
 pub end_copy-requires : goal.end_copy-requires
 end_copy-requires g c =
@@ -209,8 +212,7 @@ returns-clause-works g c =
     let puts = noted_turned w last c.match-step.on rows c.set_want.new.self.rows c.set_on.new.self.rows put c.set_on.ensures.entry c.set_on.ensures.rows in
     let turns = λ (reason : On) (is : c.match-step.on ≡ reason). subst (λ (z : On). PutsInOrder w.task.0 (Some (with_on (with_want w last) z)) rows
     c.set_on.new.self.rows) is puts in
-    let page = λ (key : PageKey) (comes : (c.in_ok-step.step ≡ step.Ask key)
-    ⊎ ((c.in_ok-step.step ≡ step.Unlock key) ⊎ (c.in_ok-step.step ≡ step.WaitAnswer key))) (is : c.match-step.on ≡ on.Page key).
+    let page = λ (key : PageKey) (comes : (c.in_ok-step.step ≡ step.Ask key) ⊎ (c.in_ok-step.step ≡ step.Unlock key)) (is : c.match-step.on ≡ on.Page key).
     (page_runs g.given.header g.given.host g.given.outside g.given.command g.given.past c.args.self.now _ w c.args.may_claim c.in_ok-step.step key _ _ _
     c.set_on.new.self c.requires.0 c.requires.1.0 c.requires.1.1.0 c.in_ok-step.ensures.runs comes (turns (on.Page key) is)).works in
     elim c.match-step.branch [
@@ -220,7 +222,10 @@ returns-clause-works g c =
           (turns (on.Ready at.in-WaitReady.object) at.on-is)).works
       | in-Ask at ↦ page at.in-Ask.key at.in-Ask.is at.on-is
       | in-Ask-2 at ↦ page at.in-Ask.key at.in-Ask.is at.on-is
-      | in-Ask-3 at ↦ page at.in-Ask.key at.in-Ask.is at.on-is
+      | in-WaitAnswer at ↦
+          (word_runs g.given.header g.given.host g.given.outside g.given.command g.given.past c.args.self.now _ w c.args.may_claim at.in-WaitAnswer.key _ _ _
+          c.set_on.new.self c.requires.0 c.requires.1.0 c.requires.1.1.0 (rw at.in-WaitAnswer.is at c.in_ok-step.ensures.runs)
+          (turns (waits_at c.args.self.now w at.in-WaitAnswer.key) (at.on-is ∙ at.waits_at-on.ensures))).works
     ]
 
 pub returns-clause-goes : goal.returns-clause-goes
@@ -232,8 +237,7 @@ returns-clause-goes g c =
     let puts = noted_turned w last c.match-step.on rows c.set_want.new.self.rows c.set_on.new.self.rows put c.set_on.ensures.entry c.set_on.ensures.rows in
     let turns = λ (reason : On) (is : c.match-step.on ≡ reason). subst (λ (z : On). PutsInOrder w.task.0 (Some (with_on (with_want w last) z)) rows
     c.set_on.new.self.rows) is puts in
-    let page = λ (key : PageKey) (comes : (c.in_ok-step.step ≡ step.Ask key)
-    ⊎ ((c.in_ok-step.step ≡ step.Unlock key) ⊎ (c.in_ok-step.step ≡ step.WaitAnswer key))) (is : c.match-step.on ≡ on.Page key).
+    let page = λ (key : PageKey) (comes : (c.in_ok-step.step ≡ step.Ask key) ⊎ (c.in_ok-step.step ≡ step.Unlock key)) (is : c.match-step.on ≡ on.Page key).
     (page_runs g.given.header g.given.host g.given.outside g.given.command g.given.past c.args.self.now _ w c.args.may_claim c.in_ok-step.step key _ _ _
     c.set_on.new.self c.requires.0 c.requires.1.0 c.requires.1.1.0 c.in_ok-step.ensures.runs comes (turns (on.Page key) is)).goes in
     elim c.match-step.branch [
@@ -243,7 +247,10 @@ returns-clause-goes g c =
           (turns (on.Ready at.in-WaitReady.object) at.on-is)).goes
       | in-Ask at ↦ page at.in-Ask.key at.in-Ask.is at.on-is
       | in-Ask-2 at ↦ page at.in-Ask.key at.in-Ask.is at.on-is
-      | in-Ask-3 at ↦ page at.in-Ask.key at.in-Ask.is at.on-is
+      | in-WaitAnswer at ↦
+          (word_runs g.given.header g.given.host g.given.outside g.given.command g.given.past c.args.self.now _ w c.args.may_claim at.in-WaitAnswer.key _ _ _
+          c.set_on.new.self c.requires.0 c.requires.1.0 c.requires.1.1.0 (rw at.in-WaitAnswer.is at c.in_ok-step.ensures.runs)
+          (turns (waits_at c.args.self.now w at.in-WaitAnswer.key) (at.on-is ∙ at.waits_at-on.ensures))).goes
     ]
 
 pub returns-clause-ends : goal.returns-clause-ends
@@ -278,7 +285,7 @@ returns-clause-attempts g c =
       | in-WaitReady at ↦ leaves (ap one_again at.on-is)
       | in-Ask at ↦ leaves (ap one_again at.on-is)
       | in-Ask-2 at ↦ leaves (ap one_again at.on-is)
-      | in-Ask-3 at ↦ leaves (ap one_again at.on-is)
+      | in-WaitAnswer at ↦ leaves (ap one_again (at.on-is ∙ at.waits_at-on.ensures) ∙ word_over c.args.self.now c.args.waiting at.in-WaitAnswer.key)
     ]
 
 pub returns-clause-plays : goal.returns-clause-plays
@@ -299,7 +306,8 @@ returns-clause-once g c =
       | in-WaitReady at ↦ turned (waits_ready c.in_ok-step.step c.match-step.on at.in-WaitReady.object at.in-WaitReady.is at.on-is)
       | in-Ask at ↦ turned (waits_page c.in_ok-step.step c.match-step.on at.in-Ask.key at.in-Ask.is at.on-is)
       | in-Ask-2 at ↦ turned (waits_page c.in_ok-step.step c.match-step.on at.in-Ask.key at.in-Ask.is at.on-is)
-      | in-Ask-3 at ↦ turned (waits_page c.in_ok-step.step c.match-step.on at.in-Ask.key at.in-Ask.is at.on-is)
+      | in-WaitAnswer at ↦
+          turned (waits_word c.args.self.now w c.in_ok-step.step c.match-step.on at.in-WaitAnswer.key at.in-WaitAnswer.is (at.on-is ∙ at.waits_at-on.ensures))
     ]
 
 -- there is room, and something is left behind it

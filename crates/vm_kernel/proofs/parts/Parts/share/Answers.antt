@@ -13,5 +13,6 @@ returns-clause-spends c =
       rows = omega (arith, marked);
       shadows = omega (arith, spare, marked);
       objects = omega (arith, marked);
+      copies = omega arith;
     })
     c.push.ensures.ok

@@ -16,8 +16,8 @@ returns-clause-to_copy g c =
     let past = c.args.log.now.items ++ g.given.past in
     let w = c.in_ok-waiting.waiting in
     copies_source g.given.header g.given.host past c.args.self.now w.task c.source.result
-    (to_copy g.given.header g.given.host c.args.self.now c.args.ids.now past woken.Nobody w c.source.result c.requires.matches c.requires.waits
-    c.requires.used.copies c.in_ok-waiting.ensures.row.0 c.source.ensures)
+    (to_copy g.given.header g.given.host c.args.self.now c.args.ids.now past woken.Nobody w c.source.result c.requires.matches c.requires.used
+    c.requires.referred c.requires.waits c.in_ok-waiting.ensures.row.0 c.source.ensures)
 
 pub returns-clause-source : goal.returns-clause-source
 returns-clause-source g c =
@@ -25,7 +25,7 @@ returns-clause-source g c =
     let w = c.in_ok-waiting.waiting in
     front_source g.given.header g.given.host c.source.result c.args.self.now.waits.queue w.task past c.in_ok-waiting.ensures.first
     (only_copies g.given.header g.given.host past c.args.self.now w.task c.source.result
-    (to_copy g.given.header g.given.host c.args.self.now c.args.ids.now past woken.Nobody w c.source.result c.requires.matches c.requires.waits
-    c.requires.used.copies c.in_ok-waiting.ensures.row.0 c.source.ensures))
+    (to_copy g.given.header g.given.host c.args.self.now c.args.ids.now past woken.Nobody w c.source.result c.requires.matches c.requires.used
+    c.requires.referred c.requires.waits c.in_ok-waiting.ensures.row.0 c.source.ensures))
     (reads_it g.given.header g.given.host past c.args.self.now c.args.ids.now woken.Nobody w c.source.result c.requires.matches c.requires.waits
     c.requires.used.copies c.in_ok-waiting.ensures.row.0 c.source.ensures)

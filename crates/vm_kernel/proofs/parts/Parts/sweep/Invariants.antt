@@ -18,7 +18,7 @@ ghost-release g a =
 abbrev pub invariant-all : goal.invariant-all
 invariant-all g l = record {
   sweeps : Sweeps g.given.header g.given.host g.given.outside g.given.command g.given.past l.self l.ids (drop l.i (by_address l.gone)) l.log.items;
-  thin : IsThinBut l.losers.items l.self.chains l.self.memory.objects;
+  thin : IsThinBut l.self.copies l.losers.items l.self.chains l.self.memory.objects;
   count : length l.losers.items ≤ length l.fn.losers.items + l.i;
   room : l.fn.losers.room ≤ l.losers.room + l.i;
   plays : Plays g.given.header g.given.past l.fn.log.items (paging l.fn.self) l.log.items (paging l.self);

@@ -26,6 +26,7 @@ returns-clause-spends g c =
       rows = omega (arith, frames);
       shadows = omega arith;
       objects = omega arith;
+      copies = omega arith;
     })
     c.tell_wired.ensures.told
 

@@ -9,7 +9,7 @@ use Rattle.vm_system.proofs.Following.{both_spares, same_all}
 use Rattle.vm_system.proofs.Roomed.{behind_all, fewer_room, may_roomed, on_err, room_for, roomed_files, roomed_pagers, spares_roomed, still_of, still_roomed}
 use Rattle.vm_system.proofs.Roomed.{still_taken}
 use Rattle.vm_system.proofs.Taken.{first_told, front_of, may_head, may_only, may_port, may_read, may_some, may_there}
-use Rattle.vm_system.proofs.TakenDown.{can_down, down_destroys, down_letter, down_licensed, spares_down, took_down}
+use Rattle.vm_system.proofs.TakenDown.{can_down, down_destroys, down_letter, down_licensed, down_pushed, spares_down, took_down}
 use Rattle.vm_system.proofs.state.State.take_down.Goals as goal
 
 pub head-requires : goal.head-requires
@@ -62,7 +62,16 @@ take-requires g c =
             letter.1,
             (
               down_licensed given c.args.line c.args.number c.args.host c.args.object c.args.control m t may head,
-              (may.stands.log, ((ready.0, able), down_destroys given c.args.line c.args.number c.args.host c.args.object c.args.control m t may head)),
+              (
+                may.stands.log,
+                (
+                  (ready.0, able),
+                  (
+                    down_destroys given c.args.line c.args.number c.args.host c.args.object c.args.control m t may head,
+                    down_pushed given c.args.line c.args.number c.args.host c.args.object c.args.control m t may head,
+                  ),
+                ),
+              ),
             ),
           ),
         ),
