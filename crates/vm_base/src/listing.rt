@@ -1,5 +1,5 @@
 // A list that grows at its end, and is seen with its newest item first.
-ghost use Rattle.std.specs.Prelude.{◌≡◌, ◌+◌, ◌≤◌, ◌<◌, ◌∷◌, [], ◌++◌, length, reverse, take, drop, insert, slice_get, IsOk, OnOk, OnErr, MatchOption};
+ghost use Rattle.std.specs.Prelude.{◌≡◌, ◌+◌, ◌≤◌, ◌<◌, ◌∷◌, [], ◌++◌, length, reverse, take, drop, insert, set, slice_get, IsOk, OnOk, OnErr, MatchOption};
 
 use crate::NoMemory;
 use std::alloc::Global;
@@ -116,6 +116,17 @@ impl<T> Listing<T> {
         self.items.append(&mut others.items)?;
         self.items.rotate_left(behind);
         Ok(())
+    }
+
+    /// Puts an item in the place of the one at an index, counted from the oldest.
+    pub fn set(&mut self, i: u32, item: T)
+    where
+        T: Drop,
+        requires { i < length self.old.items }
+        ensures items { reverse self.new.items ≡ set (reverse self.old.items) i item }
+        ensures room { self.new.room ≡ self.old.room }
+    {
+        self.items[i as usize] = item;
     }
 
     /// The item at an index, counted from the oldest.

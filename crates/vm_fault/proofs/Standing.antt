@@ -1,5 +1,5 @@
 -- The places of chains are pages of their objects.
-use Rattle.std.proofs.Common.{◌≡◌, ℕ, ◌+◌, ◌<◌, Option, Some, None, ap, ◌∙◌, subst, arith}
+use Rattle.std.proofs.Common.{◌≡◌, ℕ, ◌+◌, ◌<◌, Some, None, ap, subst, arith}
 use Rattle.vm_base.specs.declared.ids.PageKey.{PageKey}
 use Rattle.vm_fault.specs.Stops.{Stands}
 use Rattle.vm_fault.specs.Walks.{ChainsFit}
@@ -7,7 +7,7 @@ use Rattle.vm_fault.specs.declared.walking.Spot.{Spot}
 use Rattle.vm_objects.specs.Objects.{ObjectTable, object_at}
 use Rattle.vm_objects.specs.declared.row.ObjectRow.{ObjectRow}
 use Rattle.vm_parts.specs.Fits.{object_pages, pages_of_row}
-use Rattle.vm_shadow.specs.Chains.{ChainTable, place_under, region_at, shadow_at}
+use Rattle.vm_shadow.specs.Chains.{ChainTable, region_at, shadow_at}
 use Rattle.vm_shadow.specs.declared.region_row.RegionRow.{RegionRow}
 use Rattle.vm_shadow.specs.declared.shadow_row.ShadowRow.{ShadowRow}
 
@@ -25,10 +25,6 @@ pub under_inside : (chains : ChainTable) (objects : ObjectTable) (spot : Spot) (
     → shadow_at chains spot.key.object.0 ≡ Some row
     → spot.key.page.0 + row.shift < object_pages objects row.under.0
 under_inside chains objects spot row fits stands found = omega (arith, fits.unders spot.key.object.0 row found, ap pages_of_row stands.known, stands.inside)
-
-pub under_key : (x : Option ShadowRow) (row : ShadowRow) (key : PageKey) (page : ℕ) → x ≡ Some row → Some key ≡ place_under x page
-    → key ≡ record { object = row.under; page = record { 0 = page + row.shift } }
-under_key x row key page found is = let same : Some key ≡ place_under (Some row) page = is ∙ ap (λ z. place_under z page) found in cc
 
 pub stands_at : (objects : ObjectTable) (key : PageKey) (object : ObjectRow) → object_at objects key.object.0 ≡ Some object
     → key.page.0 < object_pages objects key.object.0 → Stands objects (record { key = key; object = object })

@@ -74,7 +74,10 @@ fn under(spot: Spot, parts: &HostParts, chains: &Chains) -> Option<Spot>
     let Some(object) = parts.objects.find(row.under) else {
         unreachable!()
     };
-    let key = chains.below(spot.key)?;
+    let key = PageKey {
+        object: row.under,
+        page: PageNo(spot.key.page.0 + row.shift),
+    };
     Some(Spot { key, object })
 }
 

@@ -158,7 +158,7 @@ impl Parts {
         ensures spare { OnOk result (KeepsSpare self.old self.new) }
     {
         let cuts = cuts_of(&self.maps, task, address, bytes);
-        let _ = self.maps.protect(task, &protection(address, bytes, prot))?;
+        self.maps.set_prot(task, &protection(address, bytes, prot));
         count_cuts(&mut self.chains, cuts);
         log.push(Event::Protected {
             task,
@@ -189,9 +189,8 @@ impl Parts {
         ensures spare { OnOk result (KeepsSpare self.old self.new) }
     {
         let cuts = cuts_of(&self.maps, task, address, bytes);
-        let _ = self
-            .maps
-            .inherit(task, &inheritance(address, bytes, inherit))?;
+        self.maps
+            .set_inherit(task, &inheritance(address, bytes, inherit));
         count_cuts(&mut self.chains, cuts);
         log.push(Event::Inherited {
             task,

@@ -1,2 +1,3 @@
 mod Left
 mod Obeying
+mod Passing

@@ -1,3 +1,4 @@
 pub mod Obeys
+pub mod Passing
 pub mod Requests
 pub mod Rooms

@@ -1,22 +1,23 @@
 // The pages of a lock request's range.
-ghost use Rattle.std.specs.Prelude.{◌≡◌, ◌+◌, ◌<◌, ◌≤◌, true, false, Some, length, [], ◌∷◌, ◌++◌, IsOk, IsSome, OnOk};
+ghost use Rattle.std.specs.Prelude.{◌≡◌, ◌+◌, ◌<◌, ◌≤◌, true, false, Some, length, [], ◌∷◌, ◌++◌, IsOk, IsSome, MatchOption, OnOk};
 ghost use Rattle.vm_frames.specs.Frames.{is_claimed, page_in};
 ghost use Rattle.vm_model.specs.declared.event.Event.TheVariants as event;
 ghost use Rattle.vm_model.specs.declared.message.Channel.TheVariants as channel;
 ghost use Rattle.vm_model.specs.declared.message.Message.TheVariants as message;
 ghost use Rattle.vm_objects.specs.Objects.{PutsAbsent, SameObjects, object_at};
-ghost use Rattle.vm_parts.specs.Changes.{Discards, Relocks, Removes};
+ghost use Rattle.vm_parts.specs.Changes.{Discards, Relocks, Removes, relocked};
 ghost use Rattle.vm_parts.specs.Fits.{Fit, object_pages};
 ghost use Rattle.vm_parts.specs.Listed.{listed_pages};
 ghost use Rattle.vm_resident.specs.Resident.{row_at};
 ghost use Rattle.vm_locks.specs.Obeys.{PageObeys, PagesObey, lock_state};
+ghost use Rattle.vm_locks.specs.Passing.{IsNextFor, LeavesRest};
 
 use crate::request::LockRequest;
 use vm_base::{HostId, Lock, NoMemory, ObjectId, PageKey, PageNo};
 use vm_model::{Channel, Event, Events, Message};
 use vm_objects::{Holder, ObjectRow};
 use vm_parts::HostParts;
-use vm_resident::PageRow;
+use vm_resident::{PageRow, Resident};
 use vm_tables::{LockCase, lock_act};
 
 /// The pages of the range that are here obey, by rising number.
@@ -45,10 +46,7 @@ pub fn lock_pages<L: Holder>(
     ensures told { OnOk result (length log.new.items ≤ length log.old.items + listed_pages parts.old.queues) }
 {
     let mut from = request.page;
-    'pages: while let Some(page) = parts.resident.next_page(object, from) {
-        if page.0 - request.page.0 >= request.count {
-            return Ok(());
-        }
+    'pages: while let Some(page) = next_page(&parts.resident, object, request, from) {
         let key = PageKey { object, page };
         let Some(row) = parts.resident.get(key) else {
             unreachable!()
@@ -59,6 +57,31 @@ pub fn lock_pages<L: Holder>(
         from = PageNo(page.0 + 1);
     }
     Ok(())
+}
+
+// The first page of the range, from one on, that a request may change.
+fn next_page(
+    resident: &Resident,
+    object: ObjectId,
+    request: LockRequest,
+    from: PageNo,
+) -> Option<PageNo>
+    requires { request.page.0 ≤ from.0 }
+    ensures { MatchOption result (LeavesRest request resident.now object.0 from.0)
+        (λ page. IsNextFor request resident.now object.0 from.0 page.0) }
+{
+    if from.0 - request.page.0 >= request.count {
+        return None;
+    }
+    let page = if request.flush || request.lock.is_some() {
+        resident.next_page(object, from)?
+    } else {
+        resident.next_noted(object, from)?
+    };
+    if page.0 - request.page.0 >= request.count {
+        return None;
+    }
+    Some(page)
 }
 
 // A page that is here obeys.
@@ -99,12 +122,39 @@ fn lock_page<L: Holder>(
         parts.buffers.reserve(1)?;
     }
     match (act.give_back, act.remove) {
-        (false, false) => parts.relock(key, request.lock, false),
+        (false, false) => keep_page(key, row, request.lock, parts),
         (false, true) => drop_page(host, key, row, parts, log),
         (true, false) => save_page(host, key, control, row, request.lock, parts, log),
         (true, true) => return_page(host, key, control, row, parts, laundry, log),
     }
     Ok(())
+}
+
+// Locks a page that stays.
+fn keep_page(key: PageKey, row: PageRow, lock: Option<Lock>, parts: &mut HostParts)
+    requires fit { Fit parts.old }
+    requires found { row_at parts.old.resident key.object.0 key.page.0 ≡ Some row }
+    requires here { row.here ≡ true }
+    ensures fit { Fit parts.new }
+    ensures relocks { Relocks key row lock false parts.old parts.new }
+    ensures objects { parts.new.objects ≡ parts.old.objects }
+    ensures buffers { parts.new.buffers ≡ parts.old.buffers }
+    ensures spare { parts.new.resident.spare ≡ parts.old.resident.spare }
+{
+    if keeps_lock(row, lock) {
+        return;
+    }
+    parts.relock(key, lock, false);
+}
+
+// Whether a page that stays has its lock already, and no unlock of it is outstanding.
+fn keeps_lock(row: PageRow, lock: Option<Lock>) -> bool
+    ensures { result ≡ true → relocked lock false row ≡ row }
+{
+    match lock {
+        Some(lock) => lock == row.lock && !row.unlock_sent,
+        None => !row.unlock_sent,
+    }
 }
 
 // Drops a page, and says so.

@@ -153,6 +153,22 @@ pub record HasRewritten (bytes : ℕ) (tables : List (TaskId × Listed Entry)) (
   pub changes : ChangesOnly maps (seen bytes tables) task (Some (rewritten (becomes change) maps.size change.address change.bytes (rows_in task maps)))
   pub mapped : Remaps (λ at. changed_by change.kind change) maps (seen bytes tables) task change
 
+-- a task's table with its entries cut at the ends of a range, and changed in it
+pub has_set : (size : ℕ) (old tables : List (TaskId × Listed Entry)) (maps : Mapped) (task : ℕ) (change : MapChange) (was table : Listed Entry)
+    → seen size old ≡ maps → AreTables size old → IsTableOf size maps task was → is_range maps.size change.address change.bytes ≡ true
+    → length (rewritten (becomes change) maps.size change.address change.bytes (rows_in task maps)) ≤ most_entries
+    → by_address table ≡ rewritten (becomes change) size change.address change.bytes (by_address was)
+    → length was.items + was.room ≤ length table.items + table.room
+    → ((other : ℕ) → table_of other tables ≡ (if task == other then Some table else table_of other old)) → HasRewritten size tables maps task change
+has_set size old tables maps task change was table view sound read test few is room each =
+    let whole = rewritten_table size change was table read.kept (rw read.size at test) (rw (read.size, read.rows) at few) is
+    (omega (arith, read.kept.room, room)) in
+    let edit = edited size old tables maps task (Some table) view sound whole each in
+    let rows : by_address table ≡ rewritten (becomes change) maps.size change.address change.bytes (rows_in task maps) = rw (read.size, read.rows) is in
+    let changes : ChangesOnly maps (seen size tables) task (Some (rewritten (becomes change) maps.size change.address change.bytes
+    (rows_in task maps))) = rw rows at edit.changes in
+    record { kept = edit.kept; changes = changes; mapped = rewritten_map maps (seen size tables) task change test read.sound changes }
+
 pub has_rewritten : (size : ℕ) (old tables : List (TaskId × Listed Entry)) (maps : Mapped) (task : ℕ) (change : MapChange) (was : Listed Entry) (from to : ℕ)
     (kept table : Listed Entry) → seen size old ≡ maps → AreTables size old
     → Rewrites size maps task change was from to kept → is_range maps.size change.address change.bytes ≡ true
@@ -161,12 +177,4 @@ pub has_rewritten : (size : ℕ) (old tables : List (TaskId × Listed Entry)) (m
     → length was.items + was.room ≤ length table.items + table.room
     → ((other : ℕ) → table_of other tables ≡ (if task == other then Some table else table_of other old)) → HasRewritten size tables maps task change
 has_rewritten size old tables maps task change was from to kept table view sound step test few put room each =
-    let read = step.read in
-    let is : by_address table ≡ rewritten (becomes change) size change.address change.bytes (by_address was) = put ∙ step.is in
-    let whole = rewritten_table size change was table read.kept (rw read.size at test) (rw (read.size, read.rows) at few) is
-    (omega (arith, read.kept.room, room)) in
-    let edit = edited size old tables maps task (Some table) view sound whole each in
-    let rows : by_address table ≡ rewritten (becomes change) maps.size change.address change.bytes (rows_in task maps) = rw (read.size, read.rows) is in
-    let changes : ChangesOnly maps (seen size tables) task (Some (rewritten (becomes change) maps.size change.address change.bytes
-    (rows_in task maps))) = rw rows at edit.changes in
-    record { kept = edit.kept; changes = changes; mapped = rewritten_map maps (seen size tables) task change test read.sound changes }
+    has_set size old tables maps task change was table view sound step.read test few (put ∙ step.is) room each

@@ -55,7 +55,7 @@ length_rewritten becomes each size start bytes from to (row ∷ rows) some below
       length_cut size (start + bytes) (2 ^ 32) row,
     )
 
-passed_none : (address from to : ℕ) (rows : List Entry) → InOrder from to rows → address ≤ from → passed address rows ≡ 0
+pub passed_none : (address from to : ℕ) (rows : List Entry) → InOrder from to rows → address ≤ from → passed address rows ≡ 0
 passed_none address from to [] order less = refl
 passed_none address from to (row ∷ rows) order less =
     let high : address < row.address + row.bytes = omega (arith, order.0, order.1.0) in grind (arith, nat_tests)

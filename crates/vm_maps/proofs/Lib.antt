@@ -12,5 +12,6 @@ mod Outside
 pub mod Pages
 pub mod Range
 mod Rewriting
+mod Splits
 mod Tasks
 mod Walk

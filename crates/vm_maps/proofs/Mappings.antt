@@ -30,7 +30,7 @@ maps_append size at [] more = refl
 maps_append size at (row ∷ rows) more = let rest = maps_append size at rows more in grind (arith, nat_tests, rest)
 
 -- pages behind whole pages are counted apart
-pages_apart : (size whole more : ℕ) → whole % size ≡ 0 → (whole + more) / size ≡ whole / size + more / size
+pub pages_apart : (size whole more : ℕ) → whole % size ≡ 0 → (whole + more) / size ≡ whole / size + more / size
 pages_apart zero whole more multiple = rw (div-zero (whole + more), div-zero whole, div-zero more) (omega arith)
 pages_apart (suc size) whole more multiple =
     let pages = pages_of (suc size) whole multiple in

@@ -16,7 +16,7 @@ same_row : (start bytes offset : ℕ) (row : Entry) → start ≡ row.address �
     → record row { address = start; bytes = bytes; offset = offset } ≡ row
 same_row start bytes offset row p q r = λ i. record row { address = p i; bytes = q i; offset = r i }
 
-cut_all : (size from to : ℕ) (row : Entry) → 0 < row.bytes → from ≤ row.address → row.address + row.bytes ≤ to → cut size from to row ≡ row ∷ []
+pub cut_all : (size from to : ℕ) (row : Entry) → 0 < row.bytes → from ≤ row.address → row.address + row.bytes ≤ to → cut size from to row ≡ row ∷ []
 cut_all size from to row some low high =
     let start : max from row.address ≡ row.address = omega arith in
     let end : min to (row.address + row.bytes) ≡ row.address + row.bytes = omega arith in
@@ -25,11 +25,11 @@ cut_all size from to row some low high =
     let pages : (max from row.address - row.address) / size ≡ 0 = ap (λ z. z / size) none ∙ zero-div size in
     rw test (ap (λ z. z ∷ []) (same_row _ _ _ row start (omega arith) (omega (arith, pages))))
 
-cut_behind : (size from to : ℕ) (row : Entry) → to ≤ row.address → cut size from to row ≡ []
+pub cut_behind : (size from to : ℕ) (row : Entry) → to ≤ row.address → cut size from to row ≡ []
 cut_behind size from to row behind =
     let test : nat_lt (max from row.address) (min to (row.address + row.bytes)) ≡ false = grind (arith, nat_tests) in rw test refl
 
-cut_front : (size from to : ℕ) (row : Entry) → row.address + row.bytes ≤ from → cut size from to row ≡ []
+pub cut_front : (size from to : ℕ) (row : Entry) → row.address + row.bytes ≤ from → cut size from to row ≡ []
 cut_front size from to row front =
     let test : nat_lt (max from row.address) (min to (row.address + row.bytes)) ≡ false = grind (arith, nat_tests) in rw test refl
 

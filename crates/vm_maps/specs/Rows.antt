@@ -1,5 +1,5 @@
 -- What the searches and cuts in a task's entries find.
-use Rattle.std.specs.Prelude.{ℕ, suc, ◌+◌, ◌^◌, Bool, ◌&&◌, ◌||◌, List, [], ◌∷◌, ◌++◌, Option, None, if◌then◌else◌, nat_lt, nat_le}
+use Rattle.std.specs.Prelude.{ℕ, suc, ◌+◌, ◌-◌, ◌^◌, Bool, ◌&&◌, ◌||◌, List, [], ◌∷◌, ◌++◌, Option, Some, None, if◌then◌else◌, nat_lt, nat_le, take, drop}
 use Rattle.std.specs.List.{flat_map}
 use Rattle.std.specs.Option.{option_map}
 use Rattle.vm_base.specs.Entries.{Mapping, cut}
@@ -13,6 +13,20 @@ use Rattle.vm_maps.specs.declared.change.MapKind.TheVariants as kind
 abbrev pub passed : ℕ → List Entry → ℕ
 passed address [] = 0
 passed address (row ∷ rows) = if nat_le (row.address + row.bytes) address then suc (passed address rows) else 0
+
+-- an entry that begins below an address
+abbrev pub if_below : ℕ → Option Entry → Option Entry
+if_below address None = None
+if_below address (Some row) = if nat_lt row.address address then Some row else None
+
+-- the entries, the one with addresses on both sides of a boundary cut there
+abbrev pub split : ℕ → ℕ → List Entry → List Entry
+split size address [] = []
+split size address (row ∷ rows) = cut size 0 address row ++ (cut size address (2 ^ 32) row ++ split size address rows)
+
+-- the entries with those from an index on and below another as they become
+abbrev pub altered : (Entry → List Entry) → ℕ → ℕ → List Entry → List Entry
+altered becomes from to rows = take from rows ++ (flat_map becomes (take (to - from) (drop from rows)) ++ drop to rows)
 
 -- from an address up to another there is no gap
 abbrev pub is_without_gap : ℕ → ℕ → List Entry → Bool

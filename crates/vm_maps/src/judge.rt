@@ -6,7 +6,7 @@ ghost use Rattle.vm_base.specs.declared.ids.Inherit.{Inherit as Inheritance};
 ghost use Rattle.vm_base.specs.declared.ids.Prot.{Prot as Protection};
 ghost use Rattle.vm_maps.specs.Judge.{judged, looked_up, place_at};
 
-use crate::search::{count_cuts, count_passed, entry_at, is_covered, meets_range};
+use crate::search::{count_begun, count_cuts, count_passed, entry_at, is_covered, meets_range};
 use crate::{MapChange, MapKind, Place};
 use vm_base::limits::{ADDRESS_END, MOST_ENTRIES};
 use vm_base::{Access, Code, Entries, Entry, PageNo, PageSize};
@@ -104,8 +104,7 @@ fn count_removed(entries: &Entries, address: u64, bytes: u64) -> u32
     ensures { (size : ℕ) →
         result ≡ length (removed size address bytes (by_address entries.now)) }
 {
-    let in_front = count_passed(entries, address) + count_cuts(entries, address);
-    in_front + (entries.len() - count_passed(entries, address + bytes))
+    count_begun(entries, address) + (entries.len() - count_passed(entries, address + bytes))
 }
 
 // How many entries there are when they are cut at the ends of the range.

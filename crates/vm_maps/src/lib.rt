@@ -7,6 +7,7 @@ mod maps;
 mod place;
 mod rewrite;
 mod search;
+mod setting;
 
 pub use change::{MapChange, MapKind};
 pub use maps::Maps;

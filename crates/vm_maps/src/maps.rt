@@ -1,5 +1,5 @@
 // The maps of all tasks.
-ghost use Rattle.std.specs.Prelude.{◌≡◌, ◌≤◌, [], Some, None, IfOk, IfSome, IsOk, IsSome, IsSomeAnd, IsTrue, OnErr, OnOk, is_some, length, reverse};
+ghost use Rattle.std.specs.Prelude.{◌≡◌, ◌≤◌, ◌⊎◌, [], Some, None, IfOk, IfSome, IsOk, IsSome, IsSomeAnd, IsTrue, OnErr, OnOk, is_some, length, reverse};
 ghost use Rattle.std.specs.Option.{option_map};
 ghost use Rattle.vm_base.specs.Entries.{AreEntries, by_address, entered, entry_at, inherited, is_range, mapping, most_entries, parts_in, protected, removed};
 ghost use Rattle.vm_base.specs.Entries.{rewritten};
@@ -11,6 +11,7 @@ ghost use Rattle.vm_maps.specs.declared.change.MapKind.TheVariants as kind;
 use crate::judge::{judge_change, look_up};
 use crate::rewrite::{put_entry, rewrite};
 use crate::search::entry_at;
+use crate::setting::set;
 use crate::{MapChange, Place};
 use indexmap::IndexMap;
 use std::alloc::Global;
@@ -177,6 +178,21 @@ impl Maps {
         self.rewrite(task, change)
     }
 
+    /// Gives the range a protection as `protect` does, but in place: the task's table has room for
+    /// its entries, so it doesn't fail.
+    pub fn set_prot(&mut self, task: TaskId, change: &MapChange)
+        requires there { IsSome (entries_in task.0 self.old) }
+        requires kind { change.now.kind ≡ kind.Protect }
+        requires judged { judged self.old.size change.now (rows_in task.0 self.old) ≡ None }
+        ensures changes { ChangesOnly self.old self.new task.0 (Some
+            (protected self.old.size
+            change.now.address change.now.bytes change.now.prot (rows_in task.0 self.old))) }
+        ensures mapped { Remaps (λ at. option_map (with_prot change.now.prot))
+            self.old self.new task.0 change.now }
+    {
+        self.set(task, change);
+    }
+
     /// Gives the range an inheritance; the entries are cut at its ends.
     ///
     /// The entries taken away are the parts in the range as they were, by rising address.
@@ -194,6 +210,21 @@ impl Maps {
         ensures err { OnErr result (self.new ≡ self.old) }
     {
         self.rewrite(task, change)
+    }
+
+    /// Gives the range an inheritance as `inherit` does, but in place: the task's table has room for
+    /// its entries, so it doesn't fail.
+    pub fn set_inherit(&mut self, task: TaskId, change: &MapChange)
+        requires there { IsSome (entries_in task.0 self.old) }
+        requires kind { change.now.kind ≡ kind.Inherit }
+        requires judged { judged self.old.size change.now (rows_in task.0 self.old) ≡ None }
+        ensures changes { ChangesOnly self.old self.new task.0 (Some
+            (inherited self.old.size
+            change.now.address change.now.bytes change.now.inherit (rows_in task.0 self.old))) }
+        ensures mapped { Remaps (λ at. option_map (with_inherit change.now.inherit))
+            self.old self.new task.0 change.now }
+    {
+        self.set(task, change);
     }
 
     /// Where an access of an address leads in its region.
@@ -234,5 +265,22 @@ impl Maps {
         let table = self.tables.get_mut(&task).unwrap();
         table.replace(made.from, made.to, made.kept)?;
         Ok(made.taken)
+    }
+
+    // Gives the range of a task's entries what a Protect or an Inherit says, in place.
+    fn set(&mut self, task: TaskId, change: &MapChange)
+        requires there { IsSome (entries_in task.0 self.old) }
+        requires kind { (change.now.kind ≡ kind.Protect) ⊎ (change.now.kind ≡ kind.Inherit) }
+        requires range { IsTrue (is_range self.old.size change.now.address change.now.bytes) }
+        requires few { length (rewritten (becomes change.now) self.old.size
+            change.now.address change.now.bytes (rows_in task.0 self.old)) ≤ most_entries }
+        ensures changes { ChangesOnly self.old self.new task.0 (Some
+            (rewritten (becomes change.now) self.old.size
+            change.now.address change.now.bytes (rows_in task.0 self.old))) }
+        ensures mapped { Remaps (λ at. changed_by change.now.kind change.now)
+            self.old self.new task.0 change.now }
+    {
+        let table = self.tables.get_mut(&task).unwrap();
+        set(self.size, table, change);
     }
 }

@@ -4,7 +4,7 @@ ghost use Rattle.std.specs.List.{flat_map};
 ghost use Rattle.vm_base.specs.Entries.{AreEntries, InOrder, by_address, cut, entered, meets_range, most_entries, parts_in, rewritten};
 ghost use Rattle.vm_maps.specs.Rows.{becomes, rewritten_one};
 
-use crate::search::{count_cuts, count_passed};
+use crate::search::{count_begun, count_passed};
 use crate::{MapChange, MapKind};
 use std::alloc::Global;
 use vm_base::limits::ADDRESS_END;
@@ -55,7 +55,7 @@ pub fn rewrite(
     let end = change.address + change.bytes;
     let mut made = Rewritten {
         from: count_passed(entries, change.address),
-        to: count_passed(entries, end) + count_cuts(entries, end),
+        to: count_begun(entries, end),
         kept: Entries::new(alloc),
         taken: Entries::new(alloc),
     };
@@ -73,6 +73,7 @@ fn rewrite_entry(
     made: &mut Rewritten,
 ) -> Result<(), NoMemory>
     requires end { change.now.address + change.now.bytes ≤ 2 ^ 32 }
+    requires some { 0 < entry.bytes }
     requires high { entry.address + entry.bytes ≤ 2 ^ 32 }
     requires pages { entry.offset + entry.bytes / size < 2 ^ 32 }
     ensures kept { OnOk result (by_address made.new.kept
@@ -82,6 +83,10 @@ fn rewrite_entry(
     ensures place { OnOk result ((made.new.from ≡ made.old.from) × (made.new.to ≡ made.old.to)) }
 {
     let end = change.address + change.bytes;
+    if change.address <= entry.address && entry.address + entry.bytes <= end {
+        made.taken.push(entry)?;
+        return push_part(&mut made.kept, altered(change, Some(entry)));
+    }
     let part = cut(size, change.address, end, entry);
     push_part(&mut made.taken, part)?;
     push_part(&mut made.kept, cut(size, 0, change.address, entry))?;

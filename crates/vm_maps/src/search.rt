@@ -1,7 +1,7 @@
 // Searches in a task's entries, which stand by rising address.
 ghost use Rattle.std.specs.Prelude.{◌≡◌, ◌+◌, ◌≤◌, ◌<◌, ◌^◌, drop, length, slice_get};
-ghost use Rattle.vm_base.specs.Entries.{InOrder, by_address, entry_at, meets_range};
-ghost use Rattle.vm_maps.specs.Rows.{cuts_at, is_without_gap, passed};
+ghost use Rattle.vm_base.specs.Entries.{InOrder, by_address, entry_at, meets_range, most_entries};
+ghost use Rattle.vm_maps.specs.Rows.{cuts_at, if_below, is_without_gap, passed};
 
 use vm_base::{Entries, Entry};
 
@@ -79,6 +79,22 @@ pub fn count_cuts(entries: &Entries, address: u64) -> u32
     }
 }
 
+/// The number of entries that begin below an address, which are the first ones.
+#[tactic(auto, using(crate::proofs::Found::found))]
+pub fn count_begun(entries: &Entries, address: u64) -> u32
+    requires order { InOrder 0 (2 ^ 32) (by_address entries.now) }
+    requires few { length entries.now.items ≤ most_entries }
+    ensures value { let rows = by_address entries.now in
+        result ≡ passed address rows + cuts_at address rows }
+    ensures within { result ≤ length entries.now.items }
+{
+    let passed = count_passed(entries, address);
+    match begun_at(entries, passed, address) {
+        Some(_) => passed + 1,
+        None => passed,
+    }
+}
+
 /// Whether the entries leave no gap from an address up to another.
 pub fn is_covered(entries: &Entries, from: u64, to: u64) -> bool
     requires { InOrder 0 (2 ^ 32) (by_address entries.now) }
@@ -96,4 +112,15 @@ pub fn is_covered(entries: &Entries, from: u64, to: u64) -> bool
         i += 1;
     }
     to <= reached
+}
+
+/// The entry at an index, where one stands that begins below an address.
+pub fn begun_at(entries: &Entries, i: u32, address: u64) -> Option<Entry>
+    ensures { result ≡ if_below address (slice_get (by_address entries.now) i) }
+{
+    if i >= entries.len() {
+        return None;
+    }
+    let entry = *entries.at(i);
+    (entry.address < address).then_some(entry)
 }

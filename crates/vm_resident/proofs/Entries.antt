@@ -9,9 +9,9 @@ use Rattle.vm_base.proofs.Keys.{page_read}
 use Rattle.vm_base.specs.Keys.{is_page}
 use Rattle.vm_base.specs.declared.ids.PageKey.{PageKey}
 use Rattle.vm_base.specs.declared.ids.PageNo.{PageNo}
-use Rattle.vm_resident.specs.Groups.{IsFirstIn, NoneFrom, PageSet, PutsIn, is_in}
+use Rattle.vm_resident.specs.Groups.{IsFirstIn, IsFirstMarked, NoneFrom, NoneMarkedFrom, PageSet, is_in, is_marked}
 use Rattle.vm_resident.specs.Kept.{pages_of, same_page}
-use Rattle.vm_resident.specs.Resident.{IsNextPage, NoRowsFrom, PutsRow, ResidentTable, row_among, row_at}
+use Rattle.vm_resident.specs.Resident.{IsNextNoted, IsNextPage, NoRowsFrom, NoneNotedFrom, PutsRow, ResidentTable, has_note, row_among, row_at}
 use Rattle.vm_resident.specs.declared.page_row.PageRow.{PageRow}
 
 -- the row of a page in the map
@@ -47,15 +47,16 @@ row_put old new key row s t writes = record {
   at = λ o p. row_entry o p new ∙ writes o p ∙ ap (λ z. if is_page key o p then row else z) (sym (row_entry o p old));
 }
 
--- so the set has the pages of the rows after a write too
-pub pages_put : (old new : List (PageKey × PageRow)) (key : PageKey) (row : Option PageRow) (was now : PageSet)
-    → ((o p : ℕ) → is_in was o p ≡ is_some (row_among o p (pages_of old)))
-    → WritesEntry key row old new → PutsIn key.object.0 key.page.0 (is_some row) was now → (o p : ℕ) → is_in now o p ≡ is_some (row_among o p (pages_of new))
-pages_put old new key row was now same writes puts o p =
+-- so a set has the pages whose rows pass a test after a write too
+pub pages_put : (test : Option PageRow → Bool) (old new : List (PageKey × PageRow)) (key : PageKey) (row : Option PageRow) (was now : ℕ → ℕ → Bool)
+    → ((o p : ℕ) → was o p ≡ test (row_among o p (pages_of old)))
+    → WritesEntry key row old new → ((o p : ℕ) → now o p ≡ (if is_page key o p then test row else was o p))
+    → (o p : ℕ) → now o p ≡ test (row_among o p (pages_of new))
+pages_put test old new key row was now same writes puts o p =
     let rows = row_put old new key row 0 0 writes in
-    puts.at o p ∙ by (is_page key o p) ∙ ap is_some (sym (rows.at o p))
+    puts o p ∙ by (is_page key o p) ∙ ap test (sym (rows.at o p))
   where
-    by : (b : Bool) → (if b then is_some row else is_in was o p) ≡ is_some (if b then row else row_among o p (pages_of old))
+    by : (b : Bool) → (if b then test row else was o p) ≡ test (if b then row else row_among o p (pages_of old))
     by true = refl
     by false = same o p
 
@@ -65,14 +66,13 @@ pub pages_kept : (old new : List (PageKey × PageRow)) (key : PageKey) (row : Pa
     → WritesEntry key (Some row) old new → IsSome (entry_at key.object.0 key.page.0 old) → (o p : ℕ) → is_in set o p ≡ is_some (row_among o p (pages_of new))
 pages_kept old new key row set same writes there =
     let stands : IsSome (row_among key.object.0 key.page.0 (pages_of old)) = ap is_some (row_entry key.object.0 key.page.0 old) ∙ there in
-    pages_put old new key (Some row) set set same writes record {
-      at = λ o p. ⊎_elim
-          (λ (here : is_page key o p ≡ true).
-          let read = page_read key o p here in
-          rw here (same o p ∙ rw (read.object, read.page) at stands))
-          (λ (apart : is_page key o p ≡ false). rw apart refl)
-          (cases_Bool (is_page key o p));
-    }
+    pages_put is_some old new key (Some row) (is_in set) (is_in set) same writes
+    (λ o p. ⊎_elim
+    (λ (here : is_page key o p ≡ true).
+    let read = page_read key o p here in
+    rw here (same o p ∙ rw (read.object, read.page) at stands))
+    (λ (apart : is_page key o p ≡ false). rw apart refl)
+    (cases_Bool (is_page key o p)))
 
 none_where : {A : Type 0} (o : Option A) → is_some o ≡ false → o ≡ None
 none_where None none = refl
@@ -88,3 +88,12 @@ next_row table set object from (Some page) same found = record {
   there = sym (same object page.0) ∙ found.there;
   first = λ q le less. none_where (row_at table object q) (sym (same object q) ∙ found.first q le less);
 }
+
+-- and the first that is marked is the first of whose row anything is noted
+pub next_noted : (table : ResidentTable) (set : PageSet) (object from : ℕ) (result : Option PageNo)
+    → ((o p : ℕ) → is_marked set o p ≡ has_note (row_at table o p))
+    → MatchOption result (NoneMarkedFrom set object from) (λ page. IsFirstMarked set object from page.0)
+    → MatchOption result (NoneNotedFrom table object from) (λ page. IsNextNoted table object from page.0)
+next_noted table set object from None same none = λ q le. sym (same object q) ∙ none q le
+next_noted table set object from (Some page) same found =
+    record { low = found.low; there = sym (same object page.0) ∙ found.there; first = λ q le less. sym (same object q) ∙ found.first q le less }

@@ -1,5 +1,5 @@
 -- The resident pages of a host, as contracts see them.
-use Rattle.std.specs.Prelude.{ℕ, ◌≡◌, ◌≢◌, ◌≤◌, ◌<◌, ◌==◌, ◌&&◌, List, [], ◌∷◌, Option, Some, None, IsSome, if◌then◌else◌}
+use Rattle.std.specs.Prelude.{ℕ, ◌≡◌, ◌≢◌, ◌≤◌, ◌<◌, ◌==◌, ◌&&◌, ◌||◌, Bool, true, false, List, [], ◌∷◌, Option, Some, None, IsSome, if◌then◌else◌}
 use Rattle.vm_base.specs.Keys.{is_page}
 pub use Rattle.vm_base.specs.Keys.{page_key}
 use Rattle.vm_base.specs.declared.ids.PageKey.{PageKey}
@@ -53,3 +53,21 @@ pub record IsNextPage (table : ResidentTable) (object from page : ℕ) : Type 0 
   pub low : from ≤ page
   pub there : IsSome (row_at table object page)
   pub first : (q : ℕ) → from ≤ q → q < page → row_at table object q ≡ None
+
+-- anything is noted of a page: it is dirty or precious, or its manager is asked to lift the lock
+abbrev pub is_noted : PageRow → Bool
+is_noted row = row.dirty || (row.precious || row.unlock_sent)
+
+abbrev pub has_note : Option PageRow → Bool
+has_note None = false
+has_note (Some row) = is_noted row
+
+-- nothing is noted of any page of the object from one on
+abbrev pub NoneNotedFrom : ResidentTable → ℕ → ℕ → Type 0
+NoneNotedFrom table object from = (q : ℕ) → from ≤ q → has_note (row_at table object q) ≡ false
+
+-- the first page of the object from one on of which anything is noted
+pub record IsNextNoted (table : ResidentTable) (object from page : ℕ) : Type 0 where
+  pub low : from ≤ page
+  pub there : has_note (row_at table object page) ≡ true
+  pub first : (q : ℕ) → from ≤ q → q < page → has_note (row_at table object q) ≡ false

@@ -1,4 +1,7 @@
 // What is kept of a resident page.
+ghost use Rattle.std.specs.Prelude.{◌≡◌};
+ghost use Rattle.vm_resident.specs.Resident.{is_noted};
+
 use vm_base::{FrameNo, Lock};
 
 /// What a host keeps of a resident page of an object.
@@ -15,4 +18,14 @@ pub struct PageRow {
     pub precious: bool,
     pub here: bool,
     pub unlock_sent: bool,
+}
+
+impl PageRow {
+    /// Whether anything is noted of the page: that it is dirty or precious, or that its manager is asked
+    /// to lift the lock.
+    pub fn is_noted(&self) -> bool
+        ensures { result ≡ is_noted self.now }
+    {
+        self.dirty || self.precious || self.unlock_sent
+    }
 }

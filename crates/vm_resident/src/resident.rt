@@ -1,7 +1,8 @@
 // The table of resident pages.
 ghost use Rattle.indexmap.specs.IndexMap.{get_by};
-ghost use Rattle.std.specs.Prelude.{ℕ, ◌≡◌, ◌+◌, ◌≤◌, ◌<◌, ◌==◌, ◌&&◌, [], Some, None, IfSome, IsOk, IsSomeAnd, MatchOption, OnErr, OnOk, min};
-ghost use Rattle.vm_resident.specs.Resident.{IsNextPage, IsOwned, NoRowHas, NoRowsFrom, PutsOwner, PutsRow, owner_of, row_at};
+ghost use Rattle.std.specs.Prelude.{ℕ, ◌≡◌, ◌+◌, ◌≤◌, ◌<◌, ◌==◌, ◌&&◌, [], true, Some, None, IfSome, IsOk, IsSomeAnd, MatchOption, OnErr, OnOk, min};
+ghost use Rattle.vm_resident.specs.Groups.{PutsMark, is_in, is_marked};
+ghost use Rattle.vm_resident.specs.Resident.{IsNextNoted, IsNextPage, IsOwned, NoRowHas, NoRowsFrom, NoneNotedFrom, PutsOwner, PutsRow, owner_of, row_at};
 
 use crate::PageRow;
 use crate::frame_owners::{FrameOwners, first_owner};
@@ -19,7 +20,7 @@ use vm_base::{FrameNo, NoMemory, ObjectId, PageKey, PageNo};
 #[derive(Drop)]
 pub struct Resident {
     rows: IndexMap<PageKey, PageRow>,
-    // The pages that have a row.
+    // The pages that have a row, marked where anything is noted of them.
     pages: PageGroups,
     // The page of each frame.
     owners: FrameOwners,
@@ -97,7 +98,7 @@ impl Resident {
         ensures owned { IsOwned self.old → owner_of self.old row.frame.0 ≡ None → IsOwned self.new }
     {
         let _ = self.rows.insert(key, row);
-        self.pages.insert(key);
+        self.pages.insert(key, row.is_noted());
         self.owners.insert(row.frame, key);
         self.promised -= 1;
     }
@@ -118,7 +119,9 @@ impl Resident {
         ensures owned { IsOwned self.old → IsOwned self.new }
     {
         let kept = self.rows.get_mut(&key).unwrap();
+        let was_noted = kept.is_noted();
         *kept = row;
+        mark(&mut self.pages, key, was_noted, row.is_noted());
     }
 
     /// Takes out the row of a page; None exactly where the page wasn't resident.
@@ -144,6 +147,15 @@ impl Resident {
         self.pages.next(object, from)
     }
 
+    /// The first page of an object from a page on of which anything is noted: that it is dirty or
+    /// precious, or that its manager is asked to lift the lock.
+    pub fn next_noted(&self, object: ObjectId, from: PageNo) -> Option<PageNo>
+        ensures { MatchOption result (NoneNotedFrom self.now object.0 from.0)
+            (λ page. IsNextNoted self.now object.0 from.0 page.0) }
+    {
+        self.pages.next_marked(object, from)
+    }
+
     /// The page whose row has a frame; the first such page, if several have it.
     pub fn page_of(&self, f: FrameNo) -> Option<PageKey>
         ensures value { result ≡ owner_of self.now f.0 }
@@ -162,5 +174,18 @@ impl Resident {
             ≡ row_at self.now object page }
     {
         &self.rows
+    }
+}
+
+// Marks a page that is in, or takes its mark away, where that changes it.
+fn mark(pages: &mut PageGroups, key: PageKey, was: bool, now: bool)
+    requires there { is_in pages.old key.object.0 key.page.0 ≡ true }
+    requires was { is_marked pages.old key.object.0 key.page.0 ≡ was }
+    ensures pages { (object page : ℕ) → is_in pages.new object page ≡ is_in pages.old object page }
+    ensures marks { PutsMark key.object.0 key.page.0 now pages.old pages.new }
+    ensures room { pages.new.spare ≡ pages.old.spare }
+{
+    if now != was {
+        pages.mark(key, now);
     }
 }

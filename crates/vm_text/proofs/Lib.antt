@@ -1,5 +1,6 @@
 mod Behind
 mod Counts
+mod Decimals
 mod Hexadecimal
 mod Kept
 mod Named
@@ -8,4 +9,5 @@ mod Pieces
 mod Ranges
 mod Sizes
 pub mod Spelling
+mod Tables
 pub mod Trimming

@@ -1,13 +1,13 @@
 // The line of an event.
 #![tactic(auto, unfolding(vm_model::specs::Text::line_of))]
 
-ghost use Rattle.std.specs.Prelude.{◌≡◌, ◌⊎◌, ◌++◌, codes, IfOk, OnOk};
+ghost use Rattle.std.specs.Prelude.{◌≡◌, ◌⊎◌, ◌≤◌, ◌++◌, length, codes, IfOk, OnOk};
 ghost use Rattle.vm_model.specs.Text.{line_of, channel_text as text_of_channel, message_text as text_of_message, device_text, way_text, newline};
 ghost use Rattle.vm_model.specs.Kinds.{Accesses, Beginnings, Entries, Pages, Regions, Shadows, about};
 
 use crate::Line;
 use crate::fields::{inherit_number, prot_number};
-use crate::messages::{put_channel, put_message};
+use crate::messages::put_message;
 use std::alloc::Global;
 use vm_base::{Code, HostId, Inherit, NoMemory, ObjectId, PageNo, Prot, RegionId, TaskId};
 use vm_model::{Channel, Device, Event, Message, Way};
@@ -490,6 +490,7 @@ fn taken(text: &mut Line, channel: Channel, message: &Message) -> Result<(), NoM
     message_line(text, b"taken ", channel, message)
 }
 
+#[inline(always)]
 #[tactic(auto)]
 fn message_line(
     text: &mut Line,
@@ -497,11 +498,10 @@ fn message_line(
     channel: Channel,
     message: &Message,
 ) -> Result<(), NoMemory>
+    requires { length word.now ≤ 16 }
     ensures { OnOk result (text.new ≡ text.old ++ (word.now ++ text_of_channel channel ++ codes " " ++ text_of_message message.now ++ newline)) }
 {
-    text.put_word(word)?;
-    put_channel(text, channel)?;
-    text.put_word(b" ")?;
+    text.put_channel(word, channel)?;
     put_message(text, message)?;
     text.end()
 }

@@ -14,9 +14,11 @@ mod messages;
 mod names;
 mod numbers;
 mod reader;
+mod room;
 mod say;
 mod terms;
 mod words;
+mod zeros;
 
 pub use error::ScriptError;
 pub use events::{put_event, write_event};

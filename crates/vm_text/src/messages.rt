@@ -1,41 +1,14 @@
-// Channels and messages as words of a line.
+// Messages as words of a line.
 #![tactic(auto, unfolding(vm_model::specs::Text::message_text))]
 
 ghost use Rattle.std.specs.Prelude.{◌≡◌, ◌++◌, true, OnOk};
 ghost use Rattle.vm_model.specs.Copies.{is_of_pages};
-ghost use Rattle.vm_model.specs.Text.{channel_text as text_of_channel, message_text as text_of_message};
+ghost use Rattle.vm_model.specs.Text.{message_text as text_of_message};
 
 use crate::Line;
 use crate::fields::flag;
 use vm_base::{NoMemory, PageBytes, PageNo};
-use vm_model::{Channel, Message};
-
-/// Puts the channel as one word.
-#[tactic(auto)]
-pub(crate) fn put_channel(line: &mut Line, channel: Channel) -> Result<(), NoMemory>
-    ensures { OnOk result (line.new ≡ line.old ++ text_of_channel channel) }
-{
-    match channel {
-        Channel::Up { host, object } => {
-            line.put_word(b"u")?;
-            line.put_number(u64::from(host.0))?;
-            line.put_word(b".")?;
-            line.put_number(u64::from(object.0))
-        }
-        Channel::Down {
-            host,
-            object,
-            control,
-        } => {
-            line.put_word(b"d")?;
-            line.put_number(u64::from(host.0))?;
-            line.put_word(b".")?;
-            line.put_number(u64::from(object.0))?;
-            line.put_word(b".")?;
-            line.put_number(u64::from(control))
-        }
-    }
-}
+use vm_model::Message;
 
 /// Puts the message's word and fields.
 #[tactic(auto)]

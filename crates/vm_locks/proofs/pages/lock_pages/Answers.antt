@@ -1,8 +1,9 @@
-use Rattle.std.proofs.Common.{◌≡◌, ◌∙◌, true, false, Some, refl, sym, arith}
+use Rattle.std.proofs.Common.{◌≡◌, ◌+◌, ◌<◌, ◌∙◌, true, false, Some, refl, sym, arith}
 use Rattle.vm_resident.specs.Resident.{row_at}
 use Rattle.vm_locks.proofs.Left.{left_at_first, left_behind, left_less, one_left}
 use Rattle.vm_locks.proofs.Obeying.{has_obeyed, one_asked, one_more}
-use Rattle.vm_locks.specs.Obeys.{IsNextInRange, NoMore, lock_state}
+use Rattle.vm_locks.proofs.Passing.{next_itself, pass_rest, pass_to}
+use Rattle.vm_locks.specs.Obeys.{IsNextInRange, LockState, PagesObey, lock_state}
 use Rattle.vm_locks.proofs.pages.lock_pages.Goals as goal
 use Rattle.vm_locks.proofs.pages.lock_pages.Goals.{then-row+in_ok-lock_page, else-row}
 
@@ -23,14 +24,11 @@ pages-init g c =
       obey = λ end more. more;
     }
 
-pub returns-then-page-request-clause-obey : goal.returns-then-page-request-clause-obey
-returns-then-page-request-clause-obey g c =
-    let kept = c.pages.invariant in
-    kept.obey _ (NoMore _ _ (λ p low inside. c.in-Some.ensures.first p low (omega
-    (arith, kept.low, c.in-Some.ensures.low, c.if-page-request.true, low, inside))))
-
 pub returns-clause-obey : goal.returns-clause-obey
-returns-clause-obey g c = c.pages.invariant.obey _ (NoMore _ _ (λ p low inside. c.in_default.ensures p low))
+returns-clause-obey g c =
+    let kept = c.pages.invariant in
+    kept.obey _ (pass_rest c.args.host c.args.object c.args.known.control c.args.request c.pages.from.0 _ kept.fit
+    c.in_default.ensures)
 
 pub lock_page-requires-clause-room : goal.lock_page-requires-clause-room
 lock_page-requires-clause-room g c =
@@ -56,8 +54,12 @@ pages-preserved g c =
     let low = c.in-Some.ensures.low in
     let now = lock_state c.pages.parts (g.L.Holder.held c.pages.laundry) (g.L.Holder.room c.pages.laundry) c.pages.log.items in
     let found : row_at c.pages.parts.resident c.args.object.0 page.0 ≡ Some row = sym c.get.ensures ∙ c.in-Some-get.is in
-    let next : IsNextInRange c.args.object c.args.request from page row now =
-    record { next = c.in-Some.ensures; inside = omega (arith, kept.low, low, c.if-page-request.false); found = found } in
+    let inside : page.0 < c.args.request.page.0 + c.args.request.count = c.in-Some.ensures.inside in
+    let next : IsNextInRange c.args.object c.args.request page.0 page row now = next_itself c.args.object c.args.request page row now inside found in
+    let behind : (end : LockState) → PagesObey c.args.host c.args.object c.args.known.control c.args.request page.0 now end
+    → PagesObey c.args.host c.args.object c.args.known.control c.args.request from now end
+    = λ end more. pass_to c.args.host c.args.object c.args.known.control c.args.request from page.0 now end kept.fit low (omega arith) c.in-Some.ensures.left
+    more in
     elim c.if-row.branch [
       | then-row+in_ok-lock_page w ↦
           let obeys = w.in_ok-lock_page.ensures.obeys in
@@ -78,8 +80,8 @@ pages-preserved g c =
             spare = omega (arith, kept.spare, w.in_ok-lock_page.ensures.spare);
             rows = omega (arith, kept.rows, w.in_ok-lock_page.ensures.rows);
             obey =
-                λ end more. kept.obey end (one_more c.args.host c.args.object c.args.known.control c.args.request from page row now mid end next w.if-row.true
-                obeys more);
+                λ end more. kept.obey end (behind end (one_more c.args.host c.args.object c.args.known.control c.args.request page.0 page row now mid end next
+                w.if-row.true obeys more));
           }
       | else-row w ↦ rw (w.parts-is, w.laundry-is, w.log-is) record {
         fit = kept.fit;
@@ -94,12 +96,10 @@ pages-preserved g c =
         spare = kept.spare;
         rows = kept.rows;
         obey =
-            λ end more. kept.obey end (one_asked c.args.host c.args.object c.args.known.control c.args.request from page row now end next w.if-row.false more);
+            λ end more. kept.obey end (behind end (one_asked c.args.host c.args.object c.args.known.control c.args.request page.0 page row now end next
+            w.if-row.false more));
       }
     ]
-
-pub returns-then-page-request-clause-told : goal.returns-then-page-request-clause-told
-returns-then-page-request-clause-told g c = let kept = c.pages.invariant in omega (arith, kept.told)
 
 pub returns-clause-told : goal.returns-clause-told
 returns-clause-told g c = let kept = c.pages.invariant in omega (arith, kept.told)

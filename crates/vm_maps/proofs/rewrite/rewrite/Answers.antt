@@ -14,9 +14,9 @@ met-init c =
     let grows = passed_grows change.address (change.address + change.bytes) rows (omega arith) in
     record {
       from = c.count_passed.ensures.value;
-      to = omega (arith, c.count_passed-2.ensures.value, c.count_cuts.ensures.value);
-      last = omega (arith, c.count_passed-2.ensures.value, c.count_cuts.ensures.value);
-      order = omega (arith, grows, c.count_passed.ensures.value, c.count_passed-2.ensures.value);
+      to = c.count_begun.ensures.value;
+      last = c.count_begun.ensures.value;
+      order = omega (arith, grows, c.count_passed.ensures.value, c.count_begun.ensures.value);
       kept = rw (c.new.ensures, c.count_passed.ensures.value) refl;
       taken = rw (c.new-2.ensures, c.count_passed.ensures.value) (sym (parts_front c.args.size change.address change.bytes rows));
     }
@@ -26,6 +26,11 @@ at-requires c =
     let rows = reverse c.args.entries.now.items in
     let within = begun_within (c.args.change.now.address + c.args.change.now.bytes) 0 (2 ^ 32) rows c.requires.entries.in_order in
     omega (arith, within, c.met.invariant.last, c.met-test.true, length-reverse c.args.entries.now.items)
+
+pub rewrite_entry-requires-clause-some : goal.rewrite_entry-requires-clause-some
+rewrite_entry-requires-clause-some c =
+    let inside = lies_in c.met.i 0 (2 ^ 32) (reverse c.args.entries.now.items) c.at.result.now c.requires.entries.in_order c.at.ensures in
+    inside.some
 
 pub rewrite_entry-requires-clause-high : goal.rewrite_entry-requires-clause-high
 rewrite_entry-requires-clause-high c =

@@ -28,11 +28,11 @@ pub returns-clause-ran : goal.returns-clause-ran
 returns-clause-ran g c =
     on_ok c.push.result _ _
     (λ is. subst (λ (z : List Event). Ran g.given.header g.given.host g.given.outside (command.Inherit c.args.task c.args.address c.args.bytes c.args.inherit)
-    g.given.past (record c.args.self.now { maps = c.inherit.new.self; chains = c.count_cuts.new.chains }) c.args.ids.now z)
+    g.given.past (record c.args.self.now { maps = c.set_inherit.new.self; chains = c.count_cuts.new.chains }) c.args.ids.now z)
     (sym (is ∙ ap (λ z. event.Inherited c.args.task c.args.address c.args.bytes c.args.inherit ∷ z) c.requires.nothing))
     (ran_inherit g.given.header g.given.host g.given.outside c.args.task c.args.address c.args.bytes c.args.inherit g.given.past _ c.args.self.now
-    c.args.ids.now c.inherit.new.self c.count_cuts.new.chains c.inheritance.result
-    c.requires c.inheritance.ensures c.in_ok-inherit.ensures.changes (c.count_cuts.ensures.raised _ _ c.cuts_of-cuts.ensures.low c.cuts_of-cuts.ensures.high)))
+    c.args.ids.now c.set_inherit.new.self c.count_cuts.new.chains c.inheritance.result
+    c.requires c.inheritance.ensures c.set_inherit.ensures.changes (c.count_cuts.ensures.raised _ _ c.cuts_of-cuts.ensures.low c.cuts_of-cuts.ensures.high)))
     c.push.ensures.ok
 
 pub returns-clause-plays : goal.returns-clause-plays

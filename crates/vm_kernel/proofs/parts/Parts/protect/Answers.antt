@@ -28,11 +28,11 @@ pub returns-clause-ran : goal.returns-clause-ran
 returns-clause-ran g c =
     on_ok c.push.result _ _
     (λ is. subst (λ (z : List Event). Ran g.given.header g.given.host g.given.outside (command.Protect c.args.task c.args.address c.args.bytes c.args.prot)
-    g.given.past (record c.args.self.now { maps = c.protect.new.self; chains = c.count_cuts.new.chains }) c.args.ids.now z)
+    g.given.past (record c.args.self.now { maps = c.set_prot.new.self; chains = c.count_cuts.new.chains }) c.args.ids.now z)
     (sym (is ∙ ap (λ z. event.Protected c.args.task c.args.address c.args.bytes c.args.prot ∷ z) c.requires.nothing))
     (ran_protect g.given.header g.given.host g.given.outside c.args.task c.args.address c.args.bytes c.args.prot g.given.past _ c.args.self.now c.args.ids.now
-    c.protect.new.self c.count_cuts.new.chains c.protection.result
-    c.requires c.protection.ensures c.in_ok-protect.ensures.changes (c.count_cuts.ensures.raised _ _ c.cuts_of-cuts.ensures.low c.cuts_of-cuts.ensures.high)))
+    c.set_prot.new.self c.count_cuts.new.chains c.protection.result
+    c.requires c.protection.ensures c.set_prot.ensures.changes (c.count_cuts.ensures.raised _ _ c.cuts_of-cuts.ensures.low c.cuts_of-cuts.ensures.high)))
     c.push.ensures.ok
 
 pub returns-clause-plays : goal.returns-clause-plays

@@ -4,7 +4,9 @@ use Rattle.vm_base.specs.Keys.{page_key}
 use Rattle.vm_resident.proofs.Entries.{WritesEntry, pages_put, seen}
 use Rattle.vm_resident.proofs.PageSets.{ok_has}
 use Rattle.vm_resident.proofs.Tables.{Puts, inserted, led_inserted}
-use Rattle.vm_resident.specs.Resident.{ResidentTable}
+use Rattle.std.specs.Prelude.{is_some}
+use Rattle.vm_resident.specs.Groups.{is_in, is_marked}
+use Rattle.vm_resident.specs.Resident.{ResidentTable, has_note}
 use Rattle.vm_resident.proofs.resident.Resident.insert.Goals as goal
 
 left : (c : goal.After-self-1) (s t : ℕ) → Puts c.args.key c.args.row (seen c.self.inside.rows.entries s) (seen c.insert.new.self.entries t)
@@ -24,8 +26,11 @@ invariant_of-self c =
     record {
       unique = c.insert.ensures.unique;
       pages =
-          pages_put c.self.inside.rows.entries c.insert.new.self.entries c.args.key (Some c.args.row) c.self.inside.pages _ c.self.invariant.pages writes
-          c.insert-2.ensures.pages;
+          pages_put is_some c.self.inside.rows.entries c.insert.new.self.entries c.args.key (Some c.args.row) (is_in c.self.inside.pages)
+          (is_in c.insert-2.new.self) c.self.invariant.pages writes c.insert-2.ensures.pages.at;
+      noted =
+          pages_put has_note c.self.inside.rows.entries c.insert.new.self.entries c.args.key (Some c.args.row) (is_marked c.self.inside.pages)
+          (is_marked c.insert-2.new.self) c.self.invariant.noted writes (rw c.is_noted.ensures at c.insert-2.ensures.marks.at);
       led = λ apart.
           let led = c.self.invariant.led (c.insert-3.ensures.shared apart) in
           led_inserted c.self.inside.rows.entries c.insert.new.self.entries c.args.key c.args.row c.self.inside.owners c.insert-3.new.self

@@ -1,6 +1,9 @@
 use Rattle.std.proofs.Common.{ℕ, ◌≡◌, ◌∙◌, None, Some, sym, arith}
 use Rattle.vm_base.specs.Keys.{page_key}
 use Rattle.vm_resident.proofs.Entries.{entry_at, pages_put, row_entry, row_put, seen}
+use Rattle.std.specs.Prelude.{is_some}
+use Rattle.vm_resident.specs.Groups.{is_in, is_marked}
+use Rattle.vm_resident.specs.Resident.{has_note}
 use Rattle.vm_resident.proofs.Tables.{Takes, led_taken, taken}
 use Rattle.vm_resident.proofs.resident.Resident.remove.Goals as goal
 
@@ -26,8 +29,11 @@ pub invariant_of-self-2 : goal.invariant_of-self-2
 invariant_of-self-2 c = record {
   unique = c.swap_remove.ensures.unique;
   pages =
-      pages_put c.self.inside.rows.entries c.swap_remove.new.self.entries c.args.key None c.self.inside.pages c.remove.new.self c.self.invariant.pages
-      (λ o p. c.swap_remove.ensures.updates.0 (page_key o p)) c.remove.ensures.pages;
+      pages_put is_some c.self.inside.rows.entries c.swap_remove.new.self.entries c.args.key None (is_in c.self.inside.pages) (is_in c.remove.new.self)
+      c.self.invariant.pages (λ o p. c.swap_remove.ensures.updates.0 (page_key o p)) c.remove.ensures.pages.at;
+  noted =
+      pages_put has_note c.self.inside.rows.entries c.swap_remove.new.self.entries c.args.key None (is_marked c.self.inside.pages) (is_marked c.remove.new.self)
+      c.self.invariant.noted (λ o p. c.swap_remove.ensures.updates.0 (page_key o p)) c.remove.ensures.marks.at;
   led =
       λ apart. led_taken c.self.inside.rows.entries c.swap_remove.new.self.entries c.args.key c.in_ok-row.row c.self.inside.owners c.remove-2.new.self
       (left c 0) (c.self.invariant.led (sym c.remove-2.ensures.shared ∙ apart)) c.remove-2.ensures.page;

@@ -1,0 +1,7 @@
+use Rattle.std.proofs.Common.{◌≡◌, ◌+◌, ◌*◌, ◌++◌, take}
+use Rattle.std.specs.List.{flat_map}
+use Rattle.vm_model.specs.Text.{byte_hex}
+use Rattle.vm_text.proofs.room.put_hex.Given as goal
+
+abbrev pub invariant-loop-i : goal.invariant-loop-i
+invariant-loop-i l = take (l.at + 2 * l.i) l.bytes ≡ take l.at l.fn.bytes ++ flat_map byte_hex (take l.i l.page)
