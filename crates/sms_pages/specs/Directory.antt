@@ -59,6 +59,10 @@ finished host d =
 abbrev pub ended : ℕ → Directory → Directory
 ended host d = record d { holds = slice_set d.holds host 0; awaits = slice_set d.awaits host 0 }
 
+-- the end of the host's control changes nothing: it holds nothing and isn't awaited, and nobody stands in line
+abbrev pub is_idle : ℕ → Directory → Bool
+is_idle host d = length d.line == 0 && slice_index d.holds host == 0 && slice_index d.awaits host == 0
+
 -- How the line is served.
 
 -- another holder, not awaited, is recalled: to read only one that can write

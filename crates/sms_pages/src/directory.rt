@@ -3,7 +3,7 @@ ghost use Rattle.std.specs.Prelude.{◌≡◌, ◌+◌, ◌<◌, ◌≤◌, [], 
 ghost use Rattle.vm_base.specs.Limits.{most_hosts};
 ghost use Rattle.sms_pages.specs.Desk.{AllLong, DeskServes, HasRoom};
 ghost use Rattle.sms_pages.specs.Directory.{wanted_access, requested, unlock_heard, saved, finished, left_by, ended, IsServedDirectory, IsSame, IsNewDirectory};
-ghost use Rattle.sms_pages.specs.Directory.{most_replies};
+ghost use Rattle.sms_pages.specs.Directory.{is_idle, most_replies};
 
 use crate::Replies;
 use crate::desk::{Desk, HOSTS, make_pages, overwrite};
@@ -83,6 +83,24 @@ impl PageDirectory {
         self.ready.reserve(most)?;
         make_pages(&mut self.desk.spare, waiting as u32 + 1, &self.desk.bytes)?;
         Ok(most)
+    }
+
+    /// How many stand in line.
+    pub fn waiting(&self) -> usize
+        ensures { result ≡ length self.now.line }
+    {
+        self.desk.line.len()
+    }
+
+    /// Whether the end of the host's control changes nothing: it holds nothing and isn't awaited,
+    /// and nobody stands in line.
+    pub fn is_idle(&self, host: HostId) -> bool
+        requires { host.0 < most_hosts }
+        ensures { result ≡ is_idle host.0 self.now }
+    {
+        self.desk.line.is_empty()
+            && self.desk.holds[host.0 as usize] == Holding::NOTHING
+            && self.desk.awaits[host.0 as usize] == Recall::NONE
     }
 
     /// A data request of the host was taken: it holds nothing now, and joins the line. It fails for

@@ -1,16 +1,16 @@
 -- What a page's answer is to the table.
 use Rattle.std.proofs.Common.{ℕ, zero, suc, ◌≡◌, ◌≢◌, ◌<◌, ◌≤◌, ◌+◌, ◌==◌, Bool, true, false, if◌then◌else◌, List, [], ◌∷◌, ◌++◌, length, replicate, set}
-use Rattle.std.proofs.Common.{Option, Some, None, refl, sym, ◌∙◌, ap, subst, ⊎_elim, arith}
-use Rattle.std.proofs.lemmas.Bool.{cases_Bool, false≢true}
+use Rattle.std.proofs.Common.{Option, Some, None, refl, sym, ◌∙◌, ap, subst, ⊎_elim, append_assoc, arith}
+use Rattle.std.proofs.lemmas.Bool.{cases_Bool, cases_lt, false≢true}
 use Rattle.std.proofs.lemmas.Bool.Decides.{nat_tests}
-use Rattle.std.proofs.lemmas.List.{get_or-set_other, get_or-set_same}
+use Rattle.std.proofs.lemmas.List.{append-nil, get_or-set_other, get_or-set_same}
 use Rattle.std.proofs.lemmas.Option.{none-some, same_Some}
 use Rattle.std.specs.Prelude.{slice_get, slice_index, slice_set}
 use native.Mathlib.Decide.{ℕ_discrete}
 use Rattle.sms_pages.specs.Directory.{Directory, IsSame, most_replies}
 use Rattle.sms_pages.specs.declared.reply.Reply.{Reply}
-use Rattle.vm_base.proofs.Keys.{behind_apart, itself, later, page_read, swap_tests}
-use Rattle.vm_base.specs.Keys.{IsFrom, is_page}
+use Rattle.vm_base.proofs.Keys.{page_read}
+use Rattle.vm_base.specs.Keys.{is_page}
 use Rattle.vm_base.specs.declared.ids.ObjectId.{ObjectId}
 use Rattle.vm_base.specs.declared.ids.PageKey.{PageKey}
 use Rattle.vm_model.specs.Server.{Wanting}
@@ -18,10 +18,12 @@ use Rattle.vm_model.specs.Words.{UpWord, Asking, Unlocking, Returning, Doing, En
 use Rattle.vm_model.specs.declared.event.Event.{Event}
 use Rattle.vm_model.specs.declared.message.Message.{Message}
 use Rattle.vm_model.specs.declared.message.Message.TheVariants as message
+use Rattle.sms_server.proofs.Naming.{HasSameKey}
+use Rattle.sms_server.proofs.Placed.{AreApart, among_at, row_set}
 use Rattle.sms_server.proofs.Words.{both_words, row_whole, row_words}
 use Rattle.sms_server.specs.Answers.{AnswerEvents, DirectoryAfter, IsAbout, IsEnd, IsOfOnePage, PageAfter, ReturnsWhole, RisesFrom, RowAfter, ServerAnswer}
 use Rattle.sms_server.specs.Answers.{AreServerWords, heard_by, is_among, heard_row, page_events, page_no, replies_to, reply_events, row_events, stretches}
-use Rattle.sms_server.specs.Kept.{AreWhole, ByKey, IsRowAfter, RowsAfter, events_among}
+use Rattle.sms_server.specs.Kept.{AreWhole, EventsInTurn, IsRowAfter, RowsAfter, events_below, events_if}
 use Rattle.sms_server.specs.Table.{IsSamePage, IsSameTable, ServerTable, directory_at, directory_in, heard_at, most_events, new_directory, replies_among}
 use Rattle.sms_server.specs.Table.{row_among}
 use Rattle.sms_server.specs.declared.page_row.PageRow.{PageRow}
@@ -157,48 +159,6 @@ answer_of table h object (message.Attributes cache strategy reply) p events abou
 answer_of table h object (message.Destroy reason) p events about one is = absurd about
 answer_of table h object (message.Changed control cache strategy) p events about one is = absurd about
 
--- rows in which one is another now
-
-pub by_key_set : (object page i : ℕ) (x new : PageRow) (rows : List PageRow) → ByKey object page rows → slice_get rows i ≡ Some x → x.key ≡ new.key
-    → ByKey object page (set rows i new)
-by_key_set object page i x new [] by_key is same = absurd (none-some x is)
-by_key_set object page zero x new (y ∷ ys) by_key is same =
-    let e : y.key ≡ new.key = ap (λ (z : PageRow). z.key) (same_Some y x is) ∙ same in
-    subst (λ (key : PageKey). IsFrom object page key × ByKey key.object.0 (suc key.page.0) ys) e by_key
-by_key_set object page (suc i) x new (y ∷ ys) by_key is same = (by_key.0, by_key_set y.key.object.0 (suc y.key.page.0) i x new ys by_key.1 is same)
-
-from_at : (object page i : ℕ) (x : PageRow) (rows : List PageRow) → ByKey object page rows → slice_get rows i ≡ Some x → IsFrom object page x.key
-from_at object page i x [] by_key is = absurd (none-some x is)
-from_at object page zero x (y ∷ ys) by_key is = subst (λ (z : PageRow). IsFrom object page z.key) (same_Some y x is) by_key.0
-from_at object page (suc i) x (y ∷ ys) by_key is = later object page y.key x.key by_key.0 (from_at y.key.object.0 (suc y.key.page.0) i x ys by_key.1 is)
-
--- a page's row is the one that stands somewhere
-pub among_at : (object page i : ℕ) (x : PageRow) (rows : List PageRow) → ByKey object page rows → slice_get rows i ≡ Some x
-    → row_among x.key.object.0 x.key.page.0 rows ≡ Some x
-among_at object page i x [] by_key is = absurd (none-some x is)
-among_at object page zero x (y ∷ ys) by_key is = let e = same_Some y x is in rw e (rw (itself x.key) refl)
-among_at object page (suc i) x (y ∷ ys) by_key is =
-    let low = from_at y.key.object.0 (suc y.key.page.0) i x ys by_key.1 is in
-    let apart : is_page y.key x.key.object.0 x.key.page.0 ≡ false = ⊎_elim
-    (λ (here : is_page y.key x.key.object.0 x.key.page.0 ≡ true). absurd (false≢true
-    (sym (behind_apart y.key x.key x.key.object.0 x.key.page.0 low here) ∙ itself x.key)))
-    (λ (no_page : is_page y.key x.key.object.0 x.key.page.0 ≡ false). no_page)
-    (cases_Bool (is_page y.key x.key.object.0 x.key.page.0)) in
-    rw apart (among_at y.key.object.0 (suc y.key.page.0) i x ys by_key.1 is)
-
-pub row_set : (object page i o p : ℕ) (x new : PageRow) (rows : List PageRow) → ByKey object page rows → slice_get rows i ≡ Some x → x.key ≡ new.key
-    → row_among o p (set rows i new) ≡ (if is_page new.key o p then Some new else row_among o p rows)
-row_set object page i o p x new [] by_key is same = absurd (none-some x is)
-row_set object page zero o p x new (y ∷ ys) by_key is same =
-    let read : is_page y.key o p ≡ is_page new.key o p = ap (λ (key : PageKey). is_page key o p) (ap (λ (z : PageRow). z.key) (same_Some y x is) ∙ same) in
-    ⊎_elim (λ (here : is_page new.key o p ≡ true). rw here refl) (λ (apart : is_page new.key o p ≡ false). rw (read, apart) refl)
-    (cases_Bool (is_page new.key o p))
-row_set object page (suc i) o p x new (y ∷ ys) by_key is same =
-    let rest = row_set y.key.object.0 (suc y.key.page.0) i o p x new ys by_key.1 is same in
-    let behind : IsFrom y.key.object.0 (suc y.key.page.0) new.key = subst (IsFrom y.key.object.0 (suc y.key.page.0)) same
-    (from_at y.key.object.0 (suc y.key.page.0) i x ys by_key.1 is) in
-    rw rest (swap_tests (is_page y.key o p) (is_page new.key o p) (Some y) (Some new) (row_among o p ys) (λ here. behind_apart y.key new.key o p behind here))
-
 pub whole_at : (size i : ℕ) (x : PageRow) (rows : List PageRow) → AreWhole size rows → slice_get rows i ≡ Some x → (length x.directory.bytes ≡ size)
     × (length x.heard ≡ 8)
 whole_at size i x [] whole is = absurd (none-some x is)
@@ -214,7 +174,7 @@ whole_set size (suc i) new (y ∷ ys) whole bytes eight = (whole.0, whole.1, who
 
 -- the answer of one page
 pub record Answers (h : ℕ) (object : ObjectId) (page : ℕ) (m : Message) (rows : List PageRow) (i : ℕ) (x y : PageRow) : Type 0 where
-  pub by_key : ByKey 0 0 rows
+  pub apart : AreApart rows
   pub is : slice_get rows i ≡ Some x
   pub own : x.key.object ≡ object
   pub at_page : x.key.page.0 ≡ page
@@ -277,14 +237,14 @@ one_answer h object page m rows i x y old table now events a same seen sized set
   among_page : (p : ℕ) → x.key.page.0 ≡ p → row_among object.0 p table.rows ≡ Some x
   among_page p e =
       subst (λ (k : ℕ). row_among object.0 k table.rows ≡ Some x) e (subst (λ (k : ℕ). row_among k x.key.page.0 table.rows ≡ Some x) of
-      (subst (λ (l : List PageRow). row_among x.key.object.0 x.key.page.0 l ≡ Some x) (sym seen) (among_at 0 0 i x rows a.by_key a.is)))
+      (subst (λ (l : List PageRow). row_among x.key.object.0 x.key.page.0 l ≡ Some x) (sym seen) (among_at i x rows a.apart a.is)))
 
   among_x : row_among object.0 x.key.page.0 table.rows ≡ Some x
   among_x = among_page x.key.page.0 refl
 
   left : (o p : ℕ) → row_among o p now.rows ≡ (if is_page y.key o p then Some y else row_among o p table.rows)
   left o p =
-      ap (row_among o p) set_is ∙ (row_set 0 0 i o p x y rows a.by_key a.is key_same
+      ap (row_among o p) set_is ∙ (row_set i o p x y rows a.apart a.is key_same
       ∙ ap (λ (l : List PageRow). if is_page y.key o p then Some y else row_among o p l) (sym seen))
 
   test : (o p : ℕ) → is_page y.key o p ≡ is_page x.key o p
@@ -329,10 +289,10 @@ most_of_page table o p = by (row_among o p table.rows) refl
     by None is = rw is (omega arith)
     by (Some x) is = let one = one_among o p table.rows x is in rw is (omega (arith, one))
 
-pub most_of_row : (old table : ServerTable) (rows : List PageRow) (i : ℕ) (x : PageRow) → IsSameTable old table → table.rows ≡ rows → ByKey 0 0 rows
+pub most_of_row : (old table : ServerTable) (rows : List PageRow) (i : ℕ) (x : PageRow) → IsSameTable old table → table.rows ≡ rows → AreApart rows
     → slice_get rows i ≡ Some x → most_replies x.directory ≤ most_events x.key.object.0 old
-most_of_row old table rows i x same seen by_key is =
-    let among : row_among x.key.object.0 x.key.page.0 table.rows ≡ Some x = ap (row_among x.key.object.0 x.key.page.0) seen ∙ among_at 0 0 i x rows by_key is in
+most_of_row old table rows i x same seen apart is =
+    let among : row_among x.key.object.0 x.key.page.0 table.rows ≡ Some x = ap (row_among x.key.object.0 x.key.page.0) seen ∙ among_at i x rows apart is in
     let here : directory_at table x.key.object.0 x.key.page.0 ≡ x.directory = ap (directory_in table.size) among in
     let page = same.pages x.key.object.0 x.key.page.0 in
     let lines = ap length page.directory.line in
@@ -341,61 +301,6 @@ most_of_row old table rows i x same seen by_key is =
     omega (arith, lines, now, most)
 
 -- the end of a control, for all pages of its object
-
-abbrev pub pages_among : ℕ → List PageRow → List ℕ
-pages_among o [] = []
-pages_among o (row ∷ rows) = if row.key.object.0 == o then row.key.page.0 ∷ pages_among o rows else pages_among o rows
-
-rises : (o ob pg n : ℕ) (rows : List PageRow) → ByKey ob pg rows → ((key : PageKey) → IsFrom ob pg key → key.object.0 ≡ o → n ≤ key.page.0)
-    → RisesFrom n (pages_among o rows)
-rises o ob pg n [] by_key low = tt
-rises o ob pg n (x ∷ xs) by_key low =
-    ⊎_elim
-    (λ (own : (x.key.object.0 == o) ≡ true).
-    let e : x.key.object.0 ≡ o = grind (arith, nat_tests, own) in
-    rw own (low x.key by_key.0 e, rises o x.key.object.0 (suc x.key.page.0) (suc x.key.page.0) xs by_key.1 (λ key from same. from.inside (omega arith))))
-    (λ (other : (x.key.object.0 == o) ≡ false). rw other (rises o x.key.object.0 (suc x.key.page.0) n xs by_key.1
-    (λ key from same. low key (later ob pg x.key key by_key.0 from) same)))
-    (cases_Bool (x.key.object.0 == o))
-
-unnamed : (o q : ℕ) (rows : List PageRow) → is_among q (pages_among o rows) ≡ false → row_among o q rows ≡ None
-unnamed o q [] none = refl
-unnamed o q (x ∷ xs) none =
-    ⊎_elim
-    (λ (own : (x.key.object.0 == o) ≡ true).
-    let both : (if x.key.page.0 == q then true else is_among q (pages_among o xs)) ≡ false = rw own at none in
-    let first : (x.key.page.0 == q) ≡ false = not_first (x.key.page.0 == q) (is_among q (pages_among o xs)) both in
-    let rest : is_among q (pages_among o xs) ≡ false = rw first at both in
-    let apart : is_page x.key o q ≡ false = grind (arith, nat_tests, first) in
-    rw apart (unnamed o q xs rest))
-    (λ (other : (x.key.object.0 == o) ≡ false).
-    let apart : is_page x.key o q ≡ false = grind (arith, nat_tests, other) in
-    rw apart (unnamed o q xs (rw other at none)))
-    (cases_Bool (x.key.object.0 == o))
-  where
-    not_first : (b c : Bool) → (if b then true else c) ≡ false → b ≡ false
-    not_first true c is = absurd (false≢true (sym is))
-    not_first false c is = refl
-
--- the events of some of the rows are stretches of the table's pages
-events_are : (table : ServerTable) (h : ℕ) (object : ObjectId) (m : Message) (rows : List PageRow)
-    → ((k : ℕ) (x : PageRow) → slice_get rows k ≡ Some x → x.key.object.0 ≡ object.0 → (row_among object.0 x.key.page.0 table.rows ≡ Some x)
-    × (h < length x.heard))
-    → events_among h m object.0 rows ≡ stretches table h object m (pages_among object.0 rows)
-events_are table h object m [] each = refl
-events_are table h object m (x ∷ xs) each =
-    let rest = events_are table h object m xs (λ k. each (suc k)) in
-    ⊎_elim
-    (λ (own : (x.key.object.0 == object.0) ≡ true).
-    let e : x.key.object.0 ≡ object.0 = grind (arith, nat_tests, own) in
-    let known = each 0 x refl e in
-    let first = row_events_are table h object m x known.0 (same_id x.key.object object e) known.1 in
-    rw (own, first, rest) refl)
-    (λ (other : (x.key.object.0 == object.0) ≡ false). rw (other, rest) refl)
-    (cases_Bool (x.key.object.0 == object.0))
-  where
-    same_id : (a b : ObjectId) → a.0 ≡ b.0 → a ≡ b
-    same_id a b e = ap (λ (n : ℕ). record { 0 = n }) e
 
 after_key : (h : ℕ) (m : Message) (o : ℕ) (x y : PageRow) → IsRowAfter h m o (Some x) (Some y) → y.key ≡ x.key
 after_key h m o x y after = elim (ℕ_discrete x.key.object.0 o) [
@@ -431,13 +336,16 @@ row_elsewhere h m o q p (x ∷ xs) (y ∷ ys) after other =
     (λ (apart : is_page x.key q p ≡ false). rw (test, apart) rest)
     (cases_Bool (is_page x.key q p))
 
-pub by_key_after : (h : ℕ) (m : Message) (o ob pg : ℕ) (old new : List PageRow) → RowsAfter h m o old new → ByKey ob pg old → ByKey ob pg new
-by_key_after h m o ob pg [] [] after by_key = tt
-by_key_after h m o ob pg [] (y ∷ ys) after by_key = absurd (after 0)
-by_key_after h m o ob pg (x ∷ xs) [] after by_key = absurd (after 0)
-by_key_after h m o ob pg (x ∷ xs) (y ∷ ys) after by_key =
-    let rest = by_key_after h m o x.key.object.0 (suc x.key.page.0) xs ys (λ k. after (suc k)) by_key.1 in
-    subst (λ (key : PageKey). IsFrom ob pg key × ByKey key.object.0 (suc key.page.0) ys) (sym (after_key h m o x y (after 0))) (by_key.0, rest)
+-- so the rows are of the same pages
+pub after_same_keys : (h : ℕ) (m : Message) (o : ℕ) (old new : List PageRow) → RowsAfter h m o old new
+    → (k : ℕ) → HasSameKey (slice_get old k) (slice_get new k)
+after_same_keys h m o old new after k = by (slice_get old k) (slice_get new k) (after k)
+  where
+    by : (a b : Option PageRow) → IsRowAfter h m o a b → HasSameKey a b
+    by None None c = tt
+    by None (Some y) c = absurd c
+    by (Some x) None c = absurd c
+    by (Some x) (Some y) c = after_key h m o x y c
 
 row_after_whole : (size h : ℕ) (m : Message) (o : ℕ) (x y : PageRow) → IsRowAfter h m o (Some x) (Some y) → ReturnsWhole size m
     → length x.directory.bytes ≡ size → length x.heard ≡ 8 → (length y.directory.bytes ≡ size) × (length y.heard ≡ 8)
@@ -455,16 +363,22 @@ whole_after size h m o (x ∷ xs) (y ∷ ys) after returns whole =
     let first = row_after_whole size h m o x y (after 0) returns whole.0 whole.1 in
     (first.0, first.1, whole_after size h m o xs ys (λ k. after (suc k)) returns whole.2)
 
-among_known : (size o p : ℕ) (rows : List PageRow) (x : PageRow) → AreWhole size rows → row_among o p rows ≡ Some x → (x.key.object.0 ≡ o)
-    × (length x.heard ≡ 8)
-among_known size o p [] x whole is = absurd (none-some x is)
-among_known size o p (y ∷ ys) x whole is =
+-- what is known of a page's row
+record Known (size o p : ℕ) (x : PageRow) : Type 0 where
+  own : x.key.object.0 ≡ o
+  at_page : x.key.page.0 ≡ p
+  bytes : length x.directory.bytes ≡ size
+  eight : length x.heard ≡ 8
+
+known : (size o p : ℕ) (rows : List PageRow) (x : PageRow) → AreWhole size rows → row_among o p rows ≡ Some x → Known size o p x
+known size o p [] x whole is = absurd (none-some x is)
+known size o p (y ∷ ys) x whole is =
     ⊎_elim
     (λ (here : is_page y.key o p ≡ true).
     let e : y ≡ x = same_Some y x (rw here at is) in
     let read = page_read y.key o p here in
-    subst (λ (z : PageRow). (z.key.object.0 ≡ o) × (length z.heard ≡ 8)) e (read.object, whole.1))
-    (λ (apart : is_page y.key o p ≡ false). among_known size o p ys x whole.2 (rw apart at is))
+    subst (Known size o p) e (record { own = read.object; at_page = read.page; bytes = whole.0; eight = whole.1 }))
+    (λ (apart : is_page y.key o p ≡ false). known size o p ys x whole.2 (rw apart at is))
     (cases_Bool (is_page y.key o p))
 
 -- a new page that a host's end comes to
@@ -477,53 +391,117 @@ set_zeros (suc n) (suc h) = ap (λ (xs : List ℕ). 0 ∷ xs) (set_zeros n h)
 new_ended : (h control size : ℕ) → DirectoryAfter h (Ending control) (new_directory size) (new_directory size)
 new_ended h control size = record { exact = rw (set_zeros 8 h) refl; bytes = refl }
 
-pub end_words : (size h : ℕ) (object : ObjectId) (m : Message) (rows : List PageRow) → ReturnsWhole size m → AreWhole size rows
-    → AreServerWords size object (events_among h m object.0 rows)
-end_words size h object m [] returns whole = tt
-end_words size h object m (x ∷ xs) returns whole =
-    let rest = end_words size h object m xs returns whole.2 in
+same_id : (a b : ObjectId) → a.0 ≡ b.0 → a ≡ b
+same_id a b e = ap (λ (n : ℕ). let id : ObjectId = record { 0 = n } in id) e
+
+-- the events of one page are words of the server, and so are those of all pages
+
+page_words : (size h : ℕ) (object : ObjectId) (m : Message) (rows : List PageRow) (p : ℕ) → ReturnsWhole size m → AreWhole size rows
+    → AreServerWords size object (events_if h m (row_among object.0 p rows))
+page_words size h object m rows p returns whole = by (row_among object.0 p rows) refl
+  where
+    by : (r : Option PageRow) → row_among object.0 p rows ≡ r → AreServerWords size object (events_if h m r)
+    by None is = tt
+    by (Some x) is =
+        let k = known size object.0 p rows x whole is in
+        subst (λ (o : ObjectId). AreServerWords size o (row_events h m x)) (same_id x.key.object object k.own) (row_words size h m x returns k.bytes)
+
+below_words : (size h : ℕ) (object : ObjectId) (m : Message) (rows : List PageRow) (n : ℕ) → ReturnsWhole size m → AreWhole size rows
+    → AreServerWords size object (events_below h m object.0 rows n)
+below_words size h object m rows zero returns whole = tt
+below_words size h object m rows (suc n) returns whole =
+    both_words size object (events_if h m (row_among object.0 n rows)) (events_below h m object.0 rows n) (page_words size h object m rows n returns whole)
+    (below_words size h object m rows n returns whole)
+
+pub end_words : (size h : ℕ) (object : ObjectId) (m : Message) (rows : List PageRow) (events : List Event) → ReturnsWhole size m → AreWhole size rows
+    → EventsInTurn h m object.0 rows [] events → AreServerWords size object events
+end_words size h object m rows events returns whole told =
+    subst (AreServerWords size object) (sym (told.are ∙ append-nil (events_below h m object.0 rows told.bound)))
+    (below_words size h object m rows told.bound returns whole)
+
+-- all pages below one
+
+abbrev range : ℕ → ℕ → List ℕ
+range from zero = []
+range from (suc n) = from ∷ range (suc from) n
+
+range_rises : (from n : ℕ) → RisesFrom from (range from n)
+range_rises from zero = tt
+range_rises from (suc n) = (omega arith, range_rises (suc from) n)
+
+in_range_of : (from n p : ℕ) → from ≤ p → p < from + n → is_among p (range from n) ≡ true
+in_range_of from zero p low less = absurd (omega arith)
+in_range_of from (suc n) p low less =
     ⊎_elim
-    (λ (own : (x.key.object.0 == object.0) ≡ true).
-    let e : x.key.object.0 ≡ object.0 = grind (arith, nat_tests, own) in
-    let words = subst (λ (o : ObjectId). AreServerWords size o (row_events h m x)) (ap (λ (n : ℕ). let id : ObjectId = record { 0 = n } in id) e)
-    (row_words size h m x returns whole.0) in
-    rw own (both_words size object (events_among h m object.0 xs) (row_events h m x) rest words))
-    (λ (other : (x.key.object.0 == object.0) ≡ false). rw other rest)
-    (cases_Bool (x.key.object.0 == object.0))
+    (λ (here : (from == p) ≡ true). rw here refl)
+    (λ (apart : (from == p) ≡ false).
+    let next : suc from ≤ p = (let differ : from ≢ p = grind (arith, nat_tests, apart) in omega arith) in
+    rw apart (in_range_of (suc from) n p next (omega arith)))
+    (cases_Bool (from == p))
+
+one_more : (table : ServerTable) (h : ℕ) (object : ObjectId) (m : Message) (from n : ℕ)
+    → stretches table h object m (range from (suc n)) ≡ page_events table h object m (from + n) ++ stretches table h object m (range from n)
+one_more table h object m from zero =
+    let e : from + 0 ≡ from = omega arith in
+    rw e (sym (append-nil (page_events table h object m from)))
+one_more table h object m from (suc n) =
+    let e : suc from + n ≡ from + suc n = omega arith in
+    let rest = one_more table h object m (suc from) n in
+    ap (λ (es : List Event). es ++ page_events table h object m from) (rest ∙ ap (λ k. page_events table h object m k
+    ++ stretches table h object m (range (suc from) n)) e)
+    ∙ append_assoc (page_events table h object m (from + suc n)) (stretches table h object m (range (suc from) n)) (page_events table h object m from)
+
+-- the events of a page, in the table's words
+page_is : (size h : ℕ) (object : ObjectId) (control p : ℕ) (rows : List PageRow) (table : ServerTable) → table.rows ≡ rows → AreWhole size rows → h < 8
+    → page_events table h object (message.Terminate control) p ≡ events_if h (message.Terminate control) (row_among object.0 p rows)
+page_is size h object control p rows table seen whole low = by (row_among object.0 p rows) refl
+  where
+    by : (r : Option PageRow) → row_among object.0 p rows ≡ r
+        → page_events table h object (message.Terminate control) p ≡ events_if h (message.Terminate control) r
+    by None is = let none : row_among object.0 p table.rows ≡ None = ap (row_among object.0 p) seen ∙ is in rw none refl
+    by (Some x) is =
+        let k = known size object.0 p rows x whole is in
+        let among : row_among object.0 p table.rows ≡ Some x = ap (row_among object.0 p) seen ∙ is in
+        let there : row_among object.0 x.key.page.0 table.rows ≡ Some x = subst (λ (n : ℕ). row_among object.0 n table.rows ≡ Some x) (sym k.at_page) among in
+        ap (page_events table h object (message.Terminate control)) (sym k.at_page)
+        ∙ sym (row_events_are table h object (message.Terminate control) x there (same_id x.key.object object k.own) (omega (arith, k.eight, low)))
+
+below_is : (size h : ℕ) (object : ObjectId) (control n : ℕ) (rows : List PageRow) (table : ServerTable) → table.rows ≡ rows → AreWhole size rows → h < 8
+    → stretches table h object (message.Terminate control) (range 0 n) ≡ events_below h (message.Terminate control) object.0 rows n
+below_is size h object control zero rows table seen whole low = refl
+below_is size h object control (suc n) rows table seen whole low =
+    let e : 0 + n ≡ n = omega arith in
+    one_more table h object (message.Terminate control) 0 n
+    ∙ (rw (e, page_is size h object control n rows table seen whole low, below_is size h object control n rows table seen whole low) refl)
 
 pub end_answer : (h : ℕ) (object : ObjectId) (control : ℕ) (rows left : List PageRow) (old table now : ServerTable) (events : List Event)
-    → IsSameTable old table → table.rows ≡ rows → now.size ≡ table.size → now.rows ≡ left → ByKey 0 0 rows → AreWhole table.size rows → h < 8
-    → RowsAfter h (message.Terminate control) object.0 rows left → events ≡ events_among h (message.Terminate control) object.0 rows
+    → IsSameTable old table → table.rows ≡ rows → now.size ≡ table.size → now.rows ≡ left → AreWhole table.size rows → h < 8
+    → RowsAfter h (message.Terminate control) object.0 rows left → EventsInTurn h (message.Terminate control) object.0 rows [] events
     → ServerAnswer h object (message.Terminate control) old now events
-end_answer h object control rows left old table now events same seen sized left_is by_key whole low after told = record {
+end_answer h object control rows left old table now events same seen sized left_is whole low after told = record {
   size = sized ∙ same.size;
   pages = λ p. page_after_same h object.0 m p old table now (same.pages object.0 p) (own p);
   others =
       λ o p other. page_joined o p old table now (same.pages o p) (page_itself o p table now sized (ap (row_among o p) left_is
       ∙ (row_elsewhere h m object.0 o p rows left after other ∙ ap (row_among o p) (sym seen))));
   told = record {
-    pages = pages_among object.0 rows;
-    rising = rises object.0 0 0 0 rows by_key (λ key from e. omega arith);
-    silent =
-        λ p none. sym (page_events_same old table h object m p (same.pages object.0 p))
-        ∙ silent p (ap (row_among object.0 p) seen ∙ unnamed object.0 p rows none);
-    are = told ∙ (events_are table h object m rows each ∙ stretches_same old table h object m (pages_among object.0 rows) same);
+    pages = range 0 told.bound;
+    rising = range_rises 0 told.bound;
+    silent = λ p none. sym (page_events_same old table h object m p (same.pages object.0 p)) ∙ silent p none;
+    are = told.are
+        ∙ (append-nil (events_below h m object.0 rows told.bound)
+        ∙ (sym (below_is table.size h object control told.bound rows table seen whole low) ∙ stretches_same old table h object m (range 0 told.bound) same));
   };
 } where
   m : Message
   m = message.Terminate control
 
-  silent : (p : ℕ) → row_among object.0 p table.rows ≡ None → page_events table h object (message.Terminate control) p ≡ []
-  silent p none = rw none refl
-
-  each : (k : ℕ) (x : PageRow) → slice_get rows k ≡ Some x → x.key.object.0 ≡ object.0 → (row_among object.0 x.key.page.0 table.rows ≡ Some x)
-      × (h < length x.heard)
-  each k x is e =
-      let long = whole_at table.size k x rows whole is in
-      let eight = long.1 in (
-        ap (row_among object.0 x.key.page.0) seen ∙ subst (λ (o : ℕ). row_among o x.key.page.0 rows ≡ Some x) e (among_at 0 0 k x rows by_key is),
-        omega (arith, eight),
-      )
+  silent : (p : ℕ) → is_among p (range 0 told.bound) ≡ false → page_events table h object (message.Terminate control) p ≡ []
+  silent p none =
+      ⊎_elim
+      (λ (less : p < told.bound). absurd (false≢true (sym none ∙ in_range_of 0 told.bound p (omega arith) (omega arith))))
+      (λ (past : told.bound ≤ p). page_is table.size h object control p rows table seen whole low ∙ told.none p past)
+      (cases_lt p told.bound)
 
   by : (p : ℕ) (was is : Option PageRow) → row_among object.0 p rows ≡ was → row_among object.0 p left ≡ is
       → IsRowAfter h (message.Terminate control) object.0 was is → PageAfter h object.0 (message.Terminate control) p table now
@@ -539,20 +517,20 @@ end_answer h object control rows left old table now events same seen sized left_
   by p None (Some y) was is a = absurd a
   by p (Some x) None was is a = absurd a
   by p (Some x) (Some y) was is a =
-      let known = among_known table.size object.0 p rows x whole was in
-      let done = a.0 known.0 in
+      let k = known table.size object.0 p rows x whole was in
+      let done = a.0 k.own in
       own_page_after h object.0 p (message.Terminate control) table now x y (ap (row_among object.0 p) seen ∙ was) (ap (row_among object.0 p) left_is ∙ is)
-      done.directory done.heard (let eight = known.1 in omega (arith, eight, low))
+      done.directory done.heard (omega (arith, k.eight, low))
 
   own : (p : ℕ) → PageAfter h object.0 (message.Terminate control) p table now
   own p = by p (row_among object.0 p rows) (row_among object.0 p left) refl refl (row_after h (message.Terminate control) object.0 p rows left after)
 
 pub end_answer_of : (h : ℕ) (object : ObjectId) (m : Message) (rows left : List PageRow) (old table now : ServerTable) (events : List Event) → IsEnd m
-    → IsSameTable old table → table.rows ≡ rows → now.size ≡ table.size → now.rows ≡ left → ByKey 0 0 rows → AreWhole table.size rows → h < 8
-    → RowsAfter h m object.0 rows left → events ≡ events_among h m object.0 rows → ServerAnswer h object m old now events
-end_answer_of h object (message.Terminate control) rows left old table now events end same seen sized left_is by_key whole low after told =
-    end_answer h object control rows left old table now events same seen sized left_is by_key whole low after told
-end_answer_of h object m rows left old table now events end same seen sized left_is by_key whole low after told = absurd end
+    → IsSameTable old table → table.rows ≡ rows → now.size ≡ table.size → now.rows ≡ left → AreWhole table.size rows → h < 8
+    → RowsAfter h m object.0 rows left → EventsInTurn h m object.0 rows [] events → ServerAnswer h object m old now events
+end_answer_of h object (message.Terminate control) rows left old table now events end same seen sized left_is whole low after told =
+    end_answer h object control rows left old table now events same seen sized left_is whole low after told
+end_answer_of h object m rows left old table now events end same seen sized left_is whole low after told = absurd end
 
 pub end_returns : (size : ℕ) (m : Message) → IsEnd m → ReturnsWhole size m
 end_returns size (message.Terminate control) end = tt

@@ -1,53 +1,33 @@
 -- What an edit of the pages leaves of the table.
-use Rattle.std.proofs.Common.{ℕ, zero, suc, ◌≡◌, ◌<◌, ◌≤◌, ◌+◌, ◌==◌, Bool, true, false, if◌then◌else◌, List, [], ◌∷◌, length, get_or, set, replicate, Option}
+use Rattle.std.proofs.Common.{ℕ, zero, suc, ◌≡◌, ◌<◌, ◌≤◌, ◌+◌, ◌*◌, ◌==◌, Bool, true, false, if◌then◌else◌, List, [], ◌∷◌, ◌++◌, length, get_or, set, replicate, Option}
 use Rattle.std.proofs.Common.{Some, None, refl, sym, ◌∙◌, ap, subst, ⊎_elim, arith}
 use Rattle.std.proofs.lemmas.Bool.{cases_Bool, false≢true}
 use Rattle.std.proofs.lemmas.Bool.Decides.{nat_tests}
 use Rattle.std.proofs.lemmas.Option.{get_or_from_slice_get, none-some, same_Some, slice_get_within}
-use Rattle.std.specs.List.{insert}
-use Rattle.std.specs.Prelude.{IsSome, slice_get, slice_index}
-use Rattle.sms_pages.specs.Directory.{IsNewDirectory, IsSame, most_replies}
-use Rattle.vm_base.proofs.Keys.{Ahead, Behind, Same, cases_key, itself, key_is, other_page, page_read, same_page, swap_tests}
-use Rattle.vm_base.specs.Keys.{IsFrom, is_page}
+use Rattle.std.specs.Prelude.{◌&&◌, slice_get, slice_index}
+use Rattle.sms_pages.specs.Directory.{Directory, IsNewDirectory, IsSame, most_replies}
+use Rattle.vm_base.proofs.Keys.{itself, page_read}
+use Rattle.vm_base.specs.Keys.{is_page}
 use Rattle.vm_base.specs.declared.ids.PageKey.{PageKey}
-use Rattle.sms_server.proofs.Keyed.{row_found, row_if}
-use Rattle.sms_server.proofs.Looping.{each_set, same_row_itself}
-use Rattle.sms_server.specs.Kept.{AreWhole, ByKey, HasMemory, IsSameRow, RowsAreSame, is_page_at, rows_before}
+use Rattle.std.specs.Option.{option_map_or}
+use Rattle.vm_base.specs.declared.ids.ObjectId.{ObjectId}
+use Rattle.vm_sets.specs.Places.{KeepsPlaces, PlaceTable, PutsPlace, all_marks, has_mark, known_of, pages_in, place_in}
+use Rattle.vm_sets.specs.declared.page_places.ObjectPages.{ObjectPages}
+use Rattle.vm_model.specs.declared.event.Event.{Event}
+use Rattle.sms_server.proofs.Idle.{same_quiet}
+use Rattle.sms_server.proofs.Passing.{same_row_itself}
+use Rattle.sms_server.proofs.Placed.{among_at, are_apart, each_pushed, each_set, placed_changed, row_pushed, row_there}
+use Rattle.sms_server.specs.Kept.{AreWhole, ArePlaced, HasMemory, IsKept, IsMarked, IsRowAt, IsRowOf, IsSameRow, RowsAreSame, StandsThere, end_replies, end_replies_among}
+use Rattle.sms_server.specs.Kept.{is_quiet, pages_among, waiting_among}
 use Rattle.sms_server.specs.Table.{IsPrepared, IsPreparedOf, IsSamePage, IsSameTable, ServerTable, directory_in, heard_in, replies_among, row_among}
 use Rattle.sms_server.specs.declared.page_row.PageRow.{PageRow}
 
 -- a page that is named
 
-pub by_key_inserted : (object page : ℕ) (new : PageRow) (rows : List PageRow) → ByKey object page rows → IsFrom object page new.key
-    → row_among new.key.object.0 new.key.page.0 rows ≡ None
-    → ByKey object page (insert rows (rows_before new.key.object.0 new.key.page.0 rows) new)
-by_key_inserted object page new [] by_key from absent = (from, tt)
-by_key_inserted object page new (x ∷ xs) by_key from absent =
-    cases_key x.key new.key.object.0 new.key.page.0
-    (λ (h : Ahead x.key new.key.object.0 new.key.page.0).
-    let behind : IsFrom x.key.object.0 (suc x.key.page.0) new.key = record { above = h.place.above; inside = λ le. let m = h.place.inside le in omega arith } in
-    rw h.before (by_key.0, by_key_inserted x.key.object.0 (suc x.key.page.0) new xs by_key.1 behind (rw h.apart at absent)))
-    (λ (h : Same x.key new.key.object.0 new.key.page.0). absurd (none-some x (sym (rw h.here at absent))))
-    (λ (h : Behind x.key new.key.object.0 new.key.page.0). rw h.before (from, (h.place, by_key.1)))
-
-pub row_inserted : (o p : ℕ) (new : PageRow) (rows : List PageRow)
-    → row_among o p (insert rows (rows_before new.key.object.0 new.key.page.0 rows) new) ≡ (if is_page new.key o p then Some new else row_among o p rows)
-row_inserted o p new [] = refl
-row_inserted o p new (x ∷ xs) =
-    let rest = row_inserted o p new xs in
-    cases_key x.key new.key.object.0 new.key.page.0
-    (λ (h : Ahead x.key new.key.object.0 new.key.page.0).
-    rw (h.before, rest) (swap_tests (is_page x.key o p) (is_page new.key o p) (Some x) (Some new) (row_among o p xs)
-    (λ here. other_page x.key new.key o p h.apart here)))
-    (λ (h : Same x.key new.key.object.0 new.key.page.0). rw h.before refl)
-    (λ (h : Behind x.key new.key.object.0 new.key.page.0). rw h.before refl)
-
-whole_inserted : (size i : ℕ) (new : PageRow) (rows : List PageRow) → AreWhole size rows → length new.directory.bytes ≡ size → length new.heard ≡ 8
-    → AreWhole size (insert rows i new)
-whole_inserted size zero new [] whole bytes eight = (bytes, eight, tt)
-whole_inserted size (suc i) new [] whole bytes eight = (bytes, eight, tt)
-whole_inserted size zero new (x ∷ xs) whole bytes eight = (bytes, eight, whole)
-whole_inserted size (suc i) new (x ∷ xs) whole bytes eight = (whole.0, whole.1, whole_inserted size i new xs whole.2 bytes eight)
+whole_pushed : (size : ℕ) (new : PageRow) (rows : List PageRow) → AreWhole size rows → length new.directory.bytes ≡ size → length new.heard ≡ 8
+    → AreWhole size (rows ++ new ∷ [])
+whole_pushed size new [] whole bytes eight = (bytes, eight, tt)
+whole_pushed size new (x ∷ xs) whole bytes eight = (whole.0, whole.1, whole_pushed size new xs whole.2 bytes eight)
 
 none_heard : (n h : ℕ) → slice_index (replicate n 0) h ≡ 0
 none_heard zero h = refl
@@ -55,8 +35,7 @@ none_heard (suc n) zero = refl
 none_heard (suc n) (suc h) = none_heard n h
 
 -- what is left where a page is named
-pub record Named (size : ℕ) (rows left : List PageRow) (key : PageKey) : Type 0 where
-  pub by_key : ByKey 0 0 left
+pub record Named (size : ℕ) (rows left : List PageRow) : Type 0 where
   pub whole : AreWhole size left
   pub same : (old new : ServerTable) → old.size ≡ size → old.rows ≡ rows → new.size ≡ size → new.rows ≡ left → IsSameTable old new
 
@@ -86,91 +65,105 @@ same_page_of : (size : ℕ) (old now : ServerTable) (o p : ℕ) (rows : List Pag
     × ((h : ℕ) → heard_in (row_among o p now.rows) h ≡ heard_in (row_among o p rows) h) → IsSamePage o p old now
 same_page_of size old now o p rows one two three page = record { directory = rw (one, two, three) page.0; heard = rw two page.1 }
 
-pub named : (size i : ℕ) (rows left : List PageRow) (new : PageRow) → ByKey 0 0 rows → AreWhole size rows
-    → row_among new.key.object.0 new.key.page.0 rows ≡ None → i ≡ rows_before new.key.object.0 new.key.page.0 rows → left ≡ insert rows i new
-    → IsNewDirectory size new.directory → new.heard ≡ replicate 8 0 → Named size rows left new.key
-named size i rows left new by_key whole absent place is is_new heard =
-    let at : left ≡ insert rows (rows_before new.key.object.0 new.key.page.0 rows) new = is ∙ ap (λ (n : ℕ). insert rows n new) place in
+pub named : (size : ℕ) (rows left : List PageRow) (new : PageRow) → AreWhole size rows → row_among new.key.object.0 new.key.page.0 rows ≡ None
+    → left ≡ rows ++ new ∷ [] → IsNewDirectory size new.directory → new.heard ≡ replicate 8 0 → Named size rows left
+named size rows left new whole absent is is_new heard =
     let bytes : length new.directory.bytes ≡ size = ap length is_new.bytes ∙ count_zeros size in
     let eight : length new.heard ≡ 8 = ap length heard in
     let absent_at : (o p : ℕ) → is_page new.key o p ≡ true
     → row_among o p rows ≡ None = λ o p here. let read = page_read new.key o p here in rw (read.object, read.page) at absent in
-    rw at (record {
-      by_key = by_key_inserted 0 0 new rows by_key (record { above = omega arith; inside = λ le. omega arith }) absent;
-      whole = whole_inserted size (rows_before new.key.object.0 new.key.page.0 rows) new rows whole bytes eight;
+    rw is (record {
+      whole = whole_pushed size new rows whole bytes eight;
       same = λ old now one two three four. record {
         size = three ∙ sym one;
         pages = λ o p.
             let page = new_page size new o p (row_among o p rows) (row_among o p now.rows) is_new heard (absent_at o p)
-            (ap (row_among o p) four ∙ row_inserted o p new rows) in
+            (ap (row_among o p) four ∙ row_pushed o p new rows absent) in
             same_page_of size old now o p rows one two three page;
       };
     })
 
--- and the page has that row
-pub named_row : (i : ℕ) (rows left : List PageRow) (new : PageRow) → i ≡ rows_before new.key.object.0 new.key.page.0 rows → left ≡ insert rows i new
-    → row_among new.key.object.0 new.key.page.0 left ≡ Some new
-named_row i rows left new place is = rw (is, place) (rw (row_inserted new.key.object.0 new.key.page.0 new rows, itself new.key) refl)
+-- a row, if there is one, is of another page
+abbrev IsOfOther : PageKey → Option PageRow → Type 0
+IsOfOther key None = Unit {0}
+IsOfOther key (Some row) = is_page key row.key.object.0 row.key.page.0 ≡ false
 
--- at the place where it was to stand
-before_inserted : (new : PageRow) (rows : List PageRow)
-    → rows_before new.key.object.0 new.key.page.0 (insert rows (rows_before new.key.object.0 new.key.page.0 rows) new)
-    ≡ rows_before new.key.object.0 new.key.page.0 rows
-before_inserted new [] = let me = same_page new.key new.key.object.0 new.key.page.0 refl refl in rw me.before refl
-before_inserted new (x ∷ xs) =
-    let me = same_page new.key new.key.object.0 new.key.page.0 refl refl in
-    cases_key x.key new.key.object.0 new.key.page.0
-    (λ (h : Ahead x.key new.key.object.0 new.key.page.0). rw h.before (rw h.before (ap suc (before_inserted new xs))))
-    (λ (h : Same x.key new.key.object.0 new.key.page.0). rw h.before (rw me.before refl))
-    (λ (h : Behind x.key new.key.object.0 new.key.page.0). rw h.before (rw me.before refl))
+-- the page stands at the end of the list
+pub placed_pushed : (places left : PlaceTable) (rows : List PageRow) (key : PageKey) (new : PageRow) → ArePlaced places rows → new.key ≡ key
+    → PutsPlace key (length rows) places left → row_among key.object.0 key.page.0 rows ≡ None → ArePlaced left (rows ++ new ∷ [])
+placed_pushed places left rows key new placed same puts absent = record {
+  leads = λ o p i stood.
+      each_pushed (λ i r. place_in left o p ≡ Some i → IsRowOf o p r) rows new (λ stood. own o p stood) (λ i apart stood. other o p i apart stood) i stood;
+  stand =
+      each_pushed (StandsThere left) rows new
+      (subst (λ (z : PageKey). place_in left z.object.0 z.page.0 ≡ Some (length rows)) (sym same) there)
+      (λ i apart. stays i (slice_get rows i) refl (placed.stand i));
+  marked = λ i k le.
+      each_pushed (λ i r. IsMarked left k r) rows new
+      (subst (λ (z : PageKey). has_mark left k z.object.0 z.page.0 ≡ false → is_quiet k new.directory ≡ true) (sym same)
+      (λ unmarked. absurd (false≢true (sym unmarked ∙ rw (itself key) at (puts.marks k key.object.0 key.page.0 le)))))
+      (λ i apart. unmarked k le (slice_get rows i) (differs i (slice_get rows i) refl) (placed.marked i k le))
+      i;
+} where
+  there : place_in left key.object.0 key.page.0 ≡ Some (length rows)
+  there = rw (itself key) at (puts.places key.object.0 key.page.0)
 
-pub place_named : (i : ℕ) (rows left : List PageRow) (new : PageRow) → i ≡ rows_before new.key.object.0 new.key.page.0 rows → left ≡ insert rows i new
-    → i ≡ rows_before new.key.object.0 new.key.page.0 left
-place_named i rows left new place is = rw (is, place) (sym (before_inserted new rows))
+  -- another page
+  at_other : (o p : ℕ) → is_page key o p ≡ false → place_in left o p ≡ place_in places o p
+  at_other o p apart = rw apart at (puts.places o p)
 
--- the row of a page, at its place
-pub record Found (rows : List PageRow) (key : PageKey) (i : ℕ) : Type 0 where
-  pub row : PageRow
-  pub at : slice_get rows i ≡ Some row
-  pub among : row_among key.object.0 key.page.0 rows ≡ Some row
-  pub key_same : row.key ≡ key
+  own : (o p : ℕ) → place_in left o p ≡ Some (length rows) → IsRowOf o p (Some new)
+  own o p stood =
+      ⊎_elim
+      (λ (here : is_page key o p ≡ true). let read = page_read key o p here in rw same (read.object, read.page))
+      (λ (apart : is_page key o p ≡ false).
+      let f = row_there o p (length rows) (slice_get rows (length rows)) (placed.leads o p (length rows) (sym (at_other o p apart) ∙ stood)) in
+      let within = slice_get_within rows (length rows) f.0 f.1 in
+      absurd (omega arith))
+      (cases_Bool (is_page key o p))
 
-found_if : (rows : List PageRow) (key : PageKey) (i : ℕ) (stood : Option PageRow) → slice_get rows i ≡ stood
-    → row_among key.object.0 key.page.0 rows ≡ row_if key.object.0 key.page.0 stood → IsSome (row_among key.object.0 key.page.0 rows) → Found rows key i
-found_if rows key i None at is some = absurd (false≢true (rw is at some))
-found_if rows key i (Some x) at is some =
-    ⊎_elim
-    (λ (here : is_page x.key key.object.0 key.page.0 ≡ true).
-    let read = page_read x.key key.object.0 key.page.0 here in
-    record { row = x; at = at; among = rw here at is; key_same = sym (key_is x.key key.object.0 key.page.0 read.object read.page) })
-    (λ (apart : is_page x.key key.object.0 key.page.0 ≡ false). let none : row_among key.object.0 key.page.0 rows ≡ None = rw apart at is in absurd
-    (false≢true (rw none at some)))
-    (cases_Bool (is_page x.key key.object.0 key.page.0))
+  other : (o p i : ℕ) → (i ≡ length rows → ⊥) → place_in left o p ≡ Some i → IsRowOf o p (slice_get rows i)
+  other o p i apart stood =
+      ⊎_elim
+      (λ (here : is_page key o p ≡ true).
+      let at : place_in left o p ≡ Some (length rows) = rw here at (puts.places o p) in
+      absurd (apart (same_Some i (length rows) (sym stood ∙ at))))
+      (λ (differ : is_page key o p ≡ false). placed.leads o p i (sym (at_other o p differ) ∙ stood))
+      (cases_Bool (is_page key o p))
 
-pub found : (rows : List PageRow) (key : PageKey) (i : ℕ) → ByKey 0 0 rows → i ≡ rows_before key.object.0 key.page.0 rows
-    → IsSome (row_among key.object.0 key.page.0 rows) → Found rows key i
-found rows key i by_key place some =
-    found_if rows key i (slice_get rows i) refl (row_found 0 0 key.object.0 key.page.0 rows by_key
-    ∙ ap (λ (n : ℕ). row_if key.object.0 key.page.0 (slice_get rows n)) (sym place)) some
+  -- no row before is of the page
+  differs : (i : ℕ) (r : Option PageRow) → slice_get rows i ≡ r → IsOfOther key r
+  differs i None is = tt
+  differs i (Some z) is =
+      ⊎_elim
+      (λ (here : is_page key z.key.object.0 z.key.page.0 ≡ true).
+      let read = page_read key z.key.object.0 z.key.page.0 here in
+      let among = among_at i z rows (are_apart places rows placed) is in
+      absurd (none-some z (sym (rw (read.object, read.page) at absent) ∙ among)))
+      (λ (apart : is_page key z.key.object.0 z.key.page.0 ≡ false). apart)
+      (cases_Bool (is_page key z.key.object.0 z.key.page.0))
 
--- whether the page stands at its place says whether it has a row
-pub stood : (rows : List PageRow) (key : PageKey) (i : ℕ) → ByKey 0 0 rows → i ≡ rows_before key.object.0 key.page.0 rows
-    → is_page_at key.object.0 key.page.0 (slice_get rows i) ≡ true → IsSome (row_among key.object.0 key.page.0 rows)
-stood rows key i by_key place here =
-    rw (row_found 0 0 key.object.0 key.page.0 rows by_key) (by (slice_get rows (rows_before key.object.0 key.page.0 rows)) (rw place at here))
+  stays : (i : ℕ) (r : Option PageRow) → slice_get rows i ≡ r → StandsThere places i r → StandsThere left i r
+  stays i None is stood = tt
+  stays i (Some z) is stood = at_other z.key.object.0 z.key.page.0 (differs i (Some z) is) ∙ stood
+
+  unmarked : (k : ℕ) → k ≤ all_marks → (r : Option PageRow) → IsOfOther key r → IsMarked places k r → IsMarked left k r
+  unmarked k le None apart marked = tt
+  unmarked k le (Some z) apart marked = λ un. marked (sym (rw apart at (puts.marks k z.key.object.0 z.key.page.0 le)) ∙ un)
+
+-- there is a page more of its object
+pub counted_pushed : (places left : PlaceTable) (rows : List PageRow) (key : PageKey) (new : PageRow) → ((o : ℕ) → pages_in places o ≡ pages_among o rows)
+    → new.key ≡ key → PutsPlace key (length rows) places left → (o : ℕ) → pages_in left o ≡ pages_among o (rows ++ new ∷ [])
+counted_pushed places left rows key new counted same puts o =
+    let object : (new.key.object.0 == o) ≡ (key.object.0 == o) = ap (λ (z : PageKey). z.object.0 == o) same in
+    let more : pages_among o (rows ++ new ∷ []) ≡ pages_among o rows + (if key.object.0 == o then 1 else 0) = rw object at (pushed rows) in
+    let was = counted o in
+    let now = puts.pages o in
+    omega (arith, more, was, now)
   where
-    by : (r : Option PageRow) → is_page_at key.object.0 key.page.0 r ≡ true → IsSome (row_if key.object.0 key.page.0 r)
-    by None here = absurd (false≢true here)
-    by (Some x) here = rw here refl
-
-pub not_stood : (rows : List PageRow) (key : PageKey) (i : ℕ) → ByKey 0 0 rows → i ≡ rows_before key.object.0 key.page.0 rows
-    → is_page_at key.object.0 key.page.0 (slice_get rows i) ≡ false → row_among key.object.0 key.page.0 rows ≡ None
-not_stood rows key i by_key place apart =
-    row_found 0 0 key.object.0 key.page.0 rows by_key ∙ by (slice_get rows (rows_before key.object.0 key.page.0 rows)) (rw place at apart)
-  where
-    by : (r : Option PageRow) → is_page_at key.object.0 key.page.0 r ≡ false → row_if key.object.0 key.page.0 r ≡ None
-    by None apart = refl
-    by (Some x) apart = rw apart refl
+    pushed : (rows : List PageRow) → pages_among o (rows ++ new ∷ []) ≡ pages_among o rows + (if new.key.object.0 == o then 1 else 0)
+    pushed [] = omega arith
+    pushed (x ∷ xs) = let rest = pushed xs in omega (arith, rest)
 
 -- the replies of one page are among those of its object
 pub one_of : (o : ℕ) (rows : List PageRow) (i : ℕ) (x : PageRow) → slice_get rows i ≡ Some x → x.key.object.0 ≡ o
@@ -209,15 +202,6 @@ same_table_then a b c one two = record {
 same_replies : (o : ℕ) (x y : PageRow) (m n : ℕ) → IsSameRow (Some x) (Some y) → n ≡ m
     → (if y.key.object.0 == o then most_replies y.directory else 0) + n ≡ (if x.key.object.0 == o then most_replies x.directory else 0) + m
 same_replies o x y m n same is = rw (same.0, same.1.line, is) refl
-
-pub by_key_same : (object page : ℕ) (old new : List PageRow) → RowsAreSame old new → ByKey object page old → ByKey object page new
-by_key_same object page [] [] same by_key = tt
-by_key_same object page [] (y ∷ ys) same by_key = absurd (same 0)
-by_key_same object page (x ∷ xs) [] same by_key = absurd (same 0)
-by_key_same object page (x ∷ xs) (y ∷ ys) same by_key =
-    let first = same 0 in
-    let rest = by_key_same x.key.object.0 (suc x.key.page.0) xs ys (λ k. same (suc k)) by_key.1 in
-    subst (λ (key : PageKey). IsFrom object page key × ByKey key.object.0 (suc key.page.0) ys) (sym first.0) (by_key.0, rest)
 
 pub whole_same : (size : ℕ) (old new : List PageRow) → RowsAreSame old new → AreWhole size old → AreWhole size new
 whole_same size [] [] same whole = tt
@@ -268,33 +252,152 @@ rows_set rows i x y is same =
     (subst (λ (r : Option PageRow). IsSameRow r (Some y)) (sym is) same) (λ k other. same_row_itself (slice_get rows k))
 
 -- a page that is named has its memory where its object has
-pub has_memory : (table : ServerTable) (rows : List PageRow) (key : PageKey) (i : ℕ) → table.rows ≡ rows → ByKey 0 0 rows
-    → i ≡ rows_before key.object.0 key.page.0 rows → IsSome (row_among key.object.0 key.page.0 rows) → IsPrepared key.object.0 table
-    → HasMemory table.room (row_among key.object.0 key.page.0 rows)
-has_memory table rows key i seen by_key place some prepared =
-    let f = found rows key i by_key place some in
-    let own : f.row.key.object.0 ≡ key.object.0 = ap (λ (k : PageKey). k.object.0) f.key_same in
-    let one = one_of key.object.0 rows i f.row f.at own in
+pub has_memory : (table : ServerTable) (rows : List PageRow) (key : PageKey) (i : ℕ) (x : PageRow) → table.rows ≡ rows → slice_get rows i ≡ Some x
+    → x.key ≡ key → IsPrepared key.object.0 table → HasMemory table.room (slice_get rows i)
+has_memory table rows key i x seen is same prepared =
+    let own : x.key.object.0 ≡ key.object.0 = ap (λ (k : PageKey). k.object.0) same in
+    let one = one_of key.object.0 rows i x is own in
     let all = ap (replies_among key.object.0) seen in
-    let ready : IsPreparedOf key.object.0 (Some f.row) = subst (IsPreparedOf key.object.0) (ap (λ (l : List PageRow). slice_get l i) seen ∙ f.at)
+    let ready : IsPreparedOf key.object.0 (Some x) = subst (IsPreparedOf key.object.0) (ap (λ (l : List PageRow). slice_get l i) seen ∙ is)
     (prepared.pages i) in
-    subst (HasMemory table.room) (sym f.among) (ready own, omega (arith, prepared.events, one, all))
+    subst (HasMemory table.room) (sym is) (ready own, omega (arith, prepared.events, one, all))
 
 -- the row at the place of a page
 pub record StandsAt (rows : List PageRow) (key : PageKey) (i : ℕ) (x : PageRow) : Type 0 where
   pub within : i < length rows
   pub is : slice_get rows i ≡ Some x
-  pub among : row_among key.object.0 key.page.0 rows ≡ Some x
   pub key_same : x.key ≡ key
 
-pub found_now : (rows : List PageRow) (key : PageKey) (i : ℕ) (x : PageRow) → ByKey 0 0 rows → i ≡ rows_before key.object.0 key.page.0 rows
-    → IsSome (row_among key.object.0 key.page.0 rows) → x ≡ get_or rows i x → StandsAt rows key i x
-found_now rows key i x by_key place some read =
-    let f = found rows key i by_key place some in
+pub found_now : (rows : List PageRow) (key : PageKey) (i : ℕ) (x : PageRow) → IsRowAt key i rows → x ≡ get_or rows i x → StandsAt rows key i x
+found_now rows key i x f read =
     let same : x ≡ f.row = read ∙ get_or_from_slice_get rows i f.row x f.at in
     record {
       within = slice_get_within rows i f.row f.at;
       is = f.at ∙ ap Some (sym same);
-      among = f.among ∙ ap Some (sym same);
-      key_same = ap (λ (z : PageRow). z.key) same ∙ f.key_same;
+      key_same = ap (λ (z : PageRow). z.key) same ∙ f.key_is;
     }
+
+-- what is at hand for a further page
+pub record IsAtHand (ready listed placed few : Bool) : Type 0 where
+  pub has_directory : ready ≡ true
+  pub has_row : listed ≡ true
+  pub has_place : placed ≡ true
+  pub has_number : few ≡ true
+
+pub at_hand : (ready listed placed few : Bool) → (ready && listed && placed && few) ≡ true → IsAtHand ready listed placed few
+at_hand true true true true is = record { has_directory = refl; has_row = refl; has_place = refl; has_number = refl }
+at_hand true true true false is = absurd (false≢true is)
+at_hand true true false few is = absurd (false≢true is)
+at_hand true false placed few is = absurd (false≢true is)
+at_hand false listed placed few is = absurd (false≢true is)
+
+-- an object has no more pages than there are rows
+pub pages_few : (o : ℕ) (rows : List PageRow) → pages_among o rows ≤ length rows
+pages_few o [] = omega arith
+pages_few o (x ∷ xs) = let rest = pages_few o xs in let first = by (x.key.object.0 == o) in omega (arith, rest, first)
+  where
+    by : (b : Bool) → (if b then 1 else 0) ≤ 1
+    by true = omega arith
+    by false = omega arith
+
+-- rows of the same pages are as many
+
+abbrev pub HasSameKey : Option PageRow → Option PageRow → Type 0
+HasSameKey None None = Unit {0}
+HasSameKey (Some x) (Some y) = y.key ≡ x.key
+HasSameKey old new = ⊥
+
+abbrev counts_for : ℕ → PageKey → ℕ
+counts_for o key = if key.object.0 == o then 1 else 0
+
+pub pages_alike : (o : ℕ) (old new : List PageRow) → ((k : ℕ) → HasSameKey (slice_get old k) (slice_get new k)) → pages_among o new ≡ pages_among o old
+pages_alike o [] [] alike = refl
+pages_alike o [] (y ∷ ys) alike = absurd (alike 0)
+pages_alike o (x ∷ xs) [] alike = absurd (alike 0)
+pages_alike o (x ∷ xs) (y ∷ ys) alike =
+    let rest = pages_alike o xs ys (λ k. alike (suc k)) in
+    let key : y.key ≡ x.key = alike 0 in
+    let first = ap (counts_for o) key in
+    omega (arith, rest, first)
+
+same_key_of : (a b : Option PageRow) → IsSameRow a b → HasSameKey a b
+same_key_of None None same = tt
+same_key_of None (Some y) same = absurd same
+same_key_of (Some x) None same = absurd same
+same_key_of (Some x) (Some y) same = same.0
+
+pub counted_same : (places : PlaceTable) (old new : List PageRow) → ((o : ℕ) → pages_in places o ≡ pages_among o old) → RowsAreSame old new
+    → (o : ℕ) → pages_in places o ≡ pages_among o new
+counted_same places old new counted same o =
+    counted o ∙ sym (pages_alike o old new (λ k. same_key_of (slice_get old k) (slice_get new k) (same k)))
+
+-- one row has its memory now
+pub kept_same : (size : ℕ) (rows : List PageRow) (places : PlaceTable) (spare : Option Directory) (events left : List Event) (i : ℕ) (x y : PageRow)
+    → IsKept size rows places spare events → slice_get rows i ≡ Some x → IsSameRow (Some x) (Some y) → left ≡ []
+    → IsKept size (set rows i y) places spare left
+kept_same size rows places spare events left i x y kept is same none =
+    let alike = rows_set rows i x y is same in
+    record {
+      placed = placed_changed places rows i x y kept.placed is same.0 (λ k. same_quiet k x.directory y.directory same.1);
+      counted = counted_same places rows (set rows i y) kept.counted alike;
+      whole = whole_same size rows (set rows i y) alike kept.whole;
+      new = kept.new;
+      none = none;
+    }
+
+pub counted_left : (places left : PlaceTable) (rows : List PageRow) → left.objects ≡ places.objects → ((o : ℕ) → pages_in places o ≡ pages_among o rows)
+    → (o : ℕ) → pages_in left o ≡ pages_among o rows
+counted_left places left rows objects counted o =
+    ap (λ (known : List (ObjectId × ObjectPages)). option_map_or (λ (k : ObjectPages). k.pages) (known_of o known) 0) objects ∙ counted o
+
+pub counted_kept : (places left : PlaceTable) (old new : List PageRow) → left.objects ≡ places.objects → ((o : ℕ) → pages_in places o ≡ pages_among o old)
+    → ((k : ℕ) → HasSameKey (slice_get old k) (slice_get new k)) → (o : ℕ) → pages_in left o ≡ pages_among o new
+counted_kept places left old new objects counted alike o =
+    counted_left places left old objects counted o ∙ sym (pages_alike o old new alike)
+
+pub keys_set : (rows : List PageRow) (i : ℕ) (x y : PageRow) → slice_get rows i ≡ Some x → y.key ≡ x.key
+    → (k : ℕ) → HasSameKey (slice_get rows k) (slice_get (set rows i y) k)
+keys_set rows i x y is key =
+    each_set (λ k r. HasSameKey (slice_get rows k) r) rows i y (slice_get_within rows i x is)
+    (subst (λ (r : Option PageRow). HasSameKey r (Some y)) (sym is) key) (λ k other. of_itself (slice_get rows k))
+  where
+    of_itself : (r : Option PageRow) → HasSameKey r r
+    of_itself None = tt
+    of_itself (Some z) = refl
+
+-- a walk has left the rows the same but for their memory
+pub kept_walked : (size : ℕ) (rows now : List PageRow) (places left : PlaceTable) (spare : Option Directory) (events after : List Event)
+    → IsKept size rows places spare events → ArePlaced left now → KeepsPlaces places left → RowsAreSame rows now → after ≡ []
+    → IsKept size now left spare after
+kept_walked size rows now places left spare events after kept placed keeps same none = record {
+  placed = placed;
+  counted = counted_kept places left rows now keeps.objects kept.counted (λ k. same_key_of (slice_get rows k) (slice_get now k) (same k));
+  whole = whole_same size rows now same kept.whole;
+  new = kept.new;
+  none = none;
+}
+
+-- the most replies, by those who wait and by pages
+pub replies_split : (o : ℕ) (rows : List PageRow) → replies_among o rows ≡ waiting_among o rows + 9 * pages_among o rows
+replies_split o [] = refl
+replies_split o (x ∷ xs) = let rest = replies_split o xs in by (x.key.object.0 == o) rest
+  where
+    by : (b : Bool) → replies_among o xs ≡ waiting_among o xs + 9 * pages_among o xs
+        → (if b then most_replies x.directory else 0) + replies_among o xs
+        ≡ (if b then length x.directory.line else 0) + waiting_among o xs + 9 * ((if b then 1 else 0) + pages_among o xs)
+    by true rest = omega (arith, rest)
+    by false rest = omega (arith, rest)
+
+-- those of an end are the same too
+pub end_replies_same : (h o : ℕ) (old new : List PageRow) → RowsAreSame old new → end_replies_among h o new ≡ end_replies_among h o old
+end_replies_same h o [] [] same = refl
+end_replies_same h o [] (y ∷ ys) same = absurd (same 0)
+end_replies_same h o (x ∷ xs) [] same = absurd (same 0)
+end_replies_same h o (x ∷ xs) (y ∷ ys) same =
+    let rest = end_replies_same h o xs ys (λ k. same (suc k)) in
+    by (same 0) rest
+  where
+    by : IsSameRow (Some x) (Some y) → end_replies_among h o ys ≡ end_replies_among h o xs
+        → (if y.key.object.0 == o then end_replies h y else 0) + end_replies_among h o ys
+        ≡ (if x.key.object.0 == o then end_replies h x else 0) + end_replies_among h o xs
+    by row rest = rw (row.0, row.1.line, row.1.holds, row.1.awaits, rest) refl

@@ -4,7 +4,7 @@
 
 mod law;
 mod page_row;
-mod places;
+mod rows;
 mod server;
 mod telling;
 

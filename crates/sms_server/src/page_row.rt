@@ -3,8 +3,8 @@ ghost use Rattle.std.specs.Prelude.{◌≡◌, ◌≤◌, ◌<◌, ◌+◌, ◌+
 ghost use Rattle.vm_base.specs.Limits.{most_hosts};
 ghost use Rattle.vm_model.specs.Words.{up_word};
 ghost use Rattle.sms_pages.specs.Directory.{most_replies, wanted_access};
-ghost use Rattle.sms_server.specs.Kept.{IsSameRow};
-ghost use Rattle.sms_server.specs.Answers.{DirectoryAfter, IsAbout, ReturnsWhole, RowAfter, heard_row, replies_to, row_events};
+ghost use Rattle.sms_server.specs.Kept.{IsReadyToEnd, IsSameRow, end_replies};
+ghost use Rattle.sms_server.specs.Answers.{DirectoryAfter, IsAbout, IsEnd, ReturnsWhole, RowAfter, heard_row, replies_to, row_events};
 
 use crate::telling::tell;
 use sms_pages::{PageDirectory, Replies};
@@ -58,6 +58,44 @@ impl PageRow {
         let replies = self.note(host, message)?;
         self.hear(host, message);
         tell(replies, self.key, &self.heard, events)
+    }
+
+    /// Takes the memory of the answer to the end of a host's control, and says how many replies it
+    /// has at most: none, exactly where the end changes nothing. It fails for want of memory alone.
+    pub fn reserve_end(&mut self, host: HostId) -> Result<u32, NoMemory>
+        requires { host.0 < most_hosts }
+        ensures same { IsSameRow (Some self.old) (Some self.new) }
+        ensures most { IfOk result (λ most. most ≡ end_replies host.0 self.old) }
+        ensures prepared { OnOk result (IsReadyToEnd host.0 self.new) }
+        ensures succeeds { self.old.directory.prepared ≡ true → IsOk result }
+    {
+        if self.directory.is_idle(host) {
+            return Ok(0);
+        }
+        self.reserve()
+    }
+
+    /// Takes the end of a host's control, and adds the events of the answer.
+    pub fn end(
+        &mut self,
+        host: HostId,
+        message: &Message,
+        events: &mut Events,
+    ) -> Result<(), NoMemory>
+        requires host { host.0 < most_hosts }
+        requires end { IsEnd message.now }
+        requires ready { IsReadyToEnd host.0 self.old }
+        requires room { end_replies host.0 self.old ≤ events.old.room }
+        ensures ok { IsOk result }
+        ensures row { RowAfter host.0 message.now self.old self.new }
+        ensures events { events.new.items ≡ row_events host.0 message.now self.old ++ events.old.items }
+        ensures room { events.old.room ≤ events.new.room + end_replies host.0 self.old }
+        ensures few { length events.new.items ≤ length events.old.items + end_replies host.0 self.old }
+    {
+        if self.directory.is_idle(host) {
+            return Ok(());
+        }
+        self.answer(host, message, events)
     }
 
     // What the directory notes of the message, and how it answers.

@@ -1,13 +1,13 @@
 // The shared memory server.
-ghost use Rattle.std.specs.Prelude.{◌≡◌, ◌≤◌, ◌<◌, ◌^◌, [], ◌∷◌, true, false, IsOk, IsSome, None, OnOk, OnErr, IfOk, length};
+ghost use Rattle.std.specs.Prelude.{◌≡◌, ◌≤◌, ◌<◌, ◌^◌, [], ◌∷◌, true, false, IsOk, None, OnOk, OnErr, IfOk, length, slice_get};
 ghost use Rattle.vm_base.specs.Limits.{most_hosts};
 ghost use Rattle.sms_server.specs.Answers.{AreServerWords, IsAbout, IsEnd, IsOfOnePage, IsToServer, ReturnsWhole, ServerAnswer, most_told, sent_to};
-ghost use Rattle.sms_server.specs.Kept.{HasMemory, IsPreparedAt, rows_before};
-ghost use Rattle.sms_server.specs.Table.{ArePrepared, IsPrepared, IsSameTable, most_events, row_among};
+ghost use Rattle.sms_server.specs.Kept.{AreReadyToEnd, HasMemory, IsPreparedAt, IsRowAt, end_replies_among};
+ghost use Rattle.sms_server.specs.Table.{ArePrepared, IsPrepared, IsSameTable, most_events, replies_among, row_among};
 
 use crate::PageRow;
 use crate::page_row::HOSTS;
-use crate::places::{end_rows, find_near, prepare_rows, stands_at};
+use crate::rows::{count_waiting, end_rows, reserve_ends, reserve_rows, stands_at};
 use crate::telling::{ready, sent};
 use sms_pages::PageDirectory;
 use std::alloc::Global;
@@ -15,9 +15,13 @@ use std::marker::Model;
 use std::mem;
 use vm_base::{HostId, Listing, NoMemory, ObjectId, PageKey, PageNo, PageSize};
 use vm_model::{Events, Message};
+use vm_sets::PagePlaces;
 
 // The most replies of a page that is new.
 const MOST_OF_NEW: u32 = 9;
+
+// The most pages: their places are numbers of 32 bits.
+const MOST_ROWS: usize = 0xffff_ffff;
 
 /// The shared memory server of Forin, Barrera and Sanzi, "The Shared Memory Server" (1989), for all
 /// shared objects and up to eight hosts.
@@ -28,8 +32,10 @@ const MOST_OF_NEW: u32 = 9;
 pub struct Server {
     alloc: Global,
     size: PageSize,
-    // By rising object, and by rising page of an object.
+    // In the order in which they were named.
     rows: Vec<PageRow>,
+    // Where the row of each page stands.
+    places: PagePlaces,
     // Where the page stood that was looked for last.
     last: usize,
     // A new directory, for a page that is named for the first time.
@@ -39,7 +45,7 @@ pub struct Server {
 }
 
 impl Model for Server {
-    ghost use Rattle.std.specs.Prelude.{◌&&◌, length, nat_lt};
+    ghost use Rattle.std.specs.Prelude.{◌&&◌, ◌-◌, ◌^◌, length, nat_lt};
     ghost use Rattle.std.specs.Vec.{vec_capacity};
     ghost use Rattle.sms_server.specs.Kept.{IsKept, is_ready};
     ghost use Rattle.sms_server.specs.Table.{ServerTable};
@@ -49,11 +55,13 @@ impl Model for Server {
     ghost view = { λ s. record {
       size = s.size;
       rows = s.rows.items;
-      spare = is_ready s.spare && nat_lt (length s.rows.items) (vec_capacity s.rows);
+      spare =
+          is_ready s.spare && nat_lt (length s.rows.items) (vec_capacity s.rows) && nat_lt 0 s.places.spare
+          && nat_lt (length s.rows.items) (2 ^ 32 - 1);
       room = s.events.room;
     } };
 
-    ghost invariant = { λ s. IsKept s.size s.rows.items s.spare s.events.items };
+    ghost invariant = { λ s. IsKept s.size s.rows.items s.places s.spare s.events.items };
 }
 
 impl Server {
@@ -66,6 +74,7 @@ impl Server {
             alloc,
             size,
             rows: Vec::new(alloc),
+            places: PagePlaces::new(alloc),
             last: 0,
             spare: None,
             events: Listing::new(alloc),
@@ -97,7 +106,7 @@ impl Server {
             | Message::Unlock { page, .. }
             | Message::Return { page, .. }
             | Message::Completed { page, .. } => self.most_at(object, *page, message),
-            Message::Terminate { .. } => self.reserve(object),
+            Message::Terminate { .. } => self.most_everywhere(object),
             _ => Ok(0),
         }
     }
@@ -166,6 +175,18 @@ impl Server {
         self.rows[i].reserve()
     }
 
+    // The most events of the answer to the end of a host's control.
+    fn most_everywhere(&mut self, object: ObjectId) -> Result<u32, NoMemory>
+        ensures same { IsSameTable self.old self.new }
+        ensures most { IfOk result (λ most. most ≡ most_events object.0 self.new) }
+    {
+        let Some(waiting) = count_waiting(&self.rows, &mut self.places, object) else {
+            return Err(NoMemory);
+        };
+        let pages = u64::from(self.places.count(object)) + 1;
+        as_number(u64::from(waiting) + u64::from(MOST_OF_NEW) * pages)
+    }
+
     // Answers a message about one page.
     fn answer_at(
         &mut self,
@@ -187,6 +208,7 @@ impl Server {
     {
         let i = self.prepare_page(PageKey { object, page })?;
         let mut events = mem::replace(&mut self.events, Listing::new(self.alloc));
+        self.places.touch(PageKey { object, page });
         self.rows[i].answer(host, message, &mut events)?;
         Ok(events)
     }
@@ -207,9 +229,16 @@ impl Server {
         ensures err { OnErr result (IsSameTable self.old self.new) }
         ensures succeeds { IsPrepared object.0 self.old → IsOk result }
     {
-        let _most = self.prepare_object(object)?;
+        self.prepare_ends(object, host)?;
         let mut events = mem::replace(&mut self.events, Listing::new(self.alloc));
-        end_rows(&mut self.rows, object, host, message, &mut events)?;
+        end_rows(
+            &mut self.rows,
+            &mut self.places,
+            object,
+            host,
+            message,
+            &mut events,
+        )?;
         Ok(events)
     }
 
@@ -221,7 +250,11 @@ impl Server {
         ensures spare { OnOk result (self.new.spare ≡ true) }
         ensures succeeds { self.old.spare ≡ true → IsOk result }
     {
+        if self.rows.len() >= MOST_ROWS {
+            return Err(NoMemory);
+        }
         self.rows.reserve(1)?;
+        self.places.reserve()?;
         let mut directory = match self.spare.take() {
             Some(directory) => directory,
             None => PageDirectory::new(self.alloc, self.size)?,
@@ -231,14 +264,12 @@ impl Server {
         Ok(())
     }
 
-    // Puts in the row of a page that is named for the first time, at its place.
-    fn name_page(&mut self, i: usize, key: PageKey) -> Result<(), NoMemory>
-        requires none { row_among key.object.0 key.page.0 self.old.rows ≡ None }
-        requires place { i ≡ rows_before key.object.0 key.page.0 self.old.rows }
-        requires within { i ≤ length self.old.rows }
+    // Puts in the row of a page that is named for the first time.
+    fn name_page(&mut self, key: PageKey) -> Result<usize, NoMemory>
+        requires { row_among key.object.0 key.page.0 self.old.rows ≡ None }
         ensures same { IsSameTable self.old self.new }
-        ensures place { OnOk result (i ≡ rows_before key.object.0 key.page.0 self.new.rows) }
-        ensures named { OnOk result (HasMemory 9 (row_among key.object.0 key.page.0 self.new.rows)) }
+        ensures at { IfOk result (λ i. IsRowAt key i self.new.rows) }
+        ensures memory { IfOk result (λ i. HasMemory 9 (slice_get self.new.rows i)) }
         ensures room { self.new.room ≡ self.old.room }
         ensures succeeds { self.old.spare ≡ true → IsOk result }
     {
@@ -251,26 +282,28 @@ impl Server {
             directory,
             heard: [0; HOSTS],
         };
-        self.rows.insert(i, row)?;
-        Ok(())
+        let at = self.rows.len();
+        self.rows.push(row)?;
+        self.places.put(key, at as u32);
+        self.last = at;
+        Ok(at)
     }
 
     // The index of a page's row, which is made where there is none.
     fn find_or_name(&mut self, key: PageKey) -> Result<usize, NoMemory>
         ensures same { IsSameTable self.old self.new }
-        ensures at { IfOk result (λ i. i ≡ rows_before key.object.0 key.page.0 self.new.rows) }
-        ensures named { OnOk result (IsSome (row_among key.object.0 key.page.0 self.new.rows)) }
-        ensures memory { OnOk result (IsPrepared key.object.0 self.old
-            → HasMemory self.new.room (row_among key.object.0 key.page.0 self.new.rows)) }
+        ensures at { IfOk result (λ i. IsRowAt key i self.new.rows) }
+        ensures memory { IfOk result (λ i. IsPrepared key.object.0 self.old → HasMemory self.new.room (slice_get self.new.rows i)) }
         ensures succeeds { IsPrepared key.object.0 self.old → IsOk result }
     {
-        let i = find_near(&self.rows, self.last, key);
-        self.last = i;
-        if stands_at(&self.rows, i, key) {
-            return Ok(i);
+        if stands_at(&self.rows, self.last, key) {
+            return Ok(self.last);
         }
-        self.name_page(i, key)?;
-        Ok(i)
+        let Some(at) = self.places.get(key) else {
+            return self.name_page(key);
+        };
+        self.last = at as usize;
+        Ok(at as usize)
     }
 
     // The index of a page's row, which is made where there is none, with the memory of an answer.
@@ -297,11 +330,33 @@ impl Server {
         ensures succeeds { ArePrepared object.0 self.old.rows → most_events object.0 self.old < 2 ^ 32
             → most_events object.0 self.old ≤ self.old.room → IsOk result }
     {
-        let most = prepare_rows(&mut self.rows, object)?;
+        let most = reserve_rows(&mut self.rows, &self.places, object)?;
         let Some(most) = most.checked_add(MOST_OF_NEW) else {
             return Err(NoMemory);
         };
         self.events.reserve(most)?;
         Ok(most)
+    }
+    // The memory of the answer to the end of a host's control.
+    fn prepare_ends(&mut self, object: ObjectId, host: HostId) -> Result<(), NoMemory>
+        requires { host.0 < most_hosts }
+        ensures same { IsSameTable self.old self.new }
+        ensures ready { OnOk result (AreReadyToEnd host.0 object.0 self.new.rows) }
+        ensures room { OnOk result (end_replies_among host.0 object.0 self.new.rows ≤ self.new.room) }
+        ensures few { end_replies_among host.0 object.0 self.new.rows ≤ replies_among object.0 self.old.rows }
+        ensures succeeds { IsPrepared object.0 self.old → IsOk result }
+    {
+        let most = reserve_ends(&mut self.rows, &mut self.places, object, host)?;
+        self.events.reserve(most)
+    }
+}
+
+// A number of 32 bits, if it is one: more events than that find no memory.
+fn as_number(n: u64) -> Result<u32, NoMemory>
+    ensures { IfOk result (λ number. number ≡ n) }
+{
+    match u32::try_from(n) {
+        Ok(number) => Ok(number),
+        Err(_) => Err(NoMemory),
     }
 }

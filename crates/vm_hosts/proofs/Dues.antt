@@ -46,17 +46,15 @@ serve_ready b k ready =
     let shadows = ready.shadows in
     let objects = ready.objects in
     let buffers = ready.buffers in
-    let skip = ready.skip in
     record {
       rows = omega (arith, full, rows);
       shadows = omega (arith, shadows);
       objects = omega (arith, objects);
       buffers = omega (arith, buffers);
-      skip = omega (arith, skip);
     }
 
 serve_own : (more : ℕ) (k : Parts) (space : ℕ) → ServeRoom more k space → CanServeOn k
-serve_own more k space room = record { rows = room.has.rows; shadows = room.has.shadows; objects = room.has.objects; buffers = room.buffers; skip = room.skip }
+serve_own more k space room = record { rows = room.has.rows; shadows = room.has.shadows; objects = room.has.objects; buffers = room.buffers }
 
 -- what the other hosts have still to tell
 

@@ -2,22 +2,15 @@
 use Rattle.vm_hosts.proofs.Common.{AllQueued, AllRest, Breadth, Event, HasQueue, Header, HostId, HostTable, Ids, IsReady, IsReadyOn, List, Option, Parts, Rests}
 use Rattle.vm_hosts.proofs.Common.{Some, [], add-one, ap, arith, inl, inr, length, length-set, most_from, most_on, refl, rests_roomier, rooms_of, set}
 use Rattle.vm_hosts.proofs.Common.{slice_get}
-use Rattle.vm_hosts.proofs.Common.{slice_get_within, subst, suc, sym, takes_part, true, with_rooms, with_rooms_of, zero, ℕ, ◌+◌, ◌<◌, ◌∙◌, ◌∷◌, ◌≡◌, ◌≤◌}
+use Rattle.vm_hosts.proofs.Common.{slice_get_within, subst, suc, sym, takes_part, true, with_rooms_of, zero, ℕ, ◌+◌, ◌<◌, ◌∙◌, ◌∷◌, ◌≡◌, ◌≤◌}
 use Rattle.std.specs.Prelude.{Err, Ok, OnErr, Result}
 use Rattle.vm_hosts.proofs.Tables.{put, set_cases}
-use Rattle.vm_kernel.proofs.memory.CoreChanges.{rests_within}
-
--- the list of frames that a reclaim passes over is kept for its memory alone
-rests_skip : (header : Header) (h : ℕ) (new old : Parts) (ids : Ids) (past : List Event) → Rests header h old ids past
-    → Rests header h (record old { skip = new.skip }) ids past
-rests_skip header h new old ids past was = rests_within (record old { skip = new.skip }) was
 
 -- a kernel with other rooms stands for the same
 rests_rooms : (header : Header) (h : ℕ) (new old : Parts) (ids : Ids) (past : List Event) → new ≡ with_rooms_of new old → Rests header h old ids past
     → Rests header h new ids past
 rests_rooms header h new old ids past is was =
-    subst (λ (z : Parts). Rests header h z ids past) (sym is) (rests_skip header h new (with_rooms (rooms_of new) old) ids past
-    (rests_roomier header h (rooms_of new) old ids past was))
+    subst (λ (z : Parts). Rests header h z ids past) (sym is) (rests_roomier header h (rooms_of new) old ids past was)
 
 queue_rooms : (header : Header) (h : ℕ) (new old : Parts) (past : List Event) → new ≡ with_rooms_of new old → HasQueue header h old past
     → HasQueue header h new past

@@ -1,5 +1,5 @@
 -- Room for a step: what is still to be told at most where accesses are run again and the queue is served, and what there is room for.
-use Rattle.std.specs.Prelude.{Bool, List, None, Option, Some, false, if◌then◌else◌, length, min, nat_lt, suc, true, vec_capacity, zero, ℕ, ◌&&◌, ◌*◌, ◌+◌, ◌-◌}
+use Rattle.std.specs.Prelude.{Bool, List, None, Option, Some, false, if◌then◌else◌, length, min, nat_lt, suc, true, zero, ℕ, ◌&&◌, ◌*◌, ◌+◌, ◌-◌}
 use Rattle.std.specs.Prelude.{◌<◌, ◌==◌, ◌||◌, ◌≡◌, ◌≤◌}
 use Rattle.vm_base.specs.declared.ids.PageKey.{PageKey}
 use Rattle.vm_base.specs.Limits.{most_pages}
@@ -189,7 +189,6 @@ pub record IsReady (breadth : Breadth) (k : Parts) : Type 0 where
   pub mark : 0 < k.memory.objects.marks
   pub access : 0 < k.waits.room
   pub buffers : HasBuffers k
-  pub skip : length k.waits.rows + 1 < vec_capacity k.skip
 
 -- there is room for so many events and rows in front of the accesses that are run, and behind those in the log for so many events more
 pub record HasMore (first makes more : ℕ) (k : Parts) (room : ℕ) : Type 0 where
@@ -224,10 +223,6 @@ with_rooms rooms k = record k {
   waits = record k.waits { room = rooms.accesses };
 }
 
--- the list of frames that a reclaim passes over has room for one of each access that waits, and one more
-abbrev pub IsSkipRoom : Parts → Type 0
-IsSkipRoom k = length k.waits.rows < vec_capacity k.skip
-
 -- a frame has come free, and each page that is kept stays: an event was told, and no buffer was taken
 pub record FreesFrame (old new : HostParts) (before after : ℕ) : Type 0 where
   pub log : before ≤ after + 1
@@ -244,26 +239,17 @@ pub record LeavesRoom (answer : Reclaim) (old new : Parts) (before after : ℕ) 
   pub objects : old.memory.objects.rows ≤ new.memory.objects.rows
   pub chains : new.chains ≡ old.chains
   pub copies : new.copies ≡ old.copies
-  pub skip : vec_capacity old.skip ≤ vec_capacity new.skip
   pub none : answer ≡ reclaim.Nothing → listed_pages new.memory.queues ≡ listed_pages old.memory.queues
   pub fewer : (answer ≡ reclaim.Nothing → ⊥) → listed_pages new.memory.queues + 1 ≡ listed_pages old.memory.queues
 
--- what a reclaim takes of the kernel's own parts is there still: a buffer, and the list of frames with its room
+-- what a reclaim takes of the kernel's own parts is there still: a buffer
 pub record KeepsSpare (old new : Parts) : Type 0 where
   pub buffers : new.memory.buffers ≡ old.memory.buffers
-  pub skip : new.skip ≡ old.skip
-  pub fewer : length new.waits.rows ≤ length old.waits.rows
-
--- the list alone, where pages may be sent back
-pub record KeepsSkip (old new : Parts) : Type 0 where
-  pub skip : new.skip ≡ old.skip
-  pub fewer : length new.waits.rows ≤ length old.waits.rows
 
 -- there is room to serve the queue: for what is still to be told, for a page that is returned, and for so many events more
 pub record ServeRoom (more : ℕ) (k : Parts) (room : ℕ) : Type 0 where
   pub has : HasRoom (more + 2) k room
   pub buffers : 0 < k.memory.buffers.count
-  pub skip : IsSkipRoom k
 
 -- somebody stands in the frame queue of the host
 abbrev pub has_queue : Parts → Bool
@@ -279,7 +265,6 @@ pub record CanServeOn (k : Parts) : Type 0 where
   pub shadows : k.chains.marked ≤ k.chains.spare
   pub objects : k.chains.marked ≤ k.memory.objects.rows
   pub buffers : 0 < k.memory.buffers.count
-  pub skip : IsSkipRoom k
 
 -- there is room for a host to serve its queue, for which it wants none where nobody stands in it, and in the log for so many events more
 pub record MayServe (more : ℕ) (k : Parts) (room : ℕ) : Type 0 where
@@ -304,7 +289,7 @@ rooms_of k = record {
 
 -- one kernel with the rooms of another
 abbrev pub with_rooms_of : Parts → Parts → Parts
-with_rooms_of new old = record (with_rooms (rooms_of new) old) { skip = new.skip }
+with_rooms_of new old = with_rooms (rooms_of new) old
 
 -- the kernel with so many buffers
 abbrev pub with_buffers : ℕ → Parts → Parts

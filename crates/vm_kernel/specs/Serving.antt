@@ -4,6 +4,7 @@ use Rattle.std.specs.Prelude.{Some}
 use Rattle.std.specs.Prelude.{None, if◌then◌else◌}
 use Rattle.vm_base.specs.declared.ids.FrameNo.{FrameNo}
 use Rattle.vm_base.specs.declared.ids.PageKey.{PageKey}
+use Rattle.vm_queues.specs.Kept.{is_frame as is_frame_of}
 use Rattle.vm_queues.specs.Queues.{is_skipped}
 use Rattle.vm_fault.specs.Rooms.{pages_left}
 use Rattle.vm_frames.specs.Frames.{claimed, free}
@@ -16,7 +17,7 @@ use Rattle.vm_legal.specs.Prompt.{HostIsFull, IsSource}
 use Rattle.vm_legal.specs.Steps.{departures}
 use Rattle.vm_pageout.specs.declared.answer.Reclaim.{Reclaim}
 use Rattle.vm_pageout.specs.declared.answer.Reclaim.TheVariants as reclaim
-use Rattle.vm_resident.specs.Resident.{ResidentTable, page_key, row_at}
+use Rattle.vm_resident.specs.Resident.{ResidentTable, owner_of, page_key, row_at}
 use Rattle.vm_resident.specs.declared.page_row.PageRow.{PageRow}
 use Rattle.vm_waits.specs.Waits.{count_again, entry, is_again, is_frame, one_again, one_frame, queued}
 use Rattle.vm_waits.specs.declared.waiting.On.{On}
@@ -121,6 +122,22 @@ frames_locked resident (w ∷ ws) = option_list (frame_spared resident (page_wai
 -- and of one more
 abbrev pub frames_spared : ResidentTable → Option PageKey → List Waiting → List FrameNo
 frames_spared resident spared rows = option_list (frame_spared resident spared) ++ frames_locked resident rows
+
+abbrev pub is_unlocking : Option PageRow → Bool
+is_unlocking None = false
+is_unlocking (Some row) = row.unlock_sent
+
+abbrev pub led_unlocking : ResidentTable → Option PageKey → Bool
+led_unlocking resident None = false
+led_unlocking resident (Some key) = is_unlocking (row_at resident key.object.0 key.page.0)
+
+-- an unlock of the page in this frame is outstanding
+abbrev pub awaits_unlock : ResidentTable → ℕ → Bool
+awaits_unlock resident f = led_unlocking resident (owner_of resident f)
+
+-- a reclaim spares this frame: it is that one, or an unlock of its page is outstanding
+abbrev pub spares_frame : ResidentTable → Option FrameNo → ℕ → Bool
+spares_frame resident one f = is_frame_of one f || awaits_unlock resident f
 
 -- the frame of each page that is here and of which an unlock is outstanding is one of these
 abbrev pub SkipLocked : ResidentTable → List FrameNo → Type 0

@@ -31,8 +31,7 @@ impl Parts {
         ensures few { OnOk result (length log.new.items + dues self.new ≤ length log.old.items + (full_dues self.old + 4)) }
         ensures room { (more : ℕ) → HasMore 4 4 more self.old log.old.room → 0 < self.old.waits.room → OnOk result (HasRoom more self.new log.new.room)
             × IsOk result }
-        ensures spare { OnOk result ((self.old.memory.buffers.count ≤ self.new.memory.buffers.count)
-            × ((vec_capacity self.old.skip ≤ vec_capacity self.new.skip) × (length self.new.waits.rows ≤ length self.old.waits.rows + 1))) }
+        ensures spare { OnOk result (self.old.memory.buffers.count ≤ self.new.memory.buffers.count) }
     {
         self.waits.reserve(1)?;
         log.push(Event::BegunLoad {
@@ -63,8 +62,7 @@ impl Parts {
         ensures few { OnOk result (length log.new.items + dues self.new ≤ length log.old.items + (full_dues self.old + 4)) }
         ensures room { (more : ℕ) → HasMore 4 4 more self.old log.old.room → 0 < self.old.waits.room → OnOk result (HasRoom more self.new log.new.room)
             × IsOk result }
-        ensures spare { OnOk result ((self.old.memory.buffers.count ≤ self.new.memory.buffers.count)
-            × ((vec_capacity self.old.skip ≤ vec_capacity self.new.skip) × (length self.new.waits.rows ≤ length self.old.waits.rows + 1))) }
+        ensures spare { OnOk result (self.old.memory.buffers.count ≤ self.new.memory.buffers.count) }
     {
         self.waits.reserve(1)?;
         log.push(Event::BegunStore {

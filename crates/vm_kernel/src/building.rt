@@ -131,7 +131,6 @@ impl Parts {
         ensures objects { self.old.memory.objects.rows ≤ self.new.memory.objects.rows + 1 }
         ensures shadows { self.old.chains.spare ≤ self.new.chains.spare + 1 }
         ensures marked { self.new.chains.marked ≡ self.old.chains.marked }
-        ensures skip { OnOk result (self.new.skip ≡ self.old.skip) }
     {
         self.memory.objects.make(object, ObjectKind::Temp, pages)?;
         self.memory.objects.refer(object);

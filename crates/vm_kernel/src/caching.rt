@@ -8,7 +8,7 @@ ghost use Rattle.vm_kernel.specs.Begun.{LegalEvents, Passing};
 ghost use Rattle.vm_kernel.specs.Caching.{IsToKeep, Keeping, SaysStay};
 ghost use Rattle.vm_kernel.specs.Matches.{Rests, Works, host_id};
 ghost use Rattle.vm_kernel.specs.Plays.{Plays, paging};
-ghost use Rattle.vm_kernel.specs.Rooms.{HasBuffers, IsRoomy, KeepsSkip, Spends, leaving};
+ghost use Rattle.vm_kernel.specs.Rooms.{HasBuffers, IsRoomy, Spends, leaving};
 ghost use Rattle.vm_kernel.specs.Sweeping.{EndsOnly};
 ghost use Rattle.vm_kernel.specs.Taking.{is_attributes};
 
@@ -40,7 +40,6 @@ impl Parts {
         ensures succeeds { IsRoomy (1 + leaving self.old ids.now) 0 self.old log.old.room → 0 < self.old.memory.objects.marks → HasBuffers self.old
             → IsOk result }
         ensures buffers { OnOk result (HasBuffers self.old → HasBuffers self.new) }
-        ensures skip { OnOk result (KeepsSkip self.old self.new) }
     {
         let woken = answer(self.host, object, control, message, &mut self.memory, log)?;
         let Message::Ready { cache, .. } = message else {
@@ -72,7 +71,6 @@ impl Parts {
         ensures spends { OnOk result (Spends (1 + leaving self.old ids.now) 0 0 self.old log.old self.new log.new) }
         ensures succeeds { IsRoomy (1 + leaving self.old ids.now) 0 self.old log.old.room → HasBuffers self.old → IsOk result }
         ensures buffers { OnOk result (HasBuffers self.old → HasBuffers self.new) }
-        ensures skip { OnOk result (KeepsSkip self.old self.new) }
     {
         if !self.is_live(object, control) {
             return Ok(());
@@ -120,7 +118,6 @@ impl Parts {
         ensures spends { OnOk result (Spends (leaving self.old ids.now) 0 (leaving self.new ids.now) self.old log.old self.new log.new) }
         ensures succeeds { IsRoomy (leaving self.old ids.now) 0 self.old log.old.room → HasBuffers self.old → IsOk result }
         ensures buffers { OnOk result (HasBuffers self.old → HasBuffers self.new) }
-        ensures skip { OnOk result (KeepsSkip self.old self.new) }
     {
         let Some(known) = self.memory.objects.find(object) else {
             unreachable!()

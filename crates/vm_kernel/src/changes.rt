@@ -5,7 +5,7 @@ ghost use Rattle.vm_kernel.specs.Begun.{Ran, Doing, Given, Starts};
 ghost use Rattle.vm_kernel.specs.Changes.{enter, inheritance, protection, removal};
 ghost use Rattle.vm_kernel.specs.Endings.{EndsByAddress};
 ghost use Rattle.vm_kernel.specs.Plays.{Plays, paging};
-ghost use Rattle.vm_kernel.specs.Rooms.{HasBuffers, IsRoomy, KeepsSkip, KeepsSpare, Spends, leaving};
+ghost use Rattle.vm_kernel.specs.Rooms.{HasBuffers, IsRoomy, KeepsSpare, Spends, leaving};
 ghost use Rattle.vm_kernel.specs.Turns.{QueueIsStill};
 ghost use Rattle.vm_maps.specs.Maps.{rows_in};
 
@@ -91,7 +91,6 @@ impl Parts {
         ensures err { IsRoomy (1 + leaving self.old ids.now + length (rows_in task.0 self.old.maps)) 0 self.old log.old.room → HasBuffers self.old
             → OnErr result ((self.new ≡ self.old) × (log.new.items ≡ log.old.items)) }
         ensures buffers { OnOk result (HasBuffers self.old → HasBuffers self.new) }
-        ensures skip { OnOk result (KeepsSkip self.old self.new) }
     {
         let mut losers = self.room_to_merge(self.entry_count(task))?;
         let gone = self.maps.end_task(task);
@@ -119,7 +118,6 @@ impl Parts {
         ensures err { IsRoomy (1 + leaving self.old ids.now + length (rows_in task.0 self.old.maps)) 0 self.old log.old.room → HasBuffers self.old
             → OnErr result ((self.new ≡ self.old) × (log.new.items ≡ log.old.items)) }
         ensures buffers { OnOk result (HasBuffers self.old → HasBuffers self.new) }
-        ensures skip { OnOk result (KeepsSkip self.old self.new) }
     {
         let promised = self.memory.resident.promised();
         let mut losers = self.room_to_merge(self.entry_count(task))?;

@@ -20,7 +20,7 @@ ghost use Rattle.vm_kernel.specs.Destroying.{AllUnserved, FailsOnly, HasEmptied,
 ghost use Rattle.vm_kernel.specs.Destroying.{is_on, is_place_on, oldest_on, queue_but_on, stands_on, unserved, unserved_at};
 ghost use Rattle.vm_kernel.specs.Matches.{Rests, Undone, Works};
 ghost use Rattle.vm_kernel.specs.Plays.{Plays, paging};
-ghost use Rattle.vm_kernel.specs.Rooms.{IsRoomy, KeepsSkip, Spends};
+ghost use Rattle.vm_kernel.specs.Rooms.{IsRoomy, Spends};
 ghost use Rattle.vm_kernel.specs.Sweeping.{EndsOnly};
 ghost use Rattle.vm_kernel.specs.Turns.{RunsNoneYet};
 
@@ -59,7 +59,6 @@ impl Parts {
         ensures spends { OnOk result (Spends (listed_pages self.old.memory.queues + 1) 0 0 self.old log.old self.new log.new) }
         ensures succeeds { IsRoomy (listed_pages self.old.memory.queues + 1) 0 self.old log.old.room → IsOk result }
         ensures buffers { OnOk result (self.new.memory.buffers ≡ self.old.memory.buffers) }
-        ensures skip { OnOk result (KeepsSkip self.old self.new) }
     {
         if !self.is_live(object, control) {
             return Ok(());
@@ -187,7 +186,6 @@ impl Parts {
         ensures spends { OnOk result (Spends 0 0 0 self.old log.old self.new log.new) }
         ensures succeeds { IsRoomy 0 0 self.old log.old.room → IsOk result }
         ensures same { OnOk result (self.new ≡ record self.old { waits = self.new.waits }) }
-        ensures skip { OnOk result (KeepsSkip self.old self.new) }
     {
         'all: while let Some(waiting) = self.waits.next_again() {
             let Some(key) = self.unserved(waiting) else {

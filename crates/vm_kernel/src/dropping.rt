@@ -6,22 +6,21 @@ ghost use Rattle.vm_kernel.specs.Begun.{Doing, DoingSparing, LegalEvents, Ran, S
 ghost use Rattle.vm_kernel.specs.Matches.{Rests, host_id};
 ghost use Rattle.vm_pageout.specs.declared.answer.Reclaim.TheVariants as answers;
 ghost use Rattle.vm_parts.specs.Listed.{listed_pages};
-ghost use Rattle.vm_kernel.specs.Rooms.{IsRoomy, IsSkipRoom, LeavesRoom, Spends};
-ghost use Rattle.vm_kernel.specs.Serving.{FreesBut, FreesOrReturns, IsHere, IsTheSource, IsToCopy, SkipLocked, frame_spared, frames_spared, option_list};
+ghost use Rattle.vm_kernel.specs.Rooms.{IsRoomy, LeavesRoom, Spends};
+ghost use Rattle.vm_kernel.specs.Serving.{FreesOrReturns, IsHere, IsTheSource, IsToCopy, awaits_unlock, frame_spared, spares_frame};
 ghost use Rattle.vm_kernel.specs.Taking.{EachGone};
-ghost use Rattle.vm_kernel.specs.Plays.{AreSpared, PlaysBy, Reclaims, SparesSource, SparesSourceSince, paging};
+ghost use Rattle.vm_kernel.specs.Plays.{PlaysBy, Reclaims, SparesSource, SparesSourceSince, paging};
 ghost use Rattle.vm_kernel.specs.Turns.{QueueIsStill};
-ghost use Rattle.vm_waits.specs.Waits.{EachOnce, first_in_queue};
+ghost use Rattle.vm_waits.specs.Waits.{first_in_queue};
 
-use crate::obeying::page_of;
 use crate::parts::Parts;
 use vm_base::{FrameNo, NoMemory, PageKey};
 use vm_fault::source;
 use vm_model::Events;
-use vm_pageout::{Reclaim, reclaim};
+use vm_pageout::{Reclaim, reclaim_page};
+use vm_queues::Spares;
 use vm_resident::Resident;
 use vm_shadow::Ids;
-use vm_waits::Waiting;
 
 // The page of both, where that is the same.
 fn same_page(one: Option<PageKey>, other: Option<PageKey>) -> Option<PageKey>
@@ -31,45 +30,32 @@ fn same_page(one: Option<PageKey>, other: Option<PageKey>) -> Option<PageKey>
     if one == other { other } else { None }
 }
 
-// Lists the frame of a page that is spared, and those of the pages for whose unlocks accesses wait.
-fn fill(
-    resident: &Resident,
-    rows: &[Waiting],
-    spared: Option<PageKey>,
-    skip: &mut Vec<FrameNo>,
-) -> Result<(), NoMemory>
-    ensures frames { OnOk result (skip.new.items ≡ frames_spared resident.now spared rows.now) }
-    ensures room { vec_capacity skip.old ≤ vec_capacity skip.new }
-    ensures succeeds { length rows.now < vec_capacity skip.old → IsOk result }
-{
-    skip.clear();
-    skip_page(resident, spared, skip)?;
-    'all: for waiting in rows {
-        skip_page(resident, page_of(waiting.on), skip)?;
-    }
-    Ok(())
+// The frames that a reclaim spares: one, if there is one, and those of the pages of which an unlock is
+// outstanding.
+#[derive(Drop)]
+struct Sparing<'a> {
+    resident: &'a Resident,
+    one: Option<FrameNo>,
 }
 
-// Skips the frame of a page, if there is one and it is here.
-fn skip_page(
-    resident: &Resident,
-    page: Option<PageKey>,
-    skip: &mut Vec<FrameNo>,
-) -> Result<(), NoMemory>
-    ensures frames { OnOk result (skip.new.items ≡ skip.old.items ++ option_list (frame_spared resident.now page)) }
-    ensures room { vec_capacity skip.old ≤ vec_capacity skip.new }
-    ensures more { vec_len skip.new ≤ vec_len skip.old + 1 }
-    ensures succeeds { vec_len skip.old < vec_capacity skip.old → IsOk result }
+impl Spares for Sparing<'_> {
+    ghost spares = { λ s f. spares_frame s.resident.now s.one f };
+
+    fn spares(&self, f: FrameNo) -> bool {
+        self.one == Some(f) || awaits_unlock(self.resident, f)
+    }
+}
+
+// Whether an unlock of the page in a frame is outstanding.
+fn awaits_unlock(resident: &Resident, f: FrameNo) -> bool
+    ensures { result ≡ awaits_unlock resident.now f.0 }
 {
-    let Some(key) = page else {
-        return Ok(());
+    let Some(key) = resident.page_of(f) else {
+        return false;
     };
     match resident.get(key) {
-        Some(row) if row.here => {
-            skip.push(row.frame)?;
-            Ok(())
-        }
-        _ => Ok(()),
+        Some(row) => row.unlock_sent,
+        None => false,
     }
 }
 
@@ -86,10 +72,8 @@ impl Parts {
         ensures quiet { OnOk result (QueueIsStill self.old.waits.queue self.new.waits.queue log.old.items log.new.items) }
         ensures spends { OnOk result (Spends (2 * listed_pages self.old.memory.queues) 0 0 self.old log.old self.new log.new) }
         ensures succeeds { IsRoomy (2 * listed_pages self.old.memory.queues) 0 self.old log.old.room
-            → min count (listed_pages self.old.memory.queues) + 1 ≤ self.old.memory.buffers.count → IsSkipRoom self.old → IsOk result }
-        ensures spare { OnOk result ((min count (listed_pages self.old.memory.queues) + 1 ≤ self.old.memory.buffers.count → 0 < self.new.memory.buffers.count)
-            × (vec_capacity self.old.skip ≤ vec_capacity self.new.skip)) }
-        ensures rows { OnOk result (length self.new.waits.rows ≤ length self.old.waits.rows) }
+            → min count (listed_pages self.old.memory.queues) + 1 ≤ self.old.memory.buffers.count → IsOk result }
+        ensures spare { OnOk result (min count (listed_pages self.old.memory.queues) + 1 ≤ self.old.memory.buffers.count → 0 < self.new.memory.buffers.count) }
     {
         // What the front is to copy now, it was to copy when the pageout began.
         let first = self.source(ids, log);
@@ -121,21 +105,12 @@ impl Parts {
         )
     }
 
-    // Lists the frames of the pages that are spared: of that one, and of those for whose unlocks
-    // accesses wait.
-    fn fill_skip(&mut self, spared: Option<PageKey>) -> Result<(), NoMemory>
-        ensures is { self.new ≡ record self.old { skip = self.new.skip } }
-        ensures frames { OnOk result (self.new.skip.items ≡ frames_spared self.old.memory.resident spared self.old.waits.rows) }
-        ensures once { OnOk result (EachOnce self.old.waits.rows) }
-        ensures room { vec_capacity self.old.skip ≤ vec_capacity self.new.skip }
-        ensures succeeds { IsSkipRoom self.old → IsOk result }
+    // The frame of a page that is spared, if it is here.
+    fn frame_of(&self, spared: Option<PageKey>) -> Option<FrameNo>
+        ensures { result ≡ frame_spared self.now.memory.resident spared }
     {
-        fill(
-            &self.memory.resident,
-            self.waits.rows(),
-            spared,
-            &mut self.skip,
-        )
+        let row = self.memory.resident.get(spared?)?;
+        if row.here { Some(row.frame) } else { None }
     }
 
     /// Reclaims one page, but not the one that is spared, nor one for whose unlock somebody waits.
@@ -158,31 +133,6 @@ impl Parts {
             (log.new.items ++ given.past)) }
         ensures plays { OnOk result (PlaysBy given.header given.by given.past log.old.items (paging self.old) log.new.items (paging self.new)) }
         ensures spared { OnOk result (IfSome spared (λ key. IsHere self.new key)) }
-        ensures room { 2 ≤ log.old.room → 0 < self.old.memory.buffers.count → IsSkipRoom self.old → IsOk result }
-        ensures empty { listed_pages self.old.memory.queues ≡ 0 → IsSkipRoom self.old → IsOk result }
-        ensures few { OnOk result (length log.new.items ≤ length log.old.items + 2) }
-        ensures single { IfOk result (λ answer. answer ≡ answers.Freed → length log.new.items ≤ length log.old.items + 1) }
-        ensures nothing { IfOk result (λ answer. answer ≡ answers.Nothing → (log.new ≡ log.old) × (self.new.memory.buffers ≡ self.old.memory.buffers)) }
-        ensures leaves { IfOk result (λ answer. LeavesRoom answer self.old self.new log.old.room log.new.room) }
-    {
-        self.fill_skip(spared)?;
-        self.reclaim_but(ids, log)
-    }
-
-    // Reclaims one page whose frame isn't skipped.
-    fn reclaim_but(&mut self, ids: &Ids, log: &mut Events) -> Result<Reclaim, NoMemory>
-        ghost given: { DoingSparing }
-        requires rests { Rests given.header given.host self.old ids.now (log.old.items ++ given.past) }
-        requires may { PagesOut given.command given.host (log.old.items ++ given.past) ⊎ Starves given.header given.host (log.old.items ++ given.past) }
-        requires spared { AreSpared given.header given.host given.by (log.old.items ++ given.past) (paging self.old).frame_at self.old.skip.items }
-        requires reclaims { Reclaims given.by }
-        requires locked { SkipLocked self.old.memory.resident self.old.skip.items }
-        ensures rests { OnOk result (Rests given.header given.host self.new ids.now (log.new.items ++ given.past)) }
-        ensures goes { OnOk result (LegalEvents given.header given.host given.outside given.command given.past log.old.items log.new.items) }
-        ensures reclaims { OnOk result (EachGone given.host log.old.items log.new.items) }
-        ensures reclaimed { IfOk result (λ answer. FreesBut given.host self.old.skip.items answer self.old self.new (log.old.items ++ given.past)
-            (log.new.items ++ given.past)) }
-        ensures plays { OnOk result (PlaysBy given.header given.by given.past log.old.items (paging self.old) log.new.items (paging self.new)) }
         ensures room { 2 ≤ log.old.room → 0 < self.old.memory.buffers.count → IsOk result }
         ensures empty { listed_pages self.old.memory.queues ≡ 0 → IsOk result }
         ensures few { OnOk result (length log.new.items ≤ length log.old.items + 2) }
@@ -190,12 +140,17 @@ impl Parts {
         ensures nothing { IfOk result (λ answer. answer ≡ answers.Nothing → (log.new ≡ log.old) × (self.new.memory.buffers ≡ self.old.memory.buffers)) }
         ensures leaves { IfOk result (λ answer. LeavesRoom answer self.old self.new log.old.room log.new.room) }
     {
-        let skip = self.skip.as_slice();
-        // The laundry has room for a page that is here, but may be full while none is.
-        let Some(_) = self.memory.queues.victim(skip) else {
+        let one = self.frame_of(spared);
+        let _ = self.waits.count();
+        self.memory.resident.lead_back();
+        let sparing = Sparing {
+            resident: &self.memory.resident,
+            one,
+        };
+        let Some(frame) = self.memory.queues.victim_but(&sparing) else {
             return Ok(Reclaim::Nothing);
         };
-        let answer = reclaim(self.host, &mut self.memory, skip, &mut self.laundry, log)?;
+        let answer = reclaim_page(self.host, frame, &mut self.memory, &mut self.laundry, log)?;
         Ok(answer)
     }
 }

@@ -9,7 +9,7 @@ ghost use Rattle.vm_model.specs.declared.command.Command.TheVariants as command;
 ghost use Rattle.vm_kernel.specs.Begun.{Doing, Given, HasBegun, Ran, Starts};
 ghost use Rattle.vm_kernel.specs.Forking.{CanCopy, CanShare, EntersCopy, Shares};
 ghost use Rattle.vm_kernel.specs.Plays.{Plays, paging};
-ghost use Rattle.vm_kernel.specs.Rooms.{HasBuffers, HasMore, HasRoom, IsRoomy, IsSkipRoom, KeepsSpare, Spends, dues, front, full_dues, making, of_entries};
+ghost use Rattle.vm_kernel.specs.Rooms.{HasBuffers, HasMore, HasRoom, IsRoomy, KeepsSpare, Spends, dues, front, full_dues, making, of_entries};
 ghost use Rattle.vm_kernel.specs.Rooms.{to_run};
 ghost use Rattle.vm_kernel.specs.declared.breadth.Breadth.TheVariants as wide;
 ghost use Rattle.vm_kernel.specs.Turns.{QueueIsStill, Restarted};
@@ -43,8 +43,7 @@ impl Parts {
             log.new.items) }
         ensures few { OnOk result (length log.new.items + dues self.new ≤ length log.old.items + (full_dues self.old + of_entries task.0 self.old)) }
         ensures room { (more : ℕ) → HasMore (of_entries task.0 self.old) (of_entries task.0 self.old) more self.old log.old.room → HasBuffers self.old
-            → length self.old.waits.rows + 1 < vec_capacity self.old.skip
-            → OnOk result (HasRoom more self.new log.new.room × (0 < self.new.memory.buffers.count × IsSkipRoom self.new)) }
+            → OnOk result (HasRoom more self.new log.new.room × (0 < self.new.memory.buffers.count)) }
         ensures err { HasMore (of_entries task.0 self.old) (of_entries task.0 self.old) 0 self.old log.old.room
             → OnErr result ((self.new ≡ self.old) × ((ids.new ≡ ids.old) × (log.new.items ≡ log.old.items))) }
     {
@@ -113,10 +112,9 @@ impl Parts {
             log.new.items) }
         ensures few { OnOk result (length log.new.items + dues self.new ≤ length log.old.items + (full_dues self.old + front wide.Frames self.old)) }
         ensures room { (more : ℕ) → HasMore (front wide.Frames self.old) (making wide.Frames self.old) more self.old log.old.room → 0 < self.old.waits.room
-            → HasBuffers self.old → length self.old.waits.rows + 1 < vec_capacity self.old.skip
-            → OnOk result (HasRoom more self.new log.new.room × (0 < self.new.memory.buffers.count × IsSkipRoom self.new)) }
+            → HasBuffers self.old
+            → OnOk result (HasRoom more self.new log.new.room × (0 < self.new.memory.buffers.count)) }
         ensures err { HasMore (front wide.Frames self.old) (making wide.Frames self.old) 0 self.old log.old.room → 0 < self.old.waits.room → HasBuffers self.old
-            → length self.old.waits.rows + 1 < vec_capacity self.old.skip
             → OnErr result ((self.new ≡ self.old) × ((ids.new ≡ ids.old) × (log.new.items ≡ log.old.items))) }
     {
         let place = self.place(task, address);

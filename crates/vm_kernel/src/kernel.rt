@@ -83,7 +83,6 @@ impl Kernel {
             copies: Copies::new(alloc),
             laundry,
             waits: Waits::new(alloc),
-            skip: Vec::new(alloc),
         };
         Ok(Kernel { parts })
     }

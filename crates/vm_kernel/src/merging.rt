@@ -4,7 +4,7 @@ ghost use Rattle.vm_base.specs.Limits.{most_pages};
 ghost use Rattle.vm_kernel.specs.Begun.{Doing};
 ghost use Rattle.vm_kernel.specs.Endings.{MergesOnly};
 ghost use Rattle.vm_kernel.specs.Plays.{Plays, paging};
-ghost use Rattle.vm_kernel.specs.Rooms.{HasBuffers, HasRowsFor, KeepsSkip, Spends, with_rows};
+ghost use Rattle.vm_kernel.specs.Rooms.{HasBuffers, HasRowsFor, Spends, with_rows};
 ghost use Rattle.vm_kernel.specs.Sweeping.{Sweeps};
 ghost use Rattle.vm_kernel.specs.Turns.{QueueIsStill};
 ghost use Rattle.vm_merge.specs.Merges.{IsThin, IsThinBut};
@@ -59,7 +59,6 @@ impl Parts {
         ensures succeeds { length losers.old.items * most_pages ≤ self.old.memory.resident.spare → length losers.old.items * most_pages < 2 ^ 32
             → length losers.old.items ≤ log.old.room → IsOk result }
         ensures buffers { OnOk result (HasBuffers self.old → HasBuffers self.new) }
-        ensures skip { OnOk result (KeepsSkip self.old self.new) }
     {
         let Ok(most) = u32::try_from(losers.len()) else {
             return Err(NoMemory);

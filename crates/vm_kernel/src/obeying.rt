@@ -7,7 +7,7 @@ ghost use Rattle.vm_kernel.specs.Begun.{LegalEvents, Passing};
 ghost use Rattle.vm_kernel.specs.Destroying.{IsDestroyPaid, MayDestroy, is_destroy, queue_behind};
 ghost use Rattle.vm_kernel.specs.Matches.{Rests, Works, host_id};
 ghost use Rattle.vm_kernel.specs.Plays.{Plays, PlaysAnswer, paging};
-ghost use Rattle.vm_kernel.specs.Rooms.{Dies, HasBuffers, IsRoomy, KeepsSkip, Spends, heeding, may_end};
+ghost use Rattle.vm_kernel.specs.Rooms.{Dies, HasBuffers, IsRoomy, Spends, heeding, may_end};
 ghost use Rattle.vm_parts.specs.Listed.{listed_pages};
 ghost use Rattle.vm_kernel.specs.Taking.{EndsNobody, FailsNow, HasAsker, IsAbsencePaid, IsAnswered, IsChangePaid, IsLockPaid, IsWord, KeepsAskers};
 ghost use Rattle.vm_kernel.specs.Taking.{IsOfPushed, PageWaitedFor};
@@ -72,7 +72,6 @@ impl Parts {
             → HasBuffers self.old → 0 < self.new.memory.buffers.count) }
         ensures failing { IfOk result (λ woken. (key : PageKey) → woken ≡ who.Fails key → HasBuffers self.old → HasBuffers self.new) }
         ensures dies { IfOk result (λ woken. (key : PageKey) → woken ≡ who.Fails key → Dies message.now self.old self.new) }
-        ensures skip { OnOk result (KeepsSkip self.old self.new) }
     {
         match message {
             Message::Lock { .. } => {
@@ -120,7 +119,6 @@ impl Parts {
         ensures succeeds { IsRoomy (listed_pages self.old.memory.queues + 1) 0 self.old log.old.room
             → listed_pages self.old.memory.queues + 1 ≤ self.old.memory.buffers.count → IsOk result }
         ensures buffers { OnOk result (listed_pages self.old.memory.queues + 1 ≤ self.old.memory.buffers.count → 0 < self.new.memory.buffers.count) }
-        ensures skip { OnOk result (KeepsSkip self.old self.new) }
     {
         if !self.is_live(object, control) {
             return Ok(());

@@ -1,7 +1,7 @@
 // The parts of a host's kernel.
 
 use std::alloc::Global;
-use vm_base::{FrameNo, HostId, PageSize};
+use vm_base::{HostId, PageSize};
 use vm_copies::Copies;
 use vm_maps::Maps;
 use vm_model::Declarations;
@@ -23,7 +23,4 @@ pub struct Parts {
     pub copies: Copies,
     pub laundry: Laundry,
     pub waits: Waits,
-    // The frames that a reclaim passes over, while it looks for a victim: kept between steps for its
-    // memory alone.
-    pub skip: Vec<FrameNo>,
 }

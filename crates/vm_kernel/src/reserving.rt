@@ -115,21 +115,7 @@ impl Parts {
         self.chains.reserve(shadows)?;
         self.copies.reserve(shadows)?;
         self.waits.reserve(1)?;
-        self.reserve_skip()?;
         self.reserve_buffers(self.returning())
-    }
-
-    // Empties the list of the frames that a reclaim passes over, with room for one of each access.
-    fn reserve_skip(&mut self) -> Result<(), NoMemory>
-        ensures is { self.new ≡ record self.old { skip = self.new.skip } }
-        ensures room { OnOk result (length self.new.waits.rows + 1 < vec_capacity self.new.skip) }
-    {
-        self.skip.clear();
-        let wanted = self.waits.count() as usize + 2;
-        if self.skip.capacity() < wanted {
-            self.skip.reserve(2 * wanted)?;
-        }
-        Ok(())
     }
 
     /// Makes room for the returns that a command makes in front of the accesses that are run, and for one

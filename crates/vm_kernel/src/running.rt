@@ -4,7 +4,7 @@ ghost use Rattle.vm_kernel.specs.Begun.{Given, Ran, Starts};
 ghost use Rattle.vm_kernel.specs.Built.{changes_entries, kernel_runs};
 ghost use Rattle.vm_kernel.specs.Endings.{EndsByAddress};
 ghost use Rattle.vm_kernel.specs.Plays.{Plays, PlaysBy, may_reclaim, paging};
-ghost use Rattle.vm_kernel.specs.Rooms.{HasBuffers, HasMore, HasReturns, HasRoom, IsSkipRoom, breadth_of, dues, front, full_dues, making, to_run};
+ghost use Rattle.vm_kernel.specs.Rooms.{HasBuffers, HasMore, HasReturns, HasRoom, breadth_of, dues, front, full_dues, making, to_run};
 ghost use Rattle.vm_kernel.specs.Turns.{Restarted};
 
 use crate::parts::Parts;
@@ -32,10 +32,10 @@ impl Parts {
         ensures few { OnOk result (length log.new.items + dues self.new ≤ length log.old.items + (full_dues self.old + front (breadth_of command.now)
             self.old)) }
         ensures room { (more : ℕ) → HasMore (front (breadth_of command.now) self.old) (making (breadth_of command.now) self.old) more self.old log.old.room
-            → 0 < self.old.waits.room → HasBuffers self.old → length self.old.waits.rows + 1 < vec_capacity self.old.skip → HasReturns command.now self.old
-            → OnOk result (HasRoom more self.new log.new.room × (0 < self.new.memory.buffers.count × IsSkipRoom self.new)) }
+            → 0 < self.old.waits.room → HasBuffers self.old → HasReturns command.now self.old
+            → OnOk result (HasRoom more self.new log.new.room × (0 < self.new.memory.buffers.count)) }
         ensures err { HasMore (front (breadth_of command.now) self.old) (making (breadth_of command.now) self.old) 0 self.old log.old.room
-            → 0 < self.old.waits.room → HasBuffers self.old → length self.old.waits.rows + 1 < vec_capacity self.old.skip → HasReturns command.now self.old
+            → 0 < self.old.waits.room → HasBuffers self.old → HasReturns command.now self.old
             → OnErr result ((self.new ≡ self.old) × ((ids.new ≡ ids.old) × (log.new.items ≡ log.old.items))) }
     {
         self.memory.queues.stand_once();
@@ -97,10 +97,10 @@ impl Parts {
         ensures few { OnOk result (length log.new.items + dues self.new ≤ length log.old.items + (full_dues self.old + front (breadth_of command.now)
             self.old)) }
         ensures room { (more : ℕ) → HasMore (front (breadth_of command.now) self.old) (making (breadth_of command.now) self.old) more self.old log.old.room
-            → 0 < self.old.waits.room → HasBuffers self.old → IsSkipRoom self.old
-            → OnOk result (HasRoom more self.new log.new.room × (0 < self.new.memory.buffers.count × IsSkipRoom self.new)) }
+            → 0 < self.old.waits.room → HasBuffers self.old
+            → OnOk result (HasRoom more self.new log.new.room × (0 < self.new.memory.buffers.count)) }
         ensures err { HasMore (front (breadth_of command.now) self.old) (making (breadth_of command.now) self.old) 0 self.old log.old.room
-            → 0 < self.old.waits.room → HasBuffers self.old → IsSkipRoom self.old
+            → 0 < self.old.waits.room → HasBuffers self.old
             → OnErr result ((self.new ≡ self.old) × ((ids.new ≡ ids.old) × (log.new.items ≡ log.old.items))) }
     {
         self.memory.queues.stand_once();

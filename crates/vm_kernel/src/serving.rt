@@ -16,7 +16,7 @@ ghost use Rattle.vm_waits.specs.Wants.{address_in, need_in};
 ghost use Rattle.vm_kernel.specs.Begun.{Doing, LegalEvents};
 ghost use Rattle.vm_kernel.specs.Destroying.{place_led, unserved};
 ghost use Rattle.vm_kernel.specs.Matches.{Rests, Works};
-ghost use Rattle.vm_kernel.specs.Rooms.{HasRoom, IsSkipRoom, KeepsSpare, ServeRoom, StopsRoom, dues, to_run};
+ghost use Rattle.vm_kernel.specs.Rooms.{HasRoom, KeepsSpare, ServeRoom, StopsRoom, dues, to_run};
 ghost use Rattle.vm_kernel.specs.Serving.{Attempts, HasQueue, IsHere, IsTheSource, IsToCopy, QueueIsServed, RunsFirst, is_pushing, runs_now, waits_at};
 ghost use Rattle.vm_kernel.specs.Serving.{wants_frame};
 ghost use Rattle.vm_kernel.specs.Plays.{Plays, PlaysBy, SparesSource, paging};
@@ -187,7 +187,7 @@ impl Parts {
         ensures served { OnOk result (QueueIsServed given.header given.host self.new (log.new.items ++ given.past)) }
         ensures leaves { OnOk result (LeavesInTurn given.header given.past self.old self.new log.old.items log.new.items) }
         ensures others { OnOk result (KeepsOthers self.old.waits.queue self.old.waits.rows self.new.waits.rows) }
-        ensures room { (more : ℕ) → HasRoom (more + 2) self.old log.old.room → 0 < self.old.memory.buffers.count → IsSkipRoom self.old → IsOk result
+        ensures room { (more : ℕ) → HasRoom (more + 2) self.old log.old.room → 0 < self.old.memory.buffers.count → IsOk result
             × (more ≤ log.new.room) }
         ensures idle { queued self.old.waits.rows ≡ 0 → IsOk result × ((self.new ≡ self.old) × ((ids.new ≡ ids.old) × (log.new ≡ log.old))) }
         ensures few { OnOk result (length log.new.items ≤ length log.old.items + dues self.old + 2) }
@@ -251,7 +251,7 @@ impl Parts {
             → NoneSleepsOn given.header given.host (log.new.items ++ given.past)) }
         ensures leaves { OnOk result (LeavesInTurn given.header given.past self.old self.new log.old.items log.new.items) }
         ensures others { OnOk result (KeepsOthers self.old.waits.queue self.old.waits.rows self.new.waits.rows) }
-        ensures room { (more : ℕ) → HasRoom (more + 2) self.old log.old.room → 0 < self.old.memory.buffers.count → IsSkipRoom self.old → IsOk result
+        ensures room { (more : ℕ) → HasRoom (more + 2) self.old log.old.room → 0 < self.old.memory.buffers.count → IsOk result
             × (more ≤ log.new.room) }
         ensures idle { queued self.old.waits.rows ≡ 0 → IsOk result × ((self.new ≡ self.old) × ((ids.new ≡ ids.old) × (log.new ≡ log.old))) }
         ensures few { OnOk result (length log.new.items ≤ length log.old.items + dues self.old + 2) }

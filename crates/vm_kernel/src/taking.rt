@@ -16,7 +16,7 @@ ghost use Rattle.vm_parts.specs.Listed.{listed_pages};
 ghost use Rattle.vm_resident.specs.Resident.{row_at};
 ghost use Rattle.vm_supply.specs.Answers.{IsAnswer, outcome_of};
 ghost use Rattle.vm_kernel.specs.Plays.{Plays, PlaysAnswer, paging};
-ghost use Rattle.vm_kernel.specs.Rooms.{Dies, HasBuffers, HasMore, HasRoom, IsRoomy, IsSkipRoom, KeepsSkip, Spends, dues, front, full_dues, leaving, making};
+ghost use Rattle.vm_kernel.specs.Rooms.{Dies, HasBuffers, HasMore, HasRoom, IsRoomy, Spends, dues, front, full_dues, leaving, making};
 ghost use Rattle.vm_kernel.specs.Rooms.{to_run, waking, word_breadth};
 ghost use Rattle.vm_kernel.specs.Turns.{IsBrought, Restarted, RunsNobody};
 
@@ -61,7 +61,6 @@ impl Parts {
         ensures buffers { OnOk result (self.new.memory.buffers ≡ self.old.memory.buffers) }
         ensures failing { IfOk result (λ woken. (key : PageKey) → woken ≡ who.Fails key → HasBuffers self.old → HasBuffers self.new) }
         ensures dies { IfOk result (λ woken. (key : PageKey) → woken ≡ who.Fails key → Dies message.now self.old self.new) }
-        ensures skip { OnOk result (KeepsSkip self.old self.new) }
     {
         let woken = answer(self.host, object, control, message, &mut self.memory, log)?;
         Ok(woken)
@@ -88,7 +87,6 @@ impl Parts {
         ensures buffers { OnOk result (HasBuffers self.old → HasBuffers self.new) }
         ensures enough { OnOk result (((key : PageKey) → woken ≡ who.Fails key → HasBuffers self.old) → 0 < self.old.memory.buffers.count
             → 0 < self.new.memory.buffers.count) }
-        ensures skip { OnOk result (KeepsSkip self.old self.new) }
     {
         match woken {
             Woken::Nobody => Ok(()),
@@ -129,7 +127,6 @@ impl Parts {
         ensures spends { OnOk result (Spends (leaving self.old ids.now) 0 (leaving self.new ids.now) self.old log.old self.new log.new) }
         ensures succeeds { IsRoomy (leaving self.old ids.now) 0 self.old log.old.room → HasBuffers self.old → IsOk result }
         ensures buffers { OnOk result (HasBuffers self.old → HasBuffers self.new) }
-        ensures skip { OnOk result (KeepsSkip self.old self.new) }
     {
         'all: while let Some(waiting) = self.waits.next_on(key) {
             log.push(Event::Failed {
@@ -177,9 +174,9 @@ impl Parts {
         ensures few { OnOk result (length log.new.items + dues self.new ≤ length log.old.items + (full_dues self.old + front (word_breadth message.now)
             self.old)) }
         ensures room { (more : ℕ) → HasMore (front (word_breadth message.now) self.old) (making (word_breadth message.now) self.old) more self.old log.old.room
-            → 0 < self.old.memory.objects.marks → HasBuffers self.old → IsSkipRoom self.old
+            → 0 < self.old.memory.objects.marks → HasBuffers self.old
             → (is_lock_request message.now ≡ true → listed_pages self.old.memory.queues + 1 ≤ self.old.memory.buffers.count) → IsOk result
-            × (HasRoom more self.new log.new.room × (0 < self.new.memory.buffers.count × IsSkipRoom self.new)) }
+            × (HasRoom more self.new log.new.room × (0 < self.new.memory.buffers.count)) }
     {
         self.memory.queues.stand_once();
         let woken = self.heed(ids, object, control, message, log)?;

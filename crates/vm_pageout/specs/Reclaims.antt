@@ -1,15 +1,15 @@
 -- What reclaiming a page leaves of the parts of a host, case by case.
-use Rattle.std.specs.Prelude.{ℕ, ◌+◌, ◌≡◌, ◌||◌, true, false, List, [], ◌∷◌, ◌++◌, Some, None}
+use Rattle.std.specs.Prelude.{ℕ, ◌+◌, ◌≡◌, ◌||◌, true, false, List, [], ◌∷◌, ◌++◌, Some}
 use Rattle.vm_base.specs.declared.ids.FrameNo.{FrameNo}
 use Rattle.vm_base.specs.declared.ids.HostId.{HostId}
 use Rattle.vm_base.specs.declared.ids.PageKey.{PageKey}
-use Rattle.vm_frames.specs.Frames.{FrameTable, Releases, page_in}
+use Rattle.vm_frames.specs.Frames.{page_in}
 use Rattle.vm_model.specs.declared.event.Event.{Event}
 use Rattle.vm_model.specs.declared.event.Event.TheVariants as event
 use Rattle.vm_model.specs.declared.message.Channel.TheVariants as channel
 use Rattle.vm_model.specs.declared.message.Message.{Message}
 use Rattle.vm_model.specs.declared.message.Message.TheVariants as message
-use Rattle.vm_objects.specs.Objects.{ObjectTable, PutsAbsent, PutsObject, SameRooms, object_at}
+use Rattle.vm_objects.specs.Objects.{PutsAbsent, PutsObject, SameRooms, object_at}
 use Rattle.vm_objects.specs.declared.row.ObjectRow.{ObjectRow}
 use Rattle.vm_objects.specs.declared.row.PagerState.{PagerState}
 use Rattle.vm_objects.specs.declared.row.PagerState.TheVariants as state
@@ -18,8 +18,7 @@ use Rattle.vm_parts.specs.declared.parts.HostParts.{HostParts}
 use Rattle.vm_pageout.specs.Laundry.{LaundryList}
 use Rattle.vm_pageout.specs.declared.answer.Reclaim.{Reclaim}
 use Rattle.vm_pageout.specs.declared.answer.Reclaim.TheVariants as reclaim
-use Rattle.vm_queues.specs.Queues.{AllSkipped, Queues, balanced, is_queued, is_skipped, queues_except, spared, victim_frame}
-use Rattle.vm_resident.specs.Resident.{PutsOwner, PutsRow, ResidentTable, owner_of, row_at}
+use Rattle.vm_queues.specs.Queues.{AllSkipped, Queues, balanced, is_queued, is_skipped, spared, victim_frame}
 use Rattle.vm_resident.specs.declared.page_row.PageRow.{PageRow}
 
 -- the queues, once a victim was looked for
@@ -104,6 +103,45 @@ abbrev pub ReclaimEffects : Reclaim → HostId → List FrameNo → HostParts �
 ReclaimEffects reclaim.Freed host skip old new was now before after = IsFreed host skip old new was now before after
 ReclaimEffects reclaim.Returned host skip old new was now before after = IsReturned host skip old new was now before after
 ReclaimEffects reclaim.Nothing host skip old new was now before after = IsNothing skip old new was now before after
+
+-- the page in this frame is neither dirty nor precious; it is dropped, and the frame is free
+pub record IsPageFreed (host : HostId) (frame : FrameNo) (old new : HostParts) (was now : LaundryList) (before after : List Event) : Type 0 where
+  pub key : PageKey
+  pub row : PageRow
+  pub here : row.here ≡ true
+  pub mine : row.frame ≡ frame
+  pub page : Discards key row old new
+  pub clean : row.dirty ≡ false
+  pub plain : row.precious ≡ false
+  pub objects : new.objects ≡ old.objects
+  pub laundry : now ≡ was
+  pub events : after ≡ event.Dropped host key.object key.page ∷ before
+
+-- it is dirty or precious, and goes to its object's pager, as a victim does
+pub record IsPageReturned (host : HostId) (frame : FrameNo) (old new : HostParts) (was now : LaundryList) (before after : List Event) : Type 0 where
+  pub key : PageKey
+  pub row : PageRow
+  pub object : ObjectRow
+  pub here : row.here ≡ true
+  pub mine : row.frame ≡ frame
+  pub page : Removes key row old new
+  pub wanted : (row.dirty || row.precious) ≡ true
+  pub known : object_at old.objects key.object.0 ≡ Some object
+  pub objects : PutsObject key.object.0 (Some (controlled object)) old.objects new.objects
+  pub live : (controlled object).live ≡ true
+  pub present : PutsAbsent key.object.0 key.page.0 false old.objects new.objects
+  pub rooms : SameRooms old.objects new.objects
+  pub held : now.held ≡ was.held ++ row.frame ∷ []
+  pub room : now.room + 1 ≡ was.room
+  pub events :
+      after ≡ sends host key (message.Return (controlled object).control key.page row.dirty false (page_in old.frames row.frame.0))
+      ∷ creation_events host key old.buffers.size object before
+
+-- what becomes of the page in a frame
+abbrev pub TakesPage : Reclaim → HostId → FrameNo → HostParts → HostParts → LaundryList → LaundryList → List Event → List Event → Type 0
+TakesPage reclaim.Freed host frame old new was now before after = IsPageFreed host frame old new was now before after
+TakesPage reclaim.Returned host frame old new was now before after = IsPageReturned host frame old new was now before after
+TakesPage reclaim.Nothing host frame old new was now before after = ⊥
 
 -- all is as it was, but for the buffers that are kept
 pub record IsUnchanged (old new : HostParts) (was now : LaundryList) (before after : List Event) : Type 0 where

@@ -7,4 +7,4 @@ mod reclaiming;
 
 pub use answer::Reclaim;
 pub use laundry::Laundry;
-pub use reclaiming::reclaim;
+pub use reclaiming::{reclaim, reclaim_page};

@@ -5,12 +5,12 @@ ghost use Rattle.vm_model.specs.declared.event.Event.TheVariants as event;
 ghost use Rattle.vm_model.specs.declared.message.Message.TheVariants as message;
 ghost use Rattle.vm_objects.specs.Objects.{PutsAbsent, PutsObject, SameMarks, SameRooms, object_at};
 ghost use Rattle.vm_pageout.specs.declared.answer.Reclaim.TheVariants as answers;
-ghost use Rattle.vm_pageout.specs.Reclaims.{IsUnchanged, ReclaimEffects, controlled, creation_events, sends};
+ghost use Rattle.vm_pageout.specs.Reclaims.{IsUnchanged, ReclaimEffects, TakesPage, controlled, creation_events, sends};
 ghost use Rattle.vm_parts.specs.Changes.{Discards};
 ghost use Rattle.vm_parts.specs.Controls.{AllLive, HasNumbers};
 ghost use Rattle.vm_parts.specs.Fits.{Fit};
 ghost use Rattle.vm_parts.specs.Listed.{listed_pages};
-ghost use Rattle.vm_queues.specs.Queues.{AllSkipped};
+ghost use Rattle.vm_queues.specs.Queues.{AllSkipped, is_queued};
 ghost use Rattle.vm_resident.specs.Resident.{row_at};
 
 use crate::{Laundry, Reclaim};
@@ -58,6 +58,69 @@ pub fn reclaim(
     let Some(frame) = parts.queues.victim(skip) else {
         return Ok(Reclaim::Nothing);
     };
+    Ok(take_page(host, frame, parts, laundry, log))
+}
+
+/// Reclaims the page in a frame, as `reclaim` does its victim's. It fails for want of memory alone,
+/// before anything changes.
+pub fn reclaim_page(
+    host: HostId,
+    frame: FrameNo,
+    parts: &mut HostParts,
+    laundry: &mut Laundry,
+    log: &mut Events,
+) -> Result<Reclaim, NoMemory>
+    requires fit { Fit parts.old }
+    requires queued { is_queued parts.old.queues frame.0 ≡ true }
+    requires room { 0 < laundry.old.room }
+    requires live { AllLive parts.old.objects }
+    requires numbers { HasNumbers parts.old.objects }
+    ensures ok { IfOk result (λ answer. TakesPage answer host frame parts.old parts.new laundry.old laundry.new log.old.items log.new.items) }
+    ensures err { OnErr result (IsUnchanged parts.old parts.new laundry.old laundry.new log.old.items log.new.items) }
+    ensures fit { Fit parts.new }
+    ensures live { AllLive parts.new.objects }
+    ensures size { parts.new.buffers.size ≡ parts.old.buffers.size }
+    ensures buffers { parts.old.buffers.count ≤ parts.new.buffers.count + 1 }
+    ensures log { log.old.room ≤ log.new.room + 2 }
+    ensures spare { parts.old.resident.spare ≤ parts.new.resident.spare }
+    ensures kept { parts.old.objects.rows ≤ parts.new.objects.rows }
+    ensures listed { OnOk result (listed_pages parts.new.queues + 1 ≡ listed_pages parts.old.queues) }
+    ensures succeeds { 2 ≤ log.old.room → 0 < parts.old.buffers.count → IsOk result }
+    ensures freed { IfOk result (λ answer. answer ≡ answers.Freed → log.old.room ≤ log.new.room + 1) }
+    ensures whole { IfOk result (λ answer. answer ≡ answers.Freed → parts.old.buffers.count ≤ parts.new.buffers.count) }
+{
+    log.reserve(2)?;
+    parts.buffers.reserve(1)?;
+    Ok(take_page(host, frame, parts, laundry, log))
+}
+
+// Takes the page in a frame from the host, where there is memory for what is said of it.
+fn take_page(
+    host: HostId,
+    frame: FrameNo,
+    parts: &mut HostParts,
+    laundry: &mut Laundry,
+    log: &mut Events,
+) -> Reclaim
+    requires fit { Fit parts.old }
+    requires queued { is_queued parts.old.queues frame.0 ≡ true }
+    requires room { 0 < laundry.old.room }
+    requires live { AllLive parts.old.objects }
+    requires numbers { HasNumbers parts.old.objects }
+    requires log { 2 ≤ log.old.room }
+    requires buffer { 0 < parts.old.buffers.count }
+    ensures takes { TakesPage result host frame parts.old parts.new laundry.old laundry.new log.old.items log.new.items }
+    ensures fit { Fit parts.new }
+    ensures live { AllLive parts.new.objects }
+    ensures size { parts.new.buffers.size ≡ parts.old.buffers.size }
+    ensures buffers { parts.old.buffers.count ≤ parts.new.buffers.count + 1 }
+    ensures log { log.old.room ≤ log.new.room + 2 }
+    ensures spare { parts.old.resident.spare ≤ parts.new.resident.spare }
+    ensures kept { parts.old.objects.rows ≤ parts.new.objects.rows }
+    ensures listed { listed_pages parts.new.queues + 1 ≡ listed_pages parts.old.queues }
+    ensures freed { result ≡ answers.Freed → log.old.room ≤ log.new.room + 1 }
+    ensures whole { result ≡ answers.Freed → parts.old.buffers.count ≤ parts.new.buffers.count }
+{
     parts.queues.stand_once();
     let Some(key) = parts.resident.page_of(frame) else {
         unreachable!()
@@ -67,12 +130,12 @@ pub fn reclaim(
     };
     if !row.dirty && !row.precious {
         drop_page(host, key, row, parts, log);
-        return Ok(Reclaim::Freed);
+        return Reclaim::Freed;
     }
     let _ = parts.remove(key);
     return_page(host, key, row, parts, log);
     laundry.hold(frame);
-    Ok(Reclaim::Returned)
+    Reclaim::Returned
 }
 
 // Drops a page, and says so.

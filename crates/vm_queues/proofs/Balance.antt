@@ -1,12 +1,13 @@
 -- Pages go to the inactive list one by one or at once, and second chances are given one by one or at once.
-use Rattle.std.proofs.Common.{ℕ, ◌≡◌, ◌+◌, ◌<◌, ◌≤◌, Bool, true, false, List, [], ◌∷◌, ◌++◌, drop, length, map, take, refl, sym, ◌∙◌, ap, Some, None, arith}
+use Rattle.std.proofs.Common.{ℕ, ◌≡◌, ◌+◌, ◌<◌, ◌≤◌, ◌==◌, ◌||◌, Bool, true, false, List, [], ◌∷◌, ◌++◌, drop, length, map, take, refl, sym, ◌∙◌, ap, Some, None, arith}
 use Rattle.std.proofs.lemmas.Bool.Decides.{nat_tests}
 use Rattle.std.proofs.lemmas.List.{append-nil, append_assoc, drop-append-le, drop-drop, drop-take, length-append, length-drop, length-map, length-take-le}
 use Rattle.std.proofs.lemmas.List.{map-append, take-append-drop, take-append-le, take-take}
 use Rattle.std.specs.Prelude.{if◌then◌else◌}
 use Rattle.vm_base.specs.declared.ids.FrameNo.{FrameNo}
 use Rattle.vm_queues.specs.Kept.{front_referenced}
-use Rattle.vm_queues.specs.Queues.{Page, Queues, balanced, cleared, first_unskipped, from_unreferenced, is_skipped, needs_none, one_spared, referenced_front}
+use Rattle.vm_queues.specs.Queues.{Page, Queues, balanced, cleared, first_left, first_unskipped, from_unreferenced, has_page, is_skipped, needs_none}
+use Rattle.vm_queues.specs.Queues.{one_spared, referenced_front}
 use Rattle.vm_queues.specs.Queues.{shortage, spared, with_deactivated}
 
 abbrev pub queues : List Page → List Page → ℕ → Queues
@@ -138,17 +139,44 @@ spared_done q is none = done q.active q.inactive q.frames is none
 pub none_needed : (q : Queues) → needs_none (balanced q)
 none_needed q = omega (arith, short_moved (shortage q) q.active q.inactive q.frames (omega arith) (short_fits q.active q.inactive q.frames))
 
-pub first_some : (skip : List FrameNo) (xs ys : List Page) (f : FrameNo) → first_unskipped skip xs ≡ Some f → first_unskipped skip (xs ++ ys) ≡ Some f
-first_some skip [] ys f is = absurd (cc)
-first_some skip (x ∷ xs) ys f is = let rest = first_some skip xs ys f in grind (arith, nat_tests)
+pub first_some : (spares : ℕ → Bool) (xs ys : List Page) (f : FrameNo) → first_left spares xs ≡ Some f → first_left spares (xs ++ ys) ≡ Some f
+first_some spares [] ys f is = absurd (cc)
+first_some spares (x ∷ xs) ys f is = by (spares x.frame) (first_some spares xs ys f) is
+  where
+    by : (b : Bool) → (first_left spares xs ≡ Some f → first_left spares (xs ++ ys) ≡ Some f)
+        → (if b then first_left spares xs else Some (record { 0 = x.frame })) ≡ Some f
+        → (if b then first_left spares (xs ++ ys) else Some (record { 0 = x.frame })) ≡ Some f
+    by true rest is = rest is
+    by false rest is = is
 
-pub first_none : (skip : List FrameNo) (xs ys : List Page) → first_unskipped skip xs ≡ None → first_unskipped skip (xs ++ ys) ≡ first_unskipped skip ys
-first_none skip [] ys is = refl
-first_none skip (x ∷ xs) ys is = let rest = first_none skip xs ys in grind (arith, nat_tests)
+pub first_none : (spares : ℕ → Bool) (xs ys : List Page) → first_left spares xs ≡ None → first_left spares (xs ++ ys) ≡ first_left spares ys
+first_none spares [] ys is = refl
+first_none spares (x ∷ xs) ys is = by (spares x.frame) (first_none spares xs ys) is
+  where
+    by : (b : Bool) → (first_left spares xs ≡ None → first_left spares (xs ++ ys) ≡ first_left spares ys)
+        → (if b then first_left spares xs else Some (record { 0 = x.frame })) ≡ None
+        → (if b then first_left spares (xs ++ ys) else Some (record { 0 = x.frame })) ≡ first_left spares ys
+    by true rest is = rest is
+    by false rest is = absurd (let bad : Some (record { 0 = x.frame }) ≡ None = is in cc)
 
-pub first_picked : (skip : List FrameNo) (p : Page) (ps : List Page) → is_skipped skip p.frame ≡ false
-    → first_unskipped skip (p ∷ ps) ≡ Some (record { 0 = p.frame })
-first_picked skip p ps is = rw is refl
+pub first_picked : (spares : ℕ → Bool) (p : Page) (ps : List Page) → spares p.frame ≡ false → first_left spares (p ∷ ps) ≡ Some (record { 0 = p.frame })
+first_picked spares p ps is = rw is refl
 
-pub first_passed : (skip : List FrameNo) (p : Page) (ps : List Page) → is_skipped skip p.frame ≡ true → first_unskipped skip (p ∷ ps) ≡ first_unskipped skip ps
-first_passed skip p ps is = rw is refl
+pub first_spared : (spares : ℕ → Bool) (p : Page) (ps : List Page) → spares p.frame ≡ true → first_left spares (p ∷ ps) ≡ first_left spares ps
+first_spared spares p ps is = rw is refl
+
+-- frames of a list alone are skipped
+pub first_skipped : (skip : List FrameNo) (spares : ℕ → Bool) (pages : List Page) → ((f : ℕ) → has_page pages f ≡ true → is_skipped skip f ≡ spares f)
+    → first_left spares pages ≡ first_unskipped skip pages
+first_skipped skip spares [] same = refl
+first_skipped skip spares (page ∷ pages) same =
+    ap (λ b. if b then first_left spares pages else Some (record { 0 = page.frame })) (sym (same page.frame (first_has page.frame (has_page pages page.frame))))
+    ∙ ap (λ z. if is_skipped skip page.frame then z else Some (record { 0 = page.frame }))
+    (first_skipped skip spares pages (λ f there. same f (later_has (page.frame == f) (has_page pages f) there)))
+  where
+    first_has : (f : ℕ) (b : Bool) → ((f == f) || b) ≡ true
+    first_has f b = grind (arith, nat_tests)
+
+    later_has : (a b : Bool) → b ≡ true → (a || b) ≡ true
+    later_has true b is = refl
+    later_has false b is = is

@@ -1,13 +1,14 @@
 -- Which pages are on a list after each change, and that the victim is on one.
-use Rattle.std.proofs.Common.{ℕ, ◌≡◌, ◌==◌, ◌||◌, Bool, true, false, List, [], ◌∷◌, ◌++◌, drop, map, take, refl, sym, ◌∙◌, ap, Option, Some, None, arith}
+use Rattle.std.proofs.Common.{ℕ, ◌≡◌, ◌==◌, ◌||◌, Bool, true, false, List, [], ◌∷◌, ◌++◌, drop, map, take, refl, sym, ◌∙◌, ap, Option, Some, None, arith, inl, inr}
+use Rattle.std.proofs.lemmas.Bool.{cases_eq}
 use Rattle.std.proofs.lemmas.Bool.Decides.{nat_tests}
 use Rattle.std.proofs.lemmas.List.{append_assoc, map-append, take-append-drop}
 use Rattle.std.specs.Prelude.{MatchOption, if◌then◌else◌}
 use Rattle.vm_base.specs.declared.ids.FrameNo.{FrameNo}
-use Rattle.vm_queues.specs.Queues.{AllSkipped, GainsPage, KeepsPages, LosesPage, Page, Queues, added, balanced, cleared, first_unskipped, from_unreferenced}
-use Rattle.vm_queues.specs.Queues.{has_page, is_queued, is_skipped, marked, new_page, pages_except, queues_except, referenced_front, shortage, spared}
+use Rattle.vm_queues.specs.Queues.{GainsPage, KeepsPages, LosesPage, Page, Queues, SkipsSame, added, balanced, cleared, first_left}
+use Rattle.vm_queues.specs.Queues.{from_unreferenced, has_page, is_queued, is_skipped, marked, new_page, pages_except, queues_except, referenced_front, shortage, spared}
 use Rattle.vm_queues.specs.Queues.{victim_frame, with_deactivated, with_reference}
-use Rattle.vm_queues.proofs.Balance.{queues}
+use Rattle.vm_queues.proofs.Balance.{first_skipped, queues}
 
 has_append : (xs ys : List Page) (f : ℕ) → has_page (xs ++ ys) f ≡ (has_page xs f || has_page ys f)
 has_append [] ys f = refl
@@ -114,37 +115,59 @@ queued_removed f q new is = λ other.
     ∙ neither test (has_page q.inactive other) (has_page q.active other)
     ∙ ap (λ b. if test then false else b) (sym (has_append q.inactive q.active other))
 
-none_left : (skip : List FrameNo) (xs : List Page) (f : ℕ) → first_unskipped skip xs ≡ None → has_page xs f ≡ true → is_skipped skip f ≡ true
-none_left skip [] f is there = absurd (cc)
-none_left skip (x ∷ xs) f is there = let rest = none_left skip xs f in grind (arith, nat_tests)
+none_left : (spares : ℕ → Bool) (xs : List Page) (f : ℕ) → first_left spares xs ≡ None → has_page xs f ≡ true → spares f ≡ true
+none_left spares [] f is there = absurd (cc)
+none_left spares (x ∷ xs) f is there = none_cons (spares x.frame) spares x xs f refl (none_left spares xs f) is there
+  where
+    none_cons : (test : Bool) (spares : ℕ → Bool) (x : Page) (xs : List Page) (f : ℕ) → spares x.frame ≡ test
+        → (first_left spares xs ≡ None → has_page xs f ≡ true → spares f ≡ true) → first_left spares (x ∷ xs) ≡ None → has_page (x ∷ xs) f ≡ true
+        → spares f ≡ true
+    none_cons true spares x xs f is rest none there =
+        let behind : first_left spares xs ≡ None = sym (ap (λ (b : Bool). if b then first_left spares xs else Some (record { 0 = x.frame })) is) ∙ none in
+        elim (cases_eq x.frame f) [
+          | inl same ↦ ap spares (sym same) ∙ is
+          | inr apart ↦ rest behind (let other : (x.frame == f) ≡ false = grind (arith, nat_tests) in sym (ap (λ b. b || has_page xs f) other) ∙ there)
+        ]
+    none_cons false spares x xs f is rest none there =
+        let bad : Some (record { 0 = x.frame }) ≡ None = sym (ap (λ (b : Bool). if b then first_left spares xs else Some (record { 0 = x.frame })) is) ∙ none in
+        absurd (cc)
 
 abbrev frame_or : Option FrameNo → ℕ → ℕ
 frame_or None n = n
 frame_or (Some f) n = f.0
 
--- on the list, and not skipped
-abbrev Picked : List FrameNo → List Page → ℕ → Type 0
-Picked skip xs f = (has_page xs f ≡ true) × (is_skipped skip f ≡ false)
+-- on the list, and not spared
+abbrev Picked : (ℕ → Bool) → List Page → ℕ → Type 0
+Picked spares xs f = (has_page xs f ≡ true) × (spares f ≡ false)
 
-picked_cons : (test : Bool) (skip : List FrameNo) (x : Page) (xs : List Page) (f : FrameNo) → is_skipped skip x.frame ≡ test
-    → (first_unskipped skip xs ≡ Some f → Picked skip xs f.0) → first_unskipped skip (x ∷ xs) ≡ Some f → Picked skip (x ∷ xs) f.0
-picked_cons true skip x xs f is rest some =
-    let behind = rest (sym (ap (λ (b : Bool). if b then first_unskipped skip xs else Some (record { 0 = x.frame })) is) ∙ some) in
+picked_cons : (test : Bool) (spares : ℕ → Bool) (x : Page) (xs : List Page) (f : FrameNo) → spares x.frame ≡ test
+    → (first_left spares xs ≡ Some f → Picked spares xs f.0) → first_left spares (x ∷ xs) ≡ Some f → Picked spares (x ∷ xs) f.0
+picked_cons true spares x xs f is rest some =
+    let behind = rest (sym (ap (λ (b : Bool). if b then first_left spares xs else Some (record { 0 = x.frame })) is) ∙ some) in
     let there = behind.0 in
     (grind (arith, nat_tests, there), behind.1)
-picked_cons false skip x xs f is rest some =
-    let found : Some (record { 0 = x.frame }) ≡ Some f = sym (ap (λ (b : Bool). if b then first_unskipped skip xs else Some (record { 0 = x.frame })) is)
+picked_cons false spares x xs f is rest some =
+    let found : Some (record { 0 = x.frame }) ≡ Some f = sym (ap (λ (b : Bool). if b then first_left spares xs else Some (record { 0 = x.frame })) is)
     ∙ some in
     let same : x.frame ≡ f.0 = ap (λ (o : Option FrameNo). frame_or o x.frame) found in
-    (grind (arith, nat_tests, same), ap (is_skipped skip) (sym same) ∙ is)
+    (grind (arith, nat_tests, same), ap spares (sym same) ∙ is)
 
-picked : (skip : List FrameNo) (xs : List Page) (f : FrameNo) → first_unskipped skip xs ≡ Some f → Picked skip xs f.0
-picked skip [] f some = absurd (cc)
-picked skip (x ∷ xs) f some = picked_cons (is_skipped skip x.frame) skip x xs f refl (picked skip xs f) some
+picked : (spares : ℕ → Bool) (xs : List Page) (f : FrameNo) → first_left spares xs ≡ Some f → Picked spares xs f.0
+picked spares [] f some = absurd (cc)
+picked spares (x ∷ xs) f some = picked_cons (spares x.frame) spares x xs f refl (picked spares xs f) some
 
-pub chosen_stands : (skip : List FrameNo) (q old : Queues) (o : Option FrameNo) → o ≡ victim_frame skip q → KeepsPages old q
-    → MatchOption o (AllSkipped skip old) (λ f. (is_queued old f.0 ≡ true) × (is_skipped skip f.0 ≡ false))
-chosen_stands skip q old None is same = λ f there. none_left skip (q.inactive ++ q.active) f (sym is) (same f ∙ there)
-chosen_stands skip q old (Some f) is same =
-    let stands = picked skip (q.inactive ++ q.active) f (sym is) in
+-- what is chosen stands on a list, and isn't spared
+pub chosen_left : (spares : ℕ → Bool) (q old : Queues) (o : Option FrameNo) → o ≡ first_left spares (q.inactive ++ q.active) → KeepsPages old q
+    → MatchOption o ((f : ℕ) → is_queued old f ≡ true → spares f ≡ true) (λ f. (is_queued old f.0 ≡ true) × (spares f.0 ≡ false))
+chosen_left spares q old None is same = λ f there. none_left spares (q.inactive ++ q.active) f (sym is) (same f ∙ there)
+chosen_left spares q old (Some f) is same =
+    let stands = picked spares (q.inactive ++ q.active) f (sym is) in
     (sym (same f.0) ∙ stands.0, stands.1)
+
+pub chosen_skipped : (skip : List FrameNo) (q : Queues) → first_left (is_skipped skip) (q.inactive ++ q.active) ≡ victim_frame skip q
+chosen_skipped skip q = first_skipped skip (is_skipped skip) (q.inactive ++ q.active) (λ f there. refl)
+
+-- of the frames on the lists, those alone are skipped that are spared
+pub chosen_same : (skip : List FrameNo) (spares : ℕ → Bool) (q old : Queues) → KeepsPages old q → SkipsSame skip spares old
+    → first_left spares (q.inactive ++ q.active) ≡ victim_frame skip q
+chosen_same skip spares q old keeps same = first_skipped skip spares (q.inactive ++ q.active) (λ f there. same f (sym (keeps f) ∙ there))

@@ -93,6 +93,19 @@ first_unskipped skip (page ∷ pages) =
 abbrev pub victim_frame : List FrameNo → Queues → Option FrameNo
 victim_frame skip queues = first_unskipped skip (queues.inactive ++ queues.active)
 
+-- the first page whose frame isn't spared
+abbrev pub first_left : (ℕ → Bool) → List Page → Option FrameNo
+first_left spares [] = None
+first_left spares (page ∷ pages) = if spares page.frame then first_left spares pages else Some (record { 0 = page.frame })
+
+-- of the pages on a list, just those are skipped whose frames are spared
+abbrev pub SkipsSame : List FrameNo → (ℕ → Bool) → Queues → Type 0
+SkipsSame skip spares queues = (f : ℕ) → is_queued queues f ≡ true → is_skipped skip f ≡ spares f
+
+-- the frame of each page on a list is spared
+abbrev pub AllSpared : (ℕ → Bool) → Queues → Type 0
+AllSpared spares queues = (f : ℕ) → is_queued queues f ≡ true → spares f ≡ true
+
 -- each page on a list is skipped
 abbrev pub AllSkipped : List FrameNo → Queues → Type 0
 AllSkipped skip queues = (f : ℕ) → is_queued queues f ≡ true → is_skipped skip f ≡ true

@@ -5,6 +5,8 @@ mod link;
 mod links;
 mod lists;
 mod queues;
+mod sparing;
 
 pub use link::{Link, OnList};
 pub use queues::PageQueues;
+pub use sparing::Spares;

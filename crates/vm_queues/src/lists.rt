@@ -1,11 +1,12 @@
 // The two lists and the marks, and the moves between the lists.
-ghost use Rattle.std.specs.Prelude.{◌≡◌, ◌<◌, ℕ, [], Bool, List, true, false, IfOk, length};
-ghost use Rattle.vm_queues.specs.Queues.{balanced, first_unskipped, is_skipped, needs_none, one_spared, spared, victim_frame, with_deactivated};
+ghost use Rattle.std.specs.Prelude.{◌≡◌, ◌<◌, ◌++◌, ℕ, [], Bool, List, true, false, IfOk, length};
+ghost use Rattle.vm_queues.specs.Queues.{balanced, first_left, is_skipped, needs_none, one_spared, spared, with_deactivated};
 ghost use Rattle.vm_queues.specs.Kept.{ArePageLists, FramesAreApart, all_frames, frame_lists, frames_except, frames_on, front_referenced, page_lists, pages};
 ghost use Rattle.vm_queues.specs.Kept.{with_active, with_inactive};
 
 use crate::link::{Link, OnList};
 use crate::links::{Ends, neither, no_ends, push, unlink};
+use crate::sparing::Spares;
 use std::alloc::Global;
 use vm_base::{FrameNo, NoMemory};
 
@@ -136,28 +137,17 @@ pub fn spare(lists: &mut Lists)
     }
 }
 
-fn is_skipped(skip: &[FrameNo], f: FrameNo) -> bool
-    ensures { result ≡ is_skipped skip.now f.0 }
-{
-    'all: for other in skip {
-        if other.0 == f.0 {
-            return true;
-        }
-    }
-    false
-}
-
-// The first frame of a list that isn't skipped.
-fn first_unskipped(links: &[Link], ends: Ends, skip: &[FrameNo]) -> Option<FrameNo>
+// The first frame of a list that isn't spared.
+fn first_left<S: Spares>(links: &[Link], ends: Ends, spared: &S) -> Option<FrameNo>
     requires { FramesAreApart (length links.now) (frames_on links.now ends) }
-    ensures { (marks : List Bool) → result ≡ first_unskipped skip.now (pages marks (frames_on links.now ends)) }
+    ensures { (marks : List Bool) → result ≡ first_left (S.spares spared.now) (pages marks (frames_on links.now ends)) }
 {
     let mut at = ends.first;
     'all: for _ in 0..ends.count {
         let Some(frame) = at else {
             return None;
         };
-        if !is_skipped(skip, frame) {
+        if !spared.spares(frame) {
             return Some(frame);
         }
         at = links[frame.0 as usize].after;
@@ -165,13 +155,13 @@ fn first_unskipped(links: &[Link], ends: Ends, skip: &[FrameNo]) -> Option<Frame
     None
 }
 
-/// The first frame that isn't skipped, inactive ones first.
-pub fn choose(lists: &Lists, skip: &[FrameNo]) -> Option<FrameNo>
+/// The first frame that isn't spared, inactive ones first.
+pub fn choose<S: Spares>(lists: &Lists, spared: &S) -> Option<FrameNo>
     requires { ArePageLists lists.now }
-    ensures { result ≡ victim_frame skip.now (page_lists lists.now) }
+    ensures { let queues = page_lists lists.now in result ≡ first_left (S.spares spared.now) (queues.inactive ++ queues.active) }
 {
-    match first_unskipped(&lists.links, lists.inactive, skip) {
+    match first_left(&lists.links, lists.inactive, spared) {
         Some(frame) => Some(frame),
-        None => first_unskipped(&lists.links, lists.active, skip),
+        None => first_left(&lists.links, lists.active, spared),
     }
 }

@@ -1,11 +1,13 @@
 // The queues of the pages that are here.
-ghost use Rattle.std.specs.Prelude.{◌≡◌, ◌+◌, ◌<◌, ◌++◌, ℕ, [], true, false, IfOk, MatchOption, if◌then◌else◌, length};
+ghost use Rattle.std.specs.Prelude.{◌≡◌, ◌+◌, ◌<◌, ◌++◌, ℕ, [], List, true, false, IfOk, MatchOption, if◌then◌else◌, length};
+ghost use Rattle.vm_base.specs.declared.ids.FrameNo.{FrameNo};
 ghost use Rattle.vm_queues.specs.Links.{along, first_frame, frames_of, link_in, link_of};
-ghost use Rattle.vm_queues.specs.Queues.{AllSkipped, EachOnce, GainsPage, IsEmpty, KeepsPages, LosesPage, Queues, added, balanced, is_queued, is_skipped};
-ghost use Rattle.vm_queues.specs.Queues.{queues_except, spared, victim_frame, with_reference};
+ghost use Rattle.vm_queues.specs.Queues.{AllSkipped, AllSpared, EachOnce, GainsPage, IsEmpty, KeepsPages, LosesPage, Queues, SkipsSame, added, balanced};
+ghost use Rattle.vm_queues.specs.Queues.{is_queued, is_skipped, queues_except, spared, spared as spared_queues, victim_frame, with_reference};
 
 use crate::link::Link;
 use crate::lists::{Lists, balance, choose, empty, put_active, spare, take_off};
+use crate::sparing::{Listed, Spares};
 use std::alloc::Global;
 use std::marker::Model;
 use vm_base::{FrameNo, NoMemory};
@@ -90,7 +92,20 @@ impl PageQueues {
     {
         balance(&mut self.lists);
         spare(&mut self.lists);
-        choose(&self.lists, skip)
+        choose(&self.lists, &Listed { skip })
+    }
+
+    /// The same, where other frames are spared.
+    pub fn victim_but<S: Spares>(&mut self, spared: &S) -> Option<FrameNo>
+        ensures queues { self.new ≡ spared_queues (balanced self.old) }
+        ensures pages { KeepsPages self.old self.new }
+        ensures victim { (skip : List FrameNo) → SkipsSame skip (S.spares spared.now) self.old → result ≡ victim_frame skip self.new }
+        ensures none { MatchOption result (AllSpared (S.spares spared.now) self.old)
+            (λ f. (is_queued self.old f.0 ≡ true) × (S.spares spared.now f.0 ≡ false)) }
+    {
+        balance(&mut self.lists);
+        spare(&mut self.lists);
+        choose(&self.lists, spared)
     }
 
     /// How many pages are on the lists.

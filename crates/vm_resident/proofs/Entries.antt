@@ -9,7 +9,7 @@ use Rattle.vm_base.proofs.Keys.{page_read}
 use Rattle.vm_base.specs.Keys.{is_page}
 use Rattle.vm_base.specs.declared.ids.PageKey.{PageKey}
 use Rattle.vm_base.specs.declared.ids.PageNo.{PageNo}
-use Rattle.vm_resident.specs.Groups.{IsFirstIn, IsFirstMarked, NoneFrom, NoneMarkedFrom, PageSet, is_in, is_marked}
+use Rattle.vm_sets.specs.Groups.{IsFirstIn, IsFirstMarked, NoneFrom, NoneMarkedFrom, PageSet, is_in, is_marked}
 use Rattle.vm_resident.specs.Kept.{pages_of, same_page}
 use Rattle.vm_resident.specs.Resident.{IsNextNoted, IsNextPage, NoRowsFrom, NoneNotedFrom, PutsRow, ResidentTable, has_note, row_among, row_at}
 use Rattle.vm_resident.specs.declared.page_row.PageRow.{PageRow}

@@ -1,4 +1,3 @@
 mod Entries
 mod Owners
-mod PageSets
 mod Tables

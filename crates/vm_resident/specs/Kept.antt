@@ -4,7 +4,7 @@ use Rattle.std.specs.Map.{keys_of}
 use Rattle.std.specs.Prelude.{ℕ, ◌≡◌, ◌≤◌, Bool, false, List, is_some, map}
 use Rattle.vm_base.specs.Keys.{is_page}
 use Rattle.vm_base.specs.declared.ids.PageKey.{PageKey}
-use Rattle.vm_resident.specs.Groups.{PageSet, is_in, is_marked}
+use Rattle.vm_sets.specs.Groups.{PageSet, is_in, is_marked}
 use Rattle.vm_resident.specs.Owners.{OwnerMap, leads_to}
 use Rattle.vm_resident.specs.Resident.{IsOwned, has_note, owner_among, row_among}
 use Rattle.vm_resident.specs.declared.page_row.PageRow.{PageRow}

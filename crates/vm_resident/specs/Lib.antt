@@ -1,4 +1,3 @@
-pub mod Groups
 pub mod Kept
 pub mod Owners
 pub mod Resident

@@ -2,7 +2,6 @@
 #![tactic(auto)]
 
 mod frame_owners;
-mod page_groups;
 mod page_row;
 mod resident;
 mod resident_page;

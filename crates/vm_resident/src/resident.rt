@@ -1,16 +1,16 @@
 // The table of resident pages.
 ghost use Rattle.indexmap.specs.IndexMap.{get_by};
 ghost use Rattle.std.specs.Prelude.{ℕ, ◌≡◌, ◌+◌, ◌≤◌, ◌<◌, ◌==◌, ◌&&◌, [], true, Some, None, IfSome, IsOk, IsSomeAnd, MatchOption, OnErr, OnOk, min};
-ghost use Rattle.vm_resident.specs.Groups.{PutsMark, is_in, is_marked};
+ghost use Rattle.vm_sets.specs.Groups.{PutsMark, is_in, is_marked};
 ghost use Rattle.vm_resident.specs.Resident.{IsNextNoted, IsNextPage, IsOwned, NoRowHas, NoRowsFrom, NoneNotedFrom, PutsOwner, PutsRow, owner_of, row_at};
 
 use crate::PageRow;
 use crate::frame_owners::{FrameOwners, first_owner};
-use crate::page_groups::PageGroups;
 use indexmap::IndexMap;
 use std::alloc::Global;
 use std::marker::Model;
 use vm_base::{FrameNo, NoMemory, ObjectId, PageKey, PageNo};
+use vm_sets::PageGroups;
 
 /// The resident pages of a host: a row for each, under the page of the object that it is.
 ///
@@ -166,6 +166,15 @@ impl Resident {
             return first_owner(&self.rows, f);
         }
         self.owners.get(f)
+    }
+
+    /// A law of the table, which does nothing: the frame that leads to a page is that of the page's row, and
+    /// no row has a frame that leads to none.
+    pub fn lead_back(&self)
+        ensures { (f : ℕ) → MatchOption (owner_of self.now f) (NoRowHas self.now f)
+            (λ key. IsSomeAnd (row_at self.now key.object.0 key.page.0) (λ row. row.frame.0 ≡ f)) }
+    {
+        let _ = &self.rows;
     }
 
     /// The rows, by their pages.

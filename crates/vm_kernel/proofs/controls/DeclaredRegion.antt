@@ -433,7 +433,6 @@ with_declared k objects chains maps =
       copies = k.copies;
       laundry = k.laundry;
       waits = k.waits;
-      skip = k.skip;
     }
 
 -- a file's region is on the host behind its entry

@@ -1,56 +1,20 @@
--- The list of frames that a reclaim passes over is filled, and a page is reclaimed: nothing else of the kernel speaks of that list, and so much room is left.
+-- A page is reclaimed: so much room is left.
 use Rattle.vm_kernel.proofs.Common.{Bool, ChainTable, Event, FrameNo, Header, HostId, HostParts, Ids, LaundryList, List, None, ObjectRow, Page, PageKey}
 use Rattle.vm_kernel.proofs.Common.{PageRow, PagerState, Parts, Queues, Reclaim, ReclaimEffects, Rests, Some, WaitTable, [], ap, arith, controlled, false}
-use Rattle.vm_kernel.proofs.Common.{frame_count, free, has_page, inl, inr, is_queued, is_skipped, length, refl, sends, some_is, subst, sym, told_from, true, ℕ}
+use Rattle.vm_kernel.proofs.Common.{frame_count, free, has_page, inl, inr, is_queued, is_skipped, length, refl, sends, some_is, sym, told_from, true, ℕ}
 use Rattle.vm_kernel.proofs.Common.{◌&&◌, ◌++◌, ◌*◌, ◌+◌, ◌<◌, ◌==◌, ◌||◌, ◌∙◌, ◌∷◌, ◌≡◌, ◌≤◌, ◌⊎◌}
-use Rattle.std.proofs.Common.{vec_capacity}
 use Rattle.vm_kernel.proofs.room.RunPays.{loose_moves}
-use Rattle.vm_kernel.specs.Rooms.{IsRoomy, IsSkipRoom, LeavesRoom, Spends, frames_for_copies, if_copies, is_kept, loose_frames}
-use Rattle.vm_kernel.specs.Serving.{FreesBut}
+use Rattle.vm_kernel.specs.Rooms.{IsRoomy, LeavesRoom, Spends, frames_for_copies, if_copies, is_kept, loose_frames}
 use Rattle.vm_base.specs.Listing.{Listed}
 use Rattle.vm_copies.specs.Copies.{CopyTable}
 use Rattle.std.specs.Prelude.{min}
 use Rattle.vm_pageout.specs.Reclaims.{IsFreed, creation_events}
 use Rattle.vm_pageout.specs.declared.answer.Reclaim.TheVariants as reclaim
 use Rattle.vm_parts.specs.Listed.{listed_pages}
-use Rattle.vm_kernel.proofs.memory.CoreChanges.{rests_within}
 use Rattle.vm_waits.specs.Waits.{count_copies, one}
 use Rattle.std.proofs.lemmas.List.{length-append}
 use Rattle.vm_model.specs.declared.message.Message.TheVariants as message
 use Rattle.vm_objects.specs.declared.row.PagerState.TheVariants as state
-
--- only the list has changed
-abbrev pub FillsSkip : Parts → Parts → Type 0
-FillsSkip old new = new ≡ record old { skip = new.skip }
-
-pub rests_skip : {header : Header} {h : ℕ} {ids : Ids} {past : List Event} {k k2 : Parts} → FillsSkip k k2 → Rests header h k ids past
-    → Rests header h k2 ids past
-rests_skip {header} {h} {ids} {past} {k} {k2} is rests =
-    subst (λ (z : Parts). Rests header h z ids past) (sym is) (rests_within (record k { skip = k2.skip }) rests)
-
-pub frees_skip : (h : ℕ) (skip : List FrameNo) (answer : Reclaim) (k k1 k2 : Parts) (before after : List Event) → FillsSkip k k1
-    → FreesBut h skip answer k1 k2 before after → FreesBut h skip answer k k2 before after
-frees_skip h skip answer k k1 k2 before after is frees =
-    let r : FreesBut h skip answer (record k { skip = k1.skip }) k2 before after = subst (λ (z : Parts). FreesBut h skip answer z k2 before after) is frees in
-    record { waits = r.waits; freed = r.freed; returned = r.returned; nothing = r.nothing; kept = r.kept }
-
-pub leaves_skip : {answer : Reclaim} {k k1 k2 : Parts} {before after : ℕ} → FillsSkip k k1 → vec_capacity k.skip ≤ vec_capacity k1.skip
-    → LeavesRoom answer k1 k2 before after → LeavesRoom answer k k2 before after
-leaves_skip {answer} {k} {k1} {k2} {before} {after} is room leaves =
-    let more = leaves.skip in
-    let r : LeavesRoom answer (record k { skip = k1.skip }) k2 before after = subst (λ (z : Parts). LeavesRoom answer z k2 before after) is leaves in
-    record {
-      log = r.log;
-      buffers = r.buffers;
-      freed = r.freed;
-      rows = r.rows;
-      objects = r.objects;
-      chains = r.chains;
-      copies = r.copies;
-      skip = omega (arith, room, more);
-      none = r.none;
-      fewer = r.fewer;
-    }
 
 -- a page that is neither dirty nor precious isn't kept
 clean_kept : (row : PageRow) → row.dirty ≡ false → row.precious ≡ false → one (is_kept row.frame.0 (Some row)) ≡ 0
@@ -134,10 +98,10 @@ pub leaves_of : (answer : Reclaim) (host : HostId) (skip : List FrameNo) (k k2 :
     → ReclaimEffects answer host skip k.memory k2.memory was now before after
     → room ≤ left + 2 → k.memory.buffers.count ≤ k2.memory.buffers.count + 1 → k.memory.resident.spare ≤ k2.memory.resident.spare
     → (answer ≡ reclaim.Freed → room ≤ left + 1) → (answer ≡ reclaim.Freed → k.memory.buffers.count ≤ k2.memory.buffers.count) → k2.chains ≡ k.chains
-    → k2.copies ≡ k.copies → k2.skip ≡ k.skip
+    → k2.copies ≡ k.copies
     → (answer ≡ reclaim.Nothing → listed_pages k2.memory.queues ≡ listed_pages k.memory.queues)
     × ((answer ≡ reclaim.Nothing → ⊥) → listed_pages k2.memory.queues + 1 ≡ listed_pages k.memory.queues) → LeavesRoom answer k k2 room left
-leaves_of reclaim.Freed host skip k k2 was now before after room left is log buffers rows single whole chains copies list listed =
+leaves_of reclaim.Freed host skip k k2 was now before after room left is log buffers rows single whole chains copies listed =
     let all = freed_loose is in
     record {
       log = log;
@@ -147,14 +111,13 @@ leaves_of reclaim.Freed host skip k k2 was now before after room left is log buf
       objects = by (ap (λ z. z.rows) is.objects);
       chains = chains;
       copies = copies;
-      skip = by (ap (λ z. vec_capacity z) list);
       none = listed.0;
       fewer = listed.1;
     }
   where
     by : {a b : ℕ} → b ≡ a → a ≤ b
     by e = omega (arith, e)
-leaves_of reclaim.Returned host skip k k2 was now before after room left is log buffers rows single whole chains copies list listed =
+leaves_of reclaim.Returned host skip k k2 was now before after room left is log buffers rows single whole chains copies listed =
     record {
       log = log;
       buffers = buffers;
@@ -163,14 +126,13 @@ leaves_of reclaim.Returned host skip k k2 was now before after room left is log 
       objects = by is.rooms.rows;
       chains = chains;
       copies = copies;
-      skip = by (ap (λ z. vec_capacity z) list);
       none = listed.0;
       fewer = listed.1;
     }
   where
     by : {a b : ℕ} → b ≡ a → a ≤ b
     by e = omega (arith, e)
-leaves_of reclaim.Nothing host skip k k2 was now before after room left is log buffers rows single whole chains copies list listed =
+leaves_of reclaim.Nothing host skip k k2 was now before after room left is log buffers rows single whole chains copies listed =
     record {
       log = log;
       buffers = buffers;
@@ -179,7 +141,6 @@ leaves_of reclaim.Nothing host skip k k2 was now before after room left is log b
       objects = by (ap (λ z. z.rows) is.objects);
       chains = chains;
       copies = copies;
-      skip = by (ap (λ z. vec_capacity z) list);
       none = listed.0;
       fewer = listed.1;
     }
@@ -199,7 +160,6 @@ leaves_looked answer k k2 queues before after same r =
       objects = r.objects;
       chains = r.chains;
       copies = r.copies;
-      skip = r.skip;
       none = λ nothing. r.none nothing ∙ same;
       fewer = λ apart. r.fewer apart ∙ same;
     }
@@ -215,7 +175,6 @@ pub record Reclaimed (done : ℕ) (old new : Parts) (before after : Listed Event
   pub shadows : new.chains.spare ≡ old.chains.spare
   pub marked : new.chains.marked ≡ old.chains.marked
   pub copies : new.copies.room ≡ old.copies.room
-  pub skip : vec_capacity old.skip ≤ vec_capacity new.skip
   pub each : old.memory.buffers.count ≤ new.memory.buffers.count + done
   pub listed : old.memory.buffers.count + listed_pages new.memory.queues ≤ new.memory.buffers.count + listed_pages old.memory.queues
 
@@ -231,7 +190,6 @@ none_reclaimed k log =
       shadows = refl;
       marked = refl;
       copies = refl;
-      skip = omega arith;
       each = omega arith;
       listed = omega arith;
     }
@@ -256,14 +214,12 @@ one_reclaimed answer done first k k2 begun log log2 was leaves some waits frames
     let buffers = leaves.buffers in
     let rows = leaves.rows in
     let objects = leaves.objects in
-    let skip = leaves.skip in
     let each = was.each in
     let listed = was.listed in
     let told = was.told in
     let room = was.room in
     let rows0 = was.rows in
     let objects0 = was.objects in
-    let skip0 = was.skip in
     record {
       accesses = accesses ∙ was.accesses;
       frames =
@@ -276,7 +232,6 @@ one_reclaimed answer done first k k2 begun log log2 was leaves some waits frames
       shadows = chains ∙ was.shadows;
       marked = ap (λ (z : ChainTable). z.marked) leaves.chains ∙ was.marked;
       copies = ap (λ (z : CopyTable). z.room) leaves.copies ∙ was.copies;
-      skip = omega (arith, skip, skip0);
       each = omega (arith, each, buffers);
       listed = omega (arith, listed, buffers, fewer);
     }
@@ -295,14 +250,12 @@ all_reclaimed answer done first k k2 begun log log2 was leaves nothing waits fra
     let count : k2.memory.buffers.count ≡ k.memory.buffers.count = ap (λ z. z.count) buffers in
     let rows = leaves.rows in
     let objects = leaves.objects in
-    let skip = leaves.skip in
     let each = was.each in
     let listed = was.listed in
     let told = was.told in
     let room = was.room in
     let rows0 = was.rows in
     let objects0 = was.objects in
-    let skip0 = was.skip in
     record {
       accesses = accesses ∙ was.accesses;
       frames =
@@ -315,7 +268,6 @@ all_reclaimed answer done first k k2 begun log log2 was leaves nothing waits fra
       shadows = chains ∙ was.shadows;
       marked = ap (λ (z : ChainTable). z.marked) leaves.chains ∙ was.marked;
       copies = ap (λ (z : CopyTable). z.room) leaves.copies ∙ was.copies;
-      skip = omega (arith, skip, skip0);
       each = omega (arith, each, count);
       listed = omega (arith, listed, count, none);
     }
@@ -357,9 +309,3 @@ reclaimed_room done k k2 ids before after was roomy some =
     let room = was.room in
     let log = roomy.log in
     omega (arith, room, log, some)
-
-pub reclaimed_skip : (done : ℕ) (k k2 : Parts) (before after : Listed Event) → Reclaimed done k k2 before after → IsSkipRoom k → IsSkipRoom k2
-reclaimed_skip done k k2 before after was long =
-    let skip = was.skip in
-    let accesses = was.accesses in
-    omega (arith, skip, accesses, long)

@@ -2,7 +2,7 @@
 use Rattle.vm_kernel.proofs.Common.{Bool, Event, FreesOrReturns, HasWaits, Header, Ids, IfSome, List, Matches, None, Option, PageKey, PageRow, Parts, Reason}
 use Rattle.vm_kernel.proofs.Common.{Reclaim, Rests, Some, Waiting, Waits, [], access_in, address_in, ap, copies_to, entries_of, entry, entry_at, eqb_tells}
 use Rattle.vm_kernel.proofs.Common.{false, if◌then◌else◌, inl, inr, is_some, next_page, owner_of, page_key, paging, refl, row_at, some_is, subst, sym, true}
-use Rattle.vm_kernel.proofs.Common.{waiting_in, ℕ, ◌++◌, ◌==◌, ◌||◌, ◌∙◌, ◌∷◌, ◌≡◌, ◌⊎◌, append_assoc, append-nil, get_or, length, take, take_more, ◌+◌, ◌<◌}
+use Rattle.vm_kernel.proofs.Common.{arith, nat_tests, waiting_in, ℕ, ◌++◌, ◌==◌, ◌||◌, ◌∙◌, ◌∷◌, ◌≡◌, ◌⊎◌}
 use Rattle.std.proofs.lemmas.Bool.{or_right}
 use Rattle.vm_base.specs.declared.ids.FrameNo.{FrameNo}
 use Rattle.vm_kernel.proofs.abroad.OwnHost.{lives_here, rows_here}
@@ -10,12 +10,15 @@ use Rattle.vm_kernel.proofs.memory.PagesShown.{itself}
 use Rattle.vm_base.specs.Pages.{page_positive}
 use Rattle.vm_kernel.proofs.memory.WalksShown.{page_left, shown_at, waiting_place, want_address}
 use Rattle.vm_kernel.specs.Plays.{AreSpared, EachSpared, IsKeptSource, IsSpared, Sparing, frame_here}
-use Rattle.vm_kernel.specs.Serving.{FreesBut, IsHere, IsTheSource, IsToCopy, SkipLocked, frame_spared, frames_locked, frames_spared, option_list}
+use Rattle.std.specs.Prelude.{IsSomeAnd, MatchOption}
+use Rattle.vm_kernel.specs.Serving.{FreesBut, IsHere, IsTheSource, IsToCopy, SkipLocked, awaits_unlock, frame_spared, frames_locked, frames_spared}
+use Rattle.vm_kernel.specs.Serving.{is_unlocking, led_unlocking, option_list, spares_frame}
+use Rattle.vm_queues.specs.Kept.{is_frame as is_frame_of}
 use Rattle.vm_kernel.specs.Taking.{page_waited}
 use Rattle.vm_legal.specs.Accesses.{WaitsUnlocked}
 use Rattle.vm_queues.proofs.Apart.{skipped_append}
-use Rattle.vm_queues.specs.Queues.{is_skipped}
-use Rattle.vm_resident.specs.Resident.{ResidentTable}
+use Rattle.vm_queues.specs.Queues.{SkipsSame, is_skipped}
+use Rattle.vm_resident.specs.Resident.{NoRowHas, ResidentTable}
 use Rattle.vm_state.proofs.Locks.{named_at}
 use Rattle.vm_state.proofs.Shown.{shows_row}
 use Rattle.vm_state.proofs.Waiting.{IsAwaitedBy, sent_awaited}
@@ -344,17 +347,92 @@ keeps_spared header h k k2 (Some key) answer before after to_copy r =
     let here = to_copy.1 in
     (here.0, r.kept key.object.0 key.page.0 here.0 here.1 here.2 (skips_one k key here), here.2)
 
--- the frames of the pages for whose unlocks accesses wait, an access at a time
+-- a reclaim spares a frame just where it is skipped
 
-locked_both : (rs : ResidentTable) (xs ys : List Waiting) → frames_locked rs (xs ++ ys) ≡ frames_locked rs xs ++ frames_locked rs ys
-locked_both rs [] ys = refl
-locked_both rs (w ∷ ws) ys =
-    ap (λ z. option_list (frame_spared rs (page_waited w.on)) ++ z) (locked_both rs ws ys)
-    ∙ sym (append_assoc (option_list (frame_spared rs (page_waited w.on))) (frames_locked rs ws) (frames_locked rs ys))
+same_tests : (a b : Bool) → (a ≡ true → b ≡ true) → (b ≡ true → a ≡ true) → a ≡ b
+same_tests true true there back = refl
+same_tests false false there back = refl
+same_tests true false there back = sym (there refl)
+same_tests false true there back = back refl
 
-pub locked_more : (rs : ResidentTable) (rows : List Waiting) (i : ℕ) (d : Waiting) → i < length rows
-    → frames_locked rs (take (i + 1) rows) ≡ frames_locked rs (take i rows) ++ option_list (frame_spared rs (page_waited (get_or rows i d).on))
-locked_more rs rows i d inside =
-    ap (frames_locked rs) (take_more rows i d inside)
-    ∙ (locked_both rs (take i rows) (get_or rows i d ∷ [])
-    ∙ ap (λ z. frames_locked rs (take i rows) ++ z) (append-nil (option_list (frame_spared rs (page_waited (get_or rows i d).on)))))
+listed_frame : (x : Option FrameNo) (f : ℕ) (rest : List FrameNo) → is_frame_of x f ≡ true → is_skipped (option_list x ++ rest) f ≡ true
+listed_frame None f rest is = absurd (let bad : false ≡ true = is in cc)
+listed_frame (Some g) f rest is = ap (λ b. b || is_skipped rest f) is
+
+or_left : (a b : Bool) → a ≡ true → (a || b) ≡ true
+or_left a b is = ap (λ z. z || b) is
+
+-- why it spares a frame
+data WhySpared (rs : ResidentTable) (one : Option FrameNo) (f : ℕ) : Type 0 where
+  IsOne : is_frame_of one f ≡ true → WhySpared rs one f
+  IsSent : (key : PageKey) (row : PageRow) → owner_of rs f ≡ Some key → row_at rs key.object.0 key.page.0 ≡ Some row → row.unlock_sent ≡ true → WhySpared rs one f
+
+why_spared : (rs : ResidentTable) (one : Option FrameNo) (f : ℕ) → spares_frame rs one f ≡ true → WhySpared rs one f
+why_spared rs one f is = by (is_frame_of one f) (awaits_unlock rs f) refl refl is
+  where
+    row_of : (key : PageKey) (x : Option PageRow) → owner_of rs f ≡ Some key → row_at rs key.object.0 key.page.0 ≡ x → is_unlocking x ≡ true
+        → WhySpared rs one f
+    row_of key None owner found sent = absurd (let bad : false ≡ true = sent in cc)
+    row_of key (Some row) owner found sent = IsSent key row owner found sent
+
+    led : (x : Option PageKey) → owner_of rs f ≡ x → led_unlocking rs x ≡ true → WhySpared rs one f
+    led None owner sent = absurd (let bad : false ≡ true = sent in cc)
+    led (Some key) owner sent = row_of key (row_at rs key.object.0 key.page.0) owner refl sent
+
+    by : (a b : Bool) → is_frame_of one f ≡ a → awaits_unlock rs f ≡ b → (a || b) ≡ true → WhySpared rs one f
+    by true b first later is = IsOne first
+    by false true first later is = led (owner_of rs f) refl later
+    by false false first later is = absurd (let bad : false ≡ true = is in cc)
+
+-- the frame that leads to a page is that of its row
+abbrev pub LeadsBack : ResidentTable → Type 0
+LeadsBack rs = (f : ℕ) → MatchOption (owner_of rs f) (NoRowHas rs f) (λ key. IsSomeAnd (row_at rs key.object.0 key.page.0) (λ row. row.frame.0 ≡ f))
+
+row_led : (rs : ResidentTable) (f : ℕ) (key : PageKey) (row : PageRow) → LeadsBack rs → owner_of rs f ≡ Some key → row_at rs key.object.0 key.page.0 ≡ Some row
+    → row.frame.0 ≡ f
+row_led rs f key row leads owner found = by (owner_of rs f) (row_at rs key.object.0 key.page.0) owner found (leads f)
+  where
+    by : (x : Option PageKey) (y : Option PageRow) → x ≡ Some key → y ≡ Some row
+        → MatchOption x (NoRowHas rs f) (λ k. IsSomeAnd (row_at rs k.object.0 k.page.0) (λ r. r.frame.0 ≡ f)) → row.frame.0 ≡ f
+    by None y is has law = absurd (let bad : None ≡ Some key = is in cc)
+    by (Some k) y is has law =
+        let same : k ≡ key = some_is k key is in
+        let its : IsSomeAnd (row_at rs key.object.0 key.page.0) (λ r. r.frame.0 ≡ f) =
+        subst (λ (z : PageKey). IsSomeAnd (row_at rs z.object.0 z.page.0) (λ r. r.frame.0 ≡ f)) same law in
+        subst (λ (z : Option PageRow). IsSomeAnd z (λ r. r.frame.0 ≡ f)) found its
+
+pub skips_same : (header : Header) (h : ℕ) (k : Parts) (ids : Ids) (past : List Event) (spared : Option PageKey) → Rests header h k ids past
+    → EachOnce k.waits.rows → LeadsBack k.memory.resident
+    → SkipsSame (frames_spared k.memory.resident spared k.waits.rows) (spares_frame k.memory.resident (frame_spared k.memory.resident spared)) k.memory.queues
+skips_same header h k ids past spared rests once leads f queued =
+    same_tests (is_skipped (frames_spared rs spared k.waits.rows) f) (spares_frame rs (frame_spared rs spared) f) there back
+  where
+    rs : ResidentTable
+    rs = k.memory.resident
+
+    there : is_skipped (frames_spared rs spared k.waits.rows) f ≡ true → spares_frame rs (frame_spared rs spared) f ≡ true
+    there is =
+        let why = skipped_for rs spared k.waits.rows f once is in
+        elim (why_skipped header h k ids past spared f rests.matches rests.waits why) [
+          | inl one ↦
+              or_left (is_frame_of (frame_spared rs spared) f) (awaits_unlock rs f)
+              (ap (λ z. is_frame_of (frame_spared rs z) f) one ∙ (ap (λ z. is_frame_of z f) (ap frame_here why.found ∙ here_frame why.row why.here)
+              ∙ frame_itself why.row.frame f why.frame))
+          | inr sent ↦
+              or_right (is_frame_of (frame_spared rs spared) f) (awaits_unlock rs f)
+              (ap (led_unlocking rs) (ap (owner_of rs) (sym why.frame)
+              ∙ rests.matches.core.fits.parts.owned.at why.key.object.0 why.key.page.0 why.row why.found)
+              ∙ (ap is_unlocking why.found ∙ sent))
+        ]
+      where
+        frame_itself : (g : FrameNo) (n : ℕ) → g.0 ≡ n → (g.0 == n) ≡ true
+        frame_itself g n same = grind (arith, nat_tests)
+
+    back : spares_frame rs (frame_spared rs spared) f ≡ true → is_skipped (frames_spared rs spared k.waits.rows) f ≡ true
+    back is = by (why_spared rs (frame_spared rs spared) f is)
+      where
+        by : WhySpared rs (frame_spared rs spared) f → is_skipped (frames_spared rs spared k.waits.rows) f ≡ true
+        by (IsOne one) = listed_frame (frame_spared rs spared) f (frames_locked rs k.waits.rows) one
+        by (IsSent key row owner found sent) =
+            subst (λ (z : ℕ). is_skipped (frames_spared rs spared k.waits.rows) z ≡ true) (row_led rs f key row leads owner found)
+            (skips_locked header h k ids past spared rests.matches rests.waits key.object.0 key.page.0 row found sent)

@@ -9,7 +9,6 @@ use Rattle.vm_kernel.specs.Rooms.{HasMore, IsReady, front, if_copies, making, mo
 use Rattle.vm_model.specs.declared.command.Command.{Command}
 use Rattle.vm_shadow.specs.declared.ids.Ids.{Ids}
 use Rattle.vm_waits.specs.Waits.{count_copies}
-use Rattle.std.specs.Prelude.{vec_capacity}
 
 -- as much may be told in front where the maps are the same, and there are as many frames and objects
 pub front_same : (breadth : Breadth) (k new : Parts) → new.maps ≡ k.maps → frame_count new.memory.frames ≡ frame_count k.memory.frames
@@ -62,7 +61,6 @@ module _ (breadth : Breadth) (k new : Parts) (is : new ≡ record k { memory = r
       let rows = ap (λ (z : Parts). length z.waits.rows) is in
       let copied = copied_washed in
       let made = making_same breadth k new (ap (λ (z : Parts). z.maps) is) frames in
-      let capacity = ap (λ (z : Parts). vec_capacity z.skip) is in
       record {
         rows = omega (arith, was.rows, rows, copied, marked, made, spare);
         shadows = omega (arith, was.shadows, marked, made, shadows);
@@ -71,7 +69,6 @@ module _ (breadth : Breadth) (k new : Parts) (is : new ≡ record k { memory = r
         mark = omega (arith, was.mark, marks);
         access = omega (arith, was.access, room);
         buffers = omega (arith, was.buffers, here, count);
-        skip = omega (arith, was.skip, rows, capacity);
       }
 
 -- more buffers leave it, and all that the kernel stands for
@@ -110,7 +107,6 @@ module _ (k : Parts) (count : ℕ) where
         mark = was.mark;
         access = was.access;
         buffers = omega (arith, was.buffers, more);
-        skip = was.skip;
       }
 
 -- there is room for what comes first, and for so many events more

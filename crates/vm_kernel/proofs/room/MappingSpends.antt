@@ -16,7 +16,6 @@ pub record SameHeld (old new : Parts) : Type 0 where
   pub rows : new.memory.resident.spare ≡ old.memory.resident.spare
   pub copies : new.copies.room ≡ old.copies.room
   pub buffers : new.memory.buffers ≡ old.memory.buffers
-  pub skip : new.skip ≡ old.skip
 
 pub held_same : {object : ObjectId} {d : Declared} {old new : Parts} → Holds object d old new → SameHeld old new
 held_same (Again region found put is) =
@@ -26,7 +25,6 @@ held_same (Again region found put is) =
       rows = ap (λ (z : Parts). z.memory.resident.spare) is;
       copies = ap (λ (z : Parts). z.copies.room) is;
       buffers = ap (λ (z : Parts). z.memory.buffers) is;
-      skip = ap (λ (z : Parts). z.skip) is;
     }
 held_same (First free put known marks is) =
     record {
@@ -35,7 +33,6 @@ held_same (First free put known marks is) =
       rows = ap (λ (z : Parts). z.memory.resident.spare) is;
       copies = ap (λ (z : Parts). z.copies.room) is;
       buffers = ap (λ (z : Parts). z.memory.buffers) is;
-      skip = ap (λ (z : Parts). z.skip) is;
     }
 
 -- where a pager can be told of the object it can be behind that
@@ -79,7 +76,6 @@ opens_little object (Some known) old new before after there opens = by opens
             rows = ap (λ (z : Parts). z.memory.resident.spare) is;
             copies = ap (λ (z : Parts). z.copies.room) is;
             buffers = ap (λ (z : Parts). z.memory.buffers) is;
-            skip = ap (λ (z : Parts). z.skip) is;
           };
       shadows = ap (λ (z : Parts). z.chains.spare) is;
       marked = ap (λ (z : Parts). z.chains.marked) is;
@@ -93,7 +89,6 @@ opens_little object (Some known) old new before after there opens = by opens
             rows = ap (λ (z : Parts). z.memory.resident.spare) is;
             copies = ap (λ (z : Parts). z.copies.room) is;
             buffers = ap (λ (z : Parts). z.memory.buffers) is;
-            skip = ap (λ (z : Parts). z.skip) is;
           };
       shadows = ap (λ (z : Parts). z.chains.spare) is;
       marked = ap (λ (z : Parts). z.chains.marked) is;

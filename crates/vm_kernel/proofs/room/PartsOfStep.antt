@@ -2,13 +2,13 @@
 use Rattle.vm_kernel.proofs.Common.{Bool, Command, Err, Event, Header, Ids, List, Matches, ObjectTable, Ok, On, OnOk, PageKey, Parts, Result, TaskId, WaitTable}
 use Rattle.vm_kernel.proofs.Common.{Waiting, [], ap, arith, false, frame_count, length, length-append, one_again, one_frame, refl, returns_out, rows_in, subst}
 use Rattle.vm_kernel.proofs.Common.{sym, true, ℕ, ◌*◌, ◌++◌, ◌+◌, ◌<◌, ◌∙◌, ◌∷◌, ◌≡◌, ◌≤◌}
-use Rattle.std.specs.Prelude.{IsOk, OnErr, vec_capacity}
+use Rattle.std.specs.Prelude.{IsOk, OnErr}
 use Rattle.vm_base.specs.Listing.{Listed}
 use Rattle.vm_kernel.proofs.room.EndsSpend.{roomy_fewer}
 use Rattle.vm_kernel.proofs.memory.FramesHeld.{room_once}
 use Rattle.vm_kernel.proofs.controls.LiveControls.{live_known}
 use Rattle.vm_kernel.proofs.room.RunPays.{copies_more}
-use Rattle.vm_kernel.specs.Rooms.{Dies, HasBuffers, HasMore, HasRoom, IsSkipRoom, KeepsSkip, KeepsSpare, Spends, breadth_of, dues, front, full_dues, heeding}
+use Rattle.vm_kernel.specs.Rooms.{Dies, HasBuffers, HasMore, HasRoom, KeepsSpare, Spends, breadth_of, dues, front, full_dues, heeding}
 use Rattle.vm_kernel.specs.Rooms.{if_copies, leaving, loose_frames, making, may_end, one_if_full, to_run, waking, word_breadth}
 use Rattle.vm_kernel.specs.declared.breadth.Breadth.{Breadth}
 use Rattle.vm_kernel.specs.declared.breadth.Breadth.TheVariants as wide
@@ -24,25 +24,11 @@ use Rattle.vm_waits.specs.Waits.{count_copies, one}
 use Rattle.vm_waits.specs.Wants.{is_copying}
 use Rattle.vm_waits.specs.declared.waiting.On.TheVariants as on
 
--- the list of frames, kept
-pub skip_kept : (old new : Parts) → new.skip ≡ old.skip → new.waits ≡ old.waits → KeepsSkip old new
-skip_kept old new skip waits = let rows = ap (λ (z : WaitTable). length z.rows) waits in record { skip = skip; fewer = omega (arith, rows) }
-
-pub skip_rows : (k : Parts) (waits : WaitTable) → length waits.rows ≡ length k.waits.rows → KeepsSkip k (record k { waits = waits })
-skip_rows k waits same = record { skip = refl; fewer = omega (arith, same) }
-
-pub skip_none : (k : Parts) → KeepsSkip k k
-skip_none k = record { skip = refl; fewer = omega arith }
-
-pub skip_both : (old mid new : Parts) → KeepsSkip old mid → KeepsSkip mid new → KeepsSkip old new
-skip_both old mid new first next = record { skip = next.skip ∙ first.skip; fewer = omega (arith, first.fewer, next.fewer) }
-
 pub spare_none : (k : Parts) → KeepsSpare k k
-spare_none k = record { buffers = refl; skip = refl; fewer = omega arith }
+spare_none k = record { buffers = refl }
 
 pub spare_both : (old mid new : Parts) → KeepsSpare old mid → KeepsSpare mid new → KeepsSpare old new
-spare_both old mid new first next =
-    record { buffers = next.buffers ∙ first.buffers; skip = next.skip ∙ first.skip; fewer = omega (arith, first.fewer, next.fewer) }
+spare_both old mid new first next = record { buffers = next.buffers ∙ first.buffers }
 
 -- what holds whatever a call answers
 pub any_ok : {A B : Type 0} (r : Result A B) (P : Type 0) → P → OnOk r P
@@ -136,7 +122,7 @@ module _ (old new : Parts) (before after : Listed Event) where
 
 -- what a command leaves
 abbrev pub Leaves : ℕ → Parts → ℕ → Type 0
-Leaves more k room = HasRoom more k room × ((0 < k.memory.buffers.count) × IsSkipRoom k)
+Leaves more k room = HasRoom more k room × (0 < k.memory.buffers.count)
 
 module _ {A B : Type 0} (r : Result A B) (old new : Parts) (before after : Listed Event) where
   pub few_ok : (cost makes most : ℕ) → cost ≤ most → OnOk r (Spends cost makes 0 old before new after)
@@ -150,32 +136,25 @@ module _ {A B : Type 0} (r : Result A B) (old new : Parts) (before after : Liste
 
   -- a command that keeps its buffers
   pub kept_ok : (cost makes most all more : ℕ) → cost ≤ most → makes ≤ all → OnOk r (Spends cost makes 0 old before new after) → OnOk r (KeepsSpare old new)
-      → HasMore most all more old before.room → HasBuffers old → IsSkipRoom old → OnOk r (Leaves more new after.room)
-  kept_ok cost makes most all more few less spends kept had has skip = by r spends kept
+      → HasMore most all more old before.room → HasBuffers old → OnOk r (Leaves more new after.room)
+  kept_ok cost makes most all more few less spends kept had has = by r spends kept
     where
       by : (r : Result A B) → OnOk r (Spends cost makes 0 old before new after) → OnOk r (KeepsSpare old new) → OnOk r (Leaves more new after.room)
       by (Ok x) is keeps =
           let buffers = ap (λ z. z.count) keeps.buffers in
-          let list = ap vec_capacity keeps.skip in (
-            room_behind old new before after cost makes more is (more_fewer most all cost makes more old before.room had few less),
-            (omega (arith, buffers, has), omega (arith, list, keeps.fewer, skip)),
-          )
+          (room_behind old new before after cost makes more is (more_fewer most all cost makes more old before.room had few less), omega (arith, buffers, has))
       by (Err e) is keeps = tt
 
   -- one that ends what it can
   pub ended_ok : (cost most all more : ℕ) → cost ≤ most → OnOk r (Spends cost 0 0 old before new after) → OnOk r (HasBuffers old → HasBuffers new)
-      → OnOk r (KeepsSkip old new) → HasMore most all more old before.room → HasBuffers old → IsSkipRoom old → OnOk r (Leaves more new after.room)
-  ended_ok cost most all more few spends buffers kept had has skip = by r spends buffers kept
+      → HasMore most all more old before.room → HasBuffers old → OnOk r (Leaves more new after.room)
+  ended_ok cost most all more few spends buffers had has = by r spends buffers
     where
-      by : (r : Result A B) → OnOk r (Spends cost 0 0 old before new after) → OnOk r (HasBuffers old → HasBuffers new) → OnOk r (KeepsSkip old new)
-          → OnOk r (Leaves more new after.room)
-      by (Ok x) is leaves keeps =
-          let list = ap vec_capacity keeps.skip in
-          let left = leaves has in (
-            room_behind old new before after cost 0 more is (more_fewer most all cost 0 more old before.room had few (omega arith)),
-            (omega (arith, left), omega (arith, list, keeps.fewer, skip)),
-          )
-      by (Err e) is leaves keeps = tt
+      by : (r : Result A B) → OnOk r (Spends cost 0 0 old before new after) → OnOk r (HasBuffers old → HasBuffers new) → OnOk r (Leaves more new after.room)
+      by (Ok x) is leaves =
+          let left = leaves has in
+          (room_behind old new before after cost 0 more is (more_fewer most all cost 0 more old before.room had few (omega arith)), omega (arith, left))
+      by (Err e) is leaves = tt
 
 -- a load or a store is no slow copy
 begun_copies : (old mid new : List Waiting) (w : Waiting) → new ≡ mid ++ w ∷ [] → mid ≡ old → is_copying w.want ≡ false
@@ -212,12 +191,9 @@ pub few_behind : {a b c : ℕ} → a ≤ b → b ≤ c → a ≤ c
 few_behind {a} {b} {c} first next = omega (arith, first, next)
 
 -- what the accesses that are run keep, behind one that began
-pub spare_behind : (k : Parts) (waits : WaitTable) (new : Parts) → length waits.rows ≡ length k.waits.rows + 1 → KeepsSpare (record k { waits = waits }) new
-    → (k.memory.buffers.count ≤ new.memory.buffers.count) × ((vec_capacity k.skip ≤ vec_capacity new.skip) × (length new.waits.rows ≤ length k.waits.rows + 1))
-spare_behind k waits new one keeps =
-    let buffers = ap (λ z. z.count) keeps.buffers in
-    let list = ap vec_capacity keeps.skip in
-    (omega (arith, buffers), (omega (arith, list), omega (arith, one, keeps.fewer)))
+pub spare_behind : (k : Parts) (waits : WaitTable) (new : Parts) → KeepsSpare (record k { waits = waits }) new
+    → k.memory.buffers.count ≤ new.memory.buffers.count
+spare_behind k waits new keeps = let buffers = ap (λ z. z.count) keeps.buffers in omega (arith, buffers)
 
 -- what any command tells is below that in front
 pub up_to_front : (k : Parts) (told n most : ℕ) → n ≤ most → told + (full_dues k + n) ≤ told + (full_dues k + most)
@@ -240,26 +216,18 @@ ok_has (Err e) P ok p = absurd (let bad : false ≡ true = ok in cc)
 
 -- an access that began leaves what was there
 pub begun_leaves : {A B : Type 0} (r : Result A B) (more : ℕ) (old new : Parts) (room : ℕ) → OnOk r (HasRoom more new room)
-    → OnOk r ((old.memory.buffers.count ≤ new.memory.buffers.count)
-    × ((vec_capacity old.skip ≤ vec_capacity new.skip) × (length new.waits.rows ≤ length old.waits.rows + 1))) → HasBuffers old
-    → length old.waits.rows + 1 < vec_capacity old.skip
-    → OnOk r (Leaves more new room)
-begun_leaves (Ok x) more old new room left keeps has skip = (left, (omega (arith, keeps.0, has), omega (arith, keeps.1.0, keeps.1.1, skip)))
-begun_leaves (Err e) more old new room left keeps has skip = tt
+    → OnOk r (old.memory.buffers.count ≤ new.memory.buffers.count) → HasBuffers old → OnOk r (Leaves more new room)
+begun_leaves (Ok x) more old new room left keeps has = (left, omega (arith, keeps, has))
+begun_leaves (Err e) more old new room left keeps has = tt
 
 -- what the accesses that are run leave behind what keeps its buffers
 pub leaves_behind : {A B : Type 0} (r : Result A B) (more : ℕ) (old mid new : Parts) (room : ℕ) → HasRoom more new room → KeepsSpare old mid
-    → OnOk r (KeepsSpare mid new) → HasBuffers old → length old.waits.rows + 1 < vec_capacity old.skip → OnOk r (Leaves more new room)
-leaves_behind (Ok x) more old mid new room left first next has skip =
+    → OnOk r (KeepsSpare mid new) → HasBuffers old → OnOk r (Leaves more new room)
+leaves_behind (Ok x) more old mid new room left first next has =
     let keeps = spare_both old mid new first next in
     let buffers = ap (λ z. z.count) keeps.buffers in
-    let list = ap vec_capacity keeps.skip in
-    (left, (omega (arith, buffers, has), omega (arith, list, keeps.fewer, skip)))
-leaves_behind (Err e) more old mid new room left first next has skip = tt
-
--- a list with room for one access more has room
-pub skip_fewer : (k : Parts) → length k.waits.rows + 1 < vec_capacity k.skip → IsSkipRoom k
-skip_fewer k skip = omega (arith, skip)
+    (left, omega (arith, buffers, has))
+leaves_behind (Err e) more old mid new room left first next has = tt
 
 pub out_few : (k : Parts) → listed_pages k.memory.queues ≤ frame_count k.memory.frames → 2 * listed_pages k.memory.queues ≤ front wide.Pages k
 out_few k few = by (listed_pages k.memory.queues) (frame_count k.memory.frames) (length k.memory.objects.entries) few

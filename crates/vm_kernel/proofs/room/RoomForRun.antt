@@ -2,7 +2,7 @@
 use Rattle.vm_kernel.proofs.Common.{ChainTable, Event, Fit, HostParts, Ids, List, None, On, Option, PageKey, Parts, Reclaim, Some, WaitTable, Waiting, Want, ap}
 use Rattle.vm_kernel.proofs.Common.{arith, count_again, entry, false, free, is_again, is_frame, length, map, none_again, none_queued, one_again, one_frame}
 use Rattle.vm_kernel.proofs.Common.{queued, refl, subst, suc, sym, true, zero, ℕ, ◌*◌, ◌+◌, ◌-◌, ◌<◌, ◌==◌, ◌||◌, ◌∙◌, ◌≡◌, ◌≤◌}
-use Rattle.std.proofs.Common.{Bool, vec_capacity}
+use Rattle.std.proofs.Common.{Bool}
 use Rattle.std.proofs.lemmas.List.{length-map}
 use Rattle.std.specs.Prelude.{min}
 use Rattle.vm_fault.specs.Faults.{FaultState, Runs}
@@ -267,30 +267,24 @@ room_wanting {more} {k} {k2} {ids} {room} {before} source w new room2 has pays t
     room_after (length before) (length new.events) has (few_wanting k k2 source w new pays same copies memory chains) (omega (arith, log))
     (omega (arith, rows, spare)) (omega (arith, shadows, under, marks)) (omega (arith, objects, few, marks))
 
--- the buffers, and the list of frames that a reclaim passes over
+-- the buffers
 
 pub keeps_both : {a b c : Parts} → KeepsSpare a b → KeepsSpare b c → KeepsSpare a c
-keeps_both one two =
-    let few = one.fewer in
-    let few2 = two.fewer in
-    record { buffers = two.buffers ∙ one.buffers; skip = two.skip ∙ one.skip; fewer = omega (arith, few, few2) }
+keeps_both one two = record { buffers = two.buffers ∙ one.buffers }
 
 pub keeps_none : (k : Parts) → KeepsSpare k k
-keeps_none k = record { buffers = refl; skip = refl; fewer = omega arith }
+keeps_none k = record { buffers = refl }
 
 pub run_spare : {copies most : ℕ} {ids : Ids} {before : List Event} (k : Parts) (new : FaultState) (waits2 : WaitTable)
-    → PaysRun copies most (state_of k ids before) new → length waits2.rows ≤ length k.waits.rows → KeepsSpare k (record (with_state k new) { waits = waits2 })
-run_spare k new waits2 pays fewer = record { buffers = pays.buffers; skip = refl; fewer = fewer }
+    → PaysRun copies most (state_of k ids before) new → KeepsSpare k (record (with_state k new) { waits = waits2 })
+run_spare k new waits2 pays = record { buffers = pays.buffers }
 
 -- the queue is served with what was kept
 pub serve_spare : {more : ℕ} {k k2 : Parts} {room room2 : ℕ} → ServeRoom more k room → KeepsSpare k k2 → HasRoom (more + 2) k2 room2 → ServeRoom more k2 room2
 serve_spare {k = k} {k2 = k2} had keeps has =
     let some = had.buffers in
-    let long = had.skip in
     let same : k2.memory.buffers.count ≡ k.memory.buffers.count = ap (λ z. z.count) keeps.buffers in
-    let list : vec_capacity k2.skip ≡ vec_capacity k.skip = ap (λ z. vec_capacity z) keeps.skip in
-    let few = keeps.fewer in
-    record { has = has; buffers = omega (arith, some, same); skip = omega (arith, long, list, few) }
+    record { has = has; buffers = omega (arith, some, same) }
 
 -- a page was reclaimed for the front: its event is paid by the frame that has come free where none was
 pub freed_few : {k k2 : Parts} {room room2 : ℕ} (before after : ℕ) → free k.memory.frames ≡ 0 → LeavesRoom reclaim.Freed k k2 room room2 → k2.waits ≡ k.waits
@@ -311,10 +305,7 @@ pub freed_room : {more : ℕ} {k k2 : Parts} {room room2 : ℕ} → ServeRoom mo
 freed_room {more} {k} {k2} {room} {room2} had none leaves waits =
     let freed = leaves.freed refl in
     let some = had.buffers in
-    let long = had.skip in
     let kept = freed.buffers in
-    let capacity = leaves.skip in
-    let few : length k2.waits.rows ≡ length k.waits.rows = ap (λ (z : WaitTable). length z.rows) waits in
     let log = freed.log in
     let rows = leaves.rows in
     let objects = leaves.objects in
@@ -325,7 +316,6 @@ freed_room {more} {k} {k2} {room} {room2} had none leaves waits =
           room_after 0 1 had.has (freed_few 0 1 none leaves waits (omega arith)) (omega (arith, log)) (omega (arith, rows)) (omega (arith, chains, marks))
           (omega (arith, objects, marks));
       buffers = omega (arith, some, kept);
-      skip = omega (arith, long, few, capacity);
     }
 
 -- or it has to wait

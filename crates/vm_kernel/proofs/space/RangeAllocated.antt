@@ -256,7 +256,6 @@ with_range k k2 maps =
       copies = k.copies;
       laundry = k.laundry;
       waits = k.waits;
-      skip = k2.skip;
     }
 
 -- a region that was made may be used, up to its first entry
@@ -611,7 +610,6 @@ ran_range header h outside task address bytes pages past k k2 ids before after m
       copies = made.copied i;
       laundry = made.laundry i;
       waits = made.waits i;
-      skip = k2.skip;
     } in
     subst (λ (z : List Event). Ran header h outside (command.Allocate task address bytes) past (record k2 { maps = maps }) (ids_after ids) z) (sym log)
     (subst (λ (z : Parts). Ran header h outside (command.Allocate task address bytes) past z (ids_after ids) events) (sym same) ran)

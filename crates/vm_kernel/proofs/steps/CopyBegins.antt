@@ -92,7 +92,6 @@ with_copy k k2 waits =
       copies = k.copies;
       laundry = k.laundry;
       waits = waits;
-      skip = k2.skip;
     }
 
 none_left : (b : Bool) → (b && false) ≡ false
@@ -628,7 +627,6 @@ has_begun {doing = doing} {task = task} {address = address} {bytes = bytes} {to 
       copies = b.made.copied i;
       laundry = b.made.laundry i;
       waits = waits;
-      skip = k2.skip;
     } in
     record {
       works = subst (λ (z : List Event). Works header h (record k2 { waits = waits }) (ids_after ids) woken.Nobody (z ++ past)) (sym told)

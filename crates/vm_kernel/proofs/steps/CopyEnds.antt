@@ -365,7 +365,7 @@ matches_ended : (header : Header) (h : ℕ) (outside : Outside) (doing : Command
     → (waits2 : WaitTable) → PutsEntry w.task.0 None k.waits.rows waits2.rows
     → (k2 : Parts) → ChangesOnly k.maps k2.maps w.task.0 (Some (entered (filled_entry header.size pages c.slow.to) (rows_in w.task.0 k.maps)))
     → PutsEntries c.slow.to.region.0 1 k.chains k2.chains
-    → Matches header h (record k { alloc = k2.alloc; maps = k2.maps; chains = k2.chains; waits = waits2; skip = k2.skip }) ids []
+    → Matches header h (record k { alloc = k2.alloc; maps = k2.maps; chains = k2.chains; waits = waits2 }) ids []
     (copy_ending w.task (filled_entry header.size pages c.slow.to) ++ past)
 matches_ended header h outside doing k ids past w address pages target next c last now waits2 put k2 changes counts =
     let m = c.matches in
@@ -423,7 +423,7 @@ works_ended : (header : Header) (h : ℕ) (outside : Outside) (doing : Command) 
     → (waits2 : WaitTable) → PutsInOrder w.task.0 None k.waits.rows waits2.rows
     → (k2 : Parts) → ChangesOnly k.maps k2.maps w.task.0 (Some (entered (filled_entry header.size pages c.slow.to) (rows_in w.task.0 k.maps)))
     → PutsEntries c.slow.to.region.0 1 k.chains k2.chains
-    → Works header h (record k { alloc = k2.alloc; maps = k2.maps; chains = k2.chains; waits = waits2; skip = k2.skip }) ids woken.Nobody
+    → Works header h (record k { alloc = k2.alloc; maps = k2.maps; chains = k2.chains; waits = waits2 }) ids woken.Nobody
     (copy_ending w.task (filled_entry header.size pages c.slow.to) ++ past)
 works_ended header h outside doing k ids past w address pages target next c last now waits2 put k2 changes counts =
     let t = w.task.0 in
@@ -469,7 +469,7 @@ copy_ends header h outside doing k k2 ids past w address pages target next waits
     let changes = subst (λ (z : ℕ). ChangesOnly k.maps k2.maps w.task.0 (Some (entered (filled_entry z pages c.slow.to) (rows_in w.task.0 k.maps))))
     c.matches.core.setting.sized is.maps in
     let works = works_ended header h outside doing k ids past w address pages target next c last now waits2 put k2 changes is.counts in
-    let same : record k { alloc = k2.alloc; maps = k2.maps; chains = k2.chains; waits = waits2; skip = k2.skip } ≡ k2 =
+    let same : record k { alloc = k2.alloc; maps = k2.maps; chains = k2.chains; waits = waits2 } ≡ k2 =
     λ i. record {
       alloc = k2.alloc;
       host = sym is.host i;
@@ -481,7 +481,6 @@ copy_ends header h outside doing k k2 ids past w address pages target next waits
       copies = sym is.copied i;
       laundry = sym is.laundry i;
       waits = sym is.waits i;
-      skip = k2.skip;
     } in
     subst (λ (z : Parts). Works header h z ids woken.Nobody (copy_ending w.task (filled_entry header.size pages c.slow.to) ++ past)) same works
 

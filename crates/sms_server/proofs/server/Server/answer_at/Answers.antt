@@ -1,4 +1,4 @@
-use Rattle.std.proofs.Common.{ℕ, ◌≡◌, ◌≤◌, ◌++◌, List, length, Some, refl, sym, ◌∙◌, ap, subst, arith}
+use Rattle.std.proofs.Common.{ℕ, ◌≡◌, ◌≤◌, ◌++◌, List, length, set, Some, refl, sym, ◌∙◌, ap, subst, arith}
 use Rattle.std.proofs.lemmas.List.{append-nil}
 use Rattle.std.proofs.lemmas.Option.{get_or_from_slice_get}
 use Rattle.std.specs.Prelude.{slice_get}
@@ -7,8 +7,10 @@ use Rattle.vm_base.specs.Listing.{Listed}
 use Rattle.vm_base.specs.declared.ids.ObjectId.{ObjectId}
 use Rattle.vm_base.specs.declared.ids.PageKey.{PageKey}
 use Rattle.vm_model.specs.declared.event.Event.{Event}
-use Rattle.sms_server.proofs.Answering.{by_key_set, most_of_row, one_answer, whole_at, whole_set}
+use Rattle.sms_server.proofs.Answering.{most_of_row, one_answer, whole_at, whole_set}
 use Rattle.sms_server.proofs.Most.{told_of_row}
+use Rattle.sms_server.proofs.Naming.{counted_kept, keys_set}
+use Rattle.sms_server.proofs.Placed.{are_apart, placed_touched}
 use Rattle.sms_server.proofs.Words.{row_whole, row_words}
 use Rattle.sms_server.specs.Answers.{AreServerWords, ReturnsWhole, row_events}
 use Rattle.sms_server.specs.Table.{ServerTable, most_events}
@@ -80,11 +82,15 @@ invariant_of-self-2 c =
     ∙ (ap (λ (l : Listed Event). row_events c.args.host.0 c.args.message.now x ++ l.items) c.replace-events.ensures.value
     ∙ (ap (λ (es : List Event). row_events c.args.host.0 c.args.message.now x ++ es) c.self.invariant.none
     ∙ append-nil (row_events c.args.host.0 c.args.message.now x))) in
-    let key_is : x.key ≡ record { object = c.args.object; page = c.args.page } = ap (λ (z : PageRow). z.key) (sym same) ∙ at.key_is in
+    let key : PageKey = record { object = c.args.object; page = c.args.page } in
+    let key_is : x.key ≡ key = ap (λ (z : PageRow). z.key) (sym same) ∙ at.key_is in
     let left = row_whole c.self.inside.size c.args.host.0 c.args.message.now x y c.answer.ensures.row
     (subst (λ (n : ℕ). ReturnsWhole n c.args.message.now) size_same c.requires.whole) whole.0 whole.1 in
     record {
-      by_key = by_key_set 0 0 i x y rows c.self.invariant.by_key is (sym c.answer.ensures.row.key);
+      placed = placed_touched c.self.inside.places c.touch.new.self rows i x y key c.self.invariant.placed is c.answer.ensures.row.key
+          (record { object = ap (λ (k : PageKey). k.object.0) key_is; page = ap (λ (k : PageKey). k.page.0) key_is }) c.touch.ensures;
+      counted = counted_kept c.self.inside.places c.touch.new.self rows (set rows i y) c.touch.ensures.kept.objects c.self.invariant.counted
+          (keys_set rows i x y is c.answer.ensures.row.key);
       whole = whole_set c.self.inside.size i y rows c.self.invariant.whole left.0 left.1;
       new = c.self.invariant.new;
       none = ap (λ (l : Listed Event). l.items) c.replace-events.ensures.after ∙ c.new.ensures;
@@ -109,9 +115,10 @@ returns-clause-answered c =
     ∙ (ap (λ (l : Listed Event). row_events c.args.host.0 c.args.message.now x ++ l.items) c.replace-events.ensures.value
     ∙ (ap (λ (es : List Event). row_events c.args.host.0 c.args.message.now x ++ es) c.self.invariant.none
     ∙ append-nil (row_events c.args.host.0 c.args.message.now x))) in
-    let key_is : x.key ≡ record { object = c.args.object; page = c.args.page } = ap (λ (z : PageRow). z.key) (sym same) ∙ at.key_is in
+    let key : PageKey = record { object = c.args.object; page = c.args.page } in
+    let key_is : x.key ≡ key = ap (λ (z : PageRow). z.key) (sym same) ∙ at.key_is in
     one_answer c.args.host.0 c.args.object c.args.page.0 c.args.message.now rows i x y c.args.self.now table _ c.answer.new.events.items (record {
-      by_key = c.self.invariant.by_key;
+      apart = are_apart c.self.inside.places rows c.self.invariant.placed;
       is = is;
       own = ap (λ (k : PageKey). k.object) key_is;
       at_page = ap (λ (k : PageKey). k.page.0) key_is;
@@ -140,7 +147,8 @@ returns-clause-words c =
     ∙ (ap (λ (l : Listed Event). row_events c.args.host.0 c.args.message.now x ++ l.items) c.replace-events.ensures.value
     ∙ (ap (λ (es : List Event). row_events c.args.host.0 c.args.message.now x ++ es) c.self.invariant.none
     ∙ append-nil (row_events c.args.host.0 c.args.message.now x))) in
-    let key_is : x.key ≡ record { object = c.args.object; page = c.args.page } = ap (λ (z : PageRow). z.key) (sym same) ∙ at.key_is in
+    let key : PageKey = record { object = c.args.object; page = c.args.page } in
+    let key_is : x.key ≡ key = ap (λ (z : PageRow). z.key) (sym same) ∙ at.key_is in
     let words = row_words c.args.self.now.size c.args.host.0 c.args.message.now x c.requires.whole (whole.0 ∙ sym size_same) in
     subst (λ (o : ObjectId). AreServerWords c.args.self.now.size o c.answer.new.events.items) (ap (λ (k : PageKey). k.object) key_is)
     (subst (AreServerWords c.args.self.now.size x.key.object) (sym told) words)
@@ -164,10 +172,11 @@ returns-clause-few c =
     ∙ (ap (λ (l : Listed Event). row_events c.args.host.0 c.args.message.now x ++ l.items) c.replace-events.ensures.value
     ∙ (ap (λ (es : List Event). row_events c.args.host.0 c.args.message.now x ++ es) c.self.invariant.none
     ∙ append-nil (row_events c.args.host.0 c.args.message.now x))) in
-    let key_is : x.key ≡ record { object = c.args.object; page = c.args.page } = ap (λ (z : PageRow). z.key) (sym same) ∙ at.key_is in
+    let key : PageKey = record { object = c.args.object; page = c.args.page } in
+    let key_is : x.key ≡ key = ap (λ (z : PageRow). z.key) (sym same) ∙ at.key_is in
     let few = c.answer.ensures.few in
     let none = ap (λ (l : Listed Event). length l.items) c.replace-events.ensures.value ∙ ap length c.self.invariant.none in
-    let most = most_of_row c.args.self.now table rows i x c.prepare_page.ensures.same seen c.self.invariant.by_key is in
+    let most = most_of_row c.args.self.now table rows i x c.prepare_page.ensures.same seen (are_apart c.self.inside.places rows c.self.invariant.placed) is in
     let own = ap (λ (k : PageKey). k.object.0) key_is in
     subst (λ (o : ℕ). length c.answer.new.events.items ≤ most_events o c.args.self.now) own (omega (arith, few, none, most))
 
@@ -190,10 +199,11 @@ returns-clause-few_told c =
     ∙ (ap (λ (l : Listed Event). row_events c.args.host.0 c.args.message.now x ++ l.items) c.replace-events.ensures.value
     ∙ (ap (λ (es : List Event). row_events c.args.host.0 c.args.message.now x ++ es) c.self.invariant.none
     ∙ append-nil (row_events c.args.host.0 c.args.message.now x))) in
-    let key_is : x.key ≡ record { object = c.args.object; page = c.args.page } = ap (λ (z : PageRow). z.key) (sym same) ∙ at.key_is in
+    let key : PageKey = record { object = c.args.object; page = c.args.page } in
+    let key_is : x.key ≡ key = ap (λ (z : PageRow). z.key) (sym same) ∙ at.key_is in
     let few = c.answer.ensures.few in
     let none = ap (λ (l : Listed Event). length l.items) c.replace-events.ensures.value ∙ ap length c.self.invariant.none in
     let told_most = told_of_row c.args.object.0 c.args.page.0 c.args.message.now rows i x table c.args.self.now c.requires.about c.requires.one
-    (ap (λ (k : PageKey). k.object.0) key_is) (ap (λ (k : PageKey). k.page.0) key_is) seen c.self.invariant.by_key is
+    (ap (λ (k : PageKey). k.object.0) key_is) (ap (λ (k : PageKey). k.page.0) key_is) seen (are_apart c.self.inside.places rows c.self.invariant.placed) is
     (c.prepare_page.ensures.same.pages c.args.object.0 c.args.page.0).directory.line in
     omega (arith, few, none, told_most)

@@ -1,10 +1,11 @@
-use Rattle.std.proofs.Common.{ℕ, ◌≡◌, ◌++◌, List, [], sym, ◌∙◌, ap, subst, arith}
-use Rattle.std.proofs.lemmas.List.{append-nil, with_items_is}
+use Rattle.std.proofs.Common.{ℕ, ◌≡◌, List, [], length, sym, ◌∙◌, ap, subst, arith}
+use Rattle.std.proofs.lemmas.List.{with_items_is}
 use Rattle.vm_base.specs.Listing.{Listed}
 use Rattle.vm_model.specs.declared.event.Event.{Event}
-use Rattle.sms_server.proofs.Answering.{by_key_after, end_answer_of, end_returns, end_words, whole_after}
-use Rattle.sms_server.specs.Answers.{AreServerWords}
-use Rattle.sms_server.specs.Kept.{AreWhole, IsKept, RowsAfter, events_among}
+use Rattle.sms_server.proofs.Answering.{after_same_keys, end_answer_of, end_returns, end_words, whole_after}
+use Rattle.sms_server.proofs.Most.{told_everywhere}
+use Rattle.sms_server.proofs.Naming.{counted_kept}
+use Rattle.sms_server.specs.Kept.{AreWhole, EventsInTurn, IsKept, RowsAfter, end_replies_among}
 use Rattle.sms_server.specs.Table.{ServerTable}
 use Rattle.sms_server.specs.declared.page_row.PageRow.{PageRow}
 use Rattle.sms_server.proofs.server.Server.answer_everywhere.Goals as goal
@@ -13,7 +14,7 @@ pub invariant_of-self-2 : goal.invariant_of-self-2
 invariant_of-self-2 c =
     let rows = c.self.inside.rows.items in
     let left = c.end_rows.new.rows in
-    let table = c.prepare_object.new.self in
+    let table = c.prepare_ends.new.self in
     let m = c.args.message.now in
     let h = c.args.host.0 in
     let seen : table.rows ≡ rows = ap (λ (t : ServerTable). t.rows) (sym c.self.view_is) in
@@ -21,27 +22,28 @@ invariant_of-self-2 c =
     let after : RowsAfter h m c.args.object.0 rows left = subst (λ (l : List PageRow). RowsAfter h m c.args.object.0 l left) c.deref_mut.ensures.value
     c.end_rows.ensures.rows in
     let is = with_items_is c.self.inside.rows left (omega (arith, c.end_rows.auto.rows, c.deref_mut.ensures.len)) in
-    let told : c.end_rows.new.events.items ≡ events_among h m c.args.object.0 rows = c.end_rows.ensures.events
-    ∙ (ap (λ (l : List PageRow). events_among h m c.args.object.0 l ++ c.replace-events.result.items) c.deref_mut.ensures.value
-    ∙ (ap (λ (l : Listed Event). events_among h m c.args.object.0 rows ++ l.items) c.replace-events.ensures.value
-    ∙ (ap (λ (es : List Event). events_among h m c.args.object.0 rows ++ es) c.self.invariant.none
-    ∙ append-nil (events_among h m c.args.object.0 rows)))) in
-    let none : c.replace-events.new.dest.items ≡ [] = ap (λ (l : Listed Event). l.items) c.replace-events.ensures.after ∙ c.new.ensures in
-    let kept : IsKept c.self.inside.size left c.self.inside.spare c.replace-events.new.dest.items = record {
-      by_key = by_key_after h m c.args.object.0 0 0 rows
-          left after c.self.invariant.by_key;
+    let none : c.replace-events.result.items ≡ [] = ap (λ (l : Listed Event). l.items) c.replace-events.ensures.value ∙ c.self.invariant.none in
+    let told : EventsInTurn h m c.args.object.0 rows [] c.end_rows.new.events.items = subst
+    (λ (es : List Event). EventsInTurn h m c.args.object.0 rows es c.end_rows.new.events.items) none
+    (subst (λ (l : List PageRow). EventsInTurn h m c.args.object.0 l c.replace-events.result.items c.end_rows.new.events.items) c.deref_mut.ensures.value
+    c.end_rows.ensures.events) in
+    let empty : c.replace-events.new.dest.items ≡ [] = ap (λ (l : Listed Event). l.items) c.replace-events.ensures.after ∙ c.new.ensures in
+    let kept : IsKept c.self.inside.size left c.end_rows.new.places c.self.inside.spare c.replace-events.new.dest.items = record {
+      placed = c.end_rows.ensures.placed;
+      counted = counted_kept c.self.inside.places c.end_rows.new.places rows left c.end_rows.ensures.kept.objects c.self.invariant.counted
+          (after_same_keys h m c.args.object.0 rows left after);
       whole = whole_after c.self.inside.size h m c.args.object.0 rows left after
           (end_returns c.self.inside.size m c.requires.end) c.self.invariant.whole;
       new = c.self.invariant.new;
-      none = none;
+      none = empty;
     } in
-    subst (λ (l : List PageRow). IsKept c.self.inside.size l c.self.inside.spare c.replace-events.new.dest.items) (sym is) kept
+    subst (λ (l : List PageRow). IsKept c.self.inside.size l c.end_rows.new.places c.self.inside.spare c.replace-events.new.dest.items) (sym is) kept
 
 pub returns-clause-answered : goal.returns-clause-answered
 returns-clause-answered c =
     let rows = c.self.inside.rows.items in
     let left = c.end_rows.new.rows in
-    let table = c.prepare_object.new.self in
+    let table = c.prepare_ends.new.self in
     let m = c.args.message.now in
     let h = c.args.host.0 in
     let seen : table.rows ≡ rows = ap (λ (t : ServerTable). t.rows) (sym c.self.view_is) in
@@ -49,19 +51,19 @@ returns-clause-answered c =
     let after : RowsAfter h m c.args.object.0 rows left = subst (λ (l : List PageRow). RowsAfter h m c.args.object.0 l left) c.deref_mut.ensures.value
     c.end_rows.ensures.rows in
     let is = with_items_is c.self.inside.rows left (omega (arith, c.end_rows.auto.rows, c.deref_mut.ensures.len)) in
-    let told : c.end_rows.new.events.items ≡ events_among h m c.args.object.0 rows = c.end_rows.ensures.events
-    ∙ (ap (λ (l : List PageRow). events_among h m c.args.object.0 l ++ c.replace-events.result.items) c.deref_mut.ensures.value
-    ∙ (ap (λ (l : Listed Event). events_among h m c.args.object.0 rows ++ l.items) c.replace-events.ensures.value
-    ∙ (ap (λ (es : List Event). events_among h m c.args.object.0 rows ++ es) c.self.invariant.none
-    ∙ append-nil (events_among h m c.args.object.0 rows)))) in
-    end_answer_of h c.args.object m rows left c.args.self.now table _ c.end_rows.new.events.items c.requires.end c.prepare_object.ensures.same seen sized is
-    c.self.invariant.by_key (subst (λ (n : ℕ). AreWhole n rows) sized c.self.invariant.whole) c.requires.host after told
+    let none : c.replace-events.result.items ≡ [] = ap (λ (l : Listed Event). l.items) c.replace-events.ensures.value ∙ c.self.invariant.none in
+    let told : EventsInTurn h m c.args.object.0 rows [] c.end_rows.new.events.items = subst
+    (λ (es : List Event). EventsInTurn h m c.args.object.0 rows es c.end_rows.new.events.items) none
+    (subst (λ (l : List PageRow). EventsInTurn h m c.args.object.0 l c.replace-events.result.items c.end_rows.new.events.items) c.deref_mut.ensures.value
+    c.end_rows.ensures.events) in
+    end_answer_of h c.args.object m rows left c.args.self.now table _ c.end_rows.new.events.items c.requires.end c.prepare_ends.ensures.same seen sized is
+    (subst (λ (n : ℕ). AreWhole n rows) sized c.self.invariant.whole) c.requires.host after told
 
 pub returns-clause-words : goal.returns-clause-words
 returns-clause-words c =
     let rows = c.self.inside.rows.items in
     let left = c.end_rows.new.rows in
-    let table = c.prepare_object.new.self in
+    let table = c.prepare_ends.new.self in
     let m = c.args.message.now in
     let h = c.args.host.0 in
     let seen : table.rows ≡ rows = ap (λ (t : ServerTable). t.rows) (sym c.self.view_is) in
@@ -69,11 +71,27 @@ returns-clause-words c =
     let after : RowsAfter h m c.args.object.0 rows left = subst (λ (l : List PageRow). RowsAfter h m c.args.object.0 l left) c.deref_mut.ensures.value
     c.end_rows.ensures.rows in
     let is = with_items_is c.self.inside.rows left (omega (arith, c.end_rows.auto.rows, c.deref_mut.ensures.len)) in
-    let told : c.end_rows.new.events.items ≡ events_among h m c.args.object.0 rows = c.end_rows.ensures.events
-    ∙ (ap (λ (l : List PageRow). events_among h m c.args.object.0 l ++ c.replace-events.result.items) c.deref_mut.ensures.value
-    ∙ (ap (λ (l : Listed Event). events_among h m c.args.object.0 rows ++ l.items) c.replace-events.ensures.value
-    ∙ (ap (λ (es : List Event). events_among h m c.args.object.0 rows ++ es) c.self.invariant.none
-    ∙ append-nil (events_among h m c.args.object.0 rows)))) in
-    let size_same : c.self.inside.size ≡ c.args.self.now.size = sized ∙ c.prepare_object.ensures.same.size in
-    subst (AreServerWords c.args.self.now.size c.args.object) (sym told) (end_words c.args.self.now.size h c.args.object m rows
-    (end_returns c.args.self.now.size m c.requires.end) (subst (λ (n : ℕ). AreWhole n rows) size_same c.self.invariant.whole))
+    let none : c.replace-events.result.items ≡ [] = ap (λ (l : Listed Event). l.items) c.replace-events.ensures.value ∙ c.self.invariant.none in
+    let told : EventsInTurn h m c.args.object.0 rows [] c.end_rows.new.events.items = subst
+    (λ (es : List Event). EventsInTurn h m c.args.object.0 rows es c.end_rows.new.events.items) none
+    (subst (λ (l : List PageRow). EventsInTurn h m c.args.object.0 l c.replace-events.result.items c.end_rows.new.events.items) c.deref_mut.ensures.value
+    c.end_rows.ensures.events) in
+    let size_same : c.self.inside.size ≡ c.args.self.now.size = sized ∙ c.prepare_ends.ensures.same.size in
+    end_words c.args.self.now.size h c.args.object m rows c.end_rows.new.events.items (end_returns c.args.self.now.size m c.requires.end)
+    (subst (λ (n : ℕ). AreWhole n rows) size_same c.self.invariant.whole) told
+
+pub returns-clause-few : goal.returns-clause-few
+returns-clause-few c =
+    let h = c.args.host.0 in
+    let o = c.args.object.0 in
+    let none = ap (λ (l : Listed Event). length l.items) c.replace-events.ensures.value ∙ ap length c.self.invariant.none in
+    let was = ap (end_replies_among h o) c.deref_mut.ensures.value ∙ ap (λ (t : ServerTable). end_replies_among h o t.rows) c.self.view_is in
+    omega (arith, none, was, c.end_rows.ensures.few, c.prepare_ends.ensures.few)
+
+pub returns-clause-few_told : goal.returns-clause-few_told
+returns-clause-few_told c =
+    let h = c.args.host.0 in
+    let o = c.args.object.0 in
+    let none = ap (λ (l : Listed Event). length l.items) c.replace-events.ensures.value ∙ ap length c.self.invariant.none in
+    let was = ap (end_replies_among h o) c.deref_mut.ensures.value ∙ ap (λ (t : ServerTable). end_replies_among h o t.rows) c.self.view_is in
+    rw (told_everywhere o c.args.message.now c.args.self.now c.requires.end) (omega (arith, none, was, c.end_rows.ensures.few, c.prepare_ends.ensures.few))

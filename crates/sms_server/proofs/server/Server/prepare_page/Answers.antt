@@ -1,27 +1,12 @@
-use Rattle.std.proofs.Common.{◌≡◌, List, length, set, Some, sym, ◌∙◌, ap, subst, arith}
+use Rattle.std.proofs.Common.{◌≡◌, List, length, Some, sym, ◌∙◌, ap, subst, arith}
 use Rattle.std.proofs.lemmas.Bool.{false≢true}
-use Rattle.std.proofs.lemmas.Option.{slice_get_within}
-use Rattle.std.specs.Prelude.{IsSome}
-use Rattle.sms_server.proofs.Looping.{get_set_same}
-use Rattle.sms_server.proofs.Naming.{by_key_same, found, found_now, rows_set, same_table_then, table_same, whole_same}
-use Rattle.sms_server.specs.Kept.{HasMemory, rows_before}
-use Rattle.sms_server.specs.Table.{ServerTable, row_among}
+use Rattle.std.specs.Prelude.{slice_get}
+use Rattle.sms_server.proofs.Naming.{found_now, kept_same, rows_set, same_table_then, table_same}
+use Rattle.sms_server.proofs.Placed.{get_set_same}
+use Rattle.sms_server.specs.Kept.{HasMemory, IsRowAt}
+use Rattle.sms_server.specs.Table.{ServerTable}
 use Rattle.sms_server.specs.declared.page_row.PageRow.{PageRow}
 use Rattle.sms_server.proofs.server.Server.prepare_page.Goals as goal
-
-pub index_mut-requires : goal.index_mut-requires
-index_mut-requires c =
-    let rows = c.self.inside.rows.items in
-    let i = c.in_ok-i.i in
-    let table = c.find_or_name.new.self in
-    let seen : table.rows ≡ rows = ap (λ (t : ServerTable). t.rows) (sym c.self.view_is) in
-    let some : IsSome (row_among c.args.key.object.0 c.args.key.page.0 rows) = subst
-    (λ (l : List PageRow). IsSome (row_among c.args.key.object.0 c.args.key.page.0 l)) seen c.in_ok-i.ensures.named in
-    let place : i ≡ rows_before c.args.key.object.0 c.args.key.page.0 rows = c.in_ok-i.ensures.at
-    ∙ ap (rows_before c.args.key.object.0 c.args.key.page.0) seen in
-    let f = found rows c.args.key i c.self.invariant.by_key place some in
-    let within = slice_get_within rows i f.row f.at in
-    omega (arith, within, c.self.inside.rows.ok.0)
 
 pub invariant_of-self : goal.invariant_of-self
 invariant_of-self c =
@@ -29,20 +14,13 @@ invariant_of-self c =
     let i = c.in_ok-i.i in
     let table = c.find_or_name.new.self in
     let seen : table.rows ≡ rows = ap (λ (t : ServerTable). t.rows) (sym c.self.view_is) in
-    let some : IsSome (row_among c.args.key.object.0 c.args.key.page.0 rows) = subst
-    (λ (l : List PageRow). IsSome (row_among c.args.key.object.0 c.args.key.page.0 l)) seen c.in_ok-i.ensures.named in
-    let place : i ≡ rows_before c.args.key.object.0 c.args.key.page.0 rows = c.in_ok-i.ensures.at
-    ∙ ap (rows_before c.args.key.object.0 c.args.key.page.0) seen in
+    let at = subst (IsRowAt c.args.key i) seen c.in_ok-i.ensures.at in
     let x = c.index_mut.result.now in
     let y = c.reserve.new.self in
-    let stands = found_now rows c.args.key i x c.self.invariant.by_key place some c.index_mut.ensures.value in
+    let stands = found_now rows c.args.key i x at c.index_mut.ensures.value in
     let same = rows_set rows i x y stands.is c.reserve.ensures.same in
-    record {
-      by_key = by_key_same 0 0 rows (set rows i y) same c.self.invariant.by_key;
-      whole = whole_same c.self.inside.size rows (set rows i y) same c.self.invariant.whole;
-      new = c.self.invariant.new;
-      none = c.self.invariant.none;
-    }
+    kept_same c.self.inside.size rows c.self.inside.places c.self.inside.spare c.self.inside.events.items _ i x y c.self.invariant stands.is
+    c.reserve.ensures.same (c.self.invariant.none)
 
 pub returns-in_err-most-clause-same : goal.returns-in_err-most-clause-same
 returns-in_err-most-clause-same c =
@@ -50,13 +28,10 @@ returns-in_err-most-clause-same c =
     let i = c.in_ok-i.i in
     let table = c.find_or_name.new.self in
     let seen : table.rows ≡ rows = ap (λ (t : ServerTable). t.rows) (sym c.self.view_is) in
-    let some : IsSome (row_among c.args.key.object.0 c.args.key.page.0 rows) = subst
-    (λ (l : List PageRow). IsSome (row_among c.args.key.object.0 c.args.key.page.0 l)) seen c.in_ok-i.ensures.named in
-    let place : i ≡ rows_before c.args.key.object.0 c.args.key.page.0 rows = c.in_ok-i.ensures.at
-    ∙ ap (rows_before c.args.key.object.0 c.args.key.page.0) seen in
+    let at = subst (IsRowAt c.args.key i) seen c.in_ok-i.ensures.at in
     let x = c.index_mut.result.now in
     let y = c.reserve.new.self in
-    let stands = found_now rows c.args.key i x c.self.invariant.by_key place some c.index_mut.ensures.value in
+    let stands = found_now rows c.args.key i x at c.index_mut.ensures.value in
     let same = rows_set rows i x y stands.is c.reserve.ensures.same in
     same_table_then c.args.self.now table _ c.find_or_name.ensures.same (table_same table _ rows seen (ap (λ (t : ServerTable). t.size) c.self.view_is) same)
 
@@ -66,15 +41,12 @@ returns-in_err-most-clause-succeeds c = λ prepared.
     let i = c.in_ok-i.i in
     let table = c.find_or_name.new.self in
     let seen : table.rows ≡ rows = ap (λ (t : ServerTable). t.rows) (sym c.self.view_is) in
-    let some : IsSome (row_among c.args.key.object.0 c.args.key.page.0 rows) = subst
-    (λ (l : List PageRow). IsSome (row_among c.args.key.object.0 c.args.key.page.0 l)) seen c.in_ok-i.ensures.named in
-    let place : i ≡ rows_before c.args.key.object.0 c.args.key.page.0 rows = c.in_ok-i.ensures.at
-    ∙ ap (rows_before c.args.key.object.0 c.args.key.page.0) seen in
+    let at = subst (IsRowAt c.args.key i) seen c.in_ok-i.ensures.at in
     let x = c.index_mut.result.now in
     let y = c.reserve.new.self in
-    let stands = found_now rows c.args.key i x c.self.invariant.by_key place some c.index_mut.ensures.value in
+    let stands = found_now rows c.args.key i x at c.index_mut.ensures.value in
     let same = rows_set rows i x y stands.is c.reserve.ensures.same in
-    let memory : HasMemory table.room (Some x) = subst (HasMemory table.room) (ap (row_among c.args.key.object.0 c.args.key.page.0) seen ∙ stands.among)
+    let memory : HasMemory table.room (Some x) = subst (HasMemory table.room) (ap (λ (l : List PageRow). slice_get l i) seen ∙ stands.is)
     (c.in_ok-i.ensures.memory prepared) in
     absurd (false≢true (c.in_err-most.ensures.succeeds memory.0))
 
@@ -84,21 +56,13 @@ invariant_of-self-in_err-reserve c =
     let i = c.in_ok-i.i in
     let table = c.find_or_name.new.self in
     let seen : table.rows ≡ rows = ap (λ (t : ServerTable). t.rows) (sym c.self.view_is) in
-    let some : IsSome (row_among c.args.key.object.0 c.args.key.page.0 rows) = subst
-    (λ (l : List PageRow). IsSome (row_among c.args.key.object.0 c.args.key.page.0 l)) seen c.in_ok-i.ensures.named in
-    let place : i ≡ rows_before c.args.key.object.0 c.args.key.page.0 rows = c.in_ok-i.ensures.at
-    ∙ ap (rows_before c.args.key.object.0 c.args.key.page.0) seen in
+    let at = subst (IsRowAt c.args.key i) seen c.in_ok-i.ensures.at in
     let x = c.index_mut.result.now in
     let y = c.reserve.new.self in
-    let stands = found_now rows c.args.key i x c.self.invariant.by_key place some c.index_mut.ensures.value in
+    let stands = found_now rows c.args.key i x at c.index_mut.ensures.value in
     let same = rows_set rows i x y stands.is c.reserve.ensures.same in
-    record {
-      by_key = by_key_same 0 0 rows (set rows i y) same c.self.invariant.by_key;
-      whole = whole_same c.self.inside.size rows (set rows i y) same c.self.invariant.whole;
-      new = c.self.invariant.new;
-      none = c.reserve-2.ensures.same
-          ∙ c.self.invariant.none;
-    }
+    kept_same c.self.inside.size rows c.self.inside.places c.self.inside.spare c.self.inside.events.items _ i x y c.self.invariant stands.is
+    c.reserve.ensures.same (c.reserve-2.ensures.same ∙ c.self.invariant.none)
 
 pub returns-in_err-reserve-clause-same : goal.returns-in_err-reserve-clause-same
 returns-in_err-reserve-clause-same c =
@@ -106,13 +70,10 @@ returns-in_err-reserve-clause-same c =
     let i = c.in_ok-i.i in
     let table = c.find_or_name.new.self in
     let seen : table.rows ≡ rows = ap (λ (t : ServerTable). t.rows) (sym c.self.view_is) in
-    let some : IsSome (row_among c.args.key.object.0 c.args.key.page.0 rows) = subst
-    (λ (l : List PageRow). IsSome (row_among c.args.key.object.0 c.args.key.page.0 l)) seen c.in_ok-i.ensures.named in
-    let place : i ≡ rows_before c.args.key.object.0 c.args.key.page.0 rows = c.in_ok-i.ensures.at
-    ∙ ap (rows_before c.args.key.object.0 c.args.key.page.0) seen in
+    let at = subst (IsRowAt c.args.key i) seen c.in_ok-i.ensures.at in
     let x = c.index_mut.result.now in
     let y = c.reserve.new.self in
-    let stands = found_now rows c.args.key i x c.self.invariant.by_key place some c.index_mut.ensures.value in
+    let stands = found_now rows c.args.key i x at c.index_mut.ensures.value in
     let same = rows_set rows i x y stands.is c.reserve.ensures.same in
     same_table_then c.args.self.now table _ c.find_or_name.ensures.same (table_same table _ rows seen (ap (λ (t : ServerTable). t.size) c.self.view_is) same)
 
@@ -122,15 +83,12 @@ returns-in_err-reserve-clause-succeeds c = λ prepared.
     let i = c.in_ok-i.i in
     let table = c.find_or_name.new.self in
     let seen : table.rows ≡ rows = ap (λ (t : ServerTable). t.rows) (sym c.self.view_is) in
-    let some : IsSome (row_among c.args.key.object.0 c.args.key.page.0 rows) = subst
-    (λ (l : List PageRow). IsSome (row_among c.args.key.object.0 c.args.key.page.0 l)) seen c.in_ok-i.ensures.named in
-    let place : i ≡ rows_before c.args.key.object.0 c.args.key.page.0 rows = c.in_ok-i.ensures.at
-    ∙ ap (rows_before c.args.key.object.0 c.args.key.page.0) seen in
+    let at = subst (IsRowAt c.args.key i) seen c.in_ok-i.ensures.at in
     let x = c.index_mut.result.now in
     let y = c.reserve.new.self in
-    let stands = found_now rows c.args.key i x c.self.invariant.by_key place some c.index_mut.ensures.value in
+    let stands = found_now rows c.args.key i x at c.index_mut.ensures.value in
     let same = rows_set rows i x y stands.is c.reserve.ensures.same in
-    let memory : HasMemory table.room (Some x) = subst (HasMemory table.room) (ap (row_among c.args.key.object.0 c.args.key.page.0) seen ∙ stands.among)
+    let memory : HasMemory table.room (Some x) = subst (HasMemory table.room) (ap (λ (l : List PageRow). slice_get l i) seen ∙ stands.is)
     (c.in_ok-i.ensures.memory prepared) in
     let room = ap (λ (t : ServerTable). t.room) c.self.view_is in
     absurd (false≢true (c.in_err-reserve.ensures.succeeds (omega (arith, memory.1, room, c.in_ok-most.ensures.most))))
@@ -141,21 +99,13 @@ invariant_of-self-2 c =
     let i = c.in_ok-i.i in
     let table = c.find_or_name.new.self in
     let seen : table.rows ≡ rows = ap (λ (t : ServerTable). t.rows) (sym c.self.view_is) in
-    let some : IsSome (row_among c.args.key.object.0 c.args.key.page.0 rows) = subst
-    (λ (l : List PageRow). IsSome (row_among c.args.key.object.0 c.args.key.page.0 l)) seen c.in_ok-i.ensures.named in
-    let place : i ≡ rows_before c.args.key.object.0 c.args.key.page.0 rows = c.in_ok-i.ensures.at
-    ∙ ap (rows_before c.args.key.object.0 c.args.key.page.0) seen in
+    let at = subst (IsRowAt c.args.key i) seen c.in_ok-i.ensures.at in
     let x = c.index_mut.result.now in
     let y = c.reserve.new.self in
-    let stands = found_now rows c.args.key i x c.self.invariant.by_key place some c.index_mut.ensures.value in
+    let stands = found_now rows c.args.key i x at c.index_mut.ensures.value in
     let same = rows_set rows i x y stands.is c.reserve.ensures.same in
-    record {
-      by_key = by_key_same 0 0 rows (set rows i y) same c.self.invariant.by_key;
-      whole = whole_same c.self.inside.size rows (set rows i y) same c.self.invariant.whole;
-      new = c.self.invariant.new;
-      none = c.reserve-2.ensures.same
-          ∙ c.self.invariant.none;
-    }
+    kept_same c.self.inside.size rows c.self.inside.places c.self.inside.spare c.self.inside.events.items _ i x y c.self.invariant stands.is
+    c.reserve.ensures.same (c.reserve-2.ensures.same ∙ c.self.invariant.none)
 
 pub returns-clause-same : goal.returns-clause-same
 returns-clause-same c =
@@ -163,13 +113,10 @@ returns-clause-same c =
     let i = c.in_ok-i.i in
     let table = c.find_or_name.new.self in
     let seen : table.rows ≡ rows = ap (λ (t : ServerTable). t.rows) (sym c.self.view_is) in
-    let some : IsSome (row_among c.args.key.object.0 c.args.key.page.0 rows) = subst
-    (λ (l : List PageRow). IsSome (row_among c.args.key.object.0 c.args.key.page.0 l)) seen c.in_ok-i.ensures.named in
-    let place : i ≡ rows_before c.args.key.object.0 c.args.key.page.0 rows = c.in_ok-i.ensures.at
-    ∙ ap (rows_before c.args.key.object.0 c.args.key.page.0) seen in
+    let at = subst (IsRowAt c.args.key i) seen c.in_ok-i.ensures.at in
     let x = c.index_mut.result.now in
     let y = c.reserve.new.self in
-    let stands = found_now rows c.args.key i x c.self.invariant.by_key place some c.index_mut.ensures.value in
+    let stands = found_now rows c.args.key i x at c.index_mut.ensures.value in
     let same = rows_set rows i x y stands.is c.reserve.ensures.same in
     same_table_then c.args.self.now table _ c.find_or_name.ensures.same (table_same table _ rows seen (ap (λ (t : ServerTable). t.size) c.self.view_is) same)
 
@@ -179,13 +126,10 @@ returns-clause-at c =
     let i = c.in_ok-i.i in
     let table = c.find_or_name.new.self in
     let seen : table.rows ≡ rows = ap (λ (t : ServerTable). t.rows) (sym c.self.view_is) in
-    let some : IsSome (row_among c.args.key.object.0 c.args.key.page.0 rows) = subst
-    (λ (l : List PageRow). IsSome (row_among c.args.key.object.0 c.args.key.page.0 l)) seen c.in_ok-i.ensures.named in
-    let place : i ≡ rows_before c.args.key.object.0 c.args.key.page.0 rows = c.in_ok-i.ensures.at
-    ∙ ap (rows_before c.args.key.object.0 c.args.key.page.0) seen in
+    let at = subst (IsRowAt c.args.key i) seen c.in_ok-i.ensures.at in
     let x = c.index_mut.result.now in
     let y = c.reserve.new.self in
-    let stands = found_now rows c.args.key i x c.self.invariant.by_key place some c.index_mut.ensures.value in
+    let stands = found_now rows c.args.key i x at c.index_mut.ensures.value in
     let same = rows_set rows i x y stands.is c.reserve.ensures.same in
     let lines = ap length c.reserve.ensures.same.1.line in
     let most = c.in_ok-most.ensures.most in

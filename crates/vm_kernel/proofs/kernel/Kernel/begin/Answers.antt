@@ -55,9 +55,9 @@ returns-clause-room g c more ready log =
     ∙ (most_buffers c.self.inside.parts c.reserve_for.new.self.memory.buffers.count (breadth_of c.args.command.now)
     ∙ ap (λ (z : Parts). most (breadth_of c.args.command.now) z) c.self.view_is) in
     let enough : most (breadth_of c.args.command.now) c.reserve_for.new.self + more ≤ c.args.log.now.room = omega (arith, same, log) in
-    on_ok c.run.result _ _ (λ room. record { has = room.0; buffers = room.1.0; skip = room.1.1 })
+    on_ok c.run.result _ _ (λ room. record { has = room.0; buffers = room.1 })
     (c.run.ensures.room (more + 2) (ready_more (breadth_of c.args.command.now) c.reserve_for.new.self c.args.log.now.room more now enough) now.access
-    now.buffers now.skip c.in_ok-reserve_for.ensures.enough)
+    now.buffers c.in_ok-reserve_for.ensures.enough)
 
 pub returns-clause-err : goal.returns-clause-err
 returns-clause-err g c ready log =
@@ -77,4 +77,4 @@ returns-clause-err g c ready log =
           (buffers_rooms c.self.inside.parts c.run.new.self c.reserve_for.new.self.memory.buffers.count (err.0 ∙ c.in_ok-reserve_for.ensures.is)),
       (err.1.0, err.1.1 ∙ c.requires.0.nothing),
     ))
-    (c.run.ensures.err (record { tables = more.tables; log = omega (arith, more.log) }) now.access now.buffers now.skip c.in_ok-reserve_for.ensures.enough)
+    (c.run.ensures.err (record { tables = more.tables; log = omega (arith, more.log) }) now.access now.buffers c.in_ok-reserve_for.ensures.enough)

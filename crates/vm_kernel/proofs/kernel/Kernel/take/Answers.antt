@@ -83,13 +83,13 @@ more_now g c more ready log =
 pub returns-clause-room : goal.returns-clause-room
 returns-clause-room g c more ready log =
     let now = ready_now g c ready in
-    let all = c.take.ensures.room (more + 2) (more_now g c more ready log) now.mark now.buffers (omega (arith, now.skip))
+    let all = c.take.ensures.room (more + 2) (more_now g c more ready log) now.mark now.buffers
     c.in_ok-reserve_for_word.ensures.enough in
-    always c.take.result _ (record { has = all.1.0; buffers = all.1.1.0; skip = all.1.1.1 })
+    always c.take.result _ (record { has = all.1.0; buffers = all.1.1 })
 
 pub returns-clause-err : goal.returns-clause-err
 returns-clause-err g c ready log =
     let now = ready_now g c ready in
-    let all = c.take.ensures.room 2 (more_now g c 0 ready (omega (arith, log))) now.mark now.buffers (omega (arith, now.skip))
+    let all = c.take.ensures.room 2 (more_now g c 0 ready (omega (arith, log))) now.mark now.buffers
     c.in_ok-reserve_for_word.ensures.enough in
     never_err c.take.result _ all.0

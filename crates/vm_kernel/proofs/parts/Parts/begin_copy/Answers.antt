@@ -1,6 +1,5 @@
 use Rattle.vm_kernel.proofs.Common.{ap, entry, false, frame_count, HostParts, Ids, length, length-append, List, Parts, refl, true, Waiting, WaitTable, ◌*◌, ◌+◌}
 use Rattle.vm_kernel.proofs.Common.{◌/◌, ◌∙◌, ◌≡◌, arith}
-use Rattle.std.specs.Prelude.{vec_capacity}
 use Rattle.vm_kernel.proofs.steps.CopyBegins.{copy_absent, copy_quiet, has_begun}
 use Rattle.vm_kernel.proofs.steps.HeadAlone.{begun_ran}
 use Rattle.vm_kernel.proofs.steps.EventsGrow.{on_ok}
@@ -136,10 +135,5 @@ returns-in_err-push-2-clause-room g c =
 
 pub returns-clause-spare : goal.returns-clause-spare
 returns-clause-spare g c =
-    let one = more_rows g c in
     let made = ap (λ (z : HostParts). z.buffers.count) c.in_ok-make_range.ensures.made.memory in
-    let list = ap vec_capacity c.in_ok-make_range.ensures.skip in
-    on_ok c.restart.result _ _
-    (λ keeps. let buffers = ap (λ z. z.count) keeps.buffers in let kept = ap vec_capacity
-    keeps.skip in (omega (arith, made, buffers), (omega (arith, list, kept), omega (arith, one, keeps.fewer))))
-    c.restart.ensures.spare
+    on_ok c.restart.result _ _ (λ keeps. let buffers = ap (λ z. z.count) keeps.buffers in omega (arith, made, buffers)) c.restart.ensures.spare

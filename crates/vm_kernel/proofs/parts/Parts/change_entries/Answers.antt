@@ -38,14 +38,14 @@ returns-in-Allocate-clause-few g c =
     (few_in c.args.command.now _ c.args.self.now 2 c.in-Allocate.is (omega arith)) c.allocate.ensures.spends
 
 pub returns-in-Allocate-clause-room : goal.returns-in-Allocate-clause-room
-returns-in-Allocate-clause-room g c = λ more had access has skip.
+returns-in-Allocate-clause-room g c = λ more had access has.
     kept_ok c.allocate.result c.args.self.now c.allocate.new.self c.args.log.now c.allocate.new.log 2 2 _ _ more
     (few_in c.args.command.now _ c.args.self.now 2 c.in-Allocate.is (omega arith))
-    (made_in c.args.command.now _ c.args.self.now 2 c.in-Allocate.is (omega arith)) c.allocate.ensures.spends c.allocate.ensures.spare had has skip
+    (made_in c.args.command.now _ c.args.self.now 2 c.in-Allocate.is (omega arith)) c.allocate.ensures.spends c.allocate.ensures.spare had has
 
 pub returns-in-Allocate-clause-err : goal.returns-in-Allocate-clause-err
 returns-in-Allocate-clause-err g c =
-    λ had access has skip. never_err c.allocate.result _ (c.allocate.ensures.succeeds
+    λ had access has. never_err c.allocate.result _ (c.allocate.ensures.succeeds
     (roomy_fewer _ _ 2 2 c.args.self.now _ had.tables (few_in c.args.command.now _ c.args.self.now 2 c.in-Allocate.is (omega arith))
     (made_in c.args.command.now _ c.args.self.now 2 c.in-Allocate.is (omega arith))))
 
@@ -57,15 +57,15 @@ returns-in-Deallocate-clause-few g c =
     c.deallocate.ensures.spends
 
 pub returns-in-Deallocate-clause-room : goal.returns-in-Deallocate-clause-room
-returns-in-Deallocate-clause-room g c = λ more had access has skip.
+returns-in-Deallocate-clause-room g c = λ more had access has.
     ended_ok c.deallocate.result c.args.self.now c.deallocate.new.self c.args.log.now c.deallocate.new.log
     (1 + leaving c.args.self.now c.args.ids.now + length (rows_in c.in-Deallocate.task.0 c.args.self.now.maps)) _ _ more
     (few_in c.args.command.now _ c.args.self.now _ c.in-Deallocate.is (ending_few c.in-Deallocate.task c.requires.0.rests.matches c.stand_once.ensures))
-    c.deallocate.ensures.spends c.deallocate.ensures.buffers c.deallocate.ensures.skip had has skip
+    c.deallocate.ensures.spends c.deallocate.ensures.buffers had has
 
 pub returns-in-Deallocate-clause-err : goal.returns-in-Deallocate-clause-err
 returns-in-Deallocate-clause-err g c =
-    λ had access has skip. on_err c.deallocate.result _ _ (λ same. (same.0, (refl, same.1)))
+    λ had access has. on_err c.deallocate.result _ _ (λ same. (same.0, (refl, same.1)))
     (c.deallocate.ensures.err (roomy_fewer _ _ _ 0 c.args.self.now _ had.tables (few_in c.args.command.now _ c.args.self.now _ c.in-Deallocate.is
     (ending_few c.in-Deallocate.task c.requires.0.rests.matches c.stand_once.ensures)) (omega arith)) has)
 
@@ -75,14 +75,14 @@ returns-in-Protect-clause-few g c =
     (few_in c.args.command.now _ c.args.self.now 1 c.in-Protect.is (omega arith)) c.protect.ensures.spends
 
 pub returns-in-Protect-clause-room : goal.returns-in-Protect-clause-room
-returns-in-Protect-clause-room g c = λ more had access has skip.
+returns-in-Protect-clause-room g c = λ more had access has.
     kept_ok c.protect.result c.args.self.now c.protect.new.self c.args.log.now c.protect.new.log 1 1 _ _ more
     (few_in c.args.command.now _ c.args.self.now 1 c.in-Protect.is (omega arith))
-    (made_in c.args.command.now _ c.args.self.now 1 c.in-Protect.is (omega arith)) c.protect.ensures.spends c.protect.ensures.spare had has skip
+    (made_in c.args.command.now _ c.args.self.now 1 c.in-Protect.is (omega arith)) c.protect.ensures.spends c.protect.ensures.spare had has
 
 pub returns-in-Protect-clause-err : goal.returns-in-Protect-clause-err
 returns-in-Protect-clause-err g c =
-    λ had access has skip. on_err c.protect.result _ _ (λ same. (same.0, (refl, same.1)))
+    λ had access has. on_err c.protect.result _ _ (λ same. (same.0, (refl, same.1)))
     (c.protect.ensures.err (roomy_fewer _ _ 1 1 c.args.self.now _ had.tables (few_in c.args.command.now _ c.args.self.now 1 c.in-Protect.is (omega arith))
     (made_in c.args.command.now _ c.args.self.now 1 c.in-Protect.is (omega arith))))
 
@@ -92,14 +92,14 @@ returns-in-Inherit-clause-few g c =
     (few_in c.args.command.now _ c.args.self.now 1 c.in-Inherit.is (omega arith)) c.inherit.ensures.spends
 
 pub returns-in-Inherit-clause-room : goal.returns-in-Inherit-clause-room
-returns-in-Inherit-clause-room g c = λ more had access has skip.
+returns-in-Inherit-clause-room g c = λ more had access has.
     kept_ok c.inherit.result c.args.self.now c.inherit.new.self c.args.log.now c.inherit.new.log 1 1 _ _ more
     (few_in c.args.command.now _ c.args.self.now 1 c.in-Inherit.is (omega arith))
-    (made_in c.args.command.now _ c.args.self.now 1 c.in-Inherit.is (omega arith)) c.inherit.ensures.spends c.inherit.ensures.spare had has skip
+    (made_in c.args.command.now _ c.args.self.now 1 c.in-Inherit.is (omega arith)) c.inherit.ensures.spends c.inherit.ensures.spare had has
 
 pub returns-in-Inherit-clause-err : goal.returns-in-Inherit-clause-err
 returns-in-Inherit-clause-err g c =
-    λ had access has skip. on_err c.inherit.result _ _ (λ same. (same.0, (refl, same.1)))
+    λ had access has. on_err c.inherit.result _ _ (λ same. (same.0, (refl, same.1)))
     (c.inherit.ensures.err (roomy_fewer _ _ 1 1 c.args.self.now _ had.tables (few_in c.args.command.now _ c.args.self.now 1 c.in-Inherit.is (omega arith))
     (made_in c.args.command.now _ c.args.self.now 1 c.in-Inherit.is (omega arith))))
 

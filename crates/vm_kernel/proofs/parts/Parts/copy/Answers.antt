@@ -8,7 +8,7 @@ use Rattle.vm_kernel.proofs.steps.HeadAlone.{begun_as, begun_ran, ran_as, starts
 use Rattle.vm_kernel.proofs.steps.QueueServed.{three_ok}
 use Rattle.vm_kernel.proofs.lists.ListsAsTold.{lists_same, plays_both, plays_told}
 use Rattle.vm_kernel.proofs.steps.FramesInTurn.{restarts_behind, restarts_quiet}
-use Rattle.vm_kernel.proofs.room.PartsOfStep.{begun_leaves, few_behind, few_ok, kept_ok, leaves_behind, more_fewer, room_behind, skip_fewer, told_behind}
+use Rattle.vm_kernel.proofs.room.PartsOfStep.{begun_leaves, few_behind, few_ok, kept_ok, leaves_behind, more_fewer, room_behind, told_behind}
 use Rattle.vm_kernel.proofs.room.EndsSpend.{roomy_fewer}
 use Rattle.vm_kernel.proofs.room.CallsSpend.{never_err}
 use Rattle.vm_kernel.specs.Rooms.{front, making}
@@ -73,12 +73,12 @@ pub returns-then-not-is_paged-clause-few : goal.returns-then-not-is_paged-clause
 returns-then-not-is_paged-clause-few g c = c.begin_copy.ensures.few
 
 pub returns-then-not-is_paged-clause-room : goal.returns-then-not-is_paged-clause-room
-returns-then-not-is_paged-clause-room g c = λ more had access has skip.
+returns-then-not-is_paged-clause-room g c = λ more had access has.
     let began = c.begin_copy.ensures.room more had access in
-    begun_leaves c.begin_copy.result more c.args.self.now c.begin_copy.new.self c.begin_copy.new.log.room began.0 c.begin_copy.ensures.spare has skip
+    begun_leaves c.begin_copy.result more c.args.self.now c.begin_copy.new.self c.begin_copy.new.log.room began.0 c.begin_copy.ensures.spare has
 
 pub returns-then-not-is_paged-clause-err : goal.returns-then-not-is_paged-clause-err
-returns-then-not-is_paged-clause-err g c = λ had access has skip. never_err c.begin_copy.result _ (c.begin_copy.ensures.room 0 had access).1
+returns-then-not-is_paged-clause-err g c = λ had access has. never_err c.begin_copy.result _ (c.begin_copy.ensures.room 0 had access).1
 
 -- The delayed one, behind which accesses are run again.
 
@@ -111,21 +111,21 @@ returns-then-place-len-clause-few g c =
     on_ok c.restart.result _ _ (λ more. few_behind more few) c.restart.ensures.few
 
 pub returns-then-place-len-clause-room : goal.returns-then-place-len-clause-room
-returns-then-place-len-clause-room g c = λ more had access has skip.
+returns-then-place-len-clause-room g c = λ more had access has.
     let some = more_fewer (front wide.Frames c.args.self.now) (making wide.Frames c.args.self.now) 4 4 more c.args.self.now _ had (omega arith) (omega arith) in
     let runs = c.restart.ensures.room more (room_behind c.args.self.now c.enter_delayed.new.self c.args.log.now c.enter_delayed.new.log 4 4 more
     c.in_ok-enter_delayed.ensures.spends some) in
     leaves_behind c.restart.result more c.args.self.now c.enter_delayed.new.self c.restart.new.self c.restart.new.log.room runs.1
-    c.in_ok-enter_delayed.ensures.spare c.restart.ensures.spare has skip
+    c.in_ok-enter_delayed.ensures.spare c.restart.ensures.spare has
 
 pub returns-then-place-len-clause-err : goal.returns-then-place-len-clause-err
-returns-then-place-len-clause-err g c = λ had access has skip.
+returns-then-place-len-clause-err g c = λ had access has.
     let some = more_fewer (front wide.Frames c.args.self.now) (making wide.Frames c.args.self.now) 4 4 0 c.args.self.now _ had (omega arith) (omega arith) in
     never_err c.restart.result _ (c.restart.ensures.room 0 (room_behind c.args.self.now c.enter_delayed.new.self c.args.log.now c.enter_delayed.new.log 4 4 0
     c.in_ok-enter_delayed.ensures.spends some)).0
 
 pub returns-in_err-enter_delayed-clause-err : goal.returns-in_err-enter_delayed-clause-err
-returns-in_err-enter_delayed-clause-err g c = λ had access has skip.
+returns-in_err-enter_delayed-clause-err g c = λ had access has.
     let some = roomy_fewer (front wide.Frames c.args.self.now) (making wide.Frames c.args.self.now) 4 4 c.args.self.now _ had.tables (omega arith)
     (omega arith) in
     absurd (let bad : false ≡ true = c.in_err-enter_delayed.ensures.succeeds some in cc)
@@ -163,12 +163,11 @@ returns-clause-few g c =
     c.enter_copy.ensures.spends
 
 pub returns-clause-room : goal.returns-clause-room
-returns-clause-room g c = λ more had access has skip.
+returns-clause-room g c = λ more had access has.
     kept_ok c.enter_copy.result c.args.self.now c.enter_copy.new.self c.args.log.now c.enter_copy.new.log 4 4 (front wide.Frames c.args.self.now)
     (making wide.Frames c.args.self.now) more (omega arith) (omega arith) c.enter_copy.ensures.spends c.enter_copy.ensures.spare had has
-    (skip_fewer c.args.self.now skip)
 
 pub returns-clause-err : goal.returns-clause-err
 returns-clause-err g c =
-    λ had access has skip. never_err c.enter_copy.result _ (c.enter_copy.ensures.succeeds
+    λ had access has. never_err c.enter_copy.result _ (c.enter_copy.ensures.succeeds
     (roomy_fewer (front wide.Frames c.args.self.now) (making wide.Frames c.args.self.now) 4 4 c.args.self.now _ had.tables (omega arith) (omega arith)))

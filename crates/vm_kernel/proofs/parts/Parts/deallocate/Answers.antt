@@ -9,13 +9,12 @@ use Rattle.vm_kernel.proofs.steps.EventsGrow.{on_ok}
 use Rattle.vm_kernel.proofs.space.EntriesLeave.{ends_behind, still_removed}
 use Rattle.vm_kernel.specs.Endings.{EndsByAddress}
 use Rattle.vm_kernel.specs.Plays.{paging}
-use Rattle.vm_kernel.specs.Rooms.{KeepsSkip, leaving, with_rows}
+use Rattle.vm_kernel.specs.Rooms.{leaving, with_rows}
 use Rattle.vm_kernel.proofs.space.StillThin.{thin_chains}
 use Rattle.vm_kernel.proofs.space.EntriesAtBoundary.{cut_there}
 use Rattle.vm_kernel.proofs.steps.QueueServed.{both_ok}
 use Rattle.vm_kernel.proofs.room.CallsSpend.{removed_spends}
 use Rattle.vm_kernel.proofs.room.MergesSpend.{any_err, buffers_more, ends_err, ends_ok, parts_gone, rows_back, rows_enough, starts_roomier, still_more}
-use Rattle.vm_kernel.proofs.room.PartsOfStep.{skip_both, skip_kept}
 use Rattle.vm_kernel.proofs.parts.Parts.deallocate.Given.{Over}
 use Rattle.vm_kernel.proofs.parts.Parts.deallocate.Goals as goal
 
@@ -160,11 +159,3 @@ pub returns-clause-buffers : goal.returns-clause-buffers
 returns-clause-buffers g c =
     on_ok c.sweep_and_merge.result _ _ (λ more has. more (buffers_more c.args.self.now c.room_to_merge.new.self c.in_ok-losers.ensures.is has))
     c.sweep_and_merge.ensures.buffers
-
-pub returns-clause-skip : goal.returns-clause-skip
-returns-clause-skip g c =
-    let mid : Parts = record c.room_to_merge.new.self { maps = c.remove.new.self; chains = c.count_cuts.new.chains } in
-    on_ok c.sweep_and_merge.result (KeepsSkip mid c.sweep_and_merge.new.self) _
-    (λ more. skip_both c.args.self.now mid c.sweep_and_merge.new.self
-    (skip_kept c.args.self.now mid (ap (λ (z : Parts). z.skip) c.in_ok-losers.ensures.is) (ap (λ (z : Parts). z.waits) c.in_ok-losers.ensures.is)) more)
-    c.sweep_and_merge.ensures.skip

@@ -141,8 +141,4 @@ pub returns-clause-spare : goal.returns-clause-spare
 returns-clause-spare c =
     let same = (made_freed _ _ c.requires.file c.args.self.now c.free_pushers.new.self c.make_copy_object.new.self c.free_pushers.ensures.is c.requires.delays
     c.in_ok-make_copy_object.ensures.makes).same in
-    let rows = ap (λ (z : Parts). length z.waits.rows) same
-    ∙ freed_length c.args.source.0 c.args.self.now.copies c.args.self.now.waits c.free_pushers.new.self.waits c.free_pushers.ensures.frees in
-    on_ok c.push-2.result _ _
-    (λ told. record { buffers = ap (λ (z : Parts). z.memory.buffers) same; skip = ap (λ (z : Parts). z.skip) same; fewer = omega (arith, rows) })
-    c.push-2.ensures.ok
+    on_ok c.push-2.result _ _ (λ told. record { buffers = ap (λ (z : Parts). z.memory.buffers) same }) c.push-2.ensures.ok

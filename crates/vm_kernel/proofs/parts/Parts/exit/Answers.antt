@@ -7,12 +7,11 @@ use Rattle.vm_kernel.proofs.space.TasksEnd.{exit_gone, ran_swept, sweeps_exit}
 use Rattle.vm_kernel.proofs.steps.EventsGrow.{on_ok}
 use Rattle.vm_kernel.proofs.space.EntriesLeave.{ends_behind, still_ended}
 use Rattle.vm_kernel.specs.Endings.{EndsByAddress}
-use Rattle.vm_kernel.specs.Rooms.{KeepsSkip, leaving}
+use Rattle.vm_kernel.specs.Rooms.{leaving}
 use Rattle.vm_kernel.specs.Plays.{paging}
 use Rattle.vm_kernel.proofs.steps.QueueServed.{both_ok}
 use Rattle.vm_kernel.proofs.room.EndsSpend.{exit_spends}
 use Rattle.vm_kernel.proofs.room.MergesSpend.{all_gone, any_err, buffers_more, ends_err, ends_ok, rows_back, rows_enough, starts_roomier, still_more}
-use Rattle.vm_kernel.proofs.room.PartsOfStep.{skip_both, skip_kept}
 use Rattle.vm_kernel.proofs.parts.Parts.exit.Goals as goal
 
 pub sweep_and_merge-requires : goal.sweep_and_merge-requires
@@ -117,11 +116,3 @@ pub returns-clause-buffers : goal.returns-clause-buffers
 returns-clause-buffers g c =
     on_ok c.sweep_and_merge.result _ _ (λ more has. more (buffers_more c.args.self.now c.room_to_merge.new.self c.in_ok-losers.ensures.is has))
     c.sweep_and_merge.ensures.buffers
-
-pub returns-clause-skip : goal.returns-clause-skip
-returns-clause-skip g c =
-    let mid : Parts = record c.room_to_merge.new.self { maps = c.end_task-gone.new.self } in
-    on_ok c.sweep_and_merge.result (KeepsSkip mid c.sweep_and_merge.new.self) _
-    (λ more. skip_both c.args.self.now mid c.sweep_and_merge.new.self
-    (skip_kept c.args.self.now mid (ap (λ (z : Parts). z.skip) c.in_ok-losers.ensures.is) (ap (λ (z : Parts). z.waits) c.in_ok-losers.ensures.is)) more)
-    c.sweep_and_merge.ensures.skip

@@ -12,7 +12,6 @@ use Rattle.vm_kernel.proofs.steps.RowsInOrder.{without_keeps}
 use Rattle.vm_kernel.proofs.steps.FramesInTurn.{nobody_more, quiet_unlisted}
 use Rattle.vm_kernel.proofs.room.EndsSpend.{copies_dropped, failed_spends, roomy_on}
 use Rattle.vm_kernel.proofs.room.CallsSpend.{spends_both, spends_none}
-use Rattle.vm_kernel.proofs.room.PartsOfStep.{skip_both, skip_none}
 use Rattle.vm_kernel.proofs.parts.Parts.fail.Goals as goal
 
 pub all-init : goal.all-init
@@ -30,7 +29,6 @@ all-init g c =
       quiet = record { queue = refl; more = []; told = refl; none = tt };
       spends = spends_none c.args.self.now c.args.log.now _;
       buffers = λ has. has;
-      skip = skip_none c.args.self.now;
     }
 
 pub end_region-requires : goal.end_region-requires
@@ -95,9 +93,6 @@ all-preserved g c =
           (copies_dropped c.in-Some.waiting.task.0 c.all.self.waits.rows c.remove.new.self.rows c.remove.ensures.rows) c.in_ok-push.ensures.ok
           c.in_ok-push.ensures.room);
       buffers = was.buffers;
-      skip =
-          skip_both c.args.self.now c.all.self (record c.all.self { waits = c.remove.new.self }) was.skip
-          (record { skip = refl; fewer = (let gone = c.remove.ensures.length in omega (arith, gone)) });
     }
 
 -- one that filled a region, which has ended too
@@ -161,9 +156,6 @@ all-preserved-in_ok-end_region g c =
           c.in_ok-push.ensures.room))
           ends.spends;
       buffers = λ has. ends.buffers (was.buffers has);
-      skip =
-          skip_both c.args.self.now c.all.self c.end_region.new.self was.skip (skip_both c.all.self (record c.all.self { waits = c.remove.new.self })
-          c.end_region.new.self (record { skip = refl; fewer = (let gone = c.remove.ensures.length in omega (arith, gone)) }) ends.skip);
     }
 
 pub returns-clause-ended : goal.returns-clause-ended

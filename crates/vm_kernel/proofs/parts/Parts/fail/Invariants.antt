@@ -2,7 +2,7 @@ use Rattle.vm_kernel.proofs.Common.{Asker, FailsNow, IsAnswered, LegalEvents, Pl
 use Rattle.vm_kernel.proofs.Common.{◌≡◌}
 use Rattle.std.proofs.Common.{◌⊎◌}
 use Rattle.vm_supply.specs.declared.woken.Woken.TheVariants as woken
-use Rattle.vm_kernel.specs.Rooms.{HasBuffers, KeepsSkip, Spends, leaving}
+use Rattle.vm_kernel.specs.Rooms.{HasBuffers, Spends, leaving}
 use Rattle.vm_kernel.proofs.controls.WaitersFail.{EndsBefore, EndsOr}
 use Rattle.vm_kernel.proofs.parts.Parts.fail.Given as goal
 
@@ -19,7 +19,6 @@ invariant-all g l = record {
   quiet : RunsNobody l.fn.self.waits.queue l.self.waits.queue l.fn.log.items l.log.items;
   spends : Spends (leaving l.fn.self l.ids) 0 (leaving l.self l.ids) l.fn.self l.fn.log l.self l.log;
   buffers : HasBuffers l.fn.self → HasBuffers l.self;
-  skip : KeepsSkip l.fn.self l.self;
 }
 
 abbrev pub decreases-all : goal.decreases-all

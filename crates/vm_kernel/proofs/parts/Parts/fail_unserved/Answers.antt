@@ -1,9 +1,8 @@
-use Rattle.vm_kernel.proofs.Common.{Event, List, Parts, Still, [], ap, arith, paging, refl, subst, sym, ◌++◌, ◌∙◌, ◌∷◌, ◌≡◌}
+use Rattle.vm_kernel.proofs.Common.{Event, List, Parts, Still, [], ap, paging, refl, subst, sym, ◌++◌, ◌∙◌, ◌∷◌, ◌≡◌}
 use Rattle.vm_kernel.proofs.controls.UnservedFail.{fails_more, falls_in_turn, have_fallen, queue_kept, spends_level, standing_left, unserved_left}
 use Rattle.vm_kernel.proofs.lists.ListsAsTold.{plays_both, plays_one}
 use Rattle.vm_kernel.proofs.room.CallsSpend.{spends_both, spends_none}
 use Rattle.vm_kernel.proofs.room.EndsSpend.{copies_dropped, failed_spends}
-use Rattle.vm_kernel.proofs.room.PartsOfStep.{skip_both, skip_none}
 use Rattle.vm_kernel.proofs.steps.EventsGrow.{goes_both, goes_none}
 use Rattle.vm_kernel.specs.Destroying.{StandOrFell}
 use Rattle.vm_kernel.specs.Rooms.{Spends}
@@ -21,7 +20,6 @@ all-init g c = record {
   queue = refl;
   spends = spends_none c.args.self.now c.args.log.now _;
   same = refl;
-  skip = skip_none c.args.self.now;
 }
 
 pub end_unserved-requires : goal.end_unserved-requires
@@ -67,8 +65,6 @@ all-preserved g c =
           (subst (λ (z : Parts). Spends 0 0 0 c.all.self c.all.log z c.end_unserved.new.log) (sym now.same)
           (spends_level _ c.all.self (record c.all.self { waits = new.waits }) c.all.log c.end_unserved.new.log one));
       same = now.same ∙ ap (λ (z : Parts). record z { waits = new.waits }) was.same;
-      skip = skip_both c.args.self.now c.all.self new was.skip
-          (record { skip = ap (λ (z : Parts). z.skip) now.same; fewer = (let gone = now.length in omega (arith, gone)) });
     }
 
 pub returns-clause-replied : goal.returns-clause-replied

@@ -1,7 +1,7 @@
 use Rattle.vm_kernel.proofs.Common.{LegalEvents, Plays, length, paging, ◌++◌, ◌≡◌}
 use Rattle.vm_kernel.specs.Destroying.{AllUnserved, FailsOnly, StandOrFell}
 use Rattle.vm_kernel.specs.Matches.{Undone}
-use Rattle.vm_kernel.specs.Rooms.{KeepsSkip, Spends}
+use Rattle.vm_kernel.specs.Rooms.{Spends}
 use Rattle.vm_kernel.proofs.parts.Parts.fail_unserved.Given as goal
 
 abbrev pub invariant-all : goal.invariant-all
@@ -15,7 +15,6 @@ invariant-all g l = record {
   queue : l.self.waits.queue ≡ l.fn.self.waits.queue;
   spends : Spends 0 0 0 l.fn.self l.fn.log l.self l.log;
   same : l.self ≡ record l.fn.self { waits = l.self.waits };
-  skip : KeepsSkip l.fn.self l.self;
 }
 
 abbrev pub decreases-all : goal.decreases-all

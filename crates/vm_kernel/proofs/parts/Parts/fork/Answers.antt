@@ -40,12 +40,12 @@ returns-clause-few g c =
     on_ok c.restart.result _ _ (λ more. few_behind more few) c.restart.ensures.few
 
 pub returns-clause-room : goal.returns-clause-room
-returns-clause-room g c = λ more had has skip.
+returns-clause-room g c = λ more had has.
     let made = of_entries c.args.task.0 c.args.self.now in
     let runs = c.restart.ensures.room more (room_behind c.args.self.now c.fork_entries.new.self c.args.log.now c.fork_entries.new.log made made more
     c.in_ok-fork_entries.ensures.spends had) in
     leaves_behind c.restart.result more c.args.self.now c.fork_entries.new.self c.restart.new.self c.restart.new.log.room runs.1
-    c.in_ok-fork_entries.ensures.spare c.restart.ensures.spare has skip
+    c.in_ok-fork_entries.ensures.spare c.restart.ensures.spare has
 
 pub returns-in_err-fork_entries-clause-err : goal.returns-in_err-fork_entries-clause-err
 returns-in_err-fork_entries-clause-err g c =

@@ -22,7 +22,7 @@ all-init g c =
           c.add_task.new.self c.requires c.in_ok-add_task.ensures.ok (by_address c.entries.result.now) c.entries.ensures.value c.entries.ensures.sound.in_order
           c.in_ok-push.ensures.ok;
       plays = plays_told c.in_ok-push.ensures.ok refl;
-      spare = record { buffers = refl; skip = refl; fewer = omega arith };
+      spare = record { buffers = refl };
       spends =
           (let one = ap length c.in_ok-push.ensures.ok in record {
             told = omega (arith, one);

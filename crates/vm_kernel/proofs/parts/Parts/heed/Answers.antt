@@ -56,7 +56,6 @@ returns-in_default g c =
       buffers = on_ok c.hear.result _ _ (λ same asks has. let count = ap (λ z. z.count) same in omega (arith, count, has)) c.hear.ensures.buffers;
       failing = c.hear.ensures.failing;
       dies = c.hear.ensures.dies;
-      skip = c.hear.ensures.skip;
     }
 
 -- a lock request changes no attributes
@@ -127,7 +126,6 @@ returns-in_ok-change-in-Attributes g c =
       buffers = λ asks has. some_buffers c.change.new.self (c.in_ok-change-in-Attributes.ensures.buffers has);
       failing = λ key bad. absurd (let clash : who.Nobody ≡ who.Fails key = bad in cc);
       dies = λ key bad. absurd (let clash : who.Nobody ≡ who.Fails key = bad in cc);
-      skip = c.in_ok-change-in-Attributes.ensures.skip;
     }
 
 pub returns-in_err-change-in-Attributes-clause-succeeds : goal.returns-in_err-change-in-Attributes-clause-succeeds
@@ -175,5 +173,4 @@ returns-in-Ready g c =
       buffers = on_ok c.ready.result _ _ (λ kept asks has. some_buffers c.ready.new.self (kept has)) c.ready.ensures.buffers;
       failing = if_ok c.ready.result (λ woken says key bad. absurd ((stay_wakes woken says.wakes).unfailed key bad)) c.ready.ensures.says;
       dies = if_ok c.ready.result (λ woken says key bad. absurd ((stay_wakes woken says.wakes).unfailed key bad)) c.ready.ensures.says;
-      skip = c.ready.ensures.skip;
     }

@@ -58,7 +58,6 @@ returns-then-cache g c =
       spends = flag_spends c.args.ids.now c.args.log.now c.requires.found is (c.refer.ensures.rooms.rows ∙ c.set_cache.ensures.rooms.rows);
       succeeds = λ room buffers. refl;
       buffers = λ had. had;
-      skip = record { skip = refl; fewer = omega arith };
     }
 
 -- nothing is spent before the object ends
@@ -80,7 +79,6 @@ returns-then-unrefer-gt0 g c =
       spends = first_spends g turn;
       succeeds = λ room buffers. refl;
       buffers = λ had. had;
-      skip = record { skip = refl; fewer = omega arith };
     }
 
 -- the last reference was the flag
@@ -118,5 +116,4 @@ returns g c =
           c.end_object.new.self c.args.log.now c.args.log.now c.end_object.new.log _ _ _ (first_spends g turn) all.spends;
       succeeds = λ room buffers. refl;
       buffers = all.buffers;
-      skip = record { skip = all.skip.skip; fewer = all.skip.fewer };
     }

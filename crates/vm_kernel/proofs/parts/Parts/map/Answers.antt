@@ -128,7 +128,5 @@ returns-clause-spare g c =
     on_ok c.open.result _ _
     (λ opens. let little = opens_little c.args.object _ _ c.open.new.self c.push.new.self.items c.open.new.log.items there opens in record {
       buffers = little.held.buffers ∙ held.buffers;
-      skip = little.held.skip ∙ held.skip;
-      fewer = omega (arith, held.waits, little.held.waits);
     })
     c.open.ensures.opens

@@ -4,7 +4,6 @@ use Rattle.vm_kernel.proofs.parts.Parts.merge.Goals as goal
 use Rattle.vm_kernel.proofs.parts.Parts.merge.Goals.{After-merge_losers}
 use Rattle.vm_kernel.proofs.room.EndsSpend.{frames_kept}
 use Rattle.vm_kernel.proofs.room.MergesSpend.{merges_buffers, merges_list, merges_spend, merges_still}
-use Rattle.vm_kernel.proofs.room.PartsOfStep.{skip_kept}
 use Rattle.vm_kernel.proofs.space.ObjectsMerged.{AllMerged, all_merged, may_merge}
 use Rattle.vm_kernel.specs.Endings.{MergesOnly}
 use Rattle.vm_kernel.specs.Plays.{Plays, paging}
@@ -79,7 +78,3 @@ returns-clause-buffers g c =
     c.merge_losers.ensures.buffers
     (merges_list (merge_state c.args.self.now.memory c.args.self.now.chains c.args.self.now.copies c.reserve.new.self.items)
     (merge_state c.merge_losers.new.parts c.merge_losers.new.chains c.args.self.now.copies c.merge_losers.new.log.items) c.merge_losers.ensures.merges)
-
-pub returns-clause-skip : goal.returns-clause-skip
-returns-clause-skip g c =
-    skip_kept c.args.self.now (record c.args.self.now { memory = c.merge_losers.new.parts; chains = c.merge_losers.new.chains }) refl refl

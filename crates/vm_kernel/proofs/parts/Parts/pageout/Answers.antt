@@ -3,7 +3,7 @@ use Rattle.std.specs.Prelude.{◌++◌}
 use Rattle.vm_kernel.proofs.lists.PageoutReclaims.{Reclaiming, first_source, paged_out, plays_first, ran_out, reclaiming_more, reclaiming_start, source_since}
 use Rattle.vm_kernel.proofs.lists.PageoutReclaims.{spares_one}
 use Rattle.vm_kernel.proofs.lists.ListsAsTold.{plays_both}
-use Rattle.vm_kernel.proofs.lists.FramesSkipped.{Reclaimed, all_reclaimed, none_reclaimed, not_nothing, one_reclaimed, reclaimed_room, reclaimed_skip}
+use Rattle.vm_kernel.proofs.lists.FramesSkipped.{Reclaimed, all_reclaimed, none_reclaimed, not_nothing, one_reclaimed, reclaimed_room}
 use Rattle.vm_kernel.proofs.lists.FramesSkipped.{reclaimed_spare, reclaimed_spends, same_frames}
 use Rattle.vm_parts.specs.Listed.{listed_pages}
 use Rattle.vm_kernel.proofs.steps.FramesInTurn.{quiet_both, quiet_gone, quiet_none}
@@ -54,12 +54,8 @@ returns-in-Nothing g c =
     was.reclaimed all.leaves c.in-Nothing.is all.reclaimed.waits frames same.0 same.1 in
     record {
       spends = reclaimed_spends c.pages.counter c.args.self.now c.reclaim.new.self c.args.log.now c.reclaim.new.log reclaimed;
-      succeeds = λ roomy enough long. refl;
-      spare = (
-        reclaimed_spare c.pages.counter c.args.count c.args.self.now c.reclaim.new.self c.args.log.now c.reclaim.new.log reclaimed (omega arith),
-        reclaimed.skip,
-      );
-      rows = (let accesses = reclaimed.accesses in omega (arith, accesses));
+      succeeds = λ roomy enough. refl;
+      spare = reclaimed_spare c.pages.counter c.args.count c.args.self.now c.reclaim.new.self c.args.log.now c.reclaim.new.log reclaimed (omega arith);
       ran =
           ran_out g.given.header g.given.host g.given.outside g.given.command c.args.count c.pages.counter c.source-first.result c.same_page-spared.result
           g.given.past c.pages.self c.reclaim.new.self c.args.ids.now c.in_ok-reclaim.field-0 c.pages.log.items c.reclaim.new.log.items was.reclaiming
@@ -110,24 +106,18 @@ pub returns-clause-spends : goal.returns-clause-spends
 returns-clause-spends g c = reclaimed_spends c.pages.counter c.args.self.now c.pages.self c.args.log.now c.pages.log c.pages.invariant.reclaimed
 
 pub returns-clause-spare : goal.returns-clause-spare
-returns-clause-spare g c = (
-  reclaimed_spare c.pages.counter c.args.count c.args.self.now c.pages.self c.args.log.now c.pages.log c.pages.invariant.reclaimed (omega arith),
-  c.pages.invariant.reclaimed.skip,
-)
+returns-clause-spare g c =
+    reclaimed_spare c.pages.counter c.args.count c.args.self.now c.pages.self c.args.log.now c.pages.log c.pages.invariant.reclaimed (omega arith)
 
 -- a reclaim fails for want of room alone
 pub returns-in_err-reclaim-clause-succeeds : goal.returns-in_err-reclaim-clause-succeeds
-returns-in_err-reclaim-clause-succeeds g c = λ roomy enough long.
+returns-in_err-reclaim-clause-succeeds g c = λ roomy enough.
     let was = c.pages.invariant.reclaimed in
     let buffers = reclaimed_spare c.pages.counter c.args.count c.args.self.now c.pages.self c.args.log.now c.pages.log was (omega arith) enough in
-    let skip = reclaimed_skip c.pages.counter c.args.self.now c.pages.self c.args.log.now c.pages.log was long in
-    absurd (may_fail (listed_pages c.pages.self.memory.queues) (λ none. c.in_err-reclaim.ensures.empty none skip)
+    absurd (may_fail (listed_pages c.pages.self.memory.queues) (λ none. c.in_err-reclaim.ensures.empty none)
     (λ some. c.in_err-reclaim.ensures.room (reclaimed_room c.pages.counter c.args.self.now c.pages.self c.args.ids.now c.args.log.now c.pages.log was roomy
-    some) buffers skip))
+    some) buffers))
   where
     may_fail : (n : ℕ) → (n ≡ 0 → false ≡ true) → (0 < n → false ≡ true) → ⊥
     may_fail zero none some = let bad : false ≡ true = none refl in cc
     may_fail (suc n) none some = let bad : false ≡ true = some (omega arith) in cc
-
-pub returns-clause-rows : goal.returns-clause-rows
-returns-clause-rows g c = let accesses = c.pages.invariant.reclaimed.accesses in omega (arith, accesses)

@@ -73,5 +73,4 @@ returns-in_default-woken g c =
           (omega arith);
       succeeds = λ room marks buffers. refl;
       buffers = λ buffers. buffers_kept c.args.self.now c.answer.new.parts listed had buffers;
-      skip = record { skip = refl; fewer = omega arith };
     }

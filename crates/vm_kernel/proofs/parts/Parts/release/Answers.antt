@@ -1,9 +1,8 @@
-use Rattle.vm_kernel.proofs.Common.{PutsEntries, Still, arith, by_address, false, refl, subst, sym, true, ℕ, ◌-◌, ◌∙◌, ◌≡◌}
+use Rattle.vm_kernel.proofs.Common.{PutsEntries, Still, arith, by_address, false, subst, sym, true, ℕ, ◌-◌, ◌∙◌, ◌≡◌}
 use Rattle.vm_kernel.proofs.space.EntriesGone.{ends_less, ends_still, some_left, sweeps_less, sweeps_next, sweeps_on}
 use Rattle.vm_kernel.proofs.space.EntriesLeave.{out_last, out_still}
 use Rattle.vm_kernel.proofs.room.EndsSpend.{count_spends, roomy_on}
 use Rattle.vm_kernel.proofs.room.CallsSpend.{spends_both}
-use Rattle.vm_kernel.proofs.room.PartsOfStep.{skip_kept}
 use Rattle.vm_base.specs.declared.ids.ObjectId.{ObjectId}
 use Rattle.vm_kernel.proofs.Common.{ChainTable, List, ObjectTable, ap}
 use Rattle.vm_kernel.proofs.space.StillThin.{thin_but_chains}
@@ -92,12 +91,6 @@ returns-in_err-left-clause-succeeds g c = λ room buffers.
     c.args.log.now c.args.log.now _ _
     (count_spends c.args.self.now c.args.ids.now c.set_count.new.chains c.args.log.now c.set_count.ensures.spare) room) buffers in
     absurd (cc)
-
-pub returns-else-count-eq1-clause-skip : goal.returns-else-count-eq1-clause-skip
-returns-else-count-eq1-clause-skip g c = skip_kept c.args.self.now (record c.args.self.now { chains = c.set_count.new.chains }) refl refl
-
-pub returns-in_ok-left-clause-skip : goal.returns-in_ok-left-clause-skip
-returns-in_ok-left-clause-skip g c = skip_kept c.args.self.now c.end_region.new.self c.in_ok-left.ensures.skip.skip c.in_ok-left.ensures.waits
 
 -- the region counts less, and nothing else has changed
 counted : {copies : CopyTable} (losers : List ObjectId) (cs cs2 : ChainTable) (os : ObjectTable) (region count : ℕ) → PutsEntries region count cs cs2

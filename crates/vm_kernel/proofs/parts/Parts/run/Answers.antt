@@ -3,9 +3,9 @@ use Rattle.vm_kernel.proofs.steps.CommandsBuilt.{none_unknown, pageout_of, task_
 use Rattle.vm_kernel.proofs.steps.EventsGrow.{on_ok}
 use Rattle.vm_kernel.proofs.steps.FramesInTurn.{restarts_quiet}
 use Rattle.vm_kernel.proofs.room.PartsOfStep.{begun_leaves, ended_ok, few_behind, few_in, few_ok, kept_ok, ending_few, listed_few, made_in, more_fewer, on_err}
-use Rattle.vm_kernel.proofs.room.PartsOfStep.{out_few, room_behind, skip_fewer, up_to_front}
+use Rattle.vm_kernel.proofs.room.PartsOfStep.{out_few, room_behind, up_to_front}
 use Rattle.vm_kernel.proofs.room.EndsSpend.{roomy_fewer}
-use Rattle.vm_kernel.proofs.steps.QueueServed.{three_ok}
+use Rattle.vm_kernel.proofs.steps.QueueServed.{both_ok}
 use Rattle.vm_kernel.proofs.room.CallsSpend.{never_err}
 use Rattle.vm_kernel.specs.Plays.{PlaysBy, may_reclaim, paging}
 use Rattle.vm_kernel.specs.Rooms.{HasReturns, front, leaving, making, of_entries}
@@ -86,14 +86,14 @@ returns-in-Task-clause-few g c =
     (few_in c.args.command.now _ c.args.self.now 1 c.in-Task.is (omega arith)) c.make_task.ensures.spends
 
 pub returns-in-Task-clause-room : goal.returns-in-Task-clause-room
-returns-in-Task-clause-room g c = λ more had access has skip returns.
+returns-in-Task-clause-room g c = λ more had access has returns.
     kept_ok c.make_task.result c.args.self.now c.make_task.new.self c.args.log.now c.make_task.new.log 1 1 _ _ more
     (few_in c.args.command.now _ c.args.self.now 1 c.in-Task.is (omega arith)) (made_in c.args.command.now _ c.args.self.now 1 c.in-Task.is (omega arith))
-    c.make_task.ensures.spends c.make_task.ensures.spare had has (skip_fewer c.args.self.now skip)
+    c.make_task.ensures.spends c.make_task.ensures.spare had has
 
 pub returns-in-Task-clause-err : goal.returns-in-Task-clause-err
 returns-in-Task-clause-err g c =
-    λ had access has skip returns. on_err c.make_task.result _ _ (λ same. (same.0, (refl, same.1)))
+    λ had access has returns. on_err c.make_task.result _ _ (λ same. (same.0, (refl, same.1)))
     (c.make_task.ensures.err (roomy_fewer _ _ 1 1 c.args.self.now _ had.tables (few_in c.args.command.now _ c.args.self.now 1 c.in-Task.is (omega arith))
     (made_in c.args.command.now _ c.args.self.now 1 c.in-Task.is (omega arith))))
 
@@ -104,13 +104,13 @@ returns-in-Fork-clause-few g c =
     (few_in c.args.command.now _ c.args.self.now made c.in-Fork.is (omega arith)))) c.fork.ensures.few
 
 pub returns-in-Fork-clause-room : goal.returns-in-Fork-clause-room
-returns-in-Fork-clause-room g c = λ more had access has skip returns.
+returns-in-Fork-clause-room g c = λ more had access has returns.
     let made = of_entries c.in-Fork.task.0 c.args.self.now in
     c.fork.ensures.room more (more_fewer _ _ made made more c.args.self.now _ had (few_in c.args.command.now _ c.args.self.now made c.in-Fork.is (omega arith))
-    (made_in c.args.command.now _ c.args.self.now made c.in-Fork.is (omega arith))) has skip
+    (made_in c.args.command.now _ c.args.self.now made c.in-Fork.is (omega arith))) has
 
 pub returns-in-Fork-clause-err : goal.returns-in-Fork-clause-err
-returns-in-Fork-clause-err g c = λ had access has skip returns.
+returns-in-Fork-clause-err g c = λ had access has returns.
     let made = of_entries c.in-Fork.task.0 c.args.self.now in
     c.fork.ensures.err (more_fewer _ _ made made 0 c.args.self.now _ had (few_in c.args.command.now _ c.args.self.now made c.in-Fork.is (omega arith))
     (made_in c.args.command.now _ c.args.self.now made c.in-Fork.is (omega arith)))
@@ -123,16 +123,16 @@ returns-in-Exit-clause-few g c =
     c.exit.ensures.spends
 
 pub returns-in-Exit-clause-room : goal.returns-in-Exit-clause-room
-returns-in-Exit-clause-room g c = λ more had access has skip returns.
+returns-in-Exit-clause-room g c = λ more had access has returns.
     ended_ok c.exit.result c.args.self.now c.exit.new.self c.args.log.now c.exit.new.log
     (1 + leaving c.args.self.now c.args.ids.now + length (rows_in c.in-Exit.task.0 c.args.self.now.maps)) _ _ more
     (few_in c.args.command.now _ c.args.self.now _ c.in-Exit.is (ending_few c.in-Exit.task c.requires.0.rests.matches c.stand_once.ensures))
     c.exit.ensures.spends
-    c.exit.ensures.buffers c.exit.ensures.skip had has (skip_fewer c.args.self.now skip)
+    c.exit.ensures.buffers had has
 
 pub returns-in-Exit-clause-err : goal.returns-in-Exit-clause-err
 returns-in-Exit-clause-err g c =
-    λ had access has skip returns. on_err c.exit.result _ _ (λ same. (same.0, (refl, same.1)))
+    λ had access has returns. on_err c.exit.result _ _ (λ same. (same.0, (refl, same.1)))
     (c.exit.ensures.err (roomy_fewer _ _ _ 0 c.args.self.now _ had.tables (few_in c.args.command.now _ c.args.self.now _ c.in-Exit.is
     (ending_few c.in-Exit.task c.requires.0.rests.matches c.stand_once.ensures)) (omega arith)) has)
 
@@ -142,14 +142,14 @@ returns-in-Map-clause-few g c =
     (few_in c.args.command.now _ c.args.self.now 2 c.in-Map.is (omega arith)) c.map.ensures.spends
 
 pub returns-in-Map-clause-room : goal.returns-in-Map-clause-room
-returns-in-Map-clause-room g c = λ more had access has skip returns.
+returns-in-Map-clause-room g c = λ more had access has returns.
     kept_ok c.map.result c.args.self.now c.map.new.self c.args.log.now c.map.new.log 2 2 _ _ more
     (few_in c.args.command.now _ c.args.self.now 2 c.in-Map.is (omega arith)) (made_in c.args.command.now _ c.args.self.now 2 c.in-Map.is (omega arith))
-    c.map.ensures.spends c.map.ensures.spare had has (skip_fewer c.args.self.now skip)
+    c.map.ensures.spends c.map.ensures.spare had has
 
 pub returns-in-Map-clause-err : goal.returns-in-Map-clause-err
 returns-in-Map-clause-err g c =
-    λ had access has skip returns. on_err c.map.result _ _ (λ same. (same.0, (refl, same.1)))
+    λ had access has returns. on_err c.map.result _ _ (λ same. (same.0, (refl, same.1)))
     (c.map.ensures.err (roomy_fewer _ _ 2 2 c.args.self.now _ had.tables (few_in c.args.command.now _ c.args.self.now 2 c.in-Map.is (omega arith))
     (made_in c.args.command.now _ c.args.self.now 2 c.in-Map.is (omega arith))))
 
@@ -159,14 +159,14 @@ returns-in-Wire-clause-few g c =
     (few_in c.args.command.now _ c.args.self.now 1 c.in-Wire.is (omega arith)) c.wire.ensures.spends
 
 pub returns-in-Wire-clause-room : goal.returns-in-Wire-clause-room
-returns-in-Wire-clause-room g c = λ more had access has skip returns.
+returns-in-Wire-clause-room g c = λ more had access has returns.
     kept_ok c.wire.result c.args.self.now c.wire.new.self c.args.log.now c.wire.new.log 1 1 _ _ more
     (few_in c.args.command.now _ c.args.self.now 1 c.in-Wire.is (omega arith)) (made_in c.args.command.now _ c.args.self.now 1 c.in-Wire.is (omega arith))
-    c.wire.ensures.spends c.wire.ensures.spare had has (skip_fewer c.args.self.now skip)
+    c.wire.ensures.spends c.wire.ensures.spare had has
 
 pub returns-in-Wire-clause-err : goal.returns-in-Wire-clause-err
 returns-in-Wire-clause-err g c =
-    λ had access has skip returns. never_err c.wire.result _ (c.wire.ensures.succeeds
+    λ had access has returns. never_err c.wire.result _ (c.wire.ensures.succeeds
     (roomy_fewer _ _ 1 1 c.args.self.now _ had.tables (few_in c.args.command.now _ c.args.self.now 1 c.in-Wire.is (omega arith))
     (made_in c.args.command.now _ c.args.self.now 1 c.in-Wire.is (omega arith))))
 
@@ -176,15 +176,14 @@ returns-in-Unwire-clause-few g c =
     (few_in c.args.command.now _ c.args.self.now 1 c.in-Unwire.is (omega arith)) c.unwire.ensures.spends
 
 pub returns-in-Unwire-clause-room : goal.returns-in-Unwire-clause-room
-returns-in-Unwire-clause-room g c = λ more had access has skip returns.
+returns-in-Unwire-clause-room g c = λ more had access has returns.
     kept_ok c.unwire.result c.args.self.now c.unwire.new.self c.args.log.now c.unwire.new.log 1 1 _ _ more
     (few_in c.args.command.now _ c.args.self.now 1 c.in-Unwire.is (omega arith))
     (made_in c.args.command.now _ c.args.self.now 1 c.in-Unwire.is (omega arith)) c.unwire.ensures.spends c.unwire.ensures.spare had has
-    (skip_fewer c.args.self.now skip)
 
 pub returns-in-Unwire-clause-err : goal.returns-in-Unwire-clause-err
 returns-in-Unwire-clause-err g c =
-    λ had access has skip returns. never_err c.unwire.result _ (c.unwire.ensures.succeeds
+    λ had access has returns. never_err c.unwire.result _ (c.unwire.ensures.succeeds
     (roomy_fewer _ _ 1 1 c.args.self.now _ had.tables (few_in c.args.command.now _ c.args.self.now 1 c.in-Unwire.is (omega arith))
     (made_in c.args.command.now _ c.args.self.now 1 c.in-Unwire.is (omega arith))))
 
@@ -194,15 +193,15 @@ returns-in-Load-clause-few g c =
     (few_in c.args.command.now _ c.args.self.now 4 c.in-Load.is (omega arith)))) c.load.ensures.few
 
 pub returns-in-Load-clause-room : goal.returns-in-Load-clause-room
-returns-in-Load-clause-room g c = λ more had access has skip returns.
+returns-in-Load-clause-room g c = λ more had access has returns.
     let began = c.load.ensures.room more (more_fewer _ _ 4 4 more c.args.self.now _ had
     (few_in c.args.command.now _ c.args.self.now 4 c.in-Load.is (omega arith)) (made_in c.args.command.now _ c.args.self.now 4 c.in-Load.is (omega arith)))
     access in
-    begun_leaves c.load.result more c.args.self.now c.load.new.self c.load.new.log.room began.0 c.load.ensures.spare has skip
+    begun_leaves c.load.result more c.args.self.now c.load.new.self c.load.new.log.room began.0 c.load.ensures.spare has
 
 pub returns-in-Load-clause-err : goal.returns-in-Load-clause-err
 returns-in-Load-clause-err g c =
-    λ had access has skip returns. never_err c.load.result _ (c.load.ensures.room 0
+    λ had access has returns. never_err c.load.result _ (c.load.ensures.room 0
     (more_fewer _ _ 4 4 0 c.args.self.now _ had (few_in c.args.command.now _ c.args.self.now 4 c.in-Load.is (omega arith))
     (made_in c.args.command.now _ c.args.self.now 4 c.in-Load.is (omega arith))) access).1
 
@@ -212,29 +211,29 @@ returns-in-Store-clause-few g c =
     (few_in c.args.command.now _ c.args.self.now 4 c.in-Store.is (omega arith)))) c.store.ensures.few
 
 pub returns-in-Store-clause-room : goal.returns-in-Store-clause-room
-returns-in-Store-clause-room g c = λ more had access has skip returns.
+returns-in-Store-clause-room g c = λ more had access has returns.
     let began = c.store.ensures.room more (more_fewer _ _ 4 4 more c.args.self.now _ had
     (few_in c.args.command.now _ c.args.self.now 4 c.in-Store.is (omega arith))
     (made_in c.args.command.now _ c.args.self.now 4 c.in-Store.is (omega arith))) access in
-    begun_leaves c.store.result more c.args.self.now c.store.new.self c.store.new.log.room began.0 c.store.ensures.spare has skip
+    begun_leaves c.store.result more c.args.self.now c.store.new.self c.store.new.log.room began.0 c.store.ensures.spare has
 
 pub returns-in-Store-clause-err : goal.returns-in-Store-clause-err
 returns-in-Store-clause-err g c =
-    λ had access has skip returns. never_err c.store.result _ (c.store.ensures.room 0
+    λ had access has returns. never_err c.store.result _ (c.store.ensures.room 0
     (more_fewer _ _ 4 4 0 c.args.self.now _ had (few_in c.args.command.now _ c.args.self.now 4 c.in-Store.is (omega arith))
     (made_in c.args.command.now _ c.args.self.now 4 c.in-Store.is (omega arith))) access).1
 
 pub returns-in-Copy-clause-room : goal.returns-in-Copy-clause-room
 returns-in-Copy-clause-room g c =
-    λ more had access has skip returns. c.copy.ensures.room more (more_fewer _ _ (front wide.Frames c.args.self.now) (making wide.Frames c.args.self.now) more
+    λ more had access has returns. c.copy.ensures.room more (more_fewer _ _ (front wide.Frames c.args.self.now) (making wide.Frames c.args.self.now) more
     c.args.self.now _ had (few_in c.args.command.now _ c.args.self.now _ c.in-Copy.is (omega arith))
-    (made_in c.args.command.now _ c.args.self.now _ c.in-Copy.is (omega arith))) access has skip
+    (made_in c.args.command.now _ c.args.self.now _ c.in-Copy.is (omega arith))) access has
 
 pub returns-in-Copy-clause-err : goal.returns-in-Copy-clause-err
 returns-in-Copy-clause-err g c =
-    λ had access has skip returns. c.copy.ensures.err (more_fewer _ _ (front wide.Frames c.args.self.now) (making wide.Frames c.args.self.now) 0 c.args.self.now
+    λ had access has returns. c.copy.ensures.err (more_fewer _ _ (front wide.Frames c.args.self.now) (making wide.Frames c.args.self.now) 0 c.args.self.now
     _ had (few_in c.args.command.now _ c.args.self.now _ c.in-Copy.is (omega arith))
-    (made_in c.args.command.now _ c.args.self.now _ c.in-Copy.is (omega arith))) access has skip
+    (made_in c.args.command.now _ c.args.self.now _ c.in-Copy.is (omega arith))) access has
 
 pub returns-in-Copy-clause-few : goal.returns-in-Copy-clause-few
 returns-in-Copy-clause-few g c =
@@ -248,25 +247,24 @@ returns-in-Pageout-clause-few g c =
     c.pageout.ensures.spends
 
 pub returns-in-Pageout-clause-room : goal.returns-in-Pageout-clause-room
-returns-in-Pageout-clause-room g c = λ more had access has skip returns.
+returns-in-Pageout-clause-room g c = λ more had access has returns.
     let returned = subst (λ (z : Command). HasReturns z c.args.self.now) c.in-Pageout.is returns in
     let few = few_in c.args.command.now _ c.args.self.now _ c.in-Pageout.is (out_few c.args.self.now
     (listed_few c.requires.0.rests.matches c.stand_once.ensures)) in
-    three_ok c.pageout.result _ _ _ _
-    (λ is spare rows. (
+    both_ok c.pageout.result _ _ _
+    (λ is spare. (
       room_behind c.args.self.now c.pageout.new.self c.args.log.now c.pageout.new.log _ 0 more is
           (more_fewer _ _ _ 0 more c.args.self.now _ had few (omega arith)),
-      (spare.0 returned, omega (arith, spare.1, rows, skip)),
+      spare returned,
     ))
-    c.pageout.ensures.spends c.pageout.ensures.spare c.pageout.ensures.rows
+    c.pageout.ensures.spends c.pageout.ensures.spare
 
 pub returns-in-Pageout-clause-err : goal.returns-in-Pageout-clause-err
-returns-in-Pageout-clause-err g c = λ had access has skip returns.
+returns-in-Pageout-clause-err g c = λ had access has returns.
     let returned = subst (λ (z : Command). HasReturns z c.args.self.now) c.in-Pageout.is returns in
     let few = few_in c.args.command.now _ c.args.self.now _ c.in-Pageout.is (out_few c.args.self.now
     (listed_few c.requires.0.rests.matches c.stand_once.ensures)) in
-    never_err c.pageout.result _ (c.pageout.ensures.succeeds (roomy_fewer _ _ _ 0 c.args.self.now _ had.tables few (omega arith)) returned
-    (skip_fewer c.args.self.now skip))
+    never_err c.pageout.result _ (c.pageout.ensures.succeeds (roomy_fewer _ _ _ 0 c.args.self.now _ had.tables few (omega arith)) returned)
 
 pub returns-in_default-clause-few : goal.returns-in_default-clause-few
 returns-in_default-clause-few g c = absurd (unknown g c)
@@ -287,4 +285,4 @@ returns-in-Fork-clause-plays g c =
     c.fork.ensures.plays
 
 pub returns-in-Allocate-clause-room : goal.returns-in-Allocate-clause-room
-returns-in-Allocate-clause-room g c = λ more had access has skip returns. c.change_entries.ensures.room more had access has (skip_fewer c.args.self.now skip)
+returns-in-Allocate-clause-room g c = λ more had access has returns. c.change_entries.ensures.room more had access has

@@ -2,10 +2,10 @@ use Rattle.vm_kernel.proofs.Common.{On, PageKey, Some, [], ap, arith, count_agai
 use Rattle.vm_kernel.proofs.Common.{subst, true, with_on, ◌++◌, ◌+◌, ◌∙◌, ◌∷◌, ◌≡◌, ◌≤◌, ◌⊎◌}
 use Rattle.vm_fault.specs.declared.step.FaultStep.TheVariants as step
 use Rattle.vm_waits.proofs.Copies.{copies_some}
-use Rattle.vm_waits.specs.Waits.{count_copies, rewanted, turned, with_want}
+use Rattle.vm_waits.specs.Waits.{count_copies, with_want}
 use Rattle.vm_waits.specs.declared.waiting.On.TheVariants as on
-use Rattle.vm_kernel.proofs.room.RoomForRun.{as_many, as_many_once, as_many_run, copies_gone, copies_on, copies_turn, cost_most, few_left, few_wanting}
-use Rattle.vm_kernel.proofs.room.RoomForRun.{keeps_both, one_fewer, pays_run, room_left, room_to_end, room_to_run, room_wanting, run_spare, some_run, tells_end}
+use Rattle.vm_kernel.proofs.room.RoomForRun.{as_many_run, copies_gone, copies_on, copies_turn, cost_most, few_left, few_wanting}
+use Rattle.vm_kernel.proofs.room.RoomForRun.{keeps_both, pays_run, room_left, room_to_end, room_to_run, room_wanting, run_spare, some_run, tells_end}
 use Rattle.vm_kernel.proofs.steps.FramesClaimed.{WaitsOn, once_joins, once_queued, once_turned, waits_page, waits_ready, waits_word, word_over}
 use Rattle.vm_kernel.proofs.steps.FoundPageEnds.{ends_next}
 use Rattle.vm_kernel.proofs.steps.WhereAccessLeads.{can_fault}
@@ -349,11 +349,9 @@ returns-in-Done-clause-room g c = λ more has.
 pub returns-in-Done-clause-spare : goal.returns-in-Done-clause-spare
 returns-in-Done-clause-spare g c =
     let w = c.args.waiting in
-    let rows = c.args.self.now.waits.rows in
     let pays = pays_run c.args.self.now c.args.ids.now w c.args.log.now.items (step.Done c.in-Done.value) c.requires.1.0
     (rw c.in-Done.is at c.in_ok-step.ensures.runs) in
-    keeps_both (run_spare c.args.self.now _ c.remove.new.self pays (one_fewer (rewanted w.task.0 c.fault.new.want) rows c.set_want.new.self.rows
-    c.remove.new.self.rows c.set_want.ensures.rows c.remove.ensures.length)) c.in_ok-end_copy-in-Done.ensures.spare
+    keeps_both (run_spare c.args.self.now _ c.remove.new.self pays) c.in_ok-end_copy-in-Done.ensures.spare
 
 pub returns-then-ne-clause-room : goal.returns-then-ne-clause-room
 returns-then-ne-clause-room g c = λ more has.
@@ -373,8 +371,6 @@ returns-then-ne-clause-spare g c =
     let pays = pays_run c.args.self.now c.args.ids.now w c.args.log.now.items (step.NeedFrame c.in-NeedFrame.source) c.requires.1.0
     (rw c.in-NeedFrame.is at c.in_ok-step.ensures.runs) in
     run_spare c.args.self.now _ c.join_queue.new.self pays
-    (as_many (rewanted w.task.0 c.fault.new.want) (turned w.task.0 on.Frame) c.args.self.now.waits.rows c.set_want.new.self.rows c.join_queue.new.self.rows
-    c.set_want.ensures.rows c.join_queue.ensures.rows)
 
 pub returns-else-ne-clause-room : goal.returns-else-ne-clause-room
 returns-else-ne-clause-room g c = λ more has.
@@ -392,8 +388,7 @@ returns-else-ne-clause-spare g c =
     let w = c.args.waiting in
     let pays = pays_run c.args.self.now c.args.ids.now w c.args.log.now.items (step.NeedFrame c.in-NeedFrame.source) c.requires.1.0
     (rw c.in-NeedFrame.is at c.in_ok-step.ensures.runs) in
-    run_spare c.args.self.now _ c.set_want.new.self pays (as_many_once (rewanted w.task.0 c.fault.new.want) c.args.self.now.waits.rows c.set_want.new.self.rows
-    c.set_want.ensures.rows)
+    run_spare c.args.self.now _ c.set_want.new.self pays
 
 pub returns-clause-room : goal.returns-clause-room
 returns-clause-room g c = λ more has.
@@ -414,8 +409,6 @@ returns-clause-spare g c =
     let w = c.args.waiting in
     let pays = pays_run c.args.self.now c.args.ids.now w c.args.log.now.items c.in_ok-step.step c.requires.1.0 c.in_ok-step.ensures.runs in
     run_spare c.args.self.now _ c.set_on.new.self pays
-    (as_many (rewanted w.task.0 c.fault.new.want) (turned w.task.0 c.match-step.on) c.args.self.now.waits.rows c.set_want.new.self.rows c.set_on.new.self.rows
-    c.set_want.ensures.rows c.set_on.ensures.rows)
 
 -- and no more was told than was due
 

@@ -119,19 +119,19 @@ returns-then-branch-clause-idle g c =
     c.in-Some.ensures.row.0 c.in-Some.ensures.row.1)
 
 pub returns-in_err-stops-clause-room : goal.returns-in_err-stops-clause-room
-returns-in_err-stops-clause-room g c = λ more has some long.
-    let was = c.serve.invariant.room more (record { has = has; buffers = some; skip = long }) in
+returns-in_err-stops-clause-room g c = λ more has some.
+    let was = c.serve.invariant.room more (record { has = has; buffers = some }) in
     let next = serve_spare was c.in_ok-source.ensures.spare (c.in_ok-source.ensures.room (more + 2) was.has).1 in
     absurd (let bad : false ≡ true = (c.in_err-stops.ensures.room more next).0 in cc)
 
 pub returns-then-branch-clause-room : goal.returns-then-branch-clause-room
-returns-then-branch-clause-room g c = λ more has some long.
-    let was = c.serve.invariant.room more (record { has = has; buffers = some; skip = long }) in
+returns-then-branch-clause-room g c = λ more has some.
+    let was = c.serve.invariant.room more (record { has = has; buffers = some }) in
     let next = serve_spare was c.in_ok-source.ensures.spare (c.in_ok-source.ensures.room (more + 2) was.has).1 in
     (refl, (c.in_ok-stops.ensures.room more next).1.off c.if-branch.true)
 
 pub returns-clause-room : goal.returns-clause-room
-returns-clause-room g c = λ more has some long. (refl, served_room (c.serve.invariant.room more (record { has = has; buffers = some; skip = long })))
+returns-clause-room g c = λ more has some. (refl, served_room (c.serve.invariant.room more (record { has = has; buffers = some })))
 
 pub returns-then-branch-clause-few : goal.returns-then-branch-clause-few
 returns-then-branch-clause-few g c =

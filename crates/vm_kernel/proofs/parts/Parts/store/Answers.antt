@@ -5,7 +5,7 @@ use Rattle.vm_kernel.proofs.steps.AccessBegins.{Stores, begun_next, begun_ran, b
 use Rattle.vm_kernel.proofs.steps.QueueServed.{three_ok}
 use Rattle.vm_model.specs.declared.event.Event.TheVariants as event
 use Rattle.vm_kernel.proofs.steps.FramesInTurn.{quiet_more, restarts_behind}
-use Rattle.vm_kernel.proofs.room.PartsOfStep.{any_ok, begun_more, begun_spends, few_behind, room_behind, spare_behind, told_behind}
+use Rattle.vm_kernel.proofs.room.PartsOfStep.{any_ok, begun_spends, few_behind, room_behind, spare_behind, told_behind}
 use Rattle.vm_kernel.proofs.parts.Parts.store.Goals as goal
 
 pub restart-requires : goal.restart-requires
@@ -60,5 +60,5 @@ returns-in_err-push-clause-room g c = λ more had access. absurd (let bad : fals
 pub returns-clause-spare : goal.returns-clause-spare
 returns-clause-spare g c =
     on_ok c.restart.result _ _
-    (λ keeps. spare_behind c.args.self.now c.begin.new.self c.restart.new.self (begun_more _ c.begin.ensures.rows c.reserve.ensures.rows) keeps)
+    (λ keeps. spare_behind c.args.self.now c.begin.new.self c.restart.new.self keeps)
     c.restart.ensures.spare

@@ -3,7 +3,6 @@ use Rattle.vm_kernel.proofs.space.EntriesLeave.{next_out, none_so_far}
 use Rattle.vm_kernel.proofs.lists.ListsAsTold.{plays_both}
 use Rattle.vm_kernel.proofs.steps.FramesInTurn.{quiet_both, quiet_none}
 use Rattle.vm_kernel.proofs.room.EndsSpend.{roomy_on}
-use Rattle.vm_kernel.proofs.room.PartsOfStep.{skip_both, skip_none}
 use Rattle.vm_kernel.proofs.room.CallsSpend.{spends_both, spends_none}
 use Rattle.vm_kernel.proofs.parts.Parts.sweep.Goals as goal
 
@@ -19,7 +18,6 @@ all-init g c =
       ends = none_so_far g.given.header _ (by_address c.args.gone.now) c.args.log.now.items;
       spends = spends_none c.args.self.now c.args.log.now _;
       buffers = λ has. has;
-      skip = skip_none c.args.self.now;
     }
 
 pub all-preserved : goal.all-preserved
@@ -41,7 +39,6 @@ all-preserved g c =
           spends_both c.args.self.now c.all.self c.release.new.self c.args.log.now c.all.log c.release.new.log _ _ _ c.all.invariant.spends
           c.in_ok-release.ensures.spends;
       buffers = λ has. c.in_ok-release.ensures.buffers (c.all.invariant.buffers has);
-      skip = skip_both c.args.self.now c.all.self c.release.new.self c.all.invariant.skip c.in_ok-release.ensures.skip;
     }
 
 pub returns-clause-quiet : goal.returns-clause-quiet

@@ -1,5 +1,5 @@
 use Rattle.vm_kernel.proofs.Common.{Plays, QueueIsStill, Sweeps, by_address, drop, length, paging, ◌++◌, ◌+◌, ◌≤◌}
-use Rattle.vm_kernel.specs.Rooms.{HasBuffers, KeepsSkip, Spends, leaving}
+use Rattle.vm_kernel.specs.Rooms.{HasBuffers, Spends, leaving}
 use Rattle.vm_kernel.specs.Endings.{EndsSoFar}
 use Rattle.vm_merge.specs.Merges.{IsThinBut}
 use Rattle.vm_kernel.proofs.parts.Parts.sweep.Given as goal
@@ -26,5 +26,4 @@ invariant-all g l = record {
   ends : EndsSoFar g.given.header (l.fn.log.items ++ g.given.past) (by_address l.gone) (drop l.i (by_address l.gone)) l.fn.log.items l.log.items;
   spends : Spends (leaving l.fn.self l.ids) 0 (leaving l.self l.ids) l.fn.self l.fn.log l.self l.log;
   buffers : HasBuffers l.fn.self → HasBuffers l.self;
-  skip : KeepsSkip l.fn.self l.self;
 }

@@ -2,7 +2,6 @@ use Rattle.vm_kernel.proofs.Common.{ap, arith, false, length, true, ◌≡◌, �
 use Rattle.vm_kernel.proofs.lists.ListsAsTold.{plays_both}
 use Rattle.vm_kernel.proofs.room.EndsSpend.{spends_less}
 use Rattle.vm_kernel.proofs.room.MergesSpend.{merge_log, merge_rows, ok_all, rows_small, sweep_roomy, sweep_spends}
-use Rattle.vm_kernel.proofs.room.PartsOfStep.{skip_both}
 use Rattle.vm_kernel.proofs.steps.EventsGrow.{on_ok}
 use Rattle.vm_kernel.proofs.steps.FramesInTurn.{quiet_both}
 use Rattle.vm_kernel.specs.Rooms.{Spends, leaving}
@@ -55,7 +54,3 @@ returns-in_err-sweep-clause-succeeds g c = λ n has small roomy buffers.
 
 pub returns-clause-buffers : goal.returns-clause-buffers
 returns-clause-buffers g c = on_ok c.merge.result _ _ (λ more has. more (c.in_ok-sweep.ensures.buffers has)) c.merge.ensures.buffers
-
-pub returns-clause-skip : goal.returns-clause-skip
-returns-clause-skip g c =
-    on_ok c.merge.result _ _ (λ more. skip_both c.args.self.now c.sweep.new.self c.merge.new.self c.in_ok-sweep.ensures.skip more) c.merge.ensures.skip

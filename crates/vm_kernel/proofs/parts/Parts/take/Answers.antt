@@ -1,6 +1,5 @@
 use Rattle.vm_kernel.proofs.controls.DestroyTaken.{destroyed_goes}
 use Rattle.vm_kernel.proofs.Common.{Event, HasEnded, List, Restarted, TaskId, [], ap, arith, false, subst, true, ◌++◌, ◌+◌, ◌∙◌, ◌≡◌, ◌≤◌, ℕ}
-use Rattle.std.specs.Prelude.{vec_capacity}
 use Rattle.vm_kernel.proofs.lists.ListsAsTold.{plays_both}
 use Rattle.vm_kernel.proofs.controls.WaitersFail.{absence_goes, each_failed, each_goes, paid_failed, paid_goes}
 use Rattle.vm_kernel.proofs.steps.EventsGrow.{goes_both, on_ok}
@@ -111,40 +110,24 @@ returns-clause-few g c =
     on_ok c.restart.result _ _ (λ more. few_behind more few) c.restart.ensures.few
 
 pub returns-clause-room : goal.returns-clause-room
-returns-clause-room g c = λ more had marks has skip asks.
+returns-clause-room g c = λ more had marks has asks.
     let left = room_behind c.args.self.now c.wake.new.self c.args.log.now c.wake.new.log (cost g c) 0 more (all_spends g c)
     (more_fewer _ _ (cost g c) 0 more c.args.self.now _ had (cost_few g c) (omega arith)) in
     let runs = c.restart.ensures.room more left in
     let keeps = ok_has c.restart.result _ runs.0 c.restart.ensures.spare in
     let some = c.in_ok-wake.ensures.enough (λ key is. c.in_ok-woken.ensures.failing key is has) (c.in_ok-woken.ensures.buffers asks has) in
     let buffers = ap (λ z. z.count) keeps.buffers in
-    let list = ap vec_capacity (keeps.skip ∙ (c.in_ok-wake.ensures.skip.skip ∙ c.in_ok-woken.ensures.skip.skip)) in (
-      runs.0,
-      (
-        runs.1,
-        (
-          omega (arith, buffers, some),
-          omega (
-            arith,
-            list,
-            keeps.fewer,
-            c.in_ok-wake.ensures.skip.fewer,
-            c.in_ok-woken.ensures.skip.fewer,
-            skip,
-          ),
-        ),
-      ),
-    )
+    (runs.0, (runs.1, omega (arith, buffers, some)))
 
 pub returns-in_err-woken-clause-room : goal.returns-in_err-woken-clause-room
-returns-in_err-woken-clause-room g c = λ more had marks has skip asks.
+returns-in_err-woken-clause-room g c = λ more had marks has asks.
     let few = word_few c.args.message.now c.args.self.now c.args.ids.now (listed_few c.requires.0.matches c.stand_once.ensures) in
     absurd (let bad : false ≡ true = c.in_err-woken.ensures.succeeds (roomy_fewer _ _ _ 0 c.args.self.now _ had.tables few (omega arith)) asks (λ ends. has)
     marks in
     cc)
 
 pub returns-in_err-wake-clause-room : goal.returns-in_err-wake-clause-room
-returns-in_err-wake-clause-room g c = λ more had marks has skip asks.
+returns-in_err-wake-clause-room g c = λ more had marks has asks.
     let told = heeding c.args.message.now c.args.self.now c.args.ids.now in
     let later = waking c.in_ok-woken.woken c.heed.new.self c.args.ids.now in
     let few = word_costs c.args.message.now c.in_ok-woken.woken c.args.self.now c.heed.new.self c.args.ids.now

@@ -1,13 +1,11 @@
-use Rattle.vm_kernel.proofs.Common.{Still, [], ap, arith, false, length, refl, rules, true, woken_page, woken_ready, ◌∙◌, ◌≡◌}
+use Rattle.vm_kernel.proofs.Common.{Still, [], ap, arith, false, refl, rules, true, woken_page, woken_ready, ◌≡◌}
 use Rattle.vm_kernel.proofs.steps.RowsInOrder.{woken_keeps}
 use Rattle.vm_kernel.proofs.abroad.OtherLists.{matches_with}
 use Rattle.vm_state.proofs.Filling.{fills_waked, used_waked}
 use Rattle.vm_state.proofs.Waking.{waits_woken}
-use Rattle.std.proofs.lemmas.List.{length-map}
 use Rattle.vm_kernel.proofs.room.EndsSpend.{roomy_fewer, spends_hand, woken_spends}
 use Rattle.vm_kernel.proofs.room.CallsSpend.{spends_both, spends_nothing}
 use Rattle.vm_kernel.specs.Rooms.{leaving, waking}
-use Rattle.vm_kernel.proofs.room.PartsOfStep.{skip_rows}
 use Rattle.vm_kernel.proofs.parts.Parts.wake.Goals as goal
 
 pub returns-in-ReadyOf-clause-works : goal.returns-in-ReadyOf-clause-works
@@ -107,10 +105,3 @@ returns-in_err-fail-in-Fails-clause-succeeds g c = λ room has.
 pub returns-in_ok-fail-in-Fails-clause-enough : goal.returns-in_ok-fail-in-Fails-clause-enough
 returns-in_ok-fail-in-Fails-clause-enough g c = λ has some.
     let left = c.in_ok-fail-in-Fails.ensures.buffers (has c.in-Fails.key c.in-Fails.is) in omega (arith, left)
-
-pub returns-in-ReadyOf-clause-skip : goal.returns-in-ReadyOf-clause-skip
-returns-in-ReadyOf-clause-skip g c =
-    skip_rows c.args.self.now c.wake_ready.new.self (ap length c.wake_ready.ensures.rows ∙ length-map c.args.self.now.waits.rows _)
-
-pub returns-in-Page-clause-skip : goal.returns-in-Page-clause-skip
-returns-in-Page-clause-skip g c = skip_rows c.args.self.now c.wake_page.new.self (ap length c.wake_page.ensures.rows ∙ length-map c.args.self.now.waits.rows _)

@@ -1,6 +1,6 @@
 use Rattle.std.proofs.Common.{◌<◌, ap, arith}
 use Rattle.indexmap.specs.IndexMap.{spare}
-use Rattle.vm_resident.proofs.PageSets.{ok_has}
+use Rattle.vm_sets.proofs.PageSets.{ok_has}
 use Rattle.vm_resident.specs.Owners.{OwnerMap}
 use Rattle.vm_resident.proofs.frame_owners.FrameOwners.insert.Goals as goal
 

@@ -2,10 +2,10 @@ use Rattle.std.proofs.Common.{◌<◌, ◌-◌, ℕ, Some, ap, arith}
 use Rattle.indexmap.specs.IndexMap.{spare}
 use Rattle.vm_base.specs.Keys.{page_key}
 use Rattle.vm_resident.proofs.Entries.{WritesEntry, pages_put, seen}
-use Rattle.vm_resident.proofs.PageSets.{ok_has}
+use Rattle.vm_sets.proofs.PageSets.{ok_has}
 use Rattle.vm_resident.proofs.Tables.{Puts, inserted, led_inserted}
 use Rattle.std.specs.Prelude.{is_some}
-use Rattle.vm_resident.specs.Groups.{is_in, is_marked}
+use Rattle.vm_sets.specs.Groups.{is_in, is_marked}
 use Rattle.vm_resident.specs.Resident.{ResidentTable, has_note}
 use Rattle.vm_resident.proofs.resident.Resident.insert.Goals as goal
 

@@ -2,7 +2,7 @@ use Rattle.std.proofs.Common.{ℕ, ◌≡◌, ◌∙◌, None, Some, sym, arith}
 use Rattle.vm_base.specs.Keys.{page_key}
 use Rattle.vm_resident.proofs.Entries.{entry_at, pages_put, row_entry, row_put, seen}
 use Rattle.std.specs.Prelude.{is_some}
-use Rattle.vm_resident.specs.Groups.{is_in, is_marked}
+use Rattle.vm_sets.specs.Groups.{is_in, is_marked}
 use Rattle.vm_resident.specs.Resident.{has_note}
 use Rattle.vm_resident.proofs.Tables.{Takes, led_taken, taken}
 use Rattle.vm_resident.proofs.resident.Resident.remove.Goals as goal

@@ -4,7 +4,7 @@ use Rattle.std.specs.Prelude.{IsSome}
 use Rattle.vm_base.specs.Keys.{page_key}
 use Rattle.vm_resident.proofs.Entries.{entry_at, pages_kept, pages_put, row_entry, seen}
 use Rattle.vm_resident.proofs.Tables.{Changes, changed, led_changed, entry_there}
-use Rattle.vm_resident.specs.Groups.{is_marked}
+use Rattle.vm_sets.specs.Groups.{is_marked}
 use Rattle.vm_resident.specs.Resident.{has_note}
 use Rattle.vm_resident.proofs.resident.Resident.set.Goals as goal
 

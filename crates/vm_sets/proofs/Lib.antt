@@ -1,0 +1,4 @@
+pub mod Bits
+pub mod PageSets
+mod Sought
+mod Written
