@@ -1,0 +1,15 @@
+pub mod Paying
+pub mod LetterLaw
+pub mod OpenPages
+pub mod CreditTaken
+pub mod Payers
+pub mod CreditLaw
+pub mod Inside
+pub mod Extents
+pub mod Wishes
+pub mod PagesInside
+pub mod LineActs
+pub mod LineLaw
+pub mod SettleLaw
+pub mod Weights
+pub mod Bounded
