@@ -1,8 +1,8 @@
 -- What a step may still send behind the message that it took, and what that adds to the lines, weighs less than the message.
-use Rattle.std.proofs.Common.{ℕ, ◌≤◌, ◌+◌, Bool, true, false, List, ◌∷◌, arith}
+use Rattle.std.proofs.Common.{ℕ, ◌≤◌, ◌+◌, ◌*◌, Bool, true, false, List, ◌∷◌, arith}
 use Rattle.std.specs.Prelude.{if◌then◌else◌}
 use Rattle.vm_bound.proofs.OpenPages.{end_few, pages_few}
-use Rattle.vm_bound.proofs.Paying.{credit, joins}
+use Rattle.vm_bound.proofs.Paying.{credit, joins, page_unit}
 use Rattle.vm_bound.specs.Letters.{host_count, letter_weight, wish_weight}
 use Rattle.vm_legal.specs.Outside.{is_shared}
 use Rattle.vm_model.specs.declared.event.Event.{Event}
@@ -26,13 +26,20 @@ request_few : (shared : Bool) (wish : ℕ) → 1 ≤ (if shared then wish + 1 el
 request_few true wish = omega arith
 request_few false wish = omega arith
 
+lock_some : (shared : Bool) (count : ℕ) → 1 ≤ (if shared then count + 2 else 3 * count + 2)
+lock_some true count = omega arith
+lock_some false count = omega arith
+
 unlock_few : (shared : Bool) (wish : ℕ) → 1 ≤ (if shared then wish + 1 else 1)
 unlock_few true wish = omega arith
 unlock_few false wish = omega arith
 
-lock_few : (pages count : ℕ) (reply : Bool) → pages ≤ count → pages + (if reply then 1 else 0) + 0 + 1 ≤ count + 2
-lock_few pages count true le = omega (arith, le)
-lock_few pages count false le = omega (arith, le)
+lock_few : (shared : Bool) (pages count : ℕ) (reply : Bool) → pages ≤ count
+    → page_unit shared * pages + (if reply then 1 else 0) + 0 + 1 ≤ (if shared then count + 2 else 3 * count + 2)
+lock_few true pages count true le = omega (arith, le)
+lock_few true pages count false le = omega (arith, le)
+lock_few false pages count true le = omega (arith, le)
+lock_few false pages count false le = omega (arith, le)
 
 -- behind a taking nothing has come since, so all is open, and no more than the message weighs
 pub credit_taken : (header : Header) (channel : Channel) (m : Message) (past : List Event)
@@ -42,9 +49,10 @@ credit_taken header (Up host object) (message.Init control size) past = omega ar
 credit_taken header (Up host object) (message.Create control size) past = omega arith
 credit_taken header (Up host object) (message.Request control page access) past = request_taken (is_shared header object.0) (wish_weight (host_count header))
 credit_taken header (Up host object) (message.Unlock control page access) past = unlock_taken (is_shared header object.0) (wish_weight (host_count header))
+credit_taken header (Up host object) (message.Lock page count returns flush lock reply) past = lock_some (is_shared header object.0) count
 credit_taken header (Up host object) other past = omega arith
 credit_taken header (Down host object control) (message.Lock page count returns flush lock reply) past =
-    lock_few _ count reply (pages_few header host.0 object.0 page.0 count (event.Taken (Down host object control)
+    lock_few (is_shared header object.0) _ count reply (pages_few header host.0 object.0 page.0 count (event.Taken (Down host object control)
     (message.Lock page count returns flush lock reply) ∷ past))
 credit_taken header (Down host object control) (message.Ready cache strategy) past =
     let few = end_few header host.0 object.0 (event.Taken (Down host object control) (message.Ready cache strategy) ∷ past) in

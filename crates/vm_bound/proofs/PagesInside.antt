@@ -136,7 +136,7 @@ is_here : (b : Bool) (object page o p : ℕ) → (b && (object == o && page == p
 is_here b object page o p is = record { object_is = grind (arith, nat_tests); page_is = grind (arith, nat_tests) }
 
 -- a place of a temporary object is none of a declared one
-later_page : {Q : Type 0} (header : Header) (b : Bool) (object page o p : ℕ) → o < named header → named header ≤ object
+pub later_page : {Q : Type 0} (header : Header) (b : Bool) (object page o p : ℕ) → o < named header → named header ≤ object
     → (b && (object == o && page == p)) ≡ true → Q
 later_page header b object page o p small later is = let e = (is_here b object page o p is).object_is in absurd (omega (arith, e, small, later))
 
@@ -150,7 +150,7 @@ needs_zeroed header h o p b host object page past small was (inl c) is =
 needs_zeroed header h o p b host object page past small was (inr c) is = later_page header b object page o p small c.temporary is
 
 -- what is copied up comes to a temporary object
-raised_later : (header : Header) (host lower lower_page upper upper_page : ℕ) (past : List Event) → Numbering header past
+pub raised_later : (header : Header) (host lower lower_page upper upper_page : ℕ) (past : List Event) → Numbering header past
     → L.Raises header host lower lower_page upper upper_page past → named header ≤ upper
 raised_later header host lower lower_page upper upper_page past n (L.Finding c) = n.numbered.upper upper c.walks.1
 raised_later header host lower lower_page upper upper_page past n (L.Pushing c) = n.numbered.newest lower upper c.owes.newest

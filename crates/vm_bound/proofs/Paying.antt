@@ -1,15 +1,12 @@
 -- What each event of a taking adds, and what pays for it.
-use Rattle.std.specs.Prelude.{ℕ, ◌+◌, ◌≡◌, ◌&&◌, ◌||◌, ◌<◌, ◌≤◌, ◌==◌, not, Bool, true, false, List, Option, Some, None, if◌then◌else◌}
+use Rattle.std.specs.Prelude.{ℕ, ◌+◌, ◌*◌, ◌&&◌, ◌||◌, ◌==◌, nat_lt, not, Bool, true, false, List, Option, Some, None, if◌then◌else◌}
 use Rattle.vm_bound.specs.Letters.{host_count, wish_weight}
-use Rattle.vm_legal.specs.Licences.{owed}
-use Rattle.vm_legal.specs.Merges.{IsThin, Merges}
+use Rattle.vm_legal.specs.Licences.{LockRequest, lock_taken}
 use Rattle.vm_legal.specs.Outside.{is_shared}
 use Rattle.vm_legal.specs.Steps.{Letter, answers, changes, completes, ends_control, gives_page, readies, since, taken_letter}
-use Rattle.vm_legal.specs.Swept.{IsUnheld}
-use Rattle.vm_legal.specs.Walks.{Reach, page_on}
-use Rattle.vm_model.specs.Controls.{live_control}
+use Rattle.vm_legal.specs.Walks.{page_on}
 use Rattle.vm_model.specs.Named.{declared_pages, named}
-use Rattle.vm_model.specs.Waiting.{waiting}
+use Rattle.vm_model.specs.Words.{in_range}
 use Rattle.vm_model.specs.declared.event.Event.{Event}
 use Rattle.vm_model.specs.declared.event.Event.TheVariants as event
 use Rattle.vm_model.specs.declared.message.Channel.{Channel}
@@ -64,10 +61,14 @@ up_credit header o (message.Create control size) past = if since (readies o) pas
 up_credit header o (message.Request control page access) past = if is_shared header o then 0 else one_unless (since (answers o page.0) past)
 up_credit header o other past = 0
 
+-- what a page that a lock is over may cost: that it goes back, and of memory that isn't shared that it is asked for once more
+abbrev pub page_unit : Bool → ℕ
+page_unit shared = if shared then 1 else 3
+
 -- what a host may still send, behind this message
 abbrev pub down_credit : Header → ℕ → ℕ → Message → List Event → ℕ
 down_credit header h o (message.Lock page count returns flush lock reply) past =
-    open_pages header h o page.0 count past + (if reply then one_unless (since (completes h o) past) else 0)
+    page_unit (is_shared header o) * open_pages header h o page.0 count past + (if reply then one_unless (since (completes h o) past) else 0)
 down_credit header h o (message.Ready cache strategy) past = open_end header h o past
 down_credit header h o (message.Attributes cache strategy reply) past = open_end header h o past + one_unless (since (changes h o) past)
 down_credit header h o (message.Destroy reason) past = one_unless (since (ends_control h o) past)
@@ -84,13 +85,23 @@ letter_credit header (Some letter) past = credit_on header letter.channel letter
 abbrev pub credit : Header → List Event → ℕ
 credit header past = letter_credit header (taken_letter past) past
 
--- what a message that a host sends costs, where no access pays for it
-abbrev pub up_dues : Message → ℕ
-up_dues (message.Return control page dirty keep bytes) = 1
-up_dues (message.Completed control page count) = 1
-up_dues (message.Changed control cache strategy) = 1
-up_dues (message.Terminate control) = 1
-up_dues other = 0
+-- the step's lock is over the page
+abbrev pub is_locked_page : ℕ → ℕ → ℕ → Option LockRequest → Bool
+is_locked_page h o p None = false
+is_locked_page h o p (Some request) = request.host == h && (request.object == o && in_range p request.page request.count)
+
+-- and takes it away
+abbrev pub is_flushed_page : ℕ → ℕ → ℕ → Option LockRequest → Bool
+is_flushed_page h o p None = false
+is_flushed_page h o p (Some request) = request.flush && is_locked_page h o p (Some request)
+
+-- What a message that a host sends costs, where no access pays for it. A page that goes back by a lock may be asked for once more.
+abbrev pub up_dues : Bool → ℕ → ℕ → Message → List Event → ℕ
+up_dues shared h o (message.Return control page dirty keep bytes) past = if is_locked_page h o page.0 (lock_taken past) then page_unit shared else 1
+up_dues shared h o (message.Completed control page count) past = 1
+up_dues shared h o (message.Changed control cache strategy) past = 1
+up_dues shared h o (message.Terminate control) past = 1
+up_dues shared h o other past = 0
 
 -- what one that a pager sends costs, where no line pays for it
 abbrev pub down_dues : Bool → ℕ → Message → ℕ
@@ -100,13 +111,24 @@ down_dues shared pages (message.Unavailable page) = 1
 down_dues shared pages (message.Error page reason) = 1
 down_dues shared pages other = 0
 
--- what the credit pays
-abbrev pub dues : Header → Event → ℕ
-dues header (event.Sent (Up host object) m) = up_dues m
-dues header (event.Sent (Down host object control) m) = down_dues (is_shared header object.0) (declared_pages header object.0) m
-dues header other = 0
+-- The object's end is one of what a slow copy left, which that pays for.
+abbrev pub ends_left : Header → ℕ → Message → Bool
+ends_left header o (message.Terminate control) = not (nat_lt o (named header))
+ends_left header o other = false
 
--- What holds inside a step of a settle in which nobody waits.
+-- what the credit pays
+abbrev pub dues : Header → Event → List Event → ℕ
+dues header (event.Sent (Up host object) m) past =
+    if ends_left header object.0 m then 0 else up_dues (is_shared header object.0) host.0 object.0 m past
+dues header (event.Sent (Down host object control) m) past = down_dues (is_shared header object.0) (declared_pages header object.0) m
+dues header (event.Dropped host object page) past =
+    if is_flushed_page host.0 object.0 page.0 (lock_taken past) then page_unit (is_shared header object.0) else 0
+dues header other past = 0
+
+-- what an event may give back to it: a store changes a page that was given back
+abbrev pub regains : Event → ℕ
+regains (event.Stored task object page at bytes value) = 3
+regains other = 0
 
 abbrev pub may_free : Message → Bool
 may_free (message.Ready cache strategy) = true
@@ -126,13 +148,3 @@ frees h o (Some letter) = frees_on h o letter.channel letter.message
 abbrev pub CreatesNone : Event → Type 0
 CreatesNone (event.Sent (Up host object) (message.Create control size)) = ⊥
 CreatesNone other = Unit {0}
-
-pub record Inside (header : Header) (past : List Event) : Type 0 where
-  pub idle : (task : ℕ) → waiting task past ≡ None
-  pub unowed : owed past ≡ None
-  pub thin : (host : ℕ) → host < host_count header → IsThin header host past
-  pub unmerged : (upper lower : ℕ) → Merges header upper lower past → ⊥
-  -- what nothing holds has no control, and so has what the step ended
-  pub orphans : (h o : ℕ) → named header ≤ o → (Reach header h o past → ⊥) → live_control h o past ≡ None
-  pub unheld : (h o : ℕ) → o < named header → IsUnheld header h o past → frees h o (taken_letter past) ≡ false → live_control h o past ≡ None
-  pub ended : (h o : ℕ) → since (ends_control h o) past ≡ true → live_control h o past ≡ None

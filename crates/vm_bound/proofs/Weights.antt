@@ -1,8 +1,10 @@
 -- What each message weighs at least.
 use Rattle.std.proofs.Common.{ℕ, ◌≤◌, ◌+◌, Bool, true, false, List, [], ◌∷◌, arith}
 use Rattle.std.specs.Prelude.{length}
+use Rattle.vm_bound.specs.Accesses.{accesses}
 use Rattle.vm_bound.specs.Bound.{sum}
 use Rattle.vm_bound.specs.Lines.{lines}
+use Rattle.vm_bound.specs.Places.{places}
 use Rattle.vm_bound.specs.Letters.{host_count, letters, letter_weight, message_weight, object_on, weights}
 use Rattle.vm_legal.specs.Outside.{is_shared}
 use Rattle.vm_model.specs.Named.{declared_pages}
@@ -23,7 +25,8 @@ message_counted hosts true pages (message.Request control page access) = omega a
 message_counted hosts false pages (message.Request control page access) = omega arith
 message_counted hosts true pages (message.Unlock control page access) = omega arith
 message_counted hosts false pages (message.Unlock control page access) = omega arith
-message_counted hosts shared pages (message.Lock page count returns flush lock reply) = omega arith
+message_counted hosts true pages (message.Lock page count returns flush lock reply) = omega arith
+message_counted hosts false pages (message.Lock page count returns flush lock reply) = omega arith
 message_counted hosts shared pages (message.Destroy reason) = omega arith
 message_counted hosts shared pages (message.Return control page dirty keep bytes) = omega arith
 message_counted hosts shared pages (message.Completed control page count) = omega arith
@@ -41,9 +44,10 @@ each_counted header (letter ∷ rest) =
     let more = each_counted header rest in
     omega (arith, one, more)
 
-grown : (n a b : ℕ) → n ≤ a → n ≤ a + b
-grown n a b le = omega (arith, le)
+grown : (n a b c d : ℕ) → n ≤ a → n ≤ a + b + (c + d)
+grown n a b c d le = omega (arith, le)
 
 pub letters_counted : (header : Header) (past : List Event) → length (undelivered past) ≤ sum header past
 letters_counted header past =
-    grown (length (undelivered past)) (letters header past) (lines header past) (each_counted header (undelivered past))
+    grown (length (undelivered past)) (letters header past) (lines header past) (accesses header past) (places header past)
+    (each_counted header (undelivered past))

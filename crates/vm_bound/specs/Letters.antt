@@ -19,9 +19,10 @@ host_count header = length header.frames.items
 abbrev pub wish_weight : ℕ → ℕ
 wish_weight hosts = 3 * hosts
 
--- A message of a declared object with so many pages, shared or not, or of a temporary one. A pager that is told of the object says that it is ready; with that, and with a change of
--- attributes, the object may end, with a return of each page. A lock is done at each page of its range, and then the host says so. A request is answered; by
--- the server of shared memory when its turn has come.
+-- A message of a declared object with so many pages, shared or not, or of a temporary one. A pager that is told of the object says that it is
+-- ready; with that, and with a change of attributes, the object may end, with a return of each page. A lock is done at each page of its range,
+-- and then the host says so; a page that it takes away from those who wait is asked for once more. A request is answered; by the server of
+-- shared memory when its turn has come.
 abbrev pub message_weight : ℕ → Bool → ℕ → Message → ℕ
 message_weight hosts shared pages (message.Init control size) = pages + 4
 message_weight hosts shared pages (message.Create control size) = pages + 4
@@ -29,7 +30,7 @@ message_weight hosts shared pages (message.Ready cache strategy) = pages + 3
 message_weight hosts shared pages (message.Attributes cache strategy reply) = pages + 3
 message_weight hosts shared pages (message.Request control page access) = if shared then wish_weight hosts + 1 else 2
 message_weight hosts shared pages (message.Unlock control page access) = if shared then wish_weight hosts + 1 else 1
-message_weight hosts shared pages (message.Lock page count returns flush lock reply) = count + 2
+message_weight hosts shared pages (message.Lock page count returns flush lock reply) = if shared then count + 2 else 3 * count + 2
 message_weight hosts shared pages (message.Destroy reason) = 2
 message_weight hosts shared pages (message.Return control page dirty keep bytes) = 1
 message_weight hosts shared pages (message.Completed control page count) = 1
